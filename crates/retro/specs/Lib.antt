@@ -1,0 +1,5 @@
+pub mod Journal
+pub mod Program
+pub mod Texts
+pub mod Transcript
+pub mod World

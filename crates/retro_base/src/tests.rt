@@ -1,0 +1,148 @@
+use crate::{
+    Device, Failed, Page, Refusal, Who, get_u16, get_u32, get_u64, put_u16, put_u32, put_u64,
+};
+use std::alloc::AllocError;
+use std::test::Fail;
+
+#[test]
+fn refusals_are_numbered_and_named(rt: HostRuntime) {
+    let device = Device::Log;
+    let table = [
+        (Refusal::OutOfMemory, 1, "OutOfMemory"),
+        (Refusal::DiskFault { device, count: 2 }, 2, "DiskFault"),
+        (Refusal::SourceFault, 3, "SourceFault"),
+        (Refusal::SinkFault, 4, "SinkFault"),
+        (Refusal::NotAStore { device, place: 0 }, 5, "NotAStore"),
+        (Refusal::BadWords, 6, "BadWords"),
+        (Refusal::BadScript { line: 7 }, 7, "BadScript"),
+        (
+            Refusal::Overlap {
+                session: 1,
+                item: 2,
+            },
+            8,
+            "Overlap",
+        ),
+        (
+            Refusal::NoSuchSnapshot {
+                asked: 9,
+                newest: 3,
+            },
+            9,
+            "NoSuchSnapshot",
+        ),
+        (
+            Refusal::Dropped {
+                asked: 1,
+                oldest: 2,
+            },
+            10,
+            "Dropped",
+        ),
+        (
+            Refusal::Pinned {
+                snapshot: 1,
+                session: 2,
+            },
+            11,
+            "Pinned",
+        ),
+        (
+            Refusal::ArchiveFull { needed: 1, room: 0 },
+            12,
+            "ArchiveFull",
+        ),
+        (
+            Refusal::JournalFull {
+                lines: 1,
+                images: 2,
+            },
+            13,
+            "JournalFull",
+        ),
+        (Refusal::PagesFull { pages: 16 }, 14, "PagesFull"),
+        (Refusal::TooManyPages { needed: 17 }, 15, "TooManyPages"),
+        (Refusal::Stopped { device, count: 1 }, 16, "Stopped"),
+        (Refusal::NoRoom { needed: 1, free: 0 }, 17, "NoRoom"),
+        (Refusal::SnapshotsFull { retained: 1 }, 18, "SnapshotsFull"),
+        (Refusal::Syntax { place: 1 }, 19, "Syntax"),
+        (Refusal::UnknownName, 20, "UnknownName"),
+        (Refusal::NameTaken, 21, "NameTaken"),
+        (Refusal::WrongType, 22, "WrongType"),
+        (Refusal::Overflow, 23, "Overflow"),
+        (Refusal::RowTooLong { bytes: 901 }, 24, "RowTooLong"),
+        (Refusal::NotOneValue { snapshot: 1 }, 25, "NotOneValue"),
+        (Refusal::BadSizes, 26, "BadSizes"),
+    ];
+    for (refusal, number, name) in table {
+        assert_eq!(rt; refusal.number(), number);
+        assert_eq!(rt; refusal.name(), name);
+    }
+    assert_eq!(rt; Refusal::from(AllocError), Refusal::OutOfMemory);
+}
+
+#[test]
+fn numbers_stand_high_byte_first(rt: HostRuntime) {
+    let mut bytes = [9u8; 16];
+    put_u16(&mut bytes, 1, 0x1234);
+    put_u32(&mut bytes, 3, 0xdead_beef);
+    put_u64(&mut bytes, 7, 0x0102_0304_0506_0708);
+    let want = [
+        9, 0x12, 0x34, 0xde, 0xad, 0xbe, 0xef, 1, 2, 3, 4, 5, 6, 7, 8, 9,
+    ];
+    assert_eq!(rt; bytes, want);
+    assert_eq!(rt; get_u16(&want, 5), 0xbeef);
+    assert_eq!(rt; get_u32(&want, 7), 0x0102_0304);
+    assert_eq!(rt; get_u64(&want, 8), 0x0203_0405_0607_0809);
+}
+
+#[test]
+fn pages_hold_their_bytes(rt: HostRuntime) {
+    let mut page = Page::zero();
+    page.put_bytes(0, b"ab");
+    page.put_u16(1020, 258);
+    page.put_u32(2, 65536);
+    page.put_u64(6, 1);
+    let mut want = [0u8; 1024];
+    want[0] = 97;
+    want[1] = 98;
+    want[3] = 1;
+    want[13] = 1;
+    want[1020] = 1;
+    want[1021] = 2;
+    assert!(rt; page == Page::of(want));
+    assert_eq!(rt; page.bytes().len(), 1024);
+}
+
+#[test]
+fn shown_in_words(rt: HostRuntime) -> Result<(), Fail> {
+    let device = Device::Maplog;
+    let refusal = Refusal::DiskFault { device, count: 3 };
+    let shown = format!(in rt.alloc(); "{device}: {refusal}")?;
+    assert_eq!(rt; shown.as_str(), "maplog: disk fault on maplog 3");
+    let who = Who {
+        phase: 1,
+        session: 2,
+        item: 3,
+    };
+    let shown = format!(in rt.alloc(); "{who:?} {:?}", Failed)?;
+    assert_eq!(rt;
+        shown.as_str(),
+        "Who { phase: 1, session: 2, item: 3 } Failed"
+    );
+    Ok(())
+}
+
+#[test]
+fn devices_have_names(rt: HostRuntime) {
+    let table = [
+        (Device::Log, "log"),
+        (Device::Pages, "pages"),
+        (Device::Pagelog, "pagelog"),
+        (Device::Maplog, "maplog"),
+        (Device::Cabinet, "cabinet"),
+    ];
+    for (device, name) in table {
+        assert_eq!(rt; device.name(), name);
+    }
+}

@@ -1,0 +1,7 @@
+pub mod ClassLaws
+pub mod FirstLine
+pub mod FitLaws
+pub mod OneLine
+pub mod OneScript
+pub mod ReadLaws
+pub mod RuleLaws

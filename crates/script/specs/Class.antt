@@ -1,0 +1,85 @@
+-- What a statement line is, by its tokens.
+use Rattle.std.specs.Prelude.{◌+◌, ◌&&◌, ◌||◌, ℕ, Bool, true, false, List, Option, Some, None, slice_get, nat_eq, codes, if◌then◌else◌}
+use Rattle.std.specs.List.{position_or_len, starts_with}
+use Rattle.std.specs.Option.{option_and_then, option_map_or}
+use Rattle.std.specs.Str.{bytes_eq}
+use Rattle.sql_lexer.specs.declared.token.Keyword.{Keyword}
+use Rattle.sql_lexer.specs.declared.token.Keyword.TheVariants as keyword
+use Rattle.sql_lexer.specs.declared.token.Placed.{Placed}
+use Rattle.sql_lexer.specs.declared.token.Token.{Token}
+use Rattle.sql_lexer.specs.declared.token.Token.TheVariants as token
+use Rattle.script.specs.declared.class.Class.{Class}
+use Rattle.script.specs.declared.class.Class.TheVariants.{Statement, Commit, Rollback, AsOf, NotRun}
+
+-- the keyword that a token is
+abbrev pub keyword_of : Token → Option Keyword
+keyword_of (token.Keyword k) = Some k
+keyword_of t = None
+
+-- the name that a token is
+abbrev pub name_of : Token → Option (List ℕ)
+name_of (token.Name name) = Some name
+name_of t = None
+
+-- the keyword at a place among the tokens
+abbrev pub keyword_at : List Placed → ℕ → Option Keyword
+keyword_at tokens place = option_and_then (λ t. keyword_of t.token) (slice_get tokens place)
+
+-- the name at a place among the tokens
+abbrev pub name_at : List Placed → ℕ → Option (List ℕ)
+name_at tokens place = option_and_then (λ t. name_of t.token) (slice_get tokens place)
+
+-- the keyword FROM
+abbrev pub is_from : Option Keyword → Bool
+is_from (Some keyword.From) = true
+is_from k = false
+
+-- the keyword AS
+abbrev pub is_as : Option Keyword → Bool
+is_as (Some keyword.As) = true
+is_as k = false
+
+-- the keyword OF
+abbrev pub is_of : Option Keyword → Bool
+is_of (Some keyword.Of) = true
+is_of k = false
+
+-- the keyword SNAPSHOTS
+abbrev pub is_snapshots : Option Keyword → Bool
+is_snapshots (Some keyword.Snapshots) = true
+is_snapshots k = false
+
+-- `SnapIds`, or a name that begins with `rql_`
+abbrev pub is_result_name : List ℕ → Bool
+is_result_name name = bytes_eq name (codes "SnapIds") || starts_with nat_eq name (codes "rql_")
+
+-- whether such a name stands right behind the first FROM
+abbrev pub reads_results : List Placed → Bool
+reads_results tokens =
+    let from = position_or_len (λ t. is_from (keyword_of t.token)) tokens in
+    option_map_or is_result_name (name_at tokens (from + 1)) false
+
+-- what a statement line is, by its first keyword
+abbrev pub class_behind : List Placed → Option Keyword → Class
+class_behind tokens (Some keyword.Commit) = Commit
+class_behind tokens (Some keyword.Rollback) = Rollback
+class_behind tokens (Some keyword.CollateData) = NotRun
+class_behind tokens (Some keyword.AggregateDataInVariable) = NotRun
+class_behind tokens (Some keyword.AggregateDataInTable) = NotRun
+class_behind tokens (Some keyword.CollateDataIntoIntervals) = NotRun
+class_behind tokens (Some keyword.Drop) = if is_snapshots (keyword_at tokens 1) then NotRun else Statement
+class_behind tokens (Some keyword.Select) =
+    if is_as (keyword_at tokens 1) && is_of (keyword_at tokens 2) then AsOf else (if reads_results tokens then NotRun else Statement)
+class_behind tokens first = Statement
+
+-- what a statement line is, by its tokens
+abbrev pub class_of : List Placed → Class
+class_of tokens = class_behind tokens (keyword_at tokens 0)
+
+-- whether this version runs such lines
+abbrev pub is_run : Class → Bool
+is_run Statement = true
+is_run Commit = true
+is_run Rollback = false
+is_run AsOf = true
+is_run NotRun = false

@@ -1,0 +1,19 @@
+//! Scripts: phases of sessions of items, read from their bytes.
+#![tactic(auto)]
+
+mod class;
+mod draft;
+mod laws;
+mod line;
+mod name;
+mod reading;
+mod structure;
+#[cfg(test)]
+mod tests;
+mod text;
+
+pub use laws::script_law;
+pub use line::Line;
+pub use name::{SessionName, is_session_name};
+pub use reading::read;
+pub use structure::{End, Item, Phase, Reading, Script, Session, Transaction};

@@ -1,0 +1,49 @@
+//! The bytes of a text.
+
+ghost use Rattle.std.specs.Prelude.{◌≡◌, ◌≤◌, length};
+ghost use Rattle.values.specs.Text.{IsText};
+
+use crate::list::{Duplicate, Seq};
+use std::alloc::{AllocError, Global};
+use std::marker::Model;
+
+/// A text: up to 200 bytes of printable ASCII. Contracts see the bytes.
+#[derive(Debug, Drop)]
+pub struct Text {
+    bytes: Seq<u8>,
+}
+
+impl Model for Text {
+    ghost use Rattle.std.specs.Prelude.{List, ℕ};
+    ghost use Rattle.values.specs.Text.{IsText};
+
+    ghost Value = { List ℕ };
+
+    ghost view = { λ t. t.bytes };
+
+    ghost invariant = { λ t. IsText t.bytes };
+}
+
+impl Text {
+    pub fn new(bytes: Seq<u8>) -> Text
+        requires { IsText bytes }
+        ensures { result ≡ bytes }
+    {
+        Text { bytes }
+    }
+
+    pub fn bytes(&self) -> &[u8]
+        ensures value { result.now ≡ self.now }
+        ensures is_text { IsText self.now }
+    {
+        self.bytes.as_slice()
+    }
+}
+
+impl Duplicate for Text {
+    fn copy(&self, alloc: Global) -> Result<Text, AllocError> {
+        Ok(Text {
+            bytes: self.bytes.copy(alloc)?,
+        })
+    }
+}
