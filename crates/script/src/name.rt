@@ -26,6 +26,7 @@ impl Model for SessionName {
 }
 
 impl SessionName {
+    /// The name of these bytes.
     pub fn new(bytes: Seq<u8>) -> SessionName
         requires { IsSessionName bytes }
         ensures { result ≡ bytes }
@@ -33,6 +34,7 @@ impl SessionName {
         SessionName { bytes }
     }
 
+    /// The bytes of the name.
     pub fn bytes(&self) -> &[u8]
         ensures value { result.now ≡ self.now }
         ensures is_name { IsSessionName self.now }
