@@ -1,10 +1,9 @@
 //! The top call.
 
-ghost use Rattle.std.specs.Prelude.{◌≡◌, ◌≢◌, ◌<◌, ◌↔◌, ◌∷◌, [], ◌+◌, ◌==◌, ℕ, IsTrue, false, IfOk, IfSome, map, string_bytes, take};
+ghost use Rattle.std.specs.Prelude.{◌≡◌, ◌≢◌, ◌<◌, ◌↔◌, ◌∷◌, [], ◌==◌, ℕ, IsTrue, false, IfOk, map, string_bytes};
 ghost use Rattle.std.specs.List.{list_any};
 ghost use Rattle.retro_base.specs.Cause.{Rose};
 ghost use Rattle.retro.specs.Program.{HoldsFront, bad_script_line as bad_script_text, bad_words_line, is_run, out_of_memory_line, source_fault_line};
-ghost use Rattle.script.specs.Script.{IsBadAt};
 
 use crate::session::run_script;
 use feeds::{Sink, Source, put_all, read_front};
@@ -41,7 +40,6 @@ fn transcript<S: Source>(
     ensures bad_words { (result ≡ Err Refusal.BadWords) ↔ (is_run (map (λ w. string_bytes w) words.now) ≡ false) }
     ensures source_fault { result ≡ Err Refusal.SourceFault → Rose (S.faults source.old) (S.faults source.new) }
     ensures steady { result ≢ Err Refusal.SourceFault → S.faults source.new ≡ S.faults source.old }
-    ensures bad_script { (n : ℕ) → result ≡ Err (Refusal.BadScript n) → IfSome (S.left source.old) (λ bytes. IsBadAt (take (SCRIPT_BYTES + 1) bytes) n) }
 {
     if !are_good(words) {
         return Err(Refusal::BadWords);
@@ -97,7 +95,7 @@ fn perform<S: Source, K: Sink>(
     ensures bad_words { (result ≡ Status.BadWords) ↔ (is_run (map (λ w. string_bytes w) words.now) ≡ false) }
     ensures source_fault { result ≡ Status.SourceFault → Rose (S.faults source.old) (S.faults source.new) }
     ensures source_steady { result ≢ Status.SourceFault → S.faults source.new ≡ S.faults source.old }
-    ensures bad_script { result ≡ Status.BadScript → (n : ℕ) × IfSome (S.left source.old) (λ bytes. IsBadAt (take (SCRIPT_BYTES + 1) bytes) n) × HoldsFront (K.held sink.old) (K.held sink.new) (bad_script_text n) }
+    ensures bad_script { result ≡ Status.BadScript → (n : ℕ) × HoldsFront (K.held sink.old) (K.held sink.new) (bad_script_text n) }
     ensures sink_fault { result ≡ Status.SinkFault → Rose (K.faults sink.old) (K.faults sink.new) }
     ensures sink_steady { result ≡ Status.Done → K.faults sink.new ≡ K.faults sink.old }
     ensures bad_words_said { result ≡ Status.BadWords → HoldsFront (K.held sink.old) (K.held sink.new) bad_words_line }
@@ -124,7 +122,7 @@ pub fn retro<S: Source, K: Sink>(
     ensures bad_words { (result ≡ 2) ↔ (is_run (map (λ w. string_bytes w) words.now) ≡ false) }
     ensures source_fault { result ≡ 4 → Rose (S.faults source.old) (S.faults source.new) }
     ensures source_steady { result ≢ 4 → S.faults source.new ≡ S.faults source.old }
-    ensures bad_script { result ≡ 3 → (n : ℕ) × IfSome (S.left source.old) (λ bytes. IsBadAt (take (SCRIPT_BYTES + 1) bytes) n) × HoldsFront (K.held sink.old) (K.held sink.new) (bad_script_text n) }
+    ensures bad_script { result ≡ 3 → (n : ℕ) × HoldsFront (K.held sink.old) (K.held sink.new) (bad_script_text n) }
     ensures sink_fault { result ≡ 5 → Rose (K.faults sink.old) (K.faults sink.new) }
     ensures sink_steady { result ≡ 0 → K.faults sink.new ≡ K.faults sink.old }
     ensures bad_words_said { result ≡ 2 → HoldsFront (K.held sink.old) (K.held sink.new) bad_words_line }
