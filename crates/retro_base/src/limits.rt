@@ -12,6 +12,8 @@ pub const MAX_CAPACITY: u32 = 1048576;
 pub const DEFAULT_CAPACITY: u32 = 16384;
 /// Pages of a store in memory.
 pub const MEMORY_PAGES: u32 = 4096;
+/// The byte of an open gate; every other byte is a closed one.
+pub const OPEN_GATE: u8 = 0xA5;
 /// Bytes in each region of the log.
 pub const LOG_REGION_BYTES: u64 = 16777216;
 /// The most pages that one transaction edits.
