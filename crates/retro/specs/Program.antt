@@ -1,18 +1,23 @@
--- The words of the program, and the lines that it writes in place of a transcript.
-use Rattle.std.specs.Prelude.{◌≡◌, ◌≤◌, ◌++◌, ◌∷◌, ℕ, Bool, false, List, [], length, take, codes, Option}
+-- The words of the program, what it reads and writes, and how it ends.
+use Rattle.std.specs.Prelude.{◌≡◌, ◌⊎◌, ◌≤◌, ◌++◌, ◌∷◌, ℕ, Bool, false, List, [], length, take, codes, Option, IfSome, Ok, Err}
 use Rattle.std.specs.Fmt.{decimal}
+use Rattle.std.specs.Option.{option_map}
 use Rattle.std.specs.Str.{bytes_eq}
 use Rattle.feeds.specs.Feeds.{added}
-use Rattle.retro.specs.Texts.{line}
+use Rattle.retro_base.specs.Cause.{Rose}
+use Rattle.script.specs.Script.{ReadsAs, IsOnlyReading}
+use Rattle.script.specs.declared.structure.Script.{Script}
+use Rattle.session.specs.Items.{entries_of}
+use Rattle.session.specs.Lawful.{Lawful}
+use Rattle.session.specs.Line.{line}
+use Rattle.session.specs.Transcript.{transcript}
+use Rattle.session.specs.World.{empty_world}
+use Rattle.session.specs.declared.journal.Line.{Line}
 
 -- whether these words are the good ones: `run` alone
 abbrev pub is_run : List (List ℕ) → Bool
 is_run (word ∷ []) = bytes_eq word (codes "run")
 is_run words = false
-
--- the sink holds what it held, and a front of the text
-abbrev pub HoldsFront : Option (List ℕ) → Option (List ℕ) → List ℕ → Type 0
-HoldsFront before now text = (n : ℕ) × (n ≤ length text) × (now ≡ added before (take n text))
 
 abbrev pub bad_words_line : List ℕ
 bad_words_line = line (codes "retro: bad words")
@@ -25,3 +30,38 @@ out_of_memory_line = line (codes "retro: out of memory")
 
 abbrev pub bad_script_line : ℕ → List ℕ
 bad_script_line number = line (codes "retro: bad script at line " ++ decimal number)
+
+-- the sink holds what it held, and a front of the text
+abbrev pub HoldsFront : Option (List ℕ) → Option (List ℕ) → List ℕ → Type 0
+HoldsFront before now text = (n : ℕ) × (n ≤ length text) × (now ≡ added before (take n text))
+
+-- the sink holds what it held and the text; or a front of the text, and its count of faults rose
+abbrev pub Says : Option (List ℕ) → Option (List ℕ) → ℕ → ℕ → List ℕ → Type 0
+Says before now faults_before faults_now text = (now ≡ added before text) ⊎ (Rose faults_before faults_now × HoldsFront before now text)
+
+-- the bytes are this script, and nothing else
+abbrev pub IsTheScript : Script → List ℕ → Type 0
+IsTheScript script bytes = ReadsAs bytes (Ok script) × IsOnlyReading bytes (Ok script)
+
+-- the bytes are no script, first bad at the line of this number, and nothing else
+abbrev pub IsTheBadLine : ℕ → List ℕ → Type 0
+IsTheBadLine number bytes = ReadsAs bytes (Err number) × IsOnlyReading bytes (Err number)
+
+-- The text is the transcript of one journal, which a run of the script that was left in the source may leave, from a store without tables on.
+pub record IsTranscript (left : Option (List ℕ)) (text : List ℕ) : Type 0 where
+  pub script : Script
+  pub journal : List Line
+  pub read : IfSome left (IsTheScript script)
+  pub lawful : Lawful (entries_of script) empty_world journal
+  pub whole : text ≡ transcript script empty_world journal
+
+-- the source was read to its end
+abbrev pub ReadToEnd : Option (List ℕ) → Option (List ℕ) → Type 0
+ReadToEnd before now = now ≡ option_map (λ bytes. []) before
+
+-- The headline. With status 0 the source was read to its end, and the sink holds what it held and the transcript of one journal; with
+-- status 5 a front of it; with status 8 a front of it or of that status's line.
+pub record WritesOneJournal (left_before left_now held_before held_now : Option (List ℕ)) (status : ℕ) : Type 0 where
+  pub done : status ≡ 0 → (text : List ℕ) × IsTranscript left_before text × ReadToEnd left_before left_now × (held_now ≡ added held_before text)
+  pub sink_fault : status ≡ 5 → (text : List ℕ) × IsTranscript left_before text × ReadToEnd left_before left_now × HoldsFront held_before held_now text
+  pub out_of_memory : status ≡ 8 → HoldsFront held_before held_now out_of_memory_line ⊎ ((text : List ℕ) × IsTranscript left_before text × HoldsFront held_before held_now text)

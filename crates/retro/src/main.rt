@@ -1,14 +1,9 @@
 //! The program `retro`: runs a script over tables that keep declared past states, and writes a transcript of every reply.
 #![tactic(auto)]
 
-mod journal;
 mod program;
-mod rows;
-mod session;
 #[cfg(test)]
 mod tests;
-mod transcript;
-mod world;
 
 use feeds::{StdSink, StdSource};
 use program::retro;

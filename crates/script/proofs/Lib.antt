@@ -1,5 +1,6 @@
 pub mod ClassLaws
 pub mod FirstLine
+pub mod FrontLaws
 pub mod FitLaws
 pub mod OneLine
 pub mod OneScript

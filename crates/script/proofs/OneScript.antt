@@ -4,14 +4,14 @@ use Rattle.std.proofs.lemmas.Bool.{cases_lt}
 use Rattle.std.specs.List.{AllZip}
 use Rattle.std.specs.Option.{option_map_or}
 use Rattle.script.specs.Line.{IsLine, IsOnly}
-use Rattle.script.specs.Script.{step, finished, script_from, script_of, IsOnlyReading}
+use Rattle.script.specs.Script.{step, finished, script_from, script_of, IsScript, IsBadAt, IsOnlyReading}
 use Rattle.script.specs.Text.{script_lines}
 use Rattle.script.specs.declared.draft.Draft.{Draft}
 use Rattle.script.specs.declared.draft.Draft.TheVariants as draft
 use Rattle.script.specs.declared.line.Line.{Line}
 use Rattle.script.specs.declared.structure.Script.{Script}
 
-take_take : {X : Type 0} (m n : ℕ) (xs : List X) → m ≤ n → take m (take n xs) ≡ take m xs
+pub take_take : {X : Type 0} (m n : ℕ) (xs : List X) → m ≤ n → take m (take n xs) ≡ take m xs
 take_take zero n xs h = refl
 take_take (suc m) zero xs h = absurd (omega arith)
 take_take (suc m) (suc n) [] h = refl
@@ -64,6 +64,7 @@ same_lines (x ∷ xs) (l ∷ lines) [] only are = absurd are
 same_lines (x ∷ xs) (l ∷ lines) (o ∷ others) only are = cons_same o l others lines (only.0 o are.0) (same_lines xs lines others only.1 are.1)
 
 pub only_good : (bytes : List ℕ) (lines : List Line) (script : Script) → AllZip OnlyLine (script_lines bytes) lines → script_of lines ≡ Ok script → IsOnlyReading bytes (Ok script)
+unfolding IsScript IsBadAt
 only_good bytes lines script only good (Ok other) (others, are, e) = sym e ∙ ap script_of (same_lines (script_lines bytes) lines others only are) ∙ good
 only_good bytes lines script only good (Err n) (others, are, e) =
     let same = same_lines (take n (script_lines bytes)) (take n lines) others (all_take OnlyLine n (script_lines bytes) lines only) are in
@@ -79,6 +80,7 @@ cut_are xs lines others m n h only are =
     same_lines (take m xs) lines (take m others) only (rw take_take at (all_take IsLine m (take n xs) others are))
 
 pub only_bad : (bytes : List ℕ) (lines : List Line) (number : ℕ) → AllZip OnlyLine (take number (script_lines bytes)) lines → script_of lines ≡ Err number → IsOnlyReading bytes (Err number)
+unfolding IsScript IsBadAt
 only_bad bytes lines number only bad (Ok other) (others, are, e) =
     let same = same_lines (take number (script_lines bytes)) lines (take number others) only (all_take IsLine number (script_lines bytes) others are) in
     sym e ∙ cut_bad others number (ap script_of same ∙ bad)

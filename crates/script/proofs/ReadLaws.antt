@@ -1,5 +1,5 @@
 -- What is known while a script is read.
-use Rattle.std.proofs.Common.{◌≡◌, ◌+◌, ◌<◌, ◌≤◌, ◌++◌, ◌==◌, ◌&&◌, ◌⊎◌, ℕ, Bool, true, false, cond, ltb, List, [], ◌∷◌, Option, Some, None, Result, Ok, Err, IfOk, IfErr, inl, inr, length, take, ap, sym, refl, ◌∙◌, arith, append_assoc, length-append}
+use Rattle.std.proofs.Common.{◌≡◌, ◌+◌, ◌<◌, ◌≤◌, ◌++◌, ◌==◌, ◌&&◌, ◌⊎◌, ℕ, Bool, true, false, cond, ltb, List, [], ◌∷◌, Option, Some, None, Result, Ok, Err, IfOk, IfErr, inl, inr, length, take, ap, sym, refl, ◌∙◌, arith, append_assoc, length-append, length-take}
 use Rattle.std.proofs.lemmas.Bool.Decides.{nat_tests}
 use Rattle.std.proofs.lemmas.List.{take_at, append-nil, take_all}
 use Rattle.std.specs.List.{AllZip}
@@ -17,6 +17,7 @@ use Rattle.script.specs.Text.{in_bounds, lines_in_bounds, script_lines}
 use Rattle.script.specs.declared.draft.Draft.{Draft}
 use Rattle.script.specs.declared.draft.Draft.TheVariants as draft
 use Rattle.script.specs.declared.line.Line.{Line}
+use Rattle.script.specs.declared.line.Line.TheVariants.{Bad}
 use Rattle.script.specs.declared.structure.Script.{Script}
 
 -- whether the script goes too far
@@ -38,6 +39,13 @@ pub record HasRead (bytes rest : List ℕ) (number : ℕ) (state : Draft) : Type
   pub goes_on : (more : List Line) → script_of (said ++ more) ≡ script_from number state more
   pub fits : DraftFits number state
   pub short : number + length rest ≤ SCRIPT_BYTES + 2
+  pub behind : goes_too_far bytes ≡ true → 0 < length rest
+
+-- what is read of bytes that go too far is some
+front_some : (m : ℕ) (bytes rest : List ℕ) → rest ≡ take (m + 1) bytes → ltb m (length bytes) ≡ true → 0 < length rest
+front_some m bytes rest e far =
+    let behind : m < length bytes = grind (arith, nat_tests, far) in
+    omega (arith, ap length e, length-take (m + 1) bytes)
 
 pub read_none : (bytes rest : List ℕ) → rest ≡ take (SCRIPT_BYTES + 1) bytes → length rest ≤ SCRIPT_BYTES + 1 → HasRead bytes rest 1 draft.Empty
 read_none bytes rest e h = record {
@@ -50,7 +58,21 @@ read_none bytes rest e h = record {
   goes_on = λ more. refl;
   fits = omega arith;
   short = omega arith;
+  behind = front_some SCRIPT_BYTES bytes rest e;
 }
+
+step_bad : (state : Draft) → step state Bad ≡ None
+step_bad draft.Empty = refl
+step_bad draft.Phase = refl
+step_bad (draft.Session session) = refl
+
+-- a line that goes too far may not stand anywhere, so that a line which may stand there leaves bytes to read
+behind_next : (too_far : Bool) (first more : List ℕ) (state next : Draft) (line : Line) → IsLine (first_bounded too_far first more) line → step state line ≡ Some next → too_far ≡ true → 0 < length more
+behind_next true first (b ∷ more) state next line is stepped far = omega arith
+behind_next true first [] state next line is stepped far =
+    let none : step state line ≡ None = ap (step state) is ∙ step_bad state in
+    cc
+behind_next false first more state next line is stepped far = cc
 
 are_push : {A B : Type 0} (R : A → B → Type 0) (xs : List A) (ys : List B) (x : A) (y : B) → AllZip R xs ys → R x y → AllZip R (xs ++ x ∷ []) (ys ++ y ∷ [])
 are_push R [] [] x y all one = (one, tt)
@@ -96,6 +118,7 @@ read_more bytes rest more first number state next line h split shorter is only f
   goes_on = λ others. rw append_assoc (h.goes_on (line ∷ others) ∙ rw stepped refl);
   fits = rw stepped at (step_fits number state line h.fits fits);
   short = omega (arith, h.short);
+  behind = behind_next (goes_too_far bytes) first more state next line is stepped;
 }
 
 -- the first bad line, and that the bytes are nothing else
@@ -105,6 +128,7 @@ IsBadOnlyAt bytes number = IsBadAt bytes number × IsOnlyReading bytes (Err numb
 -- the line that may not stand there is bad
 pub bad_line : (bytes rest more first : List ℕ) (number : ℕ) (state : Draft) (line : Line) → HasRead bytes rest number state → lines rest ≡ first ∷ lines more
     → IsLine (first_bounded (goes_too_far bytes) first more) line → OnlyLine (first_bounded (goes_too_far bytes) first more) line → step state line ≡ None → IsBadOnlyAt bytes number
+unfolding IsScript IsBadAt
 bad_line bytes rest more first number state line h split is only stopped =
     let new = first_bounded (goes_too_far bytes) first more in
     let here = h.before ++ new ∷ [] in
@@ -126,6 +150,7 @@ end_said bytes rest number state h = ap script_of (sym (append-nil h.said)) ∙ 
 
 pub end_good : (bytes rest : List ℕ) (number : ℕ) (state : Draft) (answer : Result Script Refusal) → HasRead bytes rest number state → length rest ≡ 0
     → IfOk answer (λ script. finished number state ≡ Ok script) → IfOk answer (IsScript bytes)
+unfolding IsScript IsBadAt
 end_good bytes rest number state (Ok script) h none good =
     (h.said, rw (all_read bytes rest number state h none) h.are, end_said bytes rest number state h ∙ good)
 end_good bytes rest number state (Err refusal) h none good = tt
@@ -142,6 +167,7 @@ end_fits bytes rest number state (Ok script) h good = finished_fits number state
 end_fits bytes rest number state (Err refusal) h good = tt
 
 bad_end : (bytes rest : List ℕ) (number : ℕ) (state : Draft) → HasRead bytes rest number state → length rest ≡ 0 → finished number state ≡ Err number → IsBadOnlyAt bytes number
+unfolding IsScript IsBadAt
 bad_end bytes rest number state h none bad =
     let all : take number (script_lines bytes) ≡ h.before = rw (all_read bytes rest number state h none) (take_all number h.before (omega (arith, h.count))) in
     let answer : script_of h.said ≡ Err number = end_said bytes rest number state h ∙ bad in
@@ -155,3 +181,11 @@ pub end_bad : (bytes rest : List ℕ) (number : ℕ) (state : Draft) (answer : R
 end_bad bytes rest number state (Ok script) h none bad = tt
 end_bad bytes rest number state (Err refusal) h none (inl memory) = rw memory tt
 end_bad bytes rest number state (Err refusal) h none (inr (e, bad)) = rw e (bad_end bytes rest number state h none bad)
+
+-- what was read to its end is no longer than a script
+pub end_short : (bytes rest : List ℕ) (number : ℕ) (state : Draft) → HasRead bytes rest number state → length rest ≡ 0 → length bytes ≤ SCRIPT_BYTES
+end_short bytes rest number state h none = by_test (goes_too_far bytes) refl
+  where
+    by_test : (far : Bool) → goes_too_far bytes ≡ far → length bytes ≤ SCRIPT_BYTES
+    by_test true e = let some : 0 < length rest = h.behind e in absurd (omega arith)
+    by_test false e = grind (arith, nat_tests, e)

@@ -1,8 +1,9 @@
 -- The rules of a script, line by line, and its lines written back.
-use Rattle.std.specs.Prelude.{◌≡◌, ◌+◌, ◌++◌, ◌<◌, ◌==◌, ◌&&◌, ◌||◌, ◌↔◌, ℕ, Bool, true, false, not, List, [], ◌∷◌, Ok, Err, length, take, map, filter, slice_get, flat_map}
+use Rattle.std.specs.Prelude.{◌≡◌, ◌+◌, ◌++◌, ◌<◌, ◌==◌, ◌&&◌, ◌||◌, ◌↔◌, ℕ, Bool, true, false, not, List, [], ◌∷◌, Result, Ok, Err, length, take, map, filter, slice_get, flat_map}
 use Rattle.std.specs.List.{list_any}
 use Rattle.std.specs.Option.{option_map_or}
-use Rattle.script.specs.Script.{script_of}
+use Rattle.retro_base.specs.declared.limits.TheConstants.{SCRIPT_BYTES}
+use Rattle.script.specs.Script.{script_of, ReadsAs, IsOnlyReading}
 use Rattle.script.specs.declared.line.Line.{Line}
 use Rattle.script.specs.declared.line.Line.TheVariants.{Skipped, Phase, Session, Commit, AsOf, Statement, Bad}
 use Rattle.script.specs.declared.structure.End.{End}
@@ -92,3 +93,8 @@ Tells lines script = in_phase (counted lines) ≡ flat_map phase_lines script.ph
 pub record ReadsByTheRules : Type 0 where
   pub bad : (lines : List Line) (number : ℕ) → (script_of lines ≡ Err number) ↔ IsFirstBreak lines number
   pub good : (lines : List Line) (script : Script) → script_of lines ≡ Ok script → Tells lines script
+
+-- The law of the bytes that are read: the first SCRIPT_BYTES + 1 bytes decide what the bytes read as.
+pub record FrontDecides : Type 0 where
+  pub reads : (bytes : List ℕ) (answer : Result Script ℕ) → ReadsAs (take (SCRIPT_BYTES + 1) bytes) answer → ReadsAs bytes answer
+  pub only : (bytes : List ℕ) (answer : Result Script ℕ) → IsOnlyReading (take (SCRIPT_BYTES + 1) bytes) answer → IsOnlyReading bytes answer

@@ -59,12 +59,12 @@ abbrev pub script_of : List Line → Result Script ℕ
 script_of lines = script_from 1 draft.Empty lines
 
 -- the bytes are a script, and say this
-abbrev pub IsScript : List ℕ → Script → Type 0
+unfoldable pub IsScript : List ℕ → Script → Type 0
 IsScript bytes script = (lines : List Line) × AllZip IsLine (script_lines bytes) lines × (script_of lines ≡ Ok script)
 
 -- The bytes are no script, and this is the number of the first bad line: the lines up to it say so. It is one more
 -- than the number of lines where a transaction is open behind the last.
-abbrev pub IsBadAt : List ℕ → ℕ → Type 0
+unfoldable pub IsBadAt : List ℕ → ℕ → Type 0
 IsBadAt bytes number = (lines : List Line) × AllZip IsLine (take number (script_lines bytes)) lines × (script_of lines ≡ Err number)
 
 -- what bytes are: a script, or bad at a line

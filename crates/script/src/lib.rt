@@ -12,7 +12,7 @@ mod structure;
 mod tests;
 mod text;
 
-pub use laws::script_law;
+pub use laws::{front_law, script_law};
 pub use line::Line;
 pub use name::{SessionName, is_session_name};
 pub use reading::read;

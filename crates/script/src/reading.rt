@@ -1,6 +1,6 @@
 //! Reading a script.
 
-ghost use Rattle.std.specs.Prelude.{◌≡◌, ◌+◌, IfOk, IfErr, take};
+ghost use Rattle.std.specs.Prelude.{◌≡◌, ◌≤◌, ◌+◌, IfOk, IfErr, OnOk, length, take};
 ghost use Rattle.script.specs.Limits.{ScriptFits};
 ghost use Rattle.script.specs.Script.{IsScript, IsOnlyReading, IsRefused};
 
@@ -16,6 +16,7 @@ pub fn read(alloc: Global, bytes: &[u8]) -> Result<Script, Refusal>
     ensures found { IfOk result (IsScript bytes.now) }
     ensures only { IfOk result (λ script. IsOnlyReading bytes.now (Ok script)) }
     ensures fits { IfOk result ScriptFits }
+    ensures short { OnOk result (length bytes.now ≤ SCRIPT_BYTES) }
     ensures refused { IfErr result (IsRefused bytes.now) }
 {
     let too_far = bytes.len() > SCRIPT_BYTES;

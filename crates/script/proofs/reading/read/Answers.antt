@@ -1,7 +1,7 @@
-use Rattle.std.proofs.Common.{◌≡◌, ◌+◌, ◌≤◌, ◌==◌, ◌&&◌, length, length-take, sym, ◌∙◌, arith}
+use Rattle.std.proofs.Common.{Result, Ok, Err, OnOk, ◌≡◌, ◌+◌, ◌≤◌, ◌==◌, ◌&&◌, length, length-take, sym, ◌∙◌, arith}
 use Rattle.std.proofs.lemmas.Bool.Decides.{nat_tests}
 use Rattle.retro_base.specs.declared.limits.TheConstants.{SCRIPT_BYTES}
-use Rattle.script.proofs.ReadLaws.{goes_too_far, read_none, read_more, bad_line, end_good, end_only, end_fits, end_bad}
+use Rattle.script.proofs.ReadLaws.{goes_too_far, read_none, read_more, bad_line, end_good, end_only, end_fits, end_short, end_bad}
 use Rattle.script.proofs.reading.read.Goals as goal
 use Rattle.script.proofs.reading.read.Goals.{then-too_far, else-too_far}
 
@@ -46,6 +46,16 @@ returns-clause-only c =
 pub returns-clause-fits : goal.returns-clause-fits
 returns-clause-fits c =
     end_fits c.args.bytes.now c.loop-rest.rest.now c.loop-rest.number c.loop-rest.draft c.finish.result c.loop-rest.invariant c.finish.ensures.good
+
+on_ok : {T E : Type 0} (r : Result T E) (P : Type 0) → P → OnOk r P
+on_ok (Ok x) P p = p
+on_ok (Err e) P p = tt
+
+pub returns-clause-short : goal.returns-clause-short
+returns-clause-short c =
+    let rest = c.loop-rest.rest.now in
+    let none : length rest ≡ 0 = grind (arith, nat_tests) in
+    on_ok c.finish.result _ (end_short c.args.bytes.now rest c.loop-rest.number c.loop-rest.draft c.loop-rest.invariant none)
 
 pub returns-clause-refused : goal.returns-clause-refused
 returns-clause-refused c =

@@ -1,0 +1,19 @@
+-- What a run that ends so has written.
+use Rattle.std.proofs.Common.{◌≡◌, ◌⊎◌, ◌≤◌, ℕ, List, Option, Some, IfSome, Ok, Err, inl, inr, length, take, refl, ap, sym, ◌∙◌, arith}
+use Rattle.std.proofs.lemmas.List.{take_all}
+use Rattle.feeds.specs.Feeds.{added}
+use Rattle.script.specs.Script.{ReadsAs}
+use Rattle.script.specs.declared.structure.Script.{Script}
+use Rattle.retro.specs.Program.{HoldsFront, IsTheBadLine, Says}
+
+-- a text that was said, or a front of it, is a front of it
+pub says_front : (before now : Option (List ℕ)) (m n : ℕ) (text : List ℕ) → Says before now m n text → HoldsFront before now text
+says_front before now m n text (inl whole) = (length text, omega arith, whole ∙ ap (added before) (sym (take_all (length text) text (omega arith))))
+says_front before now m n text (inr cut) = cut.1
+
+-- a script has no bad line
+pub script_or_bad : (left : Option (List ℕ)) (bytes : List ℕ) (script : Script) (n : ℕ) → left ≡ Some bytes → IfSome left (IsTheBadLine n) → ReadsAs bytes (Ok script) → ⊥
+script_or_bad left bytes script n e bad is =
+    let here : IsTheBadLine n bytes = rw e at bad in
+    let same : Ok script ≡ Err n = here.1 (Ok script) is in
+    cc

@@ -1,0 +1,8 @@
+use Rattle.std.proofs.Common.{ap, Err}
+use Rattle.retro.proofs.Ends.{script_or_bad}
+use Rattle.retro.proofs.program.perform.Goals as goal
+
+pub returns-in-Err-clause-good_script : goal.returns-in-Err-clause-good_script
+returns-in-Err-clause-good_script g c = λ bytes script e is bad.
+    let r = c.refuse.ensures.bad_script bad in
+    script_or_bad _ bytes script r.0 e (c.in-Err.ensures.bad_script r.0 (ap Err r.1)) is

@@ -1,0 +1,62 @@
+-- What the lines of items say, and what becomes of them.
+use Rattle.std.proofs.Common.{◌≡◌, ◌++◌, ◌&&◌, ℕ, Bool, true, false, cond, List, [], ◌∷◌, Option, Some, None, map, filter, refl, ap, sym, ◌∙◌, append_assoc}
+use Rattle.std.proofs.lemmas.List.{map-append}
+use Rattle.std.proofs.lemmas.List.Elements.{filter-append}
+use Rattle.std.specs.List.{AllByRecursion}
+use Rattle.retro_base.specs.declared.who.Who.{Who}
+use Rattle.session.specs.Items.{Entry, same_who, item_of}
+use Rattle.session.specs.Lawful.{own}
+use Rattle.session.specs.Transcript.{Fate, or_else, fate}
+use Rattle.session.specs.World.{World, behind, world}
+use Rattle.session.specs.declared.journal.Line.{Line}
+use Rattle.session.specs.declared.journal.What.{What}
+use Rattle.session.proofs.Places.{same_itself}
+
+-- the lines of one item
+abbrev pub noted : Who → List What → List Line
+noted who [] = []
+noted who (what ∷ whats) = record { who = who; what = what } ∷ noted who whats
+
+pub own_append : (who : Who) (xs ys : List Line) → own who (xs ++ ys) ≡ own who xs ++ own who ys
+own_append who xs ys =
+    ap (map (λ (line : Line). line.what)) (filter-append (λ (line : Line). same_who line.who who) xs ys)
+    ∙ map-append (λ (line : Line). line.what) (filter (λ (line : Line). same_who line.who who) xs) (filter (λ (line : Line). same_who line.who who) ys)
+
+pub own_noted : (who : Who) (whats : List What) → own who (noted who whats) ≡ whats
+own_noted who [] = refl
+own_noted who (what ∷ whats) = rw (same_itself who) (ap (λ (ws : List What). what ∷ ws) (own_noted who whats))
+
+pub own_other : (who other : Who) (whats : List What) → same_who other who ≡ false → own who (noted other whats) ≡ []
+own_other who other [] apart = refl
+own_other who other (what ∷ whats) apart = rw apart (own_other who other whats apart)
+
+pub world_append : (entries : List Entry) (now : World) (xs ys : List Line) → world entries now (xs ++ ys) ≡ world entries (world entries now xs) ys
+world_append entries now [] ys = refl
+world_append entries now (line ∷ xs) ys = world_append entries (behind (item_of entries line.who) line.what now) xs ys
+
+or_else_assoc : (a b c : Option Fate) → or_else (or_else a b) c ≡ or_else a (or_else b c)
+or_else_assoc (Some x) b c = refl
+or_else_assoc None b c = refl
+
+pub fate_append : (entries : List Entry) (who : Who) (now : World) (xs ys : List Line) → fate entries who now (xs ++ ys) ≡ or_else (fate entries who (world entries now xs) ys) (fate entries who now xs)
+fate_append entries who now [] ys = sym (or_else_none (fate entries who now ys))
+  where
+    or_else_none : (a : Option Fate) → or_else a None ≡ a
+    or_else_none (Some x) = refl
+    or_else_none None = refl
+fate_append entries who now (line ∷ xs) ys =
+    let next = behind (item_of entries line.who) line.what now in
+    let here = cond (same_who line.who who) (Some (record { now = now; last = line.what })) None in
+    ap (λ (a : Option Fate). or_else a here) (fate_append entries who next xs ys)
+    ∙ or_else_assoc (fate entries who (world entries next xs) ys) (fate entries who next xs) here
+
+-- nothing became of an item without lines
+pub no_fate : (entries : List Entry) (who : Who) (now : World) (lines : List Line) → own who lines ≡ [] → fate entries who now lines ≡ None
+no_fate entries who now [] none = refl
+no_fate entries who now (line ∷ lines) none = by_test (same_who line.who who) refl none (no_fate entries who (behind (item_of entries line.who) line.what now) lines)
+  where
+    by_test : (mine : Bool) → same_who line.who who ≡ mine → map (λ (l : Line). l.what) (cond mine (line ∷ filter (λ (l : Line). same_who l.who who) lines) (filter (λ (l : Line). same_who l.who who) lines)) ≡ []
+        → (own who lines ≡ [] → fate entries who (behind (item_of entries line.who) line.what now) lines ≡ None)
+        → or_else (fate entries who (behind (item_of entries line.who) line.what now) lines) (cond mine (Some (record { now = now; last = line.what })) None) ≡ None
+    by_test true e none rest = cc
+    by_test false e none rest = rw (rest none) refl

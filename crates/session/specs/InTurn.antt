@@ -1,0 +1,97 @@
+-- A run whose sessions go one after the other, step by step: what the program does. No promise cites it.
+use Rattle.std.specs.Prelude.{◌+◌, ◌++◌, ◌&&◌, ℕ, Bool, List, [], ◌∷◌, codes, flat_map, length, Option, is_some, Result, Ok, Err, if◌then◌else◌}
+use Rattle.std.specs.Fmt.{decimal}
+use Rattle.retro_base.specs.declared.refusal.Refusal.{Refusal}
+use Rattle.retro_base.specs.declared.refusal.Refusal.TheVariants as refusal
+use Rattle.retro_base.specs.declared.who.Who.{Who}
+use Rattle.script.specs.declared.structure.End.{End}
+use Rattle.script.specs.declared.structure.End.TheVariants as ending
+use Rattle.script.specs.declared.structure.Item.{Item}
+use Rattle.script.specs.declared.structure.Item.TheVariants as item
+use Rattle.script.specs.declared.structure.Phase.{Phase}
+use Rattle.script.specs.declared.structure.Reading.{Reading}
+use Rattle.script.specs.declared.structure.Reading.TheVariants.{Read, Syntax}
+use Rattle.script.specs.declared.structure.Session.{Session}
+use Rattle.script.specs.declared.structure.Transaction.{Transaction}
+use Rattle.sql_text.specs.declared.parsed.AsOf.{AsOf}
+use Rattle.sql_tree.specs.declared.statement.Statement.{Statement}
+use Rattle.tables.specs.Meaning.{answer_of}
+use Rattle.tables.specs.declared.reply.Answer.{Answer}
+use Rattle.session.specs.Line.{line}
+use Rattle.session.specs.Texts.{answer_text, outcome_text, refusal_text, shown_as}
+use Rattle.session.specs.Transcript.{end_text}
+use Rattle.session.specs.World.{Tables, World, as_of, declared, is_full, newest, replies, transaction}
+use Rattle.session.specs.declared.journal.Line.{Line}
+use Rattle.session.specs.declared.journal.What.{What}
+use Rattle.session.specs.declared.journal.What.TheVariants.{Began, Done, Looked, Unlooked, Refused}
+use Rattle.session.specs.declared.run.Run.{Run}
+
+-- a run so far: the world, the journal and the replies
+pub record State : Type 0 where
+  pub now : World
+  pub journal : List Line
+  pub text : List ℕ
+
+abbrev pub state_of : Run → State
+state_of run = record { now = run.world; journal = run.journal; text = run.replies.items }
+
+abbrev pub say : List ℕ → State → State
+say text s = record s { text = s.text ++ text }
+
+abbrev pub note : Who → What → State → State
+note who what s = record s { journal = s.journal ++ record { who = who; what = what } ∷ [] }
+
+abbrev pub run_statements : List (Reading Statement) → State → State
+run_statements lines s =
+    record { now = record s.now { current = transaction lines s.now.current }; journal = s.journal; text = s.text ++ flat_map outcome_text (replies lines s.now.current) }
+
+abbrev pub run_end : Who → Option (List ℕ) → State → State
+run_end who label s =
+    record { now = declared label s.now; journal = s.journal ++ record { who = who; what = Done label } ∷ []; text = s.text ++ end_text (newest s.now + 1) label }
+
+-- refused with a line of the journal
+abbrev pub run_refused : Who → Refusal → State → State
+run_refused who why s = say (refusal_text (shown_as why)) (note who (Refused why) s)
+
+abbrev pub label_of : End → Option (List ℕ)
+label_of (ending.Commit label) = label
+
+abbrev pub run_transaction : Who → Transaction → State → State
+run_transaction who t s =
+    if is_some (label_of t.end) && is_full s.now then run_refused who (refusal.SnapshotsFull (length s.now.marks)) (note who Began s)
+    else run_end who (label_of t.end) (run_statements t.statements (note who Began s))
+
+abbrev pub run_query : Who → Result Answer Refusal → State → State
+run_query who (Ok answer) s = say (answer_text answer) (note who Unlooked s)
+run_query who (Err why) s = run_refused who why s
+
+abbrev pub run_look_at : Who → AsOf → Result Tables Refusal → State → State
+run_look_at who query (Ok tables) s = run_query who (answer_of query.query tables) (note who (Looked query.snapshot) s)
+run_look_at who query (Err why) s = run_refused who why s
+
+abbrev pub run_look : Who → AsOf → State → State
+run_look who query s = run_look_at who query (as_of query.snapshot s.now) s
+
+abbrev pub run_item : Who → Item → State → State
+run_item who (item.Transaction t) s = run_transaction who t s
+run_item who (item.AsOf (Read query)) s = run_look who query s
+run_item who (item.AsOf (Syntax place)) s = say (refusal_text (shown_as (refusal.Syntax place))) s
+
+abbrev pub run_items : ℕ → ℕ → ℕ → List Item → State → State
+run_items phase session number [] s = s
+run_items phase session number (item ∷ items) s =
+    run_items phase session (number + 1) items (run_item (record { phase = phase; session = session; item = number }) item (say (line (codes "item " ++ decimal number)) s))
+
+abbrev pub run_session : ℕ → ℕ → Session → State → State
+run_session phase place session s = run_items phase place 1 session.items (say (line (codes "session " ++ session.name)) s)
+
+abbrev pub run_sessions : ℕ → ℕ → List Session → State → State
+run_sessions phase place [] s = s
+run_sessions phase place (session ∷ sessions) s = run_sessions phase (place + 1) sessions (run_session phase place session s)
+
+abbrev pub run_phase : ℕ → Phase → State → State
+run_phase number phase s = run_sessions number 0 phase.sessions (say (line (codes "phase " ++ decimal number)) s)
+
+abbrev pub run_phases : ℕ → List Phase → State → State
+run_phases number [] s = s
+run_phases number (phase ∷ phases) s = run_phases (number + 1) phases (run_phase number phase s)

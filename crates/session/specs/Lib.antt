@@ -1,0 +1,11 @@
+pub mod InTurn
+pub mod Items
+pub mod Journal
+pub mod Lawful
+pub mod Laws
+pub mod Line
+pub mod Numbered
+pub mod Rows
+pub mod Texts
+pub mod Transcript
+pub mod World

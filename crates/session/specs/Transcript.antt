@@ -1,0 +1,76 @@
+-- The transcript of a run: the replies of a script's items, as its journal says what became of them, and the journal's visible lines.
+use Rattle.std.specs.Prelude.{◌+◌, ◌++◌, ℕ, List, [], ◌∷◌, codes, flat_map, Option, Some, None, if◌then◌else◌}
+use Rattle.std.specs.Fmt.{decimal}
+use Rattle.retro_base.specs.declared.who.Who.{Who}
+use Rattle.retro_base.specs.declared.refusal.Refusal.TheVariants as refusal
+use Rattle.script.specs.declared.structure.Item.{Item}
+use Rattle.script.specs.declared.structure.Item.TheVariants.{Transaction, AsOf}
+use Rattle.script.specs.declared.structure.Phase.{Phase}
+use Rattle.script.specs.declared.structure.Reading.TheVariants.{Read, Syntax}
+use Rattle.script.specs.declared.structure.Script.{Script}
+use Rattle.script.specs.declared.structure.Session.{Session}
+use Rattle.session.specs.Items.{Entry, entries_of, item_of, same_who}
+use Rattle.session.specs.Journal.{visible_text}
+use Rattle.session.specs.Line.{line}
+use Rattle.session.specs.Texts.{outcome_text, query_text, refusal_text, shown_as}
+use Rattle.session.specs.World.{World, world, behind, replies, answer, newest}
+use Rattle.session.specs.declared.journal.Line.{Line}
+use Rattle.session.specs.declared.journal.What.{What}
+use Rattle.session.specs.declared.journal.What.TheVariants.{Done, Unlooked, Refused}
+
+-- what became of an item: what its last line says, and the world at that line's place
+pub record Fate : Type 0 where
+  pub now : World
+  pub last : What
+
+abbrev pub or_else : Option Fate → Option Fate → Option Fate
+or_else (Some fate) other = Some fate
+or_else None other = other
+
+-- what became of an item by the lines of a journal, from this opening on
+abbrev pub fate : List Entry → Who → World → List Line → Option Fate
+fate entries who opening [] = None
+fate entries who opening (l ∷ lines) =
+    or_else (fate entries who (behind (item_of entries l.who) l.what opening) lines)
+    (if same_who l.who who then Some (record { now = opening; last = l.what }) else None)
+
+abbrev pub end_text : ℕ → Option (List ℕ) → List ℕ
+end_text number None = line (codes "committed")
+end_text number (Some label) = line (codes "committed as " ++ decimal number)
+
+-- the reply lines of an item by its last line: a commit's are those of its statements over the tables at its place, a look's those of
+-- its query over the tables that its snapshot declared
+abbrev pub reply_at : Item → World → What → List ℕ
+reply_at (Transaction t) now (Done label) = flat_map outcome_text (replies t.statements now.current) ++ end_text (newest now + 1) label
+reply_at (AsOf (Read query)) now Unlooked = query_text (answer query now)
+reply_at item now (Refused why) = refusal_text (shown_as why)
+reply_at item now what = line (codes "not run")
+
+-- the reply lines of an item by what became of it; a look that the grammar refuses has no line
+abbrev pub reply : Item → Option Fate → List ℕ
+reply item (Some f) = reply_at item f.now f.last
+reply (AsOf (Syntax place)) None = refusal_text (shown_as (refusal.Syntax place))
+reply item None = line (codes "not run")
+
+-- the items of a session, the first having this number
+abbrev pub items_text : (Who → Option Fate) → ℕ → ℕ → ℕ → List Item → List ℕ
+items_text fates phase session number [] = []
+items_text fates phase session number (item ∷ items) =
+    line (codes "item " ++ decimal number) ++ (reply item (fates (record { phase = phase; session = session; item = number })) ++ items_text fates phase session (number + 1) items)
+
+-- sessions, the first standing at this place of its phase
+abbrev pub sessions_text : (Who → Option Fate) → ℕ → ℕ → List Session → List ℕ
+sessions_text fates phase place [] = []
+sessions_text fates phase place (session ∷ sessions) =
+    line (codes "session " ++ session.name) ++ (items_text fates phase place 1 session.items ++ sessions_text fates phase (place + 1) sessions)
+
+-- phases, the first having this number
+abbrev pub phases_text : (Who → Option Fate) → ℕ → List Phase → List ℕ
+phases_text fates number [] = []
+phases_text fates number (phase ∷ phases) =
+    line (codes "phase " ++ decimal number) ++ (sessions_text fates number 0 phase.sessions ++ phases_text fates (number + 1) phases)
+
+-- the transcript of a journal, from this opening on
+abbrev pub transcript : Script → World → List Line → List ℕ
+transcript script opening journal =
+    phases_text (λ who. fate (entries_of script) who opening journal) 1 script.phases ++ (line (codes "journal") ++ visible_text script (newest opening) journal)

@@ -1,0 +1,71 @@
+//! The rows of an answer, as `csv` writes them.
+
+ghost use Rattle.std.specs.Prelude.{◌≡◌, ◌++◌, IfOk, OnOk, map};
+ghost use Rattle.csv.specs.Records.{fields_of};
+ghost use Rattle.std.specs.List.{AllByRecursion};
+ghost use Rattle.session.specs.Rows.{IsShown, row_lines, row_text};
+ghost use Rattle.values.specs.Value.{text_of};
+
+use csv::{ByteRecord, WriterBuilder};
+use std::alloc::{AllocError, Global};
+use values::{Row, Value};
+
+// An integer in decimal, all of it printable.
+fn digits(alloc: Global, number: i64) -> Result<Vec<u8>, AllocError>
+    ensures text { IfOk result (λ t. t.items ≡ text_of (Value.Int number)) }
+    ensures shown { OnOk result (IsShown (Value.Int number)) }
+{
+    let digits = number.to_string(alloc)?;
+    Vec::from_slice(alloc, digits.as_bytes())
+}
+
+// The text of a value, all of it printable.
+fn text(alloc: Global, value: &Value) -> Result<Vec<u8>, AllocError>
+    ensures text { IfOk result (λ t. t.items ≡ text_of value.now) }
+    ensures shown { OnOk result (IsShown value.now) }
+{
+    match value {
+        Value::Int(number) => digits(alloc, *number),
+        Value::Text(text) => Vec::from_slice(alloc, text.bytes()),
+    }
+}
+
+// The texts of a row's values, as the fields of one record.
+fn record(alloc: Global, row: &Row) -> Result<ByteRecord, AllocError>
+    ensures fields { IfOk result (λ r. fields_of r ≡ map text_of row.now) }
+    ensures shown { OnOk result (AllByRecursion IsShown row.now) }
+{
+    let mut record = ByteRecord::new(alloc);
+    for value in row.as_slice() {
+        let text = text(alloc, value)?;
+        record.push_field(text.as_slice())?;
+    }
+    Ok(record)
+}
+
+// A writer of one record over memory is refused for want of memory alone.
+#[tactic(auto, using(crate::proofs::Quoting::row_same))]
+fn row_bytes(alloc: Global, row: &Row) -> Result<Vec<u8>, AllocError>
+    ensures { IfOk result (λ bytes. bytes.items ≡ row_text row.now) }
+{
+    let record = record(alloc, row)?;
+    let mut writer = WriterBuilder::new().from_writer(Vec::new(alloc));
+    if writer.write_byte_record(&record).is_err() {
+        return Err(AllocError);
+    }
+    match writer.into_inner() {
+        Ok(bytes) => Ok(bytes),
+        Err(_) => Err(AllocError),
+    }
+}
+
+/// Appends the rows, a line each.
+pub fn write_rows(alloc: Global, rows: &[Row], out: &mut Vec<u8>) -> Result<(), AllocError>
+    ensures { OnOk result (out.new.items ≡ out.old.items ++ row_lines rows.now) }
+{
+    for row in rows {
+        let bytes = row_bytes(alloc, row)?;
+        out.extend_from_slice(bytes.as_slice())?;
+    }
+    Ok(())
+}
