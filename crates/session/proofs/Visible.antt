@@ -20,7 +20,7 @@ use Rattle.session.specs.World.{World, behind, newest, world}
 use Rattle.session.specs.declared.journal.Line.{Line}
 use Rattle.session.specs.declared.journal.What.{What}
 use Rattle.session.specs.declared.journal.What.TheVariants.{Began, Done, Looked, Unlooked, Refused}
-use Rattle.session.proofs.Places.{all_append, all_map}
+use Rattle.session.proofs.Places.{all_map}
 
 -- what is not shown says that an attempt began
 hidden : (what : What) → is_shown what ≡ false → what ≡ Began
@@ -29,10 +29,6 @@ hidden (Done label) e = cc
 hidden (Looked snapshot) e = cc
 hidden Unlooked e = cc
 hidden (Refused why) e = cc
-
--- the lines that are shown of some lines
-step : Bool → Line → List Line → List Line
-step shown l lines = cond shown (l ∷ visible lines) (visible lines)
 
 world_visible : (entries : List Entry) (now : World) (lines : List Line) → world entries now (visible lines) ≡ world entries now lines
 world_visible entries now [] = refl
@@ -72,10 +68,110 @@ run_shown (AsOf (Read query)) (Refused why ∷ []) r = refl
 run_shown (AsOf (Syntax place)) [] r = tt
 run_shown one whats r = absurd r
 
+tail_shown : (what : What) (whats : List What) → LastShown (what ∷ whats) → LastShown whats
+tail_shown what [] last = tt
+tail_shown what (next ∷ whats) last = last
+
 -- something became of an item that has lines
-HasFate : Option Fate → Type 0
+abbrev HasFate : Option Fate → Type 0
 HasFate found = (f : Fate) × (found ≡ Some f)
 
--- of an item whose last line is shown, the visible lines say what became
-abbrev Same : List Entry → Who → List Line → Type 0
-Same entries who lines = (now : World) → fate entries who now (visible lines) ≡ fate entries who now lines
+or_some : (a : Option Fate) (x : Fate) → HasFate (or_else a (Some x))
+or_some (Some f) x = (f, refl)
+or_some None x = (x, refl)
+
+or_none : (a : Option Fate) → or_else a None ≡ a
+or_none (Some f) = refl
+or_none None = refl
+
+some_fate : (entries : List Entry) (who : Who) (now : World) (lines : List Line) (what : What) (whats : List What) → own who lines ≡ what ∷ whats → HasFate (fate entries who now lines)
+some_fate entries who now [] what whats e = cc
+some_fate entries who now (l ∷ lines) what whats e =
+    fate_step (same_who l.who who) refl e (λ next f. some_fate entries who next lines what whats f)
+  where
+    fate_step : (mine : Bool) → same_who l.who who ≡ mine → map (λ (x : Line). x.what) (cond mine (l ∷ filter (λ (x : Line). same_who x.who who) lines) (filter (λ (x : Line). same_who x.who who) lines)) ≡ what ∷ whats
+        → ((next : World) → own who lines ≡ what ∷ whats → HasFate (fate entries who next lines))
+        → HasFate (or_else (fate entries who (behind (item_of entries l.who) l.what now) lines) (cond mine (Some (record { now = now; last = l.what })) None))
+    fate_step true e f rest = or_some (fate entries who (behind (item_of entries l.who) l.what now) lines) (record { now = now; last = l.what })
+    fate_step false e f rest =
+        let r = rest (behind (item_of entries l.who) l.what now) f in
+        (r.0, or_none (fate entries who (behind (item_of entries l.who) l.what now) lines) ∙ r.1)
+
+-- what became of an item behind a line that is not shown
+hidden_own : (entries : List Entry) (who : Who) (now : World) (lines : List Line) (here : Fate) (whats : List What) → own who lines ≡ whats → is_shown here.last ≡ false → LastShown (here.last ∷ whats)
+    → fate entries who now lines ≡ or_else (fate entries who now lines) (Some here)
+hidden_own entries who now lines here [] e f last = cc
+hidden_own entries who now lines here (what ∷ whats) e f last = let s = some_fate entries who now lines what whats e in rw s.1 refl
+
+-- the lines that are shown say what became of an item whose last line is shown
+fate_visible : (entries : List Entry) (who : Who) (lines : List Line) → LastShown (own who lines) → (now : World) → fate entries who now (visible lines) ≡ fate entries who now lines
+fate_visible entries who [] last now = refl
+fate_visible entries who (l ∷ lines) last now =
+    visible_step (same_who l.who who) (is_shown l.what) refl refl last (λ h next. fate_visible entries who lines h next)
+  where
+    next : World
+    next = behind (item_of entries l.who) l.what now
+
+    here : Fate
+    here = record { now = now; last = l.what }
+
+    stays : is_shown l.what ≡ false → next ≡ now
+    stays e = ap (λ (what : What). behind (item_of entries l.who) what now) (hidden l.what e)
+
+    visible_step : (mine shown : Bool) → same_who l.who who ≡ mine → is_shown l.what ≡ shown
+        → LastShown (map (λ (x : Line). x.what) (cond mine (l ∷ filter (λ (x : Line). same_who x.who who) lines) (filter (λ (x : Line). same_who x.who who) lines)))
+        → (LastShown (own who lines) → (w : World) → fate entries who w (visible lines) ≡ fate entries who w lines)
+        → fate entries who now (cond shown (l ∷ visible lines) (visible lines)) ≡ or_else (fate entries who next lines) (cond mine (Some here) None)
+    visible_step true true e f last rest = rw e (ap (λ (a : Option Fate). or_else a (Some here)) (rest (tail_shown l.what (own who lines) last) next))
+    visible_step false true e f last rest = rw e (ap (λ (a : Option Fate). or_else a None) (rest last next))
+    visible_step true false e f last rest =
+        rest (tail_shown l.what (own who lines) last) now
+        ∙ ap (λ (w : World). fate entries who w lines) (sym (stays f))
+        ∙ hidden_own entries who next lines here (own who lines) refl f last
+    visible_step false false e f last rest = rest last now ∙ ap (λ (w : World). fate entries who w lines) (sym (stays f)) ∙ sym (or_none (fate entries who next lines))
+
+-- texts of items of which the same became
+abbrev Alike : (Who → Option Fate) → (Who → Option Fate) → List Entry → Type 0
+Alike fates others es = AllByRecursion (λ (e : Entry). fates e.who ≡ others e.who) es
+
+alike_front : (fates others : Who → Option Fate) (xs ys : List Entry) → Alike fates others (xs ++ ys) → Alike fates others xs
+alike_front fates others [] ys a = tt
+alike_front fates others (x ∷ xs) ys a = (a.0, alike_front fates others xs ys a.1)
+
+alike_back : (fates others : Who → Option Fate) (xs ys : List Entry) → Alike fates others (xs ++ ys) → Alike fates others ys
+alike_back fates others [] ys a = a
+alike_back fates others (x ∷ xs) ys a = alike_back fates others xs ys a.1
+
+same_items : (fates others : Who → Option Fate) (phase session number : ℕ) (items : List Item) → Alike fates others (entries_of_items phase session number items) → items_text fates phase session number items ≡ items_text others phase session number items
+same_items fates others phase session number [] a = refl
+same_items fates others phase session number (one ∷ items) a =
+    rw (a.0, same_items fates others phase session (number + 1) items a.1) refl
+
+same_sessions : (fates others : Who → Option Fate) (phase place : ℕ) (sessions : List Session) → Alike fates others (entries_of_sessions phase place sessions) → sessions_text fates phase place sessions ≡ sessions_text others phase place sessions
+same_sessions fates others phase place [] a = refl
+same_sessions fates others phase place (session ∷ sessions) a =
+    let here = entries_of_items phase place 1 session.items in
+    let more = entries_of_sessions phase (place + 1) sessions in
+    rw (same_items fates others phase place 1 session.items (alike_front fates others here more a), same_sessions fates others phase (place + 1) sessions (alike_back fates others here more a)) refl
+
+same_phases : (fates others : Who → Option Fate) (number : ℕ) (phases : List Phase) → Alike fates others (entries_of_phases number phases) → phases_text fates number phases ≡ phases_text others number phases
+same_phases fates others number [] a = refl
+same_phases fates others number (phase ∷ phases) a =
+    let here = entries_of_sessions number 0 phase.sessions in
+    let more = entries_of_phases (number + 1) phases in
+    rw (same_sessions fates others number 0 phase.sessions (alike_front fates others here more a), same_phases fates others (number + 1) phases (alike_back fates others here more a)) refl
+
+-- the transcript of a journal is that of its visible lines
+transcript_visible : (script : Script) (opening : World) (journal : List Line) → Lawful (entries_of script) opening journal → transcript script opening (visible journal) ≡ transcript script opening journal
+transcript_visible script opening journal lawful =
+    let entries = entries_of script in
+    let alike = all_map (λ (e : Entry). IsRun e.item (own e.who journal)) (λ (e : Entry). fate entries e.who opening (visible journal) ≡ fate entries e.who opening journal) entries
+    (λ e r. fate_visible entries e.who journal (run_shown e.item (own e.who journal) r) opening) lawful.shape.runs in
+    rw (same_phases (λ who. fate entries who opening (visible journal)) (λ who. fate entries who opening journal) 1 script.phases alike, text_visible script (newest opening) journal) refl
+
+pub visible_lines_decide : VisibleLinesDecide
+visible_lines_decide = record {
+  worlds = λ entries opening one other same. sym (world_visible entries opening one) ∙ ap (world entries opening) same ∙ world_visible entries opening other;
+  transcripts = λ script opening one other lawful_one lawful_other same.
+      sym (transcript_visible script opening one lawful_one) ∙ ap (transcript script opening) same ∙ transcript_visible script opening other lawful_other;
+}
