@@ -3,6 +3,8 @@
 
 mod program;
 #[cfg(test)]
+mod scripts;
+#[cfg(test)]
 mod tests;
 
 use feeds::{StdSink, StdSource};

@@ -5,9 +5,9 @@ use feeds::{MemSink, MemSource};
 use std::test::Fail;
 
 #[derive(Drop)]
-struct Outcome {
-    status: u8,
-    text: Vec<u8>,
+pub struct Outcome {
+    pub status: u8,
+    pub text: Vec<u8>,
 }
 
 fn run_with(
@@ -29,7 +29,7 @@ fn run_with(
     Ok(Outcome { status, text })
 }
 
-fn run(rt: &(impl AllocGlobal), script: &[u8]) -> Result<Outcome, Fail> {
+pub fn run(rt: &(impl AllocGlobal), script: &[u8]) -> Result<Outcome, Fail> {
     run_with(rt, &["run"], script, &[], &[])
 }
 
@@ -58,28 +58,6 @@ fn other_words_are_bad_words(rt: HostRuntime) -> Result<(), Fail> {
 }
 
 #[test]
-fn the_first_bad_line_is_named(rt: HostRuntime) -> Result<(), Fail> {
-    for (script, line) in [
-        (b"INSERT INTO t VALUES (1)".as_slice(), b"1".as_slice()),
-        (b"\x00\xff\xfe", b"1"),
-        (b"SESSION a\nROLLBACK", b"2"),
-        (b"SESSION a\nSELECT * FROM SnapIds\nCOMMIT", b"2"),
-        (b"SESSION a\nDROP SNAPSHOTS BELOW 2", b"2"),
-        (b"SESSION a\nCREATE TABLE t(a INT)", b"3"),
-        (b"PHASE\nPHASE", b"2"),
-        (b"# two\n\nSESSION a\nSESSION b", b"4"),
-    ] {
-        let outcome = run(&rt, script)?;
-        assert_eq!(rt; outcome.status, 3);
-        let mut want = b"retro: bad script at line ".to_vec(rt.alloc())?;
-        want.extend_from_slice(line)?;
-        want.extend_from_slice(b"\n")?;
-        assert_eq!(rt; outcome.text.as_slice(), want.as_slice());
-    }
-    Ok(())
-}
-
-#[test]
 fn a_failing_source_is_named(rt: HostRuntime) -> Result<(), Fail> {
     let outcome = run_with(&rt, &["run"], b"", &[1], &[])?;
     assert_eq!(rt; outcome.status, 4);
@@ -97,37 +75,6 @@ fn a_failing_sink_holds_a_front_of_the_text(rt: HostRuntime) -> Result<(), Fail>
     assert_eq!(rt; outcome.text.as_slice(), b"".as_slice());
     let outcome = run_with(&rt, &["walk"], b"", &[], &[1])?;
     assert_eq!(rt; outcome.status, 2);
-    Ok(())
-}
-
-#[test]
-fn any_statement_line_has_its_reply(rt: HostRuntime) -> Result<(), Fail> {
-    for (script, want) in [
-        (
-            b"SESSION a\r\nCREATE TABLE t(a INT) ;\r\nCOMMIT;\r\n".as_slice(),
-            b"phase 1\nsession a\nitem 1\nok\ncommitted\njournal\n1 a 1 done\n".as_slice(),
-        ),
-        (
-            b"session a\n\x00\xff\nINSERT INTO t VALUES ('x\ncommit",
-            b"phase 1\nsession a\nitem 1\nrefused 19 Syntax 0\nrefused 19 Syntax 0\ncommitted\njournal\n1 a 1 done\n",
-        ),
-        (
-            b"SESSION a\nCREATE TABLE t(a INT)\nCREATE TABLE t(a INT)\nCREATE TABLE rql_x(a INT)\nCREATE TABLE u(a INT, a TEXT)\nCOMMIT",
-            b"phase 1\nsession a\nitem 1\nok\nrefused 19 Syntax 0\nrefused 19 Syntax 0\nrefused 19 Syntax 0\ncommitted\njournal\n1 a 1 done\n",
-        ),
-        (
-            b"SESSION a\nCREATE TABLE t(a INT, b TEXT)\nINSERT INTO t VALUES ('x', 1)\nINSERT INTO t VALUES (-5, '')\nINSERT INTO t VALUES (1,'a'),(2,'b')\nSELECT * FROM t\nCOMMIT",
-            b"phase 1\nsession a\nitem 1\nok\nrefused 19 Syntax 0\nok 1\nrefused 19 Syntax 0\nrows 1\n-5,\ncommitted\njournal\n1 a 1 done\n",
-        ),
-        (
-            b"SESSION a\nSELECT * FROM t\nUPDATE t SET a = 1\nCOMMIT WITH SNAPSHOT\nSELECT AS OF 1 * FROM t\nSELECT AS OF x",
-            b"phase 1\nsession a\nitem 1\nrefused 20 UnknownName\nrefused 19 Syntax 0\ncommitted as 1\nitem 2\nrefused 20 UnknownName\nitem 3\nrefused 19 Syntax 0\njournal\n1 a 1 done as 1\n1 a 2 looked 1\n1 a 2 refused 20\n",
-        ),
-    ] {
-        let outcome = run(&rt, script)?;
-        assert_eq!(rt; outcome.status, 0);
-        assert_eq!(rt; outcome.text.as_slice(), want);
-    }
     Ok(())
 }
 

@@ -1,0 +1,5 @@
+pub mod Areas
+pub mod Headers
+pub mod Made
+pub mod Rewrites
+pub mod Unique

@@ -1,0 +1,149 @@
+ghost use Rattle.std.specs.Prelude.{◌≡◌, ◌≤◌, ◌<◌, ◌+◌, ◌*◌, ◌↔◌, ℕ, List, IsTrue, IfOk, IfSome, MatchOption, MatchResult};
+ghost use Rattle.disk_model.specs.Disk.{IsImage, Unchanged};
+ghost use Rattle.disk_model.specs.Moments.{LeavesOnly};
+ghost use Rattle.retro_base.specs.Framing.{next_generation};
+ghost use Rattle.gate_log.specs.Cause.{FaultsAlone, IsReadRefusal};
+ghost use Rattle.area_log.specs.Header.{HeaderCounts, IsCounting, IsHeader};
+ghost use Rattle.area_log.specs.Regions.{Counts, IsHalf, NoneCounts};
+
+use disk_model::{Disk, Failed};
+use gate_log::fault_of;
+use retro_base::{Device, OPEN_GATE, Refusal, get_u64};
+
+// What the header of a region tells.
+#[derive(Clone, Copy)]
+pub struct Header {
+    pub is_open: bool,
+    pub generation: u64,
+}
+
+// The half of a device that counts: where it begins, its generation, and whether the other half is open.
+#[derive(Clone, Copy)]
+pub struct Counting {
+    pub place: u64,
+    pub generation: u64,
+    pub is_other_open: bool,
+}
+
+// Finds the half that counts. Where neither does, the device is refused at its first place.
+pub fn find_counting<D: Disk>(disk: &mut D, device: Device, size: u64) -> Result<Counting, Refusal>
+    requires inside { 2 * size ≤ D.extent disk.old }
+    requires least { 17 ≤ size }
+    ensures extent { D.extent disk.new ≡ D.extent disk.old }
+    ensures honest { D.is_honest disk.old ↔ D.is_honest disk.new }
+    ensures cause { MatchResult result
+        (λ _. D.faults disk.new ≡ D.faults disk.old)
+        (IsReadRefusal (λ broken. D.is_honest disk.old → NoneCounts size (D.state disk.old).seen broken) device (D.faults disk.old) (D.faults disk.new)) }
+    ensures half { IfOk result (λ counting. IsHalf size counting.place) }
+    ensures counting { D.is_honest disk.old → IfOk result (IsCounting size (D.state disk.old).seen) }
+    ensures unchanged { D.is_honest disk.old → Unchanged (D.state disk.old) (D.state disk.new) }
+    ensures any_moment { D.is_honest disk.old → LeavesOnly (D.clock disk.old) (D.clock disk.new) (IsImage (D.state disk.old)) }
+{
+    let first = read_header(disk, device, 0)?;
+    let second = read_header(disk, device, size)?;
+    match choose(size, first, second) {
+        Some(counting) => Ok(counting),
+        None => Err(Refusal::NotAStore { device, place: 0 }),
+    }
+}
+
+fn read_header<D: Disk>(disk: &mut D, device: Device, place: u64) -> Result<Header, Refusal>
+    requires { place + 16 ≤ D.extent disk.old }
+    ensures extent { D.extent disk.new ≡ D.extent disk.old }
+    ensures honest { D.is_honest disk.old ↔ D.is_honest disk.new }
+    ensures cause { FaultsAlone device (D.faults disk.old) (D.faults disk.new) result }
+    ensures header { D.is_honest disk.old → IfOk result (IsHeader place (D.state disk.old).seen) }
+    ensures unchanged { D.is_honest disk.old → Unchanged (D.state disk.old) (D.state disk.new) }
+    ensures any_moment { D.is_honest disk.old → LeavesOnly (D.clock disk.old) (D.clock disk.new) (IsImage (D.state disk.old)) }
+{
+    let mut bytes = [0; 16];
+    match disk.read_at(place, &mut bytes) {
+        Ok(()) => Ok(Header {
+            is_open: bytes[0] == OPEN_GATE,
+            generation: get_u64(&bytes, 8),
+        }),
+        Err(Failed) => Err(fault_of(disk, device)),
+    }
+}
+
+// Which of the two halves of that size counts, by their headers.
+fn choose(size: u64, first: Header, second: Header) -> Option<Counting>
+    ensures half { IfSome result (λ counting. IsHalf size counting.place) }
+    ensures counting { (bytes : List ℕ) → 0 < size → IsHeader 0 bytes first → IsHeader size bytes second
+        → MatchOption result ((place : ℕ) → Counts size place bytes → ⊥) (IsCounting size bytes) }
+{
+    if counts(first, second) {
+        return Some(Counting {
+            place: 0,
+            generation: first.generation,
+            is_other_open: second.is_open,
+        });
+    }
+    if counts(second, first) {
+        return Some(Counting {
+            place: size,
+            generation: second.generation,
+            is_other_open: first.is_open,
+        });
+    }
+    None
+}
+
+// Whether the half with the one header counts beside the half with the other.
+fn counts(this: Header, other: Header) -> bool
+    ensures { IsTrue result ↔ HeaderCounts this other }
+{
+    this.is_open && (!other.is_open || this.generation == next_after(other.generation))
+}
+
+/// The generation of the region that is written after one of this generation.
+pub fn next_after(generation: u64) -> u64
+    ensures { result ≡ next_generation generation }
+{
+    if generation == u64::MAX {
+        1
+    } else {
+        generation + 1
+    }
+}
+
+#[cfg(test)]
+mod tests {
+    use super::{Header, choose, next_after};
+
+    #[test]
+    fn generations_begin_again_at_1(rt: HostRuntime) {
+        assert_eq!(rt; next_after(1), 2);
+        assert_eq!(rt; next_after(0xffff_ffff_ffff_fffe), 0xffff_ffff_ffff_ffff);
+        assert_eq!(rt; next_after(0xffff_ffff_ffff_ffff), 1);
+    }
+
+    fn header(is_open: bool, generation: u64) -> Header {
+        Header {
+            is_open,
+            generation,
+        }
+    }
+
+    #[test]
+    fn the_open_half_of_the_next_generation_counts(rt: HostRuntime) {
+        let table = [
+            (header(false, 1), header(false, 0), None),
+            (header(true, 1), header(false, 2), Some(0)),
+            (header(false, 2), header(true, 7), Some(100)),
+            (header(true, 1), header(true, 2), Some(100)),
+            (header(true, 3), header(true, 2), Some(0)),
+            (
+                header(true, 1),
+                header(true, 0xffff_ffff_ffff_ffff),
+                Some(0),
+            ),
+            (header(true, 2), header(true, 2), None),
+            (header(true, 1), header(true, 3), None),
+        ];
+        for (first, second, place) in table {
+            let counting = choose(100, first, second);
+            assert_eq!(rt; counting.map(|c| c.place), place);
+        }
+    }
+}

@@ -1,0 +1,234 @@
+ghost use Rattle.std.specs.Prelude.{◌≡◌, ◌⊎◌, ◌≤◌, ◌+◌, ◌-◌, ◌*◌, ◌/◌, ◌%◌, ◌↔◌, ◌∷◌, [], ◌++◌, ℕ, List, None, length, replicate, OnOk, IfOk, IfErr, MatchResult};
+ghost use Rattle.disk_model.specs.Disk.{IsDurable, IsImage};
+ghost use Rattle.disk_model.specs.Moments.{LeavesOnly};
+ghost use Rattle.retro_base.specs.Framing.{AreBodies};
+ghost use Rattle.gate_log.specs.Bodies.{bodies_of};
+ghost use Rattle.gate_log.specs.Cause.{FaultsAlone, Fit, HasRoom, IsAppendRefusal, IsFillRefusal, IsReadRefusal};
+ghost use Rattle.retro_base.specs.declared.refusal.Refusal.TheVariants.{Stopped};
+ghost use Rattle.area_log.specs.Area.{after_refusal, after_write, appended, Holds, ListsEither, replaced};
+ghost use Rattle.area_log.specs.Cause.{IsDiskFault, IsWriteRefusal};
+ghost use Rattle.area_log.specs.Regions.{DeviceBreaks, DeviceLists, NoneCounts};
+
+use crate::header::{find_counting, next_after};
+use crate::rewrite::rewrite;
+use disk_model::{Disk, Failed};
+use gate_log::{Framed, GateLog, Prepared, fault_of};
+use retro_base::{Device, Refusal};
+use std::alloc::Global;
+use std::marker::Model;
+
+/// A list of bodies on a device. After a fault of a write it refuses every further write, and tells that fault.
+#[derive(Drop)]
+pub struct AreaLog {
+    log: GateLog,
+    generation: u64,
+    is_other_open: bool,
+    fault: Option<u64>,
+}
+
+impl Model for AreaLog {
+    ghost use Rattle.std.specs.Prelude.{◌≡◌, ◌<◌, ◌≤◌, ◌*◌, ◌^◌};
+    ghost use Rattle.area_log.specs.Area.{Area};
+
+    ghost Value = { Area };
+
+    ghost view = { λ a. record { log = a.log; generation = a.generation; is_other_open = a.is_other_open; fault = a.fault } };
+
+    ghost invariant = { λ a. (a.log.place ≤ a.log.size) × (17 ≤ a.log.size) × (2 * a.log.size < 2 ^ 64) };
+}
+
+impl AreaLog {
+    /// Makes the list of an all-zero device, in its first half. It is refused for want of memory, where the
+    /// records and the gate behind them do not fit behind a header, and exactly where a call of the device failed.
+    pub fn make<D: Disk>(
+        alloc: Global,
+        disk: &mut D,
+        device: Device,
+        bodies: &[Vec<u8>],
+    ) -> Result<(), Refusal>
+        requires even { D.extent disk.old % 2 ≡ 0 }
+        requires least { 34 ≤ D.extent disk.old }
+        requires short { AreBodies (bodies_of bodies.now) }
+        ensures extent { D.extent disk.new ≡ D.extent disk.old }
+        ensures honest { D.is_honest disk.old ↔ D.is_honest disk.new }
+        ensures cause { MatchResult result
+            (λ _. Fit (D.extent disk.old / 2) (bodies_of bodies.now) × (D.faults disk.new ≡ D.faults disk.old))
+            (IsFillRefusal (D.extent disk.old / 2) (bodies_of bodies.now) device (D.faults disk.old) (D.faults disk.new)) }
+        ensures made { D.is_honest disk.old → (D.state disk.old).seen ≡ replicate (D.extent disk.old) 0
+            → OnOk result (DeviceLists (D.extent disk.old / 2) (bodies_of bodies.now) (D.state disk.new).seen) }
+        ensures durable { D.is_honest disk.old → OnOk result (IsDurable (D.state disk.new)) }
+        ensures any_moment { D.is_honest disk.old → (D.state disk.old).seen ≡ replicate (D.extent disk.old) 0 → IsDurable (D.state disk.old)
+            → LeavesOnly (D.clock disk.old) (D.clock disk.new)
+            (λ image. NoneCounts (D.extent disk.old / 2) image 0 ⊎ DeviceLists (D.extent disk.old / 2) (bodies_of bodies.now) image) }
+    {
+        let size = disk.size() / 2;
+        let prepared = Prepared::new(alloc, size, 1, bodies)?;
+        let _log = rewrite(disk, device, 0, size, false, &prepared)?;
+        Ok(())
+    }
+
+    /// Syncs a device, and reads its log and its bodies. It is refused for want of memory, exactly where a call
+    /// of the device failed, and where the device lists nothing: with the place 0 where neither half counts, else
+    /// with the place of the record that breaks.
+    pub fn fetch<D: Disk>(
+        alloc: Global,
+        disk: &mut D,
+        device: Device,
+    ) -> Result<(AreaLog, Vec<Vec<u8>>), Refusal>
+        requires even { D.extent disk.old % 2 ≡ 0 }
+        requires least { 34 ≤ D.extent disk.old }
+        ensures extent { D.extent disk.new ≡ D.extent disk.old }
+        ensures honest { D.is_honest disk.old ↔ D.is_honest disk.new }
+        ensures cause { MatchResult result
+            (λ _. D.faults disk.new ≡ D.faults disk.old)
+            (IsReadRefusal (λ broken. D.is_honest disk.old → DeviceBreaks (D.extent disk.old / 2) (D.state disk.old).seen broken) device (D.faults disk.old) (D.faults disk.new)) }
+        ensures device { IfOk result (λ p. p.0.log.device ≡ device) }
+        ensures size { IfOk result (λ p. D.extent disk.old ≡ 2 * p.0.log.size) }
+        ensures going { IfOk result (λ p. p.0.fault ≡ None) }
+        ensures lists { D.is_honest disk.old → IfOk result (λ p. DeviceLists (D.extent disk.old / 2) (bodies_of p.1.items) (D.state disk.old).seen) }
+        ensures holds { D.is_honest disk.old → IfOk result (λ p. Holds p.0 (bodies_of p.1.items) (D.state disk.new)) }
+        ensures seen { D.is_honest disk.old → (D.state disk.new).seen ≡ (D.state disk.old).seen }
+        ensures any_moment { D.is_honest disk.old → LeavesOnly (D.clock disk.old) (D.clock disk.new) (IsImage (D.state disk.old)) }
+    {
+        settle(disk, device)?;
+        let size = disk.size() / 2;
+        let counting = find_counting(disk, device, size)?;
+        let read = GateLog::read_region(alloc, disk, device, counting.place, size)?;
+        let Some((log, bodies)) = read else {
+            return Err(Refusal::NotAStore { device, place: 0 });
+        };
+        let area = AreaLog {
+            log,
+            generation: counting.generation,
+            is_other_open: counting.is_other_open,
+            fault: None,
+        };
+        Ok((area, bodies))
+    }
+
+    /// Where on the device the closed gate behind the list stands.
+    pub fn end(&self) -> u64
+        ensures { result ≡ self.now.log.place + self.now.log.gate }
+    {
+        self.log.end()
+    }
+
+    /// How many bytes of the half that counts are free, the closed gate's among them.
+    pub fn free(&self) -> u64
+        ensures { result ≡ self.now.log.size - self.now.log.gate }
+    {
+        self.log.free()
+    }
+
+    /// Adds a body: four calls of the device, and no memory. A crash at any moment of it leaves the list with the
+    /// body or without; after a success nothing is loose and each crash leaves it with the body. It is refused,
+    /// in this order, after a fault of an earlier write, with the first; where the record and the gate behind it
+    /// do not fit; and exactly where a call of the device failed. The first two leave the device as it was.
+    pub fn append<D: Disk>(&mut self, disk: &mut D, framed: &Framed) -> Result<(), Refusal>
+        requires { D.extent disk.old ≡ 2 * self.old.log.size }
+        ensures extent { D.extent disk.new ≡ D.extent disk.old }
+        ensures honest { D.is_honest disk.old ↔ D.is_honest disk.new }
+        ensures log { self.new ≡ after_write self.old (appended self.old framed.now) result }
+        ensures same_device { self.new.log.device ≡ self.old.log.device }
+        ensures same_size { self.new.log.size ≡ self.old.log.size }
+
+        ensures cause { MatchResult result
+            (λ _. (self.old.fault ≡ None) × HasRoom self.old.log (length framed.now) × (D.faults disk.new ≡ D.faults disk.old))
+            (IsWriteRefusal self.old (IsAppendRefusal self.old.log (length framed.now) (D.faults disk.old) (D.faults disk.new)) (D.faults disk.old) (D.faults disk.new)) }
+        ensures stopped { (count : ℕ) → self.old.fault ≡ Some count → result ≡ Err (Stopped self.old.log.device count) }
+        ensures untouched { IfErr result (λ refusal. (IsDiskFault refusal → ⊥) → disk.new ≡ disk.old) }
+
+        ensures holds { (bodies : List (List ℕ)) → D.is_honest disk.old → Holds self.old bodies (D.state disk.old)
+            → OnOk result (Holds self.new (bodies ++ framed.now ∷ []) (D.state disk.new)) }
+        ensures any_moment { (bodies : List (List ℕ)) → D.is_honest disk.old → Holds self.old bodies (D.state disk.old)
+            → LeavesOnly (D.clock disk.old) (D.clock disk.new) (ListsEither self.old.log.size bodies (bodies ++ framed.now ∷ [])) }
+    {
+        if let Some(count) = self.fault {
+            let device = self.log.device();
+            return Err(Refusal::Stopped { device, count });
+        }
+        match self.log.append(disk, framed) {
+            Ok(()) => Ok(()),
+            Err(refusal) => Err(self.keep(refusal)),
+        }
+    }
+
+    /// Puts these bodies in the place of all that are there: four calls of the device, and two before them where
+    /// the half that does not count is open. A crash at any moment of it leaves the old list or the new one whole;
+    /// after a success nothing is loose and each crash leaves the new one. It is refused, in this order, after a
+    /// fault of an earlier write, with the first; for want of memory; where the records and the gate behind them
+    /// do not fit behind a header; and exactly where a call of the device failed. All but the last leave the
+    /// device as it was.
+    pub fn replace<D: Disk>(
+        &mut self,
+        alloc: Global,
+        disk: &mut D,
+        bodies: &[Vec<u8>],
+    ) -> Result<(), Refusal>
+        requires whole { D.extent disk.old ≡ 2 * self.old.log.size }
+        requires short { AreBodies (bodies_of bodies.now) }
+        ensures extent { D.extent disk.new ≡ D.extent disk.old }
+        ensures honest { D.is_honest disk.old ↔ D.is_honest disk.new }
+        ensures log { self.new ≡ after_write self.old (replaced self.old (bodies_of bodies.now)) result }
+        ensures same_device { self.new.log.device ≡ self.old.log.device }
+        ensures same_size { self.new.log.size ≡ self.old.log.size }
+
+        ensures cause { MatchResult result
+            (λ _. (self.old.fault ≡ None) × Fit self.old.log.size (bodies_of bodies.now) × (D.faults disk.new ≡ D.faults disk.old))
+            (IsWriteRefusal self.old (IsFillRefusal self.old.log.size (bodies_of bodies.now) self.old.log.device (D.faults disk.old) (D.faults disk.new)) (D.faults disk.old) (D.faults disk.new)) }
+        ensures stopped { (count : ℕ) → self.old.fault ≡ Some count → result ≡ Err (Stopped self.old.log.device count) }
+        ensures untouched { IfErr result (λ refusal. (IsDiskFault refusal → ⊥) → disk.new ≡ disk.old) }
+
+        ensures holds { (old : List (List ℕ)) → D.is_honest disk.old → Holds self.old old (D.state disk.old)
+            → OnOk result (Holds self.new (bodies_of bodies.now) (D.state disk.new)) }
+        ensures any_moment { (old : List (List ℕ)) → D.is_honest disk.old → Holds self.old old (D.state disk.old)
+            → LeavesOnly (D.clock disk.old) (D.clock disk.new) (ListsEither self.old.log.size old (bodies_of bodies.now)) }
+    {
+        let device = self.log.device();
+        if let Some(count) = self.fault {
+            return Err(Refusal::Stopped { device, count });
+        }
+        let size = self.log.size();
+        let other = size - self.log.place();
+        let generation = next_after(self.generation);
+        let prepared = Prepared::new(alloc, size, generation, bodies)?;
+        match rewrite(disk, device, other, size, self.is_other_open, &prepared) {
+            Ok(log) => {
+                *self = AreaLog {
+                    log,
+                    generation,
+                    is_other_open: true,
+                    fault: None,
+                };
+                Ok(())
+            }
+            Err(refusal) => Err(self.keep(refusal)),
+        }
+    }
+
+    // Keeps a fault of a write, and gives the refusal back.
+    fn keep(&mut self, refusal: Refusal) -> Refusal
+        ensures kept { self.new ≡ after_refusal self.old refusal }
+        ensures same { result ≡ refusal }
+    {
+        if let Refusal::DiskFault { count, .. } = refusal {
+            self.fault = Some(count);
+        }
+        refusal
+    }
+}
+
+// Syncs the device.
+fn settle<D: Disk>(disk: &mut D, device: Device) -> Result<(), Refusal>
+    ensures extent { D.extent disk.new ≡ D.extent disk.old }
+    ensures honest { D.is_honest disk.old ↔ D.is_honest disk.new }
+    ensures cause { FaultsAlone device (D.faults disk.old) (D.faults disk.new) result }
+    ensures seen { D.is_honest disk.old → (D.state disk.new).seen ≡ (D.state disk.old).seen }
+    ensures durable { D.is_honest disk.old → OnOk result (IsDurable (D.state disk.new)) }
+    ensures any_moment { D.is_honest disk.old → LeavesOnly (D.clock disk.old) (D.clock disk.new) (IsImage (D.state disk.old)) }
+{
+    match disk.sync() {
+        Ok(()) => Ok(()),
+        Err(Failed) => Err(fault_of(disk, device)),
+    }
+}

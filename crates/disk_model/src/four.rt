@@ -1,0 +1,82 @@
+ghost use Rattle.std.specs.Prelude.{◌≡◌};
+ghost use Rattle.disk_model.specs.Sizes.{log_bytes, maplog_bytes, pagelog_bytes, pages_bytes};
+
+/// The four devices of a store.
+#[derive(Debug, Drop)]
+pub struct Four<D> {
+    /// The log of the desk.
+    pub log: D,
+    /// The pages.
+    pub pages: D,
+    /// The log of page images.
+    pub pagelog: D,
+    /// The log of mappings.
+    pub maplog: D,
+}
+
+/// How many pages a store has, and how many page images its archive holds.
+#[derive(Clone, Copy, Debug, PartialEq, Eq)]
+pub struct Sizes {
+    pub pages: u32,
+    pub capacity: u32,
+}
+
+const PAGE_BYTES: u64 = 1024;
+
+const LOG_REGION_BYTES: u64 = 16_777_216;
+
+impl Sizes {
+    /// The bytes of the log's device: two regions.
+    pub fn log_bytes(self) -> u64
+        ensures { result ≡ log_bytes }
+    {
+        2 * LOG_REGION_BYTES
+    }
+
+    /// The bytes of the device of the pages.
+    pub fn pages_bytes(self) -> u64
+        ensures { result ≡ pages_bytes self.pages }
+    {
+        PAGE_BYTES * u64::from(self.pages)
+    }
+
+    /// The bytes of the device of the page images.
+    pub fn pagelog_bytes(self) -> u64
+        ensures { result ≡ pagelog_bytes self.capacity }
+    {
+        PAGE_BYTES * u64::from(self.capacity)
+    }
+
+    /// The bytes of the device of the mappings: two regions.
+    pub fn maplog_bytes(self) -> u64
+        ensures { result ≡ maplog_bytes self.capacity }
+    {
+        2 * (32 * u64::from(self.capacity) + 4096)
+    }
+}
+
+#[cfg(test)]
+mod tests {
+    use super::{Four, Sizes};
+    use std::test::Fail;
+
+    #[test]
+    fn devices_have_their_sizes(rt: HostRuntime) -> Result<(), Fail> {
+        let sizes = Sizes {
+            pages: 16,
+            capacity: 64,
+        };
+        let four = Four {
+            log: sizes.log_bytes(),
+            pages: sizes.pages_bytes(),
+            pagelog: sizes.pagelog_bytes(),
+            maplog: sizes.maplog_bytes(),
+        };
+        let shown = format!(in rt.alloc(); "{four:?}")?;
+        assert_eq!(rt;
+            shown.as_str(),
+            "Four { log: 33554432, pages: 16384, pagelog: 65536, maplog: 12288 }"
+        );
+        Ok(())
+    }
+}

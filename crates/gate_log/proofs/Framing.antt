@@ -1,0 +1,45 @@
+-- Bodies, and the bytes of their records.
+use Rattle.std.proofs.Common.{◌≡◌, ◌∙◌, ◌<◌, ◌+◌, ◌-◌, ◌^◌, ℕ, zero, suc, List, [], ◌∷◌, ◌++◌, length, get_or, take, drop, Vec, refl, sym, ap, arith, length-append}
+use Rattle.std.proofs.lemmas.List.{take_at, drop_at, flat_map_more}
+use Rattle.retro_base.specs.Fields.{field_bytes}
+use Rattle.retro_base.specs.Framing.{sized, record_of, records_of, AreBodies}
+use Rattle.std.specs.declared.alloc.Global.{Global}
+use Rattle.gate_log.specs.Bodies.{bodies_of}
+use Rattle.gate_log.specs.Framed.{body_of, IsFramed}
+use Rattle.gate_log.specs.declared.framed.Framed.TheInside.{Inside}
+use Rattle.retro_base.proofs.FieldLaws.{length-field_bytes}
+
+pub length-sized : (body : List ℕ) → length (sized body) ≡ length body + 4
+length-sized body = omega (arith, length-append (field_bytes 4 (length body)) body, length-field_bytes 4 (length body))
+
+pub records-push : (bodies : List (List ℕ)) (body : List ℕ) → records_of (bodies ++ body ∷ []) ≡ records_of bodies ++ record_of body
+records-push bodies body = sym (flat_map_more record_of [] bodies body)
+
+pub length-records-push : (bodies : List (List ℕ)) (body : List ℕ) → length (records_of (bodies ++ body ∷ [])) ≡ length (records_of bodies) + length body + 5
+length-records-push bodies body = omega (arith, ap length (records-push bodies body), length-append (records_of bodies) (record_of body), length-sized body)
+
+pub AreBodies-push : (bodies : List (List ℕ)) (body : List ℕ) → AreBodies bodies → length body < 2 ^ 32 → AreBodies (bodies ++ body ∷ [])
+AreBodies-push [] body all short = (short, tt)
+AreBodies-push (first ∷ bodies) body (p, all) short = (p, AreBodies-push bodies body all short)
+
+pub AreBodies-at : (vecs : List (Vec ℕ Global)) (i : ℕ) (d : Vec ℕ Global) → AreBodies (bodies_of vecs) → i < length vecs → length (get_or vecs i d).items < 2 ^ 32
+AreBodies-at [] i d all lt = absurd (omega arith)
+AreBodies-at (vec ∷ vecs) zero d (p, all) lt = p
+AreBodies-at (vec ∷ vecs) (suc i) d (p, all) lt = AreBodies-at vecs i d all (omega arith)
+
+-- a body's length, the body, and a closed gate
+pub length-piece : (body : List ℕ) → length (sized body ++ 0 ∷ []) ≡ length body + 5
+length-piece body = omega (arith, length-append (sized body) (0 ∷ []), length-sized body)
+
+-- framed bytes are five more than the body's
+pub length-framed : (framed : Inside) → IsFramed framed → length framed.bytes.items ≡ length (body_of framed) + 5
+length-framed framed is = omega (arith, ap length is.framing, length-append (sized (body_of framed)) (0 ∷ []), length-sized (body_of framed))
+
+-- the body of framed bytes
+pub unframed : (body bytes : List ℕ) → bytes ≡ sized body ++ 0 ∷ [] → drop 4 (take (length bytes - 1) bytes) ≡ body
+unframed body bytes is =
+    let long : length bytes - 1 ≡ length (sized body) = omega (arith, ap length is, length-append (sized body) (0 ∷ [])) in
+    ap (λ (l : List ℕ). drop 4 (take (length bytes - 1) l)) is
+    ∙ ap (λ (n : ℕ). drop 4 (take n (sized body ++ 0 ∷ []))) long
+    ∙ ap (λ (l : List ℕ). drop 4 l) (take_at (sized body) (0 ∷ []) (length (sized body)) refl)
+    ∙ drop_at (field_bytes 4 (length body)) body 4 (length-field_bytes 4 (length body))

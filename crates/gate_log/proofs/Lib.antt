@@ -1,0 +1,8 @@
+pub mod Appends
+pub mod Fills
+pub mod Framing
+pub mod Numbers
+pub mod Ranges
+pub mod Regions
+pub mod Splits
+pub mod Unique

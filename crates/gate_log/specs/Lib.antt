@@ -1,0 +1,7 @@
+pub mod Appending
+pub mod Bodies
+pub mod Cause
+pub mod Framed
+pub mod Laws
+pub mod Log
+pub mod Region

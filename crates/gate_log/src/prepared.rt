@@ -1,0 +1,136 @@
+ghost use Rattle.std.specs.Prelude.{◌≡◌, ◌≤◌, ◌<◌, ◌+◌, ◌-◌, ◌^◌, ◌++◌, ◌↔◌, ℕ, List, length, OnOk, IfOk, IfErr};
+ghost use Rattle.disk_model.specs.Disk.{IsDurable, SameOutside};
+ghost use Rattle.disk_model.specs.Moments.{LeavesOnly};
+ghost use Rattle.gate_log.specs.Appending.{LooseOrIn};
+ghost use Rattle.gate_log.specs.Bodies.{bodies_of};
+ghost use Rattle.gate_log.specs.Cause.{FaultsAlone, Fit, IsPrepareRefusal};
+ghost use Rattle.gate_log.specs.Log.{Fills, IsPrepared, region_tail};
+ghost use Rattle.retro_base.specs.Framing.{record_of, AreBodies};
+ghost use Rattle.retro_base.specs.declared.refusal.Refusal.TheVariants.{OutOfMemory};
+
+use crate::durable::put_durably;
+use crate::log::GateLog;
+use disk_model::Disk;
+use retro_base::{Device, OPEN_GATE, Refusal, put_u32, put_u64};
+use std::alloc::Global;
+use std::marker::Model;
+
+/// All that a fill of a region writes behind the gate of its header, in one piece.
+#[derive(Drop)]
+pub struct Prepared {
+    bytes: Vec<u8>,
+}
+
+impl Model for Prepared {
+    ghost use Rattle.std.specs.Prelude.{ℕ, List};
+    ghost use Rattle.std.specs.Coded.{coded_ℕ, coded_list};
+
+    ghost Value = { List ℕ };
+
+    ghost coded = { coded_list coded_ℕ };
+
+    ghost view = { λ prepared. prepared.bytes.items };
+}
+
+impl Prepared {
+    /// Prepares a list for a region of that many bytes. It is refused where the records and the gate behind
+    /// them have more bytes than stand behind the region's header, and for want of memory.
+    pub fn new(
+        alloc: Global,
+        size: u64,
+        generation: u64,
+        bodies: &[Vec<u8>],
+    ) -> Result<Prepared, Refusal>
+        requires least { 17 ≤ size }
+        requires first { 1 ≤ generation }
+        requires short { AreBodies (bodies_of bodies.now) }
+        ensures ok { IfOk result (λ prepared. IsPrepared prepared generation (bodies_of bodies.now)) }
+        ensures fit { OnOk result (Fit size (bodies_of bodies.now)) }
+        ensures cause { IfErr result (IsPrepareRefusal size (bodies_of bodies.now)) }
+    {
+        let bytes = region_bytes(alloc, generation, bodies)?;
+        let needed = bytes.len() as u64 - 15;
+        let free = size - 16;
+        if free < needed {
+            return Err(Refusal::NoRoom { needed, free });
+        }
+        Ok(Prepared { bytes })
+    }
+
+    /// Fills the region: two calls of the device. The log that it gives is one to use only once the gate of
+    /// the region's header is open.
+    pub fn fill<D: Disk>(
+        &self,
+        disk: &mut D,
+        device: Device,
+        place: u64,
+        size: u64,
+    ) -> Result<GateLog, Refusal>
+        requires inside { place + size ≤ D.extent disk.old }
+        requires room { length self.now + 1 ≤ size }
+        requires fits { place + size < 2 ^ 64 }
+        ensures extent { D.extent disk.new ≡ D.extent disk.old }
+        ensures honest { D.is_honest disk.old ↔ D.is_honest disk.new }
+        ensures cause { FaultsAlone device (D.faults disk.old) (D.faults disk.new) result }
+        ensures log { IfOk result (λ log. log ≡ record { device = device; place = place; size = size; gate = length self.now }) }
+        ensures filled { (generation : ℕ) (bodies : List (List ℕ)) → IsPrepared self.now generation bodies → D.is_honest disk.old
+            → OnOk result (Fills place size generation bodies (D.state disk.old).seen (D.state disk.new).seen) }
+        ensures durable { D.is_honest disk.old → OnOk result (IsDurable (D.state disk.new)) }
+        ensures any_moment { D.is_honest disk.old → LeavesOnly (D.clock disk.old) (D.clock disk.new)
+            (SameOutside (LooseOrIn (D.state disk.old) (place + 1) (size - 1)) (D.state disk.old).seen) }
+    {
+        put_durably(disk, device, place + 1, &self.bytes)?;
+        let gate = self.bytes.len() as u64;
+        Ok(GateLog::at(device, place, size, gate))
+    }
+}
+
+// What stands behind the gate of the header of a region with these bodies.
+fn region_bytes(alloc: Global, generation: u64, bodies: &[Vec<u8>]) -> Result<Vec<u8>, Refusal>
+    requires { AreBodies (bodies_of bodies.now) }
+    ensures ok { IfOk result (λ bytes. bytes.items ≡ region_tail generation (bodies_of bodies.now)) }
+    ensures err { IfErr result (λ refusal. refusal ≡ OutOfMemory) }
+{
+    let mut header = [0; 15];
+    put_u64(&mut header, 7, generation);
+    let mut bytes = header.to_vec(alloc)?;
+    for body in bodies {
+        put_record(&mut bytes, body)?;
+    }
+    bytes.push(0)?;
+    Ok(bytes)
+}
+
+// Adds a record with its gate open.
+fn put_record(bytes: &mut Vec<u8>, body: &[u8]) -> Result<(), Refusal>
+    requires { length body.now < 2 ^ 32 }
+    ensures ok { OnOk result (bytes.new.items ≡ bytes.old.items ++ record_of body.now) }
+    ensures err { IfErr result (λ refusal. refusal ≡ OutOfMemory) }
+{
+    let mut head = [OPEN_GATE; 5];
+    put_u32(&mut head, 1, body.len() as u32);
+    bytes.extend_from_slice(&head)?;
+    bytes.extend_from_slice(body)?;
+    Ok(())
+}
+
+#[cfg(test)]
+mod tests {
+    use super::Prepared;
+    use retro_base::Refusal;
+    use std::test::Fail;
+
+    #[test]
+    fn a_region_of_one_body(rt: HostRuntime) -> Result<(), Fail> {
+        let alloc = rt.alloc();
+        let bodies = vec![in alloc; [1u8, 2].to_vec(alloc)?]?;
+        let prepared = Prepared::new(alloc, 24, 258, bodies.as_slice())?;
+        let want = [
+            0, 0, 0, 0, 0, 0, 0, 0, 0, 0, 0, 0, 0, 1, 2, 0xa5, 0, 0, 0, 2, 1, 2, 0,
+        ];
+        assert_eq!(rt; prepared.bytes.as_slice(), want.as_slice());
+        let refused = Prepared::new(alloc, 23, 258, bodies.as_slice());
+        assert_eq!(rt; refused.err(), Some(Refusal::NoRoom { needed: 8, free: 7 }));
+        Ok(())
+    }
+}

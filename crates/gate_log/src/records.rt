@@ -1,0 +1,89 @@
+ghost use Rattle.std.specs.Prelude.{◌≡◌, ◌<◌, ◌≤◌, ◌+◌, ◌^◌, ◌++◌, length, drop, slice_index, IfOk, IfErr, IfSome, IfNone};
+ghost use Rattle.gate_log.specs.Bodies.{bodies_of};
+ghost use Rattle.gate_log.specs.Cause.{IsRecordsRefusal};
+ghost use Rattle.retro_base.specs.Fields.{number_at};
+ghost use Rattle.retro_base.specs.Framing.{record_of, records_of, AreRecords};
+
+use retro_base::{Device, OPEN_GATE, Refusal, get_u32};
+use std::alloc::Global;
+
+// The bodies of the records up to the first closed gate, and how many bytes stand before it. The bytes stand
+// from that place of the device on.
+pub fn read_records(
+    alloc: Global,
+    device: Device,
+    place: u64,
+    records: &[u8],
+) -> Result<(Vec<Vec<u8>>, u64), Refusal>
+    requires some { 0 < length records.now }
+    requires fits { place + length records.now < 2 ^ 64 }
+    ensures records { IfOk result (λ r. AreRecords (bodies_of r.0.items) records.now) }
+    ensures end { IfOk result (λ r. r.1 ≡ length (records_of (bodies_of r.0.items))) }
+    ensures cause { IfErr result (IsRecordsRefusal device place records.now) }
+{
+    let mut bodies = Vec::new(alloc);
+    let mut rest = records;
+    while rest[0] == OPEN_GATE {
+        let Some((body, next)) = split_record(rest) else {
+            let at = (records.len() - rest.len()) as u64;
+            return Err(Refusal::NotAStore {
+                device,
+                place: place + at,
+            });
+        };
+        bodies.push(body.to_vec(alloc)?)?;
+        rest = next;
+    }
+    let end = (records.len() - rest.len()) as u64;
+    Ok((bodies, end))
+}
+
+// The body of the first record, and what stands behind the record, if its next gate does.
+fn split_record(rest: &[u8]) -> Option<(&[u8], &[u8])>
+    requires some { 0 < length rest.now }
+    requires is_open { slice_index rest.now 0 ≡ OPEN_GATE }
+    ensures split { IfSome result (λ p. rest.now ≡ record_of p.0.now ++ p.1.now) }
+    ensures gate { IfSome result (λ p. 0 < length p.1.now) }
+    ensures short { IfSome result (λ p. length p.0.now < 2 ^ 32) }
+    ensures moves_on { IfSome result (λ p. length p.1.now + 5 ≤ length rest.now) }
+    ensures over { IfNone result (length (drop 1 rest.now) < number_at 4 (drop 1 rest.now) 0 + 5) }
+{
+    if rest.len() < 6 {
+        return None;
+    }
+    let count = get_u32(rest, 1) as usize;
+    let behind = &rest[5..];
+    if behind.len() <= count {
+        return None;
+    }
+    Some(behind.split_at(count))
+}
+
+#[cfg(test)]
+mod tests {
+    use super::read_records;
+    use retro_base::{Device, Refusal};
+    use std::test::Fail;
+
+    #[test]
+    fn records_end_at_the_first_closed_gate(rt: HostRuntime) -> Result<(), Fail> {
+        let bytes = [
+            0xa5, 0, 0, 0, 2, 1, 2, 0xa5, 0, 0, 0, 0, 0xa4, 0xa5, 0, 0, 0, 9,
+        ];
+        let (bodies, end) = read_records(rt.alloc(), Device::Log, 16, &bytes)?;
+        assert_eq!(rt; end, 12);
+        assert_eq!(rt; bodies.len(), 2);
+        assert_eq!(rt; bodies[0].as_slice(), [1, 2].as_slice());
+        assert!(rt; bodies[1].is_empty());
+        Ok(())
+    }
+
+    #[test]
+    fn a_record_ends_with_a_gate_inside_the_region(rt: HostRuntime) -> Result<(), Fail> {
+        let bytes = [0xa5, 0, 0, 0, 0, 0xa5, 0, 0, 0, 2, 1, 2];
+        let refused = read_records(rt.alloc(), Device::Log, 16, &bytes);
+        let (device, place) = (Device::Log, 21);
+        assert_eq!(rt; refused.err(), Some(Refusal::NotAStore { device, place }));
+        Ok(())
+    }
+}

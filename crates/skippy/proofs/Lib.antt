@@ -1,0 +1,3 @@
+pub mod BoundLemmas
+pub mod FirstLemmas
+pub mod ScanLemmas

@@ -1,0 +1,4 @@
+pub mod Bound
+pub mod FirstTable
+pub mod Mappings
+pub mod Steps
