@@ -4,7 +4,7 @@ use Rattle.std.proofs.lemmas.List.{take_all}
 use Rattle.feeds.specs.Feeds.{added}
 use Rattle.script.specs.Script.{ReadsAs}
 use Rattle.script.specs.declared.structure.Script.{Script}
-use Rattle.retro.specs.Program.{HoldsFront, IsTheBadLine, Says}
+use Rattle.retro.specs.Program.{HoldsFront, IsTheBadLine, IsTheScript, IsTranscript, Says}
 
 -- a text that was said, or a front of it, is a front of it
 pub says_front : (before now : Option (List ℕ)) (m n : ℕ) (text : List ℕ) → Says before now m n text → HoldsFront before now text
@@ -16,4 +16,11 @@ pub script_or_bad : (left : Option (List ℕ)) (bytes : List ℕ) (script : Scri
 script_or_bad left bytes script n e bad is =
     let here : IsTheBadLine n bytes = rw e at bad in
     let same : Ok script ≡ Err n = here.1 (Ok script) is in
+    cc
+
+-- bytes that are bad at a line have no transcript
+pub bad_or_transcript : (left : Option (List ℕ)) (bytes : List ℕ) (text : List ℕ) (n : ℕ) → left ≡ Some bytes → IsTranscript left text → ReadsAs bytes (Err n) → ⊥
+bad_or_transcript left bytes text n e told is =
+    let here : IsTheScript told.script bytes = rw e at told.read in
+    let same : Err n ≡ Ok told.script = here.1 (Err n) is in
     cc

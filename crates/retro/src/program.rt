@@ -1,6 +1,6 @@
 //! The top call.
 
-ghost use Rattle.std.specs.Prelude.{◌≡◌, ◌≢◌, ◌⊎◌, ◌<◌, ◌-◌, ◌^◌, ◌↔◌, ◌∷◌, [], ◌==◌, ℕ, List, IsTrue, Some, Ok, true, false, IfOk, IfSome, OnOk, map, string_bytes};
+ghost use Rattle.std.specs.Prelude.{◌≡◌, ◌≢◌, ◌⊎◌, ◌<◌, ◌-◌, ◌^◌, ◌↔◌, ◌∷◌, [], ◌==◌, ℕ, List, IsTrue, Some, Ok, Err, true, false, IfOk, IfSome, OnOk, map, string_bytes};
 ghost use Rattle.std.specs.List.{list_any};
 ghost use Rattle.feeds.specs.Feeds.{added};
 ghost use Rattle.retro_base.specs.Cause.{Rose};
@@ -128,6 +128,7 @@ fn perform<S: Source, K: Sink>(
     ensures done { result ≡ Status.Done → (text : List ℕ) × IsTranscript (S.left source.old) text × ReadToEnd (S.left source.old) (S.left source.new) × (K.held sink.new ≡ added (K.held sink.old) text) }
     ensures cut { result ≡ Status.SinkFault → (text : List ℕ) × IsTranscript (S.left source.old) text × ReadToEnd (S.left source.old) (S.left source.new) × HoldsFront (K.held sink.old) (K.held sink.new) text }
     ensures out_of_memory_said { result ≡ Status.OutOfMemory → HoldsFront (K.held sink.old) (K.held sink.new) out_of_memory_line }
+    ensures bad_line { (bytes : List ℕ) (n : ℕ) → S.left source.old ≡ Some bytes → ReadsAs bytes (Err n) → (result ≢ Status.Done) × (result ≢ Status.SinkFault) }
     ensures good_script { (bytes : List ℕ) (script : Script) → S.left source.old ≡ Some bytes → ReadsAs bytes (Ok script) → result ≢ Status.BadScript }
 {
     match transcript(alloc, words, source) {
@@ -159,7 +160,9 @@ pub fn retro<S: Source, K: Sink>(
     ensures sink_fault { result ≡ 5 → Rose (K.faults sink.old) (K.faults sink.new) }
     ensures sink_steady { result ≡ 0 → K.faults sink.new ≡ K.faults sink.old }
 
-    // Good words, a good script and no fault end well, unless memory runs out.
+    // Bytes that are bad at a line are refused, and good words, a good script and no fault end well, unless memory runs out.
+    ensures bad_line { (bytes : List ℕ) (n : ℕ) → is_run (map (λ w. string_bytes w) words.now) ≡ true → S.left source.old ≡ Some bytes → ReadsAs bytes (Err n)
+        → S.faults source.new ≡ S.faults source.old → S.faults source.old < 2 ^ 64 - 1 → (result ≡ 3) ⊎ (result ≡ 8) }
     ensures complete { (bytes : List ℕ) (script : Script) → is_run (map (λ w. string_bytes w) words.now) ≡ true → S.left source.old ≡ Some bytes → ReadsAs bytes (Ok script)
         → S.faults source.new ≡ S.faults source.old → S.faults source.old < 2 ^ 64 - 1 → K.faults sink.new ≡ K.faults sink.old → K.faults sink.old < 2 ^ 64 - 1 → (result ≡ 0) ⊎ (result ≡ 8) }
 {

@@ -114,6 +114,7 @@ impl World {
         if asked == 0 || asked > u64::from(newest) {
             return Err(Refusal::NoSuchSnapshot { asked, newest });
         }
-        Ok(&self.marks.as_slice()[(asked - 1) as usize].tables)
+        let mark = &self.marks.as_slice()[(asked - 1) as usize];
+        Ok(&mark.tables)
     }
 }
