@@ -3,10 +3,11 @@ ghost use Rattle.disk_model.specs.Disk.{IsDurable, IsImage};
 ghost use Rattle.disk_model.specs.Moments.{LeavesOnly};
 ghost use Rattle.retro_base.specs.Framing.{AreBodies};
 ghost use Rattle.gate_log.specs.Bodies.{bodies_of};
-ghost use Rattle.gate_log.specs.Cause.{FaultsAlone, Fit, HasRoom, IsAppendRefusal, IsFillRefusal, IsReadRefusal};
+ghost use Rattle.gate_log.specs.Cause.{FaultsAlone, Fit, HasRoom, IsAppendRefusal, IsDiskFault, IsFillRefusal, IsReadRefusal};
+ghost use Rattle.gate_log.specs.Region.{generation_at};
 ghost use Rattle.retro_base.specs.declared.refusal.Refusal.TheVariants.{Stopped};
 ghost use Rattle.area_log.specs.Area.{after_refusal, after_write, appended, Holds, ListsEither, replaced};
-ghost use Rattle.area_log.specs.Cause.{IsDiskFault, IsWriteRefusal};
+ghost use Rattle.area_log.specs.Cause.{IsWriteRefusal};
 ghost use Rattle.area_log.specs.Regions.{DeviceBreaks, DeviceLists, NoneCounts};
 
 use crate::header::{find_counting, next_after};
@@ -54,8 +55,10 @@ impl AreaLog {
         ensures cause { MatchResult result
             (λ _. Fit (D.extent disk.old / 2) (bodies_of bodies.now) × (D.faults disk.new ≡ D.faults disk.old))
             (IsFillRefusal (D.extent disk.old / 2) (bodies_of bodies.now) device (D.faults disk.old) (D.faults disk.new)) }
+        ensures untouched { IfErr result (λ refusal. (IsDiskFault refusal → ⊥) → disk.new ≡ disk.old) }
         ensures made { D.is_honest disk.old → (D.state disk.old).seen ≡ replicate (D.extent disk.old) 0
             → OnOk result (DeviceLists (D.extent disk.old / 2) (bodies_of bodies.now) (D.state disk.new).seen) }
+        ensures first { D.is_honest disk.old → OnOk result (generation_at 0 (D.state disk.new).seen ≡ 1) }
         ensures durable { D.is_honest disk.old → OnOk result (IsDurable (D.state disk.new)) }
         ensures any_moment { D.is_honest disk.old → (D.state disk.old).seen ≡ replicate (D.extent disk.old) 0 → IsDurable (D.state disk.old)
             → LeavesOnly (D.clock disk.old) (D.clock disk.new)

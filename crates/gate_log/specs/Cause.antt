@@ -12,6 +12,11 @@ abbrev pub IsFault : Device → ℕ → ℕ → Refusal → Type 0
 IsFault device before now (DiskFault which count) = (which ≡ device) × (count ≡ now) × (before ≤ now) × Rose before now
 IsFault device before now _ = ⊥
 
+-- the refusal tells a fault of a device
+abbrev pub IsDiskFault : Refusal → Type 0
+IsDiskFault (DiskFault which count) = Unit {0}
+IsDiskFault _ = ⊥
+
 -- The only refusal is a fault of the device. The count is as before where the call succeeded.
 abbrev pub FaultsAlone : {T : Type 0} → Device → ℕ → ℕ → Result T Refusal → Type 0
 FaultsAlone device before now result = MatchResult result (λ _. now ≡ before) (IsFault device before now)

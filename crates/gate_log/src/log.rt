@@ -1,9 +1,9 @@
-ghost use Rattle.std.specs.Prelude.{◌≡◌, ◌≤◌, ◌<◌, ◌+◌, ◌-◌, ◌^◌, ◌↔◌, ◌∷◌, [], ◌++◌, ℕ, List, length, take, drop, is_ok, OnOk, IfOk, IfSome, MatchOption, MatchResult};
+ghost use Rattle.std.specs.Prelude.{◌≡◌, ◌≤◌, ◌<◌, ◌+◌, ◌-◌, ◌^◌, ◌↔◌, ◌∷◌, [], ◌++◌, ℕ, List, length, take, drop, is_ok, OnOk, IfOk, IfErr, IfSome, MatchOption, MatchResult};
 ghost use Rattle.disk_model.specs.Disk.{IsDurable, IsImage, SameOutside, Unchanged};
 ghost use Rattle.disk_model.specs.Moments.{LeavesOnly};
 ghost use Rattle.gate_log.specs.Appending.{after_append, Appending, LooseOrIn};
 ghost use Rattle.gate_log.specs.Bodies.{bodies_of};
-ghost use Rattle.gate_log.specs.Cause.{Fit, HasRoom, IsAppendRefusal, IsFillRefusal, IsReadRefusal};
+ghost use Rattle.gate_log.specs.Cause.{Fit, HasRoom, IsAppendRefusal, IsDiskFault, IsFillRefusal, IsReadRefusal};
 ghost use Rattle.gate_log.specs.Log.{Fills, Holds};
 ghost use Rattle.gate_log.specs.Region.{Breaks, gate_behind, IsOpen, Lists};
 ghost use Rattle.retro_base.specs.Framing.{AreBodies};
@@ -75,6 +75,7 @@ impl GateLog {
         ensures cause { MatchResult result
             (λ _. Fit size (bodies_of bodies.now) × (D.faults disk.new ≡ D.faults disk.old))
             (IsFillRefusal size (bodies_of bodies.now) device (D.faults disk.old) (D.faults disk.new)) }
+        ensures untouched { IfErr result (λ refusal. (IsDiskFault refusal → ⊥) → disk.new ≡ disk.old) }
         ensures log { IfOk result (λ log. log ≡ record { device = device; place = place; size = size; gate = gate_behind (bodies_of bodies.now) }) }
         ensures filled { D.is_honest disk.old → OnOk result (Fills place size generation (bodies_of bodies.now) (D.state disk.old).seen (D.state disk.new).seen) }
         ensures durable { D.is_honest disk.old → OnOk result (IsDurable (D.state disk.new)) }

@@ -1,5 +1,5 @@
 -- What a run that ends so has written.
-use Rattle.std.proofs.Common.{◌≡◌, ◌⊎◌, ◌≤◌, ℕ, List, Option, Some, IfSome, Ok, Err, inl, inr, length, take, refl, ap, sym, ◌∙◌, arith}
+use Rattle.std.proofs.Common.{◌≡◌, ℕ, List, Option, Some, IfSome, Ok, Err, inl, inr, length, ap, sym, ◌∙◌, arith}
 use Rattle.std.proofs.lemmas.List.{take_all}
 use Rattle.feeds.specs.Feeds.{added}
 use Rattle.script.specs.Script.{ReadsAs}

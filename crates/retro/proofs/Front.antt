@@ -1,6 +1,6 @@
 -- What was read of the source, and what was left in it.
-use Rattle.std.proofs.Common.{◌≡◌, ◌+◌, ◌≤◌, ℕ, List, [], ◌∷◌, Option, Some, None, IfSome, Result, Ok, Err, length, length-take, take, drop, refl, ap, sym, subst, ◌∙◌, arith}
-use Rattle.std.proofs.lemmas.List.{take_all, drop_all}
+use Rattle.std.proofs.Common.{◌≡◌, ◌+◌, ◌≤◌, ℕ, List, [], Option, Some, None, IfSome, Result, Err, length, length-take, take, drop, ap, sym, subst, ◌∙◌, arith}
+use Rattle.std.proofs.lemmas.List.{drop_all}
 use Rattle.std.specs.Option.{option_map}
 use Rattle.retro_base.specs.declared.limits.TheConstants.{SCRIPT_BYTES}
 use Rattle.script.specs.Rules.{FrontDecides}

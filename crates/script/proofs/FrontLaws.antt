@@ -1,5 +1,5 @@
 -- The bytes that are read decide what the bytes are.
-use Rattle.std.proofs.Common.{◌≡◌, ◌+◌, ◌<◌, ◌≤◌, ℕ, Bool, List, Option, Result, Ok, Err, ltb, length, length-take, take, ap, subst, sym, refl, arith}
+use Rattle.std.proofs.Common.{◌≡◌, ◌+◌, ℕ, List, Option, Result, Ok, Err, ltb, length, length-take, take, subst, sym, refl, arith}
 use Rattle.std.proofs.lemmas.Bool.Decides.{nat_tests}
 use Rattle.std.specs.List.{AllZip}
 use Rattle.std.specs.Str.Lines.{lines}
@@ -7,8 +7,8 @@ use Rattle.retro_base.specs.declared.limits.TheConstants.{SCRIPT_BYTES}
 use Rattle.script.proofs.OneScript.{take_take}
 use Rattle.script.specs.Line.{IsLine}
 use Rattle.script.specs.Rules.{FrontDecides}
-use Rattle.script.specs.Script.{script_of, IsScript, IsBadAt, ReadsAs, IsOnlyReading}
-use Rattle.script.specs.Text.{lines_in_bounds, script_lines}
+use Rattle.script.specs.Script.{script_of, IsScript, IsBadAt, ReadsAs}
+use Rattle.script.specs.Text.{lines_in_bounds}
 use Rattle.script.specs.declared.line.Line.{Line}
 use Rattle.script.specs.declared.structure.Script.{Script}
 

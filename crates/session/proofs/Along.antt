@@ -1,5 +1,5 @@
 -- A run whose sessions go one after the other leaves a lawful journal, and says its transcript.
-use Rattle.std.proofs.Common.{◌≡◌, ◌+◌, ◌≤◌, ◌++◌, ℕ, Bool, true, false, List, [], ◌∷◌, Option, Some, None, is_some, refl, ap, sym, subst, ◌∙◌, arith, append_assoc, append-nil}
+use Rattle.std.proofs.Common.{◌≡◌, ◌+◌, ◌++◌, ℕ, true, List, [], ◌∷◌, Option, Some, None, is_some, refl, ap, sym, subst, ◌∙◌, arith, append_assoc, append-nil}
 use Rattle.std.specs.Fmt.{decimal}
 use Rattle.std.specs.Prelude.{codes}
 use Rattle.std.specs.List.{AllByRecursion}
@@ -9,9 +9,9 @@ use Rattle.script.specs.declared.structure.Phase.{Phase}
 use Rattle.script.specs.declared.structure.Script.{Script}
 use Rattle.script.specs.declared.structure.Session.{Session}
 use Rattle.session.specs.InTurn.{State, run_phases, state_of}
-use Rattle.session.specs.Items.{Entry, entry, entries_of, entries_of_items, entries_of_phases, entries_of_sessions, item_of, same_who}
+use Rattle.session.specs.Items.{Entry, entry, entries_of, entries_of_items, entries_of_phases, entries_of_sessions, item_of}
 use Rattle.session.specs.Journal.{visible_text}
-use Rattle.session.specs.Lawful.{AtEach, HasShape, InOrder, IsRun, Lawful, Precedes, own}
+use Rattle.session.specs.Lawful.{AtEach, InOrder, IsRun, Lawful, Precedes, own}
 use Rattle.session.specs.Line.{line}
 use Rattle.session.specs.Transcript.{Fate, fate, items_text, or_else, phases_text, reply, sessions_text, transcript}
 use Rattle.session.specs.World.{World, empty_world, world}

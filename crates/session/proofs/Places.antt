@@ -1,5 +1,5 @@
 -- Where the items of a script stand: each later than those before it.
-use Rattle.std.proofs.Common.{◌≡◌, ◌+◌, ◌<◌, ◌≤◌, ◌++◌, ◌==◌, ◌&&◌, ◌⊎◌, ℕ, Bool, true, false, cond, List, [], ◌∷◌, Option, Some, None, inl, inr, refl, ap, arith}
+use Rattle.std.proofs.Common.{◌≡◌, ◌+◌, ◌<◌, ◌≤◌, ◌++◌, ◌==◌, ◌&&◌, ℕ, Bool, true, false, List, [], ◌∷◌, Some, refl, arith}
 use Rattle.std.proofs.lemmas.Bool.Decides.{nat_tests}
 use Rattle.std.specs.List.{AllByRecursion}
 use Rattle.retro_base.specs.declared.who.Who.{Who}
@@ -7,7 +7,7 @@ use Rattle.script.specs.declared.structure.Item.{Item}
 use Rattle.script.specs.declared.structure.Phase.{Phase}
 use Rattle.script.specs.declared.structure.Script.{Script}
 use Rattle.script.specs.declared.structure.Session.{Session}
-use Rattle.session.specs.Items.{Entry, entry, entries_of_items, entries_of_sessions, entries_of_phases, entries_of, same_who, item_of}
+use Rattle.session.specs.Items.{Entry, entries_of_items, entries_of_sessions, entries_of_phases, entries_of, same_who, item_of}
 
 -- an item stands before another: in an earlier phase, or in an earlier session of the phase, or earlier in the session
 pub record Earlier (a b : Who) : Type 0 where

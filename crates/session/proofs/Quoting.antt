@@ -1,5 +1,5 @@
 -- The text that `csv` writes for a row of printable texts is the row's text.
-use Rattle.std.proofs.Common.{◌≡◌, ◌+◌, ◌<◌, ◌≤◌, ◌^◌, ◌++◌, ◌==◌, ◌||◌, ℕ, ℤ, pos, negsuc, Bool, true, false, not, cond, List, [], ◌∷◌, length, map, refl, ap, sym, ◌∙◌, arith, suc, append-nil, append_assoc}
+use Rattle.std.proofs.Common.{◌≡◌, ◌+◌, ◌<◌, ◌^◌, ◌++◌, ◌==◌, ◌||◌, ℕ, ℤ, pos, negsuc, Bool, true, false, cond, List, [], ◌∷◌, length, map, refl, ap, ◌∙◌, arith, suc}
 use Rattle.std.proofs.lemmas.Bool.Decides.{nat_tests}
 use Rattle.std.proofs.lemmas.Fmt.{digits_decimal}
 use Rattle.std.proofs.lemmas.Str.Parse.{IsNumeralModel, tells_digits}
@@ -9,12 +9,11 @@ use Rattle.std.specs.List.{AllByRecursion, list_any}
 use Rattle.std.specs.Str.Parse.{AllDigits, digits_value}
 use Rattle.csv.specs.Quoting.{needs_byte}
 use Rattle.csv.specs.Writing.{default_writer, escaped, fields_text as csv_fields, field_text as csv_field, is_blank, needs_quotes, row_text as csv_text}
-use Rattle.values.specs.Text.{IsPrintable, IsText}
+use Rattle.values.specs.Text.{IsPrintable}
 use Rattle.values.specs.Value.{text_of}
 use Rattle.values.specs.declared.value.Value.{Value}
-use Rattle.values.specs.declared.value.Value.TheVariants.{Int, Text}
 use Rattle.session.specs.Line.{line}
-use Rattle.session.specs.Rows.{IsShown, is_mark, doubled, quoted, field_text, more_fields, fields_text, row_text}
+use Rattle.session.specs.Rows.{IsShown, is_mark, doubled, field_text, more_fields, fields_text, row_text}
 
 -- a text of printable bytes
 abbrev pub Printable : List ℕ → Type 0

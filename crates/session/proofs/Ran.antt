@@ -1,6 +1,6 @@
 -- What one item of a run leaves: its lines, the world behind them, its reply, and that its lines keep the rules.
-use Rattle.std.proofs.Common.{◌≡◌, ◌⊎◌, ◌++◌, ◌&&◌, ◌||◌, ◌==◌, ◌+◌, ltb, ℕ, Bool, true, false, cond, List, [], ◌∷◌, Option, Some, None, Result, Ok, Err, is_some, length, inl, inr, refl, ap, flat_map, sym, ◌∙◌, append-nil}
-use Rattle.std.specs.List.{AllByRecursion, list_any}
+use Rattle.std.proofs.Common.{◌≡◌, ◌++◌, ◌&&◌, ◌||◌, ◌==◌, ◌+◌, ltb, ℕ, Bool, true, false, cond, List, [], ◌∷◌, Option, Some, None, Result, Ok, Err, is_some, length, inr, refl, ap, flat_map, sym, ◌∙◌, append-nil}
+use Rattle.std.specs.List.{list_any}
 use Rattle.retro_base.specs.declared.refusal.Refusal.{Refusal}
 use Rattle.retro_base.specs.declared.refusal.Refusal.TheVariants as refusal
 use Rattle.retro_base.specs.declared.who.Who.{Who}
@@ -14,8 +14,8 @@ use Rattle.sql_text.specs.declared.parsed.AsOf.{AsOf}
 use Rattle.tables.specs.Meaning.{answer_of}
 use Rattle.tables.specs.declared.reply.Answer.{Answer}
 use Rattle.session.specs.InTurn.{State, label_of, run_item, run_transaction, run_look_at, run_query, note}
-use Rattle.session.specs.Items.{Entry, item_of, same_who}
-use Rattle.session.specs.Lawful.{own, has_begun, has_looked, is_began, is_looked, IsRun, IsEnding, IsQueryEnd, IsLook, IsFull, IsLimit}
+use Rattle.session.specs.Items.{Entry, item_of}
+use Rattle.session.specs.Lawful.{own, has_begun, has_looked, is_began, is_looked, IsRun, IsEnding, IsQueryEnd, IsLook, IsLimit}
 use Rattle.session.specs.Texts.{outcome_text, query_text, refusal_text}
 use Rattle.session.specs.Transcript.{end_text, fate, reply}
 use Rattle.session.specs.World.{Tables, World, answer, as_of, behind, declared, is_full, mark_of, newest, oldest, replies, statements_of, tables_of, transaction, world}

@@ -1,7 +1,5 @@
 -- The visible lines of a journal decide what follows from it.
 use Rattle.std.proofs.Common.{◌≡◌, ◌+◌, ◌++◌, ℕ, Bool, true, false, cond, List, [], ◌∷◌, Option, Some, None, filter, map, refl, ap, sym, ◌∙◌, add-zero}
-use Rattle.std.specs.Fmt.{decimal}
-use Rattle.std.specs.Prelude.{codes}
 use Rattle.std.specs.List.{AllByRecursion}
 use Rattle.retro_base.specs.declared.who.Who.{Who}
 use Rattle.script.specs.declared.structure.Item.{Item}
@@ -14,8 +12,7 @@ use Rattle.session.specs.Items.{Entry, entries_of, entries_of_items, entries_of_
 use Rattle.session.specs.Journal.{declared_by, is_shown, shown_line, visible, visible_text, what_text}
 use Rattle.session.specs.Lawful.{IsRun, Lawful, own}
 use Rattle.session.specs.Laws.{VisibleLinesDecide}
-use Rattle.session.specs.Line.{line}
-use Rattle.session.specs.Transcript.{Fate, fate, items_text, or_else, phases_text, reply, sessions_text, transcript}
+use Rattle.session.specs.Transcript.{Fate, fate, items_text, or_else, phases_text, sessions_text, transcript}
 use Rattle.session.specs.World.{World, behind, newest, world}
 use Rattle.session.specs.declared.journal.Line.{Line}
 use Rattle.session.specs.declared.journal.What.{What}

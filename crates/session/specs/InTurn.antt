@@ -1,5 +1,5 @@
 -- A run whose sessions go one after the other, step by step: what the program does. No promise cites it.
-use Rattle.std.specs.Prelude.{◌+◌, ◌++◌, ◌&&◌, ℕ, Bool, List, [], ◌∷◌, codes, flat_map, length, Option, is_some, Result, Ok, Err, if◌then◌else◌}
+use Rattle.std.specs.Prelude.{◌+◌, ◌++◌, ◌&&◌, ℕ, List, [], ◌∷◌, codes, flat_map, length, Option, is_some, Result, Ok, Err, if◌then◌else◌}
 use Rattle.std.specs.Fmt.{decimal}
 use Rattle.retro_base.specs.declared.refusal.Refusal.{Refusal}
 use Rattle.retro_base.specs.declared.refusal.Refusal.TheVariants as refusal

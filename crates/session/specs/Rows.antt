@@ -1,5 +1,5 @@
 -- The rows of an answer as text.
-use Rattle.std.specs.Prelude.{◌++◌, ◌==◌, ◌||◌, ℕ, Bool, List, [], ◌∷◌, codes, map, flat_map, if◌then◌else◌}
+use Rattle.std.specs.Prelude.{◌++◌, ◌==◌, ◌||◌, ℕ, Bool, List, [], ◌∷◌, map, flat_map, if◌then◌else◌}
 use Rattle.std.specs.List.{AllByRecursion, list_any}
 use Rattle.values.specs.Text.{IsPrintable}
 use Rattle.values.specs.declared.value.Value.{Value}

@@ -1,7 +1,6 @@
 -- The texts of replies.
 use Rattle.std.specs.Prelude.{◌++◌, ℕ, List, [], codes, length, Result, Ok, Err}
 use Rattle.std.specs.Fmt.{decimal}
-use Rattle.values.specs.declared.value.Value.{Value}
 use Rattle.retro_base.specs.declared.refusal.Refusal.{Refusal}
 use Rattle.retro_base.specs.declared.refusal.Refusal.TheVariants as refusal
 use Rattle.retro_base.specs.Refusal.{number_of, name_of}

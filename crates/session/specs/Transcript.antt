@@ -13,7 +13,7 @@ use Rattle.session.specs.Items.{Entry, entries_of, item_of, same_who}
 use Rattle.session.specs.Journal.{visible_text}
 use Rattle.session.specs.Line.{line}
 use Rattle.session.specs.Texts.{outcome_text, query_text, refusal_text, shown_as}
-use Rattle.session.specs.World.{World, world, behind, replies, answer, newest}
+use Rattle.session.specs.World.{World, behind, replies, answer, newest}
 use Rattle.session.specs.declared.journal.Line.{Line}
 use Rattle.session.specs.declared.journal.What.{What}
 use Rattle.session.specs.declared.journal.What.TheVariants.{Done, Unlooked, Refused}

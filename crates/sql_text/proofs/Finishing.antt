@@ -1,5 +1,5 @@
 -- Every list of fine symbols can be finished, so what was read begins a sentence.
-use Rattle.std.proofs.Common.{◌≡◌, ◌≢◌, ◌<◌, ◌≤◌, ℕ, zero, suc, Bool, true, false, List, [], ◌∷◌, ◌++◌, nat_lt, ◌&&◌, ◌==◌, if◌then◌else◌, refl, pos, arith, replicate}
+use Rattle.std.proofs.Common.{◌≡◌, ◌≢◌, ◌<◌, ℕ, zero, suc, Bool, true, false, List, [], ◌∷◌, ◌++◌, nat_lt, ◌&&◌, refl, pos, arith, replicate}
 use Rattle.std.proofs.lemmas.Bool.{ltb-true}
 use Rattle.sql_lexer.specs.declared.token.Token.{Token}
 use Rattle.sql_lexer.specs.declared.token.Token.TheVariants as token

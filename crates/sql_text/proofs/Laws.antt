@@ -1,12 +1,12 @@
 -- A line says something or breaks at one place.
-use Rattle.std.proofs.Common.{◌≡◌, ◌<◌, ◌≤◌, ◌+◌, ◌∙◌, ◌⊎◌, inl, inr, ◌++◌, ℕ, List, length, take, drop, ap, subst, sym, append_assoc, arith}
+use Rattle.std.proofs.Common.{◌≡◌, ◌<◌, ◌≤◌, ◌+◌, ◌∙◌, inl, inr, ◌++◌, ℕ, List, length, take, drop, ap, subst, sym, append_assoc, arith}
 use Rattle.std.proofs.lemmas.Bool.{cases_order}
 use Rattle.std.proofs.lemmas.List.{length-take, take-append-drop, take-append-le}
 use Rattle.sql_lexer.specs.declared.token.Ending.{Ending}
 use Rattle.sql_lexer.specs.declared.token.Ending.TheVariants.{Whole, BadByte, Unclosed}
 use Rattle.sql_lexer.specs.declared.token.Placed.{Placed}
 use Rattle.sql_lexer.specs.declared.token.Token.{Token}
-use Rattle.sql_lexer.specs.Lexes.{HasOneReading, Lexes}
+use Rattle.sql_lexer.specs.Lexes.{HasOneReading}
 use Rattle.sql_text.specs.declared.grammar.Op.{Op}
 use Rattle.sql_text.specs.declared.grammar.Rule.{Rule}
 use Rattle.sql_text.specs.declared.grammar.Rule.TheVariants.{Sentence}

@@ -1,14 +1,13 @@
 -- The tokens of a line stand in it.
-use Rattle.std.proofs.Common.{◌≡◌, ◌<◌, ◌+◌, ◌++◌, ◌∷◌, [], ◌∙◌, ℕ, suc, List, length, ap, subst, arith}
+use Rattle.std.proofs.Common.{◌≡◌, ◌<◌, ◌+◌, ◌∷◌, [], ◌∙◌, ℕ, suc, List, length, ap, subst, arith}
 use Rattle.sql_lexer.specs.declared.token.Ending.{Ending}
-use Rattle.sql_lexer.specs.declared.token.Ending.TheVariants.{Whole, BadByte, Unclosed}
 use Rattle.sql_lexer.specs.declared.token.Placed.{Placed}
 use Rattle.sql_lexer.specs.declared.token.Sign.{Sign}
 use Rattle.sql_lexer.specs.declared.token.Sign.TheVariants as sign
 use Rattle.sql_lexer.specs.declared.token.Token.{Token}
 use Rattle.sql_lexer.specs.declared.token.Token.TheVariants as token'
 use Rattle.sql_lexer.specs.Lexes.{IsBadAt, Lexes, inside, outside, bad_byte, blank, token, unclosed, whole}
-use Rattle.sql_lexer.specs.Token.{doubled, quote, sign_bytes, Spells}
+use Rattle.sql_lexer.specs.Token.{doubled, sign_bytes, Spells}
 use Rattle.sql_text.specs.Places.{AllBefore, BadBefore}
 use Rattle.sql_text.proofs.Placing.{length-append}
 

@@ -1,5 +1,5 @@
 -- What a line says, or why it says nothing.
-use Rattle.std.proofs.Common.{◌≡◌, ◌<◌, ◌∙◌, ℕ, List, Bool, true, false, Option, Some, None, length, refl, ap, subst, sym, arith}
+use Rattle.std.proofs.Common.{◌≡◌, ◌∙◌, ℕ, List, Bool, true, false, Option, Some, None, length, refl, ap, subst, sym, arith}
 use Rattle.retro_base.specs.declared.refusal.Refusal.{Refusal}
 use Rattle.retro_base.specs.declared.refusal.Refusal.TheVariants.{OutOfMemory, Syntax}
 use Rattle.sql_lexer.specs.declared.token.Ending.{Ending}
@@ -11,8 +11,8 @@ use Rattle.sql_text.specs.declared.grammar.Op.{Op}
 use Rattle.sql_text.specs.declared.grammar.Rule.TheVariants.{Sentence}
 use Rattle.sql_text.specs.declared.parsed.Parsed.{Parsed}
 use Rattle.sql_text.specs.Built.{built}
-use Rattle.sql_text.specs.Derivation.{Begins, IsSentence, Reaches}
-use Rattle.sql_text.specs.Line.{FaultAt, HasLimits, Says, Starts}
+use Rattle.sql_text.specs.Derivation.{Begins, IsSentence}
+use Rattle.sql_text.specs.Line.{FaultAt, HasLimits, Starts}
 use Rattle.sql_text.specs.Machine.{Ends}
 use Rattle.sql_text.specs.Places.{place_at, tokens_of}
 use Rattle.sql_text.specs.Reading.{IsRefusedAmong, IsRefusedEarly, IsRefusedFor, IsSaid, StopsAt}

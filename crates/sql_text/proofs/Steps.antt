@@ -1,5 +1,5 @@
 -- What each step of the machine keeps.
-use Rattle.std.proofs.Common.{◌≡◌, ◌≢◌, ◌<◌, ◌+◌, ◌∙◌, inl, inr, ℕ, suc, Bool, true, false, Option, Some, None, List, [], ◌∷◌, ◌++◌, ◌↔◌, IsTrue, is_none, is_some, not, nat_le, length, if◌then◌else◌, refl, sym, ap, subst, arith, append_assoc, append-nil}
+use Rattle.std.proofs.Common.{◌≡◌, ◌≢◌, ◌<◌, ◌∙◌, inl, inr, Bool, true, false, Option, Some, None, List, [], ◌∷◌, ◌++◌, ◌↔◌, IsTrue, is_none, is_some, not, nat_le, length, if◌then◌else◌, refl, sym, ap, subst, append_assoc, append-nil}
 use Rattle.sql_lexer.specs.declared.token.Token.{Token}
 use Rattle.sql_lexer.specs.declared.token.Token.TheVariants as token
 use Rattle.sql_text.specs.declared.grammar.Action.{Action}
@@ -12,7 +12,7 @@ use Rattle.sql_text.specs.declared.grammar.Symbol.{Symbol}
 use Rattle.sql_text.specs.declared.grammar.Symbol.TheVariants.{Take, Put, Use}
 use Rattle.sql_text.specs.Derivation.{Derives, Done, Taken, Emitted, Replaced, IsIn, IsSentence, Begins}
 use Rattle.sql_text.specs.Grammar.{class_of, content_of, sides}
-use Rattle.sql_text.specs.Machine.{Ends, Holds, IsFine, look, rank, Stands, Takes, Wants}
+use Rattle.sql_text.specs.Machine.{Ends, Holds, look, rank, Stands, Wants}
 use Rattle.sql_text.specs.Table.{choice, expansion, follow}
 use Rattle.sql_text.proofs.Finishing.{finishes}
 use Rattle.sql_text.proofs.Tables.{fine_side, is_chosen, rank_falls, side-IsIn}

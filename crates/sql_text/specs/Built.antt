@@ -1,7 +1,6 @@
 -- What the operations of a sentence build.
 use Rattle.std.specs.Prelude.{ℕ, ℤ, pos, Option, Some, None, List, [], ◌∷◌, neg_ℤ, unsigned_abs}
 use Rattle.std.specs.Option.{option_map}
-use Rattle.values.specs.declared.value.Kind.{Kind}
 use Rattle.values.specs.declared.value.Kind.TheVariants as kind
 use Rattle.values.specs.declared.value.Value.{Value}
 use Rattle.values.specs.declared.value.Value.TheVariants as value

@@ -1,5 +1,5 @@
 -- The grammar of the language.
-use Rattle.std.specs.Prelude.{List, [], ◌∷◌, ℕ, nat_le, length, if◌then◌else◌}
+use Rattle.std.specs.Prelude.{List, [], ◌∷◌, nat_le, length, if◌then◌else◌}
 use Rattle.retro_base.specs.declared.limits.TheConstants.{LABEL_BYTES}
 use Rattle.sql_lexer.specs.declared.token.Keyword.{Keyword as Keyword'}
 use Rattle.sql_lexer.specs.declared.token.Keyword.TheVariants as keyword

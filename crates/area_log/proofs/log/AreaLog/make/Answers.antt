@@ -45,3 +45,6 @@ returns-clause-made g c = λ honest zeros.
     let some : 0 < size = omega (arith, c.size-size.ensures, c.requires.least) in
     subst (λ (s : ℕ). DeviceLists s bodies new) (ap (λ (n : ℕ). n / 2) c.size-size.ensures)
     (made size (g.D.Disk.extent disk) bodies (g.D.Disk.state disk).seen new zeros some (c.in_ok-_log.ensures.rewritten 1 bodies c.in_ok-prepared.ensures.ok honest))
+
+pub returns-clause-first : goal.returns-clause-first
+returns-clause-first g c = λ honest. (c.in_ok-_log.ensures.rewritten 1 (bodies_of c.args.bodies.now) c.in_ok-prepared.ensures.ok honest).filled.under

@@ -1,4 +1,4 @@
-use Rattle.std.proofs.Common.{◌≡◌, ◌∙◌, ℕ, List, length, IfOk, ap, subst, arith}
+use Rattle.std.proofs.Common.{◌≡◌, ℕ, length, IfOk, subst, arith}
 use Rattle.gate_log.specs.Bodies.{bodies_of}
 use Rattle.gate_log.specs.Region.{gate_behind}
 use Rattle.gate_log.proofs.Fills.{length-prepared}

@@ -1,4 +1,4 @@
-use Rattle.std.proofs.Common.{◌≡◌, ◌∷◌, [], ◌<◌, ap, length, length-append, false, arith, ◌∙◌}
+use Rattle.std.proofs.Common.{◌≡◌, ◌<◌, ap, length, length-append, arith, ◌∙◌}
 use Rattle.session.proofs.Numbers.{numbered_push, room}
 use Rattle.session.specs.World.{is_full}
 use Rattle.session.specs.declared.world.Mark.{Mark}
