@@ -33,7 +33,8 @@ pub fn find_counting<D: Disk>(disk: &mut D, device: Device, size: u64) -> Result
     ensures honest { D.is_honest disk.old ↔ D.is_honest disk.new }
     ensures cause { MatchResult result
         (λ _. D.faults disk.new ≡ D.faults disk.old)
-        (IsReadRefusal (λ broken. D.is_honest disk.old → NoneCounts size (D.state disk.old).seen broken) device (D.faults disk.old) (D.faults disk.new)) }
+        (IsReadRefusal (λ broken. D.is_honest disk.old → NoneCounts size (D.state disk.old).seen broken)
+        device (D.faults disk.old) (D.faults disk.new)) }
     ensures half { IfOk result (λ counting. IsHalf size counting.place) }
     ensures counting { D.is_honest disk.old → IfOk result (IsCounting size (D.state disk.old).seen) }
     ensures unchanged { D.is_honest disk.old → Unchanged (D.state disk.old) (D.state disk.new) }

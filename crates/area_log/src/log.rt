@@ -60,9 +60,9 @@ impl AreaLog {
             → OnOk result (DeviceLists (D.extent disk.old / 2) (bodies_of bodies.now) (D.state disk.new).seen) }
         ensures first { D.is_honest disk.old → OnOk result (generation_at 0 (D.state disk.new).seen ≡ 1) }
         ensures durable { D.is_honest disk.old → OnOk result (IsDurable (D.state disk.new)) }
-        ensures any_moment { D.is_honest disk.old → (D.state disk.old).seen ≡ replicate (D.extent disk.old) 0 → IsDurable (D.state disk.old)
-            → LeavesOnly (D.clock disk.old) (D.clock disk.new)
-            (λ image. NoneCounts (D.extent disk.old / 2) image 0 ⊎ DeviceLists (D.extent disk.old / 2) (bodies_of bodies.now) image) }
+        ensures any_moment { D.is_honest disk.old → (D.state disk.old).seen ≡ replicate (D.extent disk.old) 0
+            → IsDurable (D.state disk.old) → LeavesOnly (D.clock disk.old) (D.clock disk.new) (λ image.
+            NoneCounts (D.extent disk.old / 2) image 0 ⊎ DeviceLists (D.extent disk.old / 2) (bodies_of bodies.now) image) }
     {
         let size = disk.size() / 2;
         let prepared = Prepared::new(alloc, size, 1, bodies)?;
@@ -84,11 +84,13 @@ impl AreaLog {
         ensures honest { D.is_honest disk.old ↔ D.is_honest disk.new }
         ensures cause { MatchResult result
             (λ _. D.faults disk.new ≡ D.faults disk.old)
-            (IsReadRefusal (λ broken. D.is_honest disk.old → DeviceBreaks (D.extent disk.old / 2) (D.state disk.old).seen broken) device (D.faults disk.old) (D.faults disk.new)) }
+            (IsReadRefusal (λ broken. D.is_honest disk.old → DeviceBreaks (D.extent disk.old / 2) (D.state disk.old).seen broken)
+            device (D.faults disk.old) (D.faults disk.new)) }
         ensures device { IfOk result (λ p. p.0.log.device ≡ device) }
         ensures size { IfOk result (λ p. D.extent disk.old ≡ 2 * p.0.log.size) }
         ensures going { IfOk result (λ p. p.0.fault ≡ None) }
-        ensures lists { D.is_honest disk.old → IfOk result (λ p. DeviceLists (D.extent disk.old / 2) (bodies_of p.1.items) (D.state disk.old).seen) }
+        ensures lists { D.is_honest disk.old
+            → IfOk result (λ p. DeviceLists (D.extent disk.old / 2) (bodies_of p.1.items) (D.state disk.old).seen) }
         ensures holds { D.is_honest disk.old → IfOk result (λ p. Holds p.0 (bodies_of p.1.items) (D.state disk.new)) }
         ensures seen { D.is_honest disk.old → (D.state disk.new).seen ≡ (D.state disk.old).seen }
         ensures any_moment { D.is_honest disk.old → LeavesOnly (D.clock disk.old) (D.clock disk.new) (IsImage (D.state disk.old)) }
@@ -137,7 +139,9 @@ impl AreaLog {
 
         ensures cause { MatchResult result
             (λ _. (self.old.fault ≡ None) × HasRoom self.old.log (length framed.now) × (D.faults disk.new ≡ D.faults disk.old))
-            (IsWriteRefusal self.old (IsAppendRefusal self.old.log (length framed.now) (D.faults disk.old) (D.faults disk.new)) (D.faults disk.old) (D.faults disk.new)) }
+            (IsWriteRefusal self.old
+            (IsAppendRefusal self.old.log (length framed.now) (D.faults disk.old) (D.faults disk.new))
+            (D.faults disk.old) (D.faults disk.new)) }
         ensures stopped { (count : ℕ) → self.old.fault ≡ Some count → result ≡ Err (Stopped self.old.log.device count) }
         ensures untouched { IfErr result (λ refusal. (IsDiskFault refusal → ⊥) → disk.new ≡ disk.old) }
 
@@ -178,7 +182,9 @@ impl AreaLog {
 
         ensures cause { MatchResult result
             (λ _. (self.old.fault ≡ None) × Fit self.old.log.size (bodies_of bodies.now) × (D.faults disk.new ≡ D.faults disk.old))
-            (IsWriteRefusal self.old (IsFillRefusal self.old.log.size (bodies_of bodies.now) self.old.log.device (D.faults disk.old) (D.faults disk.new)) (D.faults disk.old) (D.faults disk.new)) }
+            (IsWriteRefusal self.old
+            (IsFillRefusal self.old.log.size (bodies_of bodies.now) self.old.log.device (D.faults disk.old) (D.faults disk.new))
+            (D.faults disk.old) (D.faults disk.new)) }
         ensures stopped { (count : ℕ) → self.old.fault ≡ Some count → result ≡ Err (Stopped self.old.log.device count) }
         ensures untouched { IfErr result (λ refusal. (IsDiskFault refusal → ⊥) → disk.new ≡ disk.old) }
 

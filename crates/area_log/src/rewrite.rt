@@ -28,10 +28,12 @@ pub fn rewrite<D: Disk>(
     ensures honest { D.is_honest disk.old ↔ D.is_honest disk.new }
     ensures cause { FaultsAlone device (D.faults disk.old) (D.faults disk.new) result }
     ensures log { IfOk result (λ log. log ≡ record { device = device; place = place; size = size; gate = length prepared.now }) }
-    ensures rewritten { (generation : ℕ) (bodies : List (List ℕ)) → IsPrepared prepared.now generation bodies → D.is_honest disk.old
+    ensures rewritten { (generation : ℕ) (bodies : List (List ℕ))
+        → IsPrepared prepared.now generation bodies → D.is_honest disk.old
         → OnOk result (Rewritten place size generation bodies (D.state disk.old).seen (D.state disk.new).seen) }
     ensures durable { D.is_honest disk.old → OnOk result (IsDurable (D.state disk.new)) }
-    ensures any_moment { (generation : ℕ) (bodies : List (List ℕ)) → IsPrepared prepared.now generation bodies → D.is_honest disk.old
+    ensures any_moment { (generation : ℕ) (bodies : List (List ℕ))
+        → IsPrepared prepared.now generation bodies → D.is_honest disk.old
         → IsDurable (D.state disk.old) → (IsTrue is_open ↔ IsOpen place (D.state disk.old).seen)
         → LeavesOnly (D.clock disk.old) (D.clock disk.new) (Rewriting place size generation bodies (D.state disk.old).seen) }
 {
@@ -48,9 +50,11 @@ fn shut<D: Disk>(disk: &mut D, device: Device, place: u64, is_open: bool) -> Res
     ensures honest { D.is_honest disk.old ↔ D.is_honest disk.new }
     ensures cause { FaultsAlone device (D.faults disk.old) (D.faults disk.new) result }
     ensures same { D.is_honest disk.old → OnOk result (SameOutside (InRange place 1) (D.state disk.old).seen (D.state disk.new).seen) }
-    ensures closed { D.is_honest disk.old → (IsTrue is_open ↔ IsOpen place (D.state disk.old).seen) → OnOk result (IsOpen place (D.state disk.new).seen → ⊥) }
+    ensures closed { D.is_honest disk.old → (IsTrue is_open ↔ IsOpen place (D.state disk.old).seen)
+        → OnOk result (IsOpen place (D.state disk.new).seen → ⊥) }
     ensures durable { D.is_honest disk.old → IsDurable (D.state disk.old) → OnOk result (IsDurable (D.state disk.new)) }
-    ensures any_moment { D.is_honest disk.old → IsDurable (D.state disk.old) → (IsTrue is_open ↔ IsOpen place (D.state disk.old).seen)
+    ensures any_moment { D.is_honest disk.old → IsDurable (D.state disk.old)
+        → (IsTrue is_open ↔ IsOpen place (D.state disk.old).seen)
         → LeavesOnly (D.clock disk.old) (D.clock disk.new) (Shutting place (D.state disk.old).seen) }
 {
     if !is_open {

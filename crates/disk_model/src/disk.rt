@@ -65,8 +65,10 @@ pub trait Disk {
     ghost sized: { (d : Self) → is_honest d → length (state d).seen ≡ extent d };
 
     // The present moment is one of those since an earlier one.
-    ghost counts_now: { (d : Self) (t : ℕ) (image : List ℕ) → is_honest d → t ≤ (clock d).moment → IsImage (state d) image → (clock d).left_since t image };
+    ghost counts_now: { (d : Self) (t : ℕ) (image : List ℕ) → is_honest d → t ≤ (clock d).moment
+        → IsImage (state d) image → (clock d).left_since t image };
 
     // Since the present moment there is no other.
-    ghost only_now: { (d : Self) (image : List ℕ) → is_honest d → (clock d).left_since (clock d).moment image → IsImage (state d) image };
+    ghost only_now: { (d : Self) (image : List ℕ) → is_honest d
+        → (clock d).left_since (clock d).moment image → IsImage (state d) image };
 }

@@ -76,8 +76,10 @@ impl GateLog {
             (λ _. Fit size (bodies_of bodies.now) × (D.faults disk.new ≡ D.faults disk.old))
             (IsFillRefusal size (bodies_of bodies.now) device (D.faults disk.old) (D.faults disk.new)) }
         ensures untouched { IfErr result (λ refusal. (IsDiskFault refusal → ⊥) → disk.new ≡ disk.old) }
-        ensures log { IfOk result (λ log. log ≡ record { device = device; place = place; size = size; gate = gate_behind (bodies_of bodies.now) }) }
-        ensures filled { D.is_honest disk.old → OnOk result (Fills place size generation (bodies_of bodies.now) (D.state disk.old).seen (D.state disk.new).seen) }
+        ensures log { IfOk result (λ log.
+            log ≡ record { device = device; place = place; size = size; gate = gate_behind (bodies_of bodies.now) }) }
+        ensures filled { D.is_honest disk.old
+            → OnOk result (Fills place size generation (bodies_of bodies.now) (D.state disk.old).seen (D.state disk.new).seen) }
         ensures durable { D.is_honest disk.old → OnOk result (IsDurable (D.state disk.new)) }
         ensures any_moment { D.is_honest disk.old → LeavesOnly (D.clock disk.old) (D.clock disk.new)
             (SameOutside (LooseOrIn (D.state disk.old) (place + 1) (size - 1)) (D.state disk.old).seen) }
@@ -103,8 +105,10 @@ impl GateLog {
         ensures honest { D.is_honest disk.old ↔ D.is_honest disk.new }
         ensures cause { MatchResult result
             (λ _. D.faults disk.new ≡ D.faults disk.old)
-            (IsReadRefusal (λ broken. D.is_honest disk.old → Breaks place size (D.state disk.old).seen broken) device (D.faults disk.old) (D.faults disk.new)) }
-        ensures log { IfOk result (λ r. IfSome r (λ p. p.0 ≡ record { device = device; place = place; size = size; gate = gate_behind (bodies_of p.1.items) })) }
+            (IsReadRefusal (λ broken. D.is_honest disk.old → Breaks place size (D.state disk.old).seen broken)
+            device (D.faults disk.old) (D.faults disk.new)) }
+        ensures log { IfOk result (λ r. IfSome r (λ p.
+            p.0 ≡ record { device = device; place = place; size = size; gate = gate_behind (bodies_of p.1.items) })) }
         ensures read { D.is_honest disk.old → IfOk result (λ r. MatchOption r
             (IsOpen place (D.state disk.old).seen → ⊥)
             (λ p. IsOpen place (D.state disk.old).seen × Lists place size (bodies_of p.1.items) (D.state disk.old).seen)) }

@@ -73,7 +73,8 @@ impl Prepared {
         ensures honest { D.is_honest disk.old ↔ D.is_honest disk.new }
         ensures cause { FaultsAlone device (D.faults disk.old) (D.faults disk.new) result }
         ensures log { IfOk result (λ log. log ≡ record { device = device; place = place; size = size; gate = length self.now }) }
-        ensures filled { (generation : ℕ) (bodies : List (List ℕ)) → IsPrepared self.now generation bodies → D.is_honest disk.old
+        ensures filled { (generation : ℕ) (bodies : List (List ℕ))
+            → IsPrepared self.now generation bodies → D.is_honest disk.old
             → OnOk result (Fills place size generation bodies (D.state disk.old).seen (D.state disk.new).seen) }
         ensures durable { D.is_honest disk.old → OnOk result (IsDurable (D.state disk.new)) }
         ensures any_moment { D.is_honest disk.old → LeavesOnly (D.clock disk.old) (D.clock disk.new)

@@ -1,4 +1,4 @@
-use Rattle.std.proofs.Common.{◌∙◌, ◌+◌, ◌-◌, ◌≤◌, ℕ, List, length, ap, arith}
+use Rattle.std.proofs.Common.{◌≡◌, ◌∙◌, ◌+◌, ◌-◌, ◌≤◌, ℕ, List, length, ap, subst, arith}
 use Rattle.disk_model.specs.Disk.{written}
 use Rattle.gate_log.proofs.Fills.{fills}
 use Rattle.gate_log.proofs.Ranges.{wider}
@@ -7,8 +7,9 @@ use Rattle.gate_log.proofs.prepared.Prepared.fill.Goals as goal
 pub returns-clause-filled : goal.returns-clause-filled
 returns-clause-filled g c = λ generation bodies prepared honest.
     let old = (g.D.Disk.state c.args.disk.now).seen in
-    fills c.args.place c.args.size generation bodies c.args.self.now old (g.D.Disk.state c.put_durably.new.disk).seen prepared
-    (c.in_ok-put_durably.ensures.written honest ∙ ap (λ (l : List ℕ). written (c.args.place + 1) l old) (c.deref.ensures.value ∙ c.self.view_is))
+    let new = (g.D.Disk.state c.put_durably.new.disk).seen in
+    let is : c.deref.result.now ≡ c.args.self.now = c.deref.ensures.value ∙ c.self.view_is in
+    fills c.args.place c.args.size generation bodies c.args.self.now old new prepared (subst (λ (l : List ℕ). new ≡ written (c.args.place + 1) l old) is (c.in_ok-put_durably.ensures.written honest))
     (omega (arith, c.requires.inside, g.met.D.Disk.sized c.args.disk.now honest)) c.requires.room
 
 pub returns-in_err-put_durably-clause-any_moment : goal.returns-in_err-put_durably-clause-any_moment

@@ -1,0 +1,4 @@
+pub mod Disks
+pub mod History
+pub mod Moments
+pub mod Plan

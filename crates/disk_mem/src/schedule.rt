@@ -1,0 +1,115 @@
+// Which calls of a device fail.
+ghost use Rattle.std.specs.Prelude.{◌≡◌, ◌↔◌, IsTrue};
+ghost use Rattle.disk_mem.specs.Plan.{counted, IsFate, IsListed, IsStopped, made};
+ghost use Rattle.retro_base.specs.Cause.{raised};
+
+use std::marker::Model;
+
+/// A kind of call of a device.
+#[derive(Clone, Copy, Debug, PartialEq, Eq)]
+pub enum Call {
+    Read,
+    Write,
+    Sync,
+}
+
+/// How a call is to end.
+#[derive(Clone, Copy)]
+pub enum Fate {
+    Goes,
+    Fails,
+    // Fails, and leaves all as it was.
+    Stopped,
+}
+
+/// Which calls fail, and how many of each kind there were.
+#[derive(Drop)]
+pub struct Schedule {
+    failing: Vec<(Call, u64)>,
+    stop: Option<u64>,
+    reads: u64,
+    writes: u64,
+    syncs: u64,
+}
+
+impl Model for Schedule {
+    ghost use Rattle.disk_mem.specs.declared.schedule.Call.{Call};
+    ghost use Rattle.disk_mem.specs.Plan.{Plan};
+
+    ghost Value = { Plan };
+
+    ghost view = { λ s. record { failing = s.failing.items; stop = s.stop; reads = s.reads; writes = s.writes; syncs = s.syncs } };
+}
+
+impl Schedule {
+    /// No call was made yet.
+    pub fn new(failing: Vec<(Call, u64)>, stop: Option<u64>) -> Schedule
+        ensures { result ≡ record { failing = failing.items; stop = stop; reads = 0; writes = 0; syncs = 0 } }
+    {
+        Schedule {
+            failing,
+            stop,
+            reads: 0,
+            writes: 0,
+            syncs: 0,
+        }
+    }
+
+    /// How many calls of that kind there were.
+    pub fn made(&self, call: Call) -> u64
+        ensures { result ≡ made self.now call }
+    {
+        match call {
+            Call::Read => self.reads,
+            Call::Write => self.writes,
+            Call::Sync => self.syncs,
+        }
+    }
+
+    /// Counts a call, and says how it is to end.
+    pub fn turn(&mut self, call: Call) -> Fate
+        ensures counted { self.new ≡ counted self.old call }
+        ensures fate { IsFate self.old call result }
+    {
+        let stopped = self.is_stopped();
+        self.count(call);
+        if stopped {
+            return Fate::Stopped;
+        }
+        if self.is_listed(call) {
+            return Fate::Fails;
+        }
+        Fate::Goes
+    }
+
+    // Each further call fails.
+    fn is_stopped(&self) -> bool
+        ensures { IsTrue result ↔ IsStopped self.now }
+    {
+        let (reads, writes, syncs) = (self.reads, self.writes, self.syncs);
+        match self.stop {
+            Some(last) => {
+                let calls = u128::from(reads) + u128::from(writes) + u128::from(syncs);
+                u128::from(last) <= calls
+            }
+            None => false,
+        }
+    }
+
+    // The latest call of that kind is listed.
+    fn is_listed(&self, call: Call) -> bool
+        ensures { IsTrue result ↔ IsListed self.now call (made self.now call) }
+    {
+        self.failing.contains(&(call, self.made(call)))
+    }
+
+    fn count(&mut self, call: Call)
+        ensures { self.new ≡ counted self.old call }
+    {
+        match call {
+            Call::Read => self.reads = self.reads.saturating_add(1),
+            Call::Write => self.writes = self.writes.saturating_add(1),
+            Call::Sync => self.syncs = self.syncs.saturating_add(1),
+        }
+    }
+}
