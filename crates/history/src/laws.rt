@@ -1,0 +1,54 @@
+//! What follows from the definitions.
+
+ghost use Rattle.history.specs.Laws.{AsOfStays, AsOfTheDeclaration, CapturedByTheRule, CapturesAreCounted, CapturesGrow, FrontIsSound, HorizonRises, JournalCapturesGrow, JournalPages, MadeIsConsistent, NothingTwice, OneEntry, OneMoreLine, PinnedAreRetained, StartsCount, StaysConsistent, StaysRight};
+
+/// Of the captures of a consistent history.
+pub fn laws_of_captures()
+    // A store where nothing was declared and nothing captured has a consistent history.
+    ensures made { MadeIsConsistent }
+    // Changes leave a consistent history consistent.
+    ensures stays { StaysConsistent }
+    // There are as many captures as the log says.
+    ensures counted { CapturesAreCounted }
+    // A change adds what it captures at the end, and leaves the captures before it.
+    ensures grow { CapturesGrow }
+    // A commit captures what a written page had exactly where a snapshot was declared before and the page has no
+    // capture since the newest one.
+    ensures by_the_rule { CapturedByTheRule }
+    // A commit whose pages were all captured since the newest snapshot captures nothing.
+    ensures nothing_twice { NothingTwice }
+    // A snapshot's start is the number of captures up to and including the commit that declared it.
+    ensures starts { StartsCount }
+{}
+
+/// Of the pages as of a snapshot: the bytes of the first capture from its start on, or the current page.
+pub fn laws_of_the_past()
+    // While a snapshot is retained, a page as of it is the page just after the commit that declared it.
+    ensures declared { AsOfTheDeclaration }
+    // While a snapshot is retained, no page as of it changes.
+    ensures stays { AsOfStays }
+{}
+
+/// Of journals, and of the changes that they leave in the log.
+pub fn laws_of_journals()
+    // One line more leaves its own change behind those of the lines before it.
+    ensures one_more { OneMoreLine }
+    // The pages that the changes make are those that the committed items write.
+    ensures pages { JournalPages }
+    // As a sound journal goes on, what it captured stays.
+    ensures captures { JournalCapturesGrow }
+    // The front of a sound journal is sound.
+    ensures front { FrontIsSound }
+    // Behind a sound journal each pinned snapshot is retained.
+    ensures pinned { PinnedAreRetained }
+    // As a sound journal goes on, the oldest and the newest snapshot and the oldest start do not fall.
+    ensures horizon { HorizonRises }
+{}
+
+/// Of the log's records.
+pub fn laws_of_entries()
+    // Bytes are those of one entry.
+    ensures one_entry { OneEntry }
+    // The base behind a right change is right.
+    ensures stays_right { StaysRight }
+{}
