@@ -1,0 +1,93 @@
+-- Ways along chains, and refusals that are handed on.
+use Rattle.std.proofs.Common.{◌≡◌, ◌≢◌, ◌&&◌, not, ◌<◌, ◌++◌, ℕ, zero, suc, Bool, true, false, List, [], ◌∷◌, length, get_or, Option, Some, None, Result, Ok, Err, eqb, inl, inr, refl, sym, subst, arith}
+use Rattle.std.proofs.lemmas.Bool.{lt-ltb, eq-eqb, ne_eqb}
+use Rattle.retro_base.specs.declared.refusal.Refusal.{Refusal}
+use Rattle.pager.specs.Pages.{Pages, broken, written}
+use Rattle.pager.specs.Root.{page_in, freed}
+use Rattle.pager.specs.Stop.{Allowed, AllowedStop, MakesNone}
+use Rattle.pager.specs.declared.stop.Stop.{Stop}
+use Rattle.pager.specs.declared.stop.Stop.TheVariants as stop
+use Rattle.heap_file.specs.declared.page.HeapPage.{HeapPage}
+use Rattle.heap_file.specs.declared.chain.Link.{Link}
+use Rattle.heap_file.specs.declared.page.Entry.{Entry}
+use Rattle.heap_file.specs.Chain.{IsAt, Leads, GoesOn, last_page, met}
+use Rattle.heap_file.specs.Work.{appended, lengthened, fits, row_of, renamed, unlinked, removed, changed, without, IsPlace}
+use Rattle.heap_file.specs.HeapPage.{page_bytes}
+
+-- a refusal that is handed on is allowed where it was
+pub allowed_stop : {F : Type 0} {P Q : Refusal → Type 0} (e : Stop F) → ((why : Refusal) → P why → Q why) → AllowedStop P e → AllowedStop Q e
+allowed_stop (stop.Refused why) go (inl memory) = inl memory
+allowed_stop (stop.Refused why) go (inr allowed) = inr (go why allowed)
+allowed_stop (stop.Pager fault) go allowed = tt
+
+-- one page more on a way
+pub leads-more : (size : ℕ) (pages : Pages) (from page : ℕ) (held : HeapPage) (links : List Link) → Leads size pages from links page → IsAt size pages page held → Leads size pages from (links ++ record { page = page; held = held } ∷ []) held.next
+leads-more size pages from page held [] leads at = (sym leads, at, refl)
+leads-more size pages from page held (link ∷ links) leads at =
+    (leads.0, leads.1, leads-more size pages link.held.next page held links leads.2 at)
+
+-- a way goes on where its last page names a next one
+pub goes_on : (links : List Link) (link : Link) (page : ℕ) → page ≢ 0 → GoesOn (links ++ link ∷ []) page
+goes_on [] link page named = named
+goes_on (first ∷ links) link page named = named
+
+-- the bytes of a page that is there
+pub page_in-bytes : (size : ℕ) (pages : Pages) (page : ℕ) (bytes : List ℕ) → page < size → page_in size pages page ≡ Ok bytes → pages.at page ≡ bytes
+page_in-bytes size pages page bytes there is =
+    let found : page_in size pages page ≡ Ok (pages.at page) = rw (lt-ltb page size there) refl in
+    cc
+
+-- an answer that is handed on is allowed where it was
+pub allowed_on : {X Y F : Type 0} (view : X → Y) (P Q : Result Y Refusal → Type 0) (r : Result X (Stop F)) → ((a : Result Y Refusal) → P a → Q a) → Allowed view P r → Allowed view Q r
+allowed_on view P Q (Ok x) go allowed = go (Ok (view x)) allowed
+allowed_on view P Q (Err e) go allowed = allowed_stop e (λ why h. go (Err why) h) allowed
+
+-- an entry that does not fit in the last page
+pub appended_long : (size : ℕ) (pages : Pages) (first : ℕ) (entry : Entry) (head tail : HeapPage) → IsAt size pages first head → IsAt size pages (last_page first head) tail → eqb 0 tail.next ≡ true → fits (tail.entries ++ entry ∷ []) ≡ false → (a : Result (ℕ × Pages) Refusal) → lengthened size pages first (last_page first head) tail entry a → appended size pages first entry a
+appended_long size pages first entry head tail one last end room (Ok y) h = (head, one, (tail, last, rw (end, room) h))
+appended_long size pages first entry head tail one last end room (Err why) h = inr (head, one, inr (tail, last, rw (end, room) h))
+
+-- a refusal before the first edit
+pub makes_none : {F : Type 0} (P : Refusal → Type 0) (shown : Pages) (after : Option Pages) (e : Stop F) → after ≡ Some shown → AllowedStop P e → MakesNone shown after P e
+makes_none P shown after (stop.Refused why) same allowed = (same, allowed)
+makes_none P shown after (stop.Pager fault) same allowed = tt
+
+-- the row under the number that is found first
+pub row_of-found : (number : ℕ) (entries : List Entry) (i : ℕ) (d : Entry) → i < length entries → (get_or entries i d).number ≡ number → ((k : ℕ) → k < i → (get_or entries k d).number ≡ number → ⊥) → row_of number entries ≡ Some (get_or entries i d).row
+row_of-found number [] i d lt is before = absurd (omega arith)
+row_of-found number (entry ∷ entries) zero d lt is before = rw (eq-eqb entry.number number is) refl
+row_of-found number (entry ∷ entries) (suc i) d lt is before =
+    rw (ne_eqb entry.number number (λ e. before 0 (omega arith) e))
+    (row_of-found number entries i d (omega arith) is (λ k below. before (suc k) (omega arith)))
+
+-- no row under a number that no entry has
+pub row_of-none : (number : ℕ) (entries : List Entry) → ((k : ℕ) (d : Entry) → k < length entries → (get_or entries k d).number ≡ number → ⊥) → row_of number entries ≡ None
+row_of-none number [] none = refl
+row_of-none number (entry ∷ entries) none =
+    rw (ne_eqb entry.number number (λ e. none 0 entry (omega arith) e))
+    (row_of-none number entries (λ k d below. none (suc k) d (omega arith)))
+
+-- a page that is freed once its chain goes past it
+pub unlinked_end : (size : ℕ) (pages mid : Pages) (first previous page next : ℕ) (before : HeapPage) → IsAt size pages previous before → renamed size (written pages previous (page_bytes (record before { next = next }))) first previous next (Ok (tt, mid)) → (a : Result (Unit {0} × Pages) Refusal) → freed size mid page ≡ a → unlinked size pages first previous page next a
+unlinked_end size pages mid first previous page next before at named (Ok y) e = (before, at, ((tt, mid), named, e))
+unlinked_end size pages mid first previous page next before at named (Err why) e = inr (before, at, inr ((tt, mid), named, e))
+
+-- a page that leaves its chain
+pub removed_out : (size : ℕ) (pages : Pages) (first page number previous place : ℕ) (held : HeapPage) → met size pages first page (Ok (previous, held)) → IsPlace number held.entries (Some place) → (not (eqb previous 0) && eqb (length (without held place).entries) 0) ≡ true → (a : Result (Unit {0} × Pages) Refusal) → unlinked size pages first previous page held.next a → removed size pages first page number a
+removed_out size pages first page number previous place held found is leaves (Ok y) h = ((previous, held), found, (place, is, rw leaves h))
+removed_out size pages first page number previous place held found is leaves (Err why) h = inr ((previous, held), found, inr (place, is, rw leaves h))
+
+-- the same pages of the same store
+pub renamed_at : (size width : ℕ) (pages shown : Pages) (first last next : ℕ) (a : Result (Unit {0} × Pages) Refusal) → width ≡ size → shown ≡ pages → renamed width shown first last next a → renamed size pages first last next a
+renamed_at size width pages shown first last next a e f h =
+    subst (λ (s : ℕ). renamed s pages first last next a) e (subst (λ (p : Pages). renamed width p first last next a) f h)
+
+-- a row that moves to the end of its chain
+pub changed_moved : (size : ℕ) (pages : Pages) (first page previous place : ℕ) (held : HeapPage) (entry : Entry) → met size pages first page (Ok (previous, held)) → IsPlace entry.number held.entries (Some place) → fits ((without held place).entries ++ entry ∷ []) ≡ false → (a : Result (ℕ × Pages) Refusal) → appended size (written pages page (page_bytes (without held place))) first entry a → changed size pages first page entry a
+changed_moved size pages first page previous place held entry found is room (Ok y) h = ((previous, held), found, (place, is, rw room h))
+changed_moved size pages first page previous place held entry found is room (Err why) h = inr ((previous, held), found, inr (place, is, rw room h))
+
+-- the same pages of the same store
+pub appended_at : (size width : ℕ) (pages shown : Pages) (first : ℕ) (entry : Entry) (a : Result (ℕ × Pages) Refusal) → width ≡ size → shown ≡ pages → appended width shown first entry a → appended size pages first entry a
+appended_at size width pages shown first entry a e f h =
+    subst (λ (s : ℕ). appended s pages first entry a) e (subst (λ (p : Pages). appended width p first entry a) f h)

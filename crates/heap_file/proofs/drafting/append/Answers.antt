@@ -1,0 +1,43 @@
+use Rattle.std.proofs.Common.{◌≡◌, ◌∙◌, ◌++◌, ◌∷◌, [], ℕ, Bool, true, false, Ok, Err, Result, eqb, ap, sym, inl, inr, refl, eq-eqb}
+use Rattle.std.proofs.lemmas.Result.{err_from_is_err_and}
+use Rattle.retro_base.specs.declared.refusal.Refusal.{Refusal}
+use Rattle.pager.specs.Draft.{drafted}
+use Rattle.pager.specs.Pages.{Pages, written, broken}
+use Rattle.heap_file.specs.declared.page.HeapPage.{HeapPage}
+use Rattle.heap_file.specs.Chain.{heap_page, last_page}
+use Rattle.heap_file.specs.HeapPage.{page_bytes}
+use Rattle.heap_file.specs.Work.{appended, fits, lengthened}
+use Rattle.heap_file.proofs.Ways.{allowed_stop, allowed_on, appended_long}
+use Rattle.heap_file.proofs.drafting.append.Goals as goal
+
+pub returns-in_err-tail-clause-appended : goal.returns-in_err-tail-clause-appended
+returns-in_err-tail-clause-appended g c = λ shown told.
+    let p = err_from_is_err_and c.from_residual-in_err-tail.result c.from_residual-in_err-tail.ensures.1 in
+    let head = c.in_ok-head.ensures.read shown told in
+    rw (p.1, p.2)
+    (allowed_stop c.in_err-tail.field-0.0 (λ why h. inr (c.in_ok-head.head, head, inl h))
+    (rw c.last_page-last.ensures at (c.in_err-tail.ensures.read shown (c.in_ok-head.ensures.only_reads.pages_stay ∙ told))))
+
+pub returns-then-not-branch-clause-appended : goal.returns-then-not-branch-clause-appended
+returns-then-not-branch-clause-appended g c = λ shown told.
+    let size = c.args.draft.now.size in
+    let pages = drafted shown c.args.draft.now.list in
+    let head = c.in_ok-head.ensures.read shown told in
+    let told2 = c.in_ok-head.ensures.only_reads.pages_stay ∙ told in
+    let tail = rw c.last_page-last.ensures at (c.in_ok-tail.ensures.read shown told2) in
+    let end : eqb 0 c.in_ok-tail.tail.next ≡ true = eq-eqb 0 c.in_ok-tail.tail.next (sym c.if-tail-ne0.false) in
+    let room : fits (c.in_ok-tail.tail.entries ++ c.args.entry ∷ []) ≡ false = rw c.as_slice.ensures at (sym c.in_ok-has_room.ensures.room ∙ c.if-not-branch.true) in
+    allowed_on (λ page. (page, drafted shown c.lengthen.new.draft.list)) (lengthened size pages c.args.first (last_page c.args.first c.in_ok-head.head) c.in_ok-tail.tail c.args.entry) (appended size pages c.args.first c.args.entry) c.lengthen.result
+    (appended_long size pages c.args.first c.args.entry c.in_ok-head.head c.in_ok-tail.tail head tail end room)
+    (rw c.last_page-last.ensures at (c.lengthen.ensures.lengthened shown (c.in_ok-tail.ensures.only_reads.pages_stay ∙ told2)))
+
+pub returns-clause-appended : goal.returns-clause-appended
+returns-clause-appended g c = λ shown told.
+    let head = c.in_ok-head.ensures.read shown told in
+    let told2 = c.in_ok-head.ensures.only_reads.pages_stay ∙ told in
+    let tail = rw c.last_page-last.ensures at (c.in_ok-tail.ensures.read shown told2) in
+    let end : eqb 0 c.in_ok-tail.tail.next ≡ true = eq-eqb 0 c.in_ok-tail.tail.next (sym c.if-tail-ne0.false) in
+    let room : fits (c.in_ok-tail.tail.entries ++ c.args.entry ∷ []) ≡ true = rw c.as_slice.ensures at (sym c.in_ok-has_room.ensures.room ∙ c.if-not-branch.false) in
+    let last = last_page c.args.first c.in_ok-head.head in
+    let stored = rw (c.last_page-last.ensures, c.in_ok-push.ensures.ok) at (c.in_ok-store.ensures.drafted shown) in
+    (c.in_ok-head.head, head, (c.in_ok-tail.tail, tail, rw (end, room, c.last_page-last.ensures) (ap (λ (pages : Pages). Ok (last, pages)) (sym stored))))

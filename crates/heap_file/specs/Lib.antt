@@ -1,0 +1,5 @@
+pub mod Allows
+pub mod Chain
+pub mod HeapPage
+pub mod Laws
+pub mod Work

@@ -1,0 +1,129 @@
+-- What the calls do to the pages, page by page.
+use Rattle.std.specs.Prelude.{◌≡◌, ◌<◌, ◌+◌, ◌-◌, ◌^◌, ◌++◌, ◌==◌, ◌&&◌, not, ℕ, Bool, List, [], ◌∷◌, length, Option, Some, None, Result, Ok, Err, nat_le, slice_index_or, if◌then◌else◌}
+use Rattle.std.specs.List.{remove, insert}
+use Rattle.retro_base.specs.declared.refusal.Refusal.{Refusal}
+use Rattle.values.specs.declared.value.Value.{Value}
+use Rattle.pager.specs.Pages.{Pages, written, broken}
+use Rattle.pager.specs.Root.{taken, freed}
+use Rattle.heap_file.specs.declared.page.Entry.{Entry}
+use Rattle.heap_file.specs.declared.page.HeapPage.{HeapPage}
+use Rattle.heap_file.specs.Allows.{◌>>=◌, only, either}
+use Rattle.heap_file.specs.Chain.{heap_page, last_page, met}
+use Rattle.heap_file.specs.HeapPage.{empty_page, entry_bytes, page_bytes}
+
+-- whether entries fit in a page
+abbrev pub fits : List Entry → Bool
+fits entries = nat_le (length (entry_bytes entries)) 1004
+
+-- a page is taken for a table without rows
+abbrev pub made : ℕ → Pages → Result (ℕ × Pages) Refusal → Type 0
+made size pages = do
+  next ← only (taken size pages)
+  only (Ok (next.0, written next.1 next.0 (page_bytes empty_page)))
+
+-- the next row number of a table
+abbrev pub next_of : ℕ → Pages → ℕ → Result ℕ Refusal → Type 0
+next_of size pages first = do
+  head ← heap_page size pages first
+  only (Ok head.next_number)
+
+-- the place of the first entry of that number, or none where no entry has it
+abbrev pub IsPlace : ℕ → List Entry → Option ℕ → Type 0
+IsPlace number entries None = (k : ℕ) (d : Entry) → k < length entries → (slice_index_or entries k d).number ≡ number → ⊥
+IsPlace number entries (Some i) =
+    (i < length entries) × ((d : Entry) → (slice_index_or entries i d).number ≡ number)
+    × ((k : ℕ) (d : Entry) → k < i → (slice_index_or entries k d).number ≡ number → ⊥)
+
+-- the row of that number among entries
+abbrev pub row_of : ℕ → List Entry → Option (List Value)
+row_of number [] = None
+row_of number (entry ∷ entries) = if entry.number == number then Some entry.row else row_of number entries
+
+-- the row of that number on a page
+abbrev pub got : ℕ → Pages → ℕ → ℕ → Result (Option (List Value)) Refusal → Type 0
+got size pages page number = do
+  held ← heap_page size pages page
+  only (Ok (row_of number held.entries))
+
+-- a page with one entry, the last of its chain
+abbrev pub page_with : Entry → HeapPage
+page_with entry = record { next = 0; next_number = 0; last = 0; entries = entry ∷ [] }
+
+-- a new last page for an entry, behind the last page so far; the first page names it
+abbrev pub lengthened : ℕ → Pages → ℕ → ℕ → HeapPage → Entry → Result (ℕ × Pages) Refusal → Type 0
+lengthened size pages first last tail entry = do
+  next ← only (taken size pages)
+  let linked = written (written next.1 next.0 (page_bytes (page_with entry))) last (page_bytes (record tail { next = next.0 }))
+  head ← heap_page size linked first
+  only (Ok (next.0, written linked first (page_bytes (record head { last = next.0 }))))
+
+-- an entry goes to the end of the last page where it fits, else to a new last page
+abbrev pub appended : ℕ → Pages → ℕ → Entry → Result (ℕ × Pages) Refusal → Type 0
+appended size pages first entry = do
+  head ← heap_page size pages first
+  let last = last_page first head
+  tail ← heap_page size pages last
+  either (0 == tail.next)
+      (either (fits (tail.entries ++ entry ∷ []))
+      (only (Ok (last, written pages last (page_bytes (record tail { entries = tail.entries ++ entry ∷ [] })))))
+      (lengthened size pages first last tail entry))
+      (only (Err (broken last)))
+
+-- a row is added under the next row number, which is one more after it
+abbrev pub added : ℕ → Pages → ℕ → List Value → Result ((ℕ × ℕ) × Pages) Refusal → Type 0
+added size pages first row = do
+  head ← heap_page size pages first
+  either (head.next_number == 2 ^ 64 - 1)
+      (only (Err (broken first)))
+      (do
+        placed ← appended size pages first (record { number = head.next_number; row = row })
+        after ← heap_page size placed.1 first
+        only (Ok ((head.next_number, placed.0), written placed.1 first (page_bytes (record after { next_number = head.next_number + 1 })))))
+
+-- the place of a row on a page; a page that has no row of that number is broken
+abbrev pub place_in : ℕ → ℕ → List Entry → Result ℕ Refusal → Type 0
+place_in page number entries (Ok place) = IsPlace number entries (Some place)
+place_in page number entries (Err why) = (why ≡ broken page) × IsPlace number entries None
+
+-- a page without the entry at that place
+abbrev pub without : HeapPage → ℕ → HeapPage
+without held place = record held { entries = remove held.entries place }
+
+-- how the first page names the last one: by 0 where that is itself
+abbrev pub last_field : ℕ → ℕ → ℕ
+last_field first last = if first == last then 0 else last
+
+-- the first page names another last page; where that is itself, it names none
+abbrev pub renamed : ℕ → Pages → ℕ → ℕ → ℕ → Result (Unit {0} × Pages) Refusal → Type 0
+renamed size pages first last next =
+    either (next == 0)
+    (do
+      head ← heap_page size pages first
+      only (Ok (tt, written pages first (page_bytes (record head { last = last_field first last })))))
+    (only (Ok (tt, pages)))
+
+-- a page is taken out of its chain, and freed: the previous page names the next one
+abbrev pub unlinked : ℕ → Pages → ℕ → ℕ → ℕ → ℕ → Result (Unit {0} × Pages) Refusal → Type 0
+unlinked size pages first previous page next = do
+  before ← heap_page size pages previous
+  named ← renamed size (written pages previous (page_bytes (record before { next = next }))) first previous next
+  only (freed size named.1 page)
+
+-- a row is taken out of its page; a page that is then empty is taken out of the chain, unless it is the first
+abbrev pub removed : ℕ → Pages → ℕ → ℕ → ℕ → Result (Unit {0} × Pages) Refusal → Type 0
+removed size pages first page number = do
+  found ← met size pages first page
+  place ← place_in page number found.1.entries
+  either (not (found.0 == 0) && (length (without found.1 place).entries == 0))
+      (unlinked size pages first found.0 page found.1.next)
+      (only (Ok (tt, written pages page (page_bytes (without found.1 place)))))
+
+-- a row stays at its place where its page then fits, else it is taken out and goes to the end of the chain, under its number
+abbrev pub changed : ℕ → Pages → ℕ → ℕ → Entry → Result (ℕ × Pages) Refusal → Type 0
+changed size pages first page entry = do
+  found ← met size pages first page
+  place ← place_in page entry.number found.1.entries
+  let rest = without found.1 place
+  either (fits (rest.entries ++ entry ∷ []))
+      (only (Ok (page, written pages page (page_bytes (record rest { entries = insert rest.entries place entry })))))
+      (appended size (written pages page (page_bytes rest)) first entry)

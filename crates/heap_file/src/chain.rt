@@ -1,0 +1,134 @@
+//! Chains of heap pages.
+
+ghost use Rattle.std.specs.Prelude.{◌≡◌, ◌<◌, ◌++◌, All, IfErr, IfOk, OnOk};
+ghost use Rattle.retro_base.specs.declared.refusal.Refusal.TheVariants.{OutOfMemory};
+ghost use Rattle.heap_file.specs.HeapPage.{IsHeapPage};
+ghost use Rattle.pager.specs.Draft.{Reads};
+ghost use Rattle.pager.specs.Stop.{OnlyReads};
+ghost use Rattle.heap_file.specs.Chain.{IsPlaceOf, IsWritable, chain, heap_page, met, rows_of, rows_on};
+
+use crate::page::{HeapPage, held};
+use pager::{Draft, Pager, Stop, broken};
+use retro_base::Refusal;
+use std::alloc::Global;
+use values::{Duplicate, Row};
+
+/// A page of a chain, and what it holds.
+#[derive(Debug, Drop)]
+pub struct Link {
+    pub page: u32,
+    pub held: HeapPage,
+}
+
+/// A row of a table, with its number and the page where it stands.
+#[derive(Debug, Drop)]
+pub struct Placed {
+    pub number: u64,
+    pub page: u32,
+    pub row: Row,
+}
+
+/// What the heap page of that number holds.
+pub fn load<P: Pager>(
+    alloc: Global,
+    pager: &mut P,
+    draft: &Draft,
+    page: u32,
+) -> Result<HeapPage, Stop<P::Fault>>
+    requires { draft.now.size ≡ P.size pager.old }
+    ensures read { Reads (λ held. held) (P.pages pager.old) draft.now.list (λ pages. heap_page draft.now.size pages page) result }
+    ensures only_reads { OnlyReads P.pages P.size P.faults pager.old pager.new result }
+    ensures there { OnOk result (page < draft.now.size) }
+    ensures lawful { IfOk result IsHeapPage }
+{
+    if page == 0 {
+        return Err(Stop::Refused(broken(page)));
+    }
+    let bytes = draft.read(pager, page)?;
+    match held(alloc, &bytes)? {
+        Some(held) => Ok(held),
+        None => Err(Stop::Refused(broken(page))),
+    }
+}
+
+/// The chain that begins with that page.
+pub fn chain<P: Pager>(
+    alloc: Global,
+    pager: &mut P,
+    draft: &Draft,
+    first: u32,
+) -> Result<Vec<Link>, Stop<P::Fault>>
+    requires { draft.now.size ≡ P.size pager.old }
+    ensures read { Reads (λ links. links.items) (P.pages pager.old) draft.now.list (λ pages. chain draft.now.size pages first) result }
+    ensures only_reads { OnlyReads P.pages P.size P.faults pager.old pager.new result }
+    ensures writable { IfOk result (λ links. All (IsWritable draft.now.size) links.items) }
+{
+    let mut links = Vec::new(alloc);
+    let mut page = first;
+    'pages: for _ in 0..draft.size() {
+        let held = load(alloc, pager, draft, page)?;
+        let next = held.next;
+        links.push(Link { page, held })?;
+        if next == 0 {
+            return Ok(links);
+        }
+        page = next;
+    }
+    Err(Stop::Refused(broken(page)))
+}
+
+/// The rows of a chain, page by page.
+pub fn rows_of(alloc: Global, links: &[Link]) -> Result<Vec<Placed>, Refusal>
+    ensures rows { IfOk result (λ rows. rows.items ≡ rows_of links.now) }
+    ensures memory { IfErr result (λ why. why ≡ OutOfMemory) }
+{
+    let mut rows = Vec::new(alloc);
+    for link in links {
+        push_rows(alloc, link, &mut rows)?;
+    }
+    Ok(rows)
+}
+
+// Appends the rows of a page.
+fn push_rows(alloc: Global, link: &Link, rows: &mut Vec<Placed>) -> Result<(), Refusal>
+    ensures rows { OnOk result (rows.new.items ≡ rows.old.items ++ rows_on link.now) }
+    ensures memory { IfErr result (λ why. why ≡ OutOfMemory) }
+{
+    let page = link.page;
+    for entry in link.held.entries.as_slice() {
+        let number = entry.number;
+        let row = entry.row.copy(alloc)?;
+        rows.push(Placed { number, page, row })?;
+    }
+    Ok(())
+}
+
+/// The page before that one in the chain (0 where it is the first), and what the page holds.
+pub fn meet<P: Pager>(
+    alloc: Global,
+    pager: &mut P,
+    draft: &Draft,
+    first: u32,
+    page: u32,
+) -> Result<(u32, HeapPage), Stop<P::Fault>>
+    requires { draft.now.size ≡ P.size pager.old }
+    ensures met { Reads (λ found. found) (P.pages pager.old) draft.now.list (λ pages. met draft.now.size pages first page) result }
+    ensures only_reads { OnlyReads P.pages P.size P.faults pager.old pager.new result }
+    ensures there { OnOk result (page < draft.now.size) }
+    ensures lawful { IfOk result (λ found. IsHeapPage found.1) }
+{
+    let mut links = chain(alloc, pager, draft, first)?;
+    let Some(place) = place_of(&links, page) else {
+        return Err(Stop::Refused(broken(page)));
+    };
+    let previous = if place == 0 { 0 } else { links[place - 1].page };
+    let link = links.remove(place);
+    Ok((previous, link.held))
+}
+
+// The place of a page in a chain.
+fn place_of(links: &[Link], page: u32) -> Option<usize>
+    ensures { IsPlaceOf page links.now result }
+{
+    links.iter().position(|link| link.page == page)
+}

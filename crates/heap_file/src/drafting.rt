@@ -1,0 +1,383 @@
+//! The calls on a draft: no page is edited before the draft is written.
+
+ghost use Rattle.std.specs.Prelude.{◌≡◌, ◌≤◌, ◌<◌, ◌==◌, ◌&&◌, ◌++◌, ◌∷◌, [], not, IsTrue, IfErr, IfOk, OnOk, length};
+ghost use Rattle.retro_base.specs.declared.refusal.Refusal.TheVariants.{OutOfMemory};
+ghost use Rattle.pager.specs.Draft.{drafted, Drafts, Reads};
+ghost use Rattle.pager.specs.Pages.{Pages, written};
+ghost use Rattle.pager.specs.Stop.{OnlyReads};
+ghost use Rattle.heap_file.specs.Chain.{last_page, scanned};
+ghost use Rattle.heap_file.specs.HeapPage.{IsEntry, IsHeapPage, IsShort, page_bytes};
+ghost use Rattle.std.specs.List.{insert};
+ghost use Rattle.heap_file.specs.Work.{added, appended, changed, fits, IsPlace, got, last_field, lengthened, made, next_of, page_with, removed, renamed, unlinked, without};
+
+use crate::chain::{Placed, chain, load, meet, rows_of};
+use crate::page::{Entry, HeapPage, has_room, page_of};
+use pager::{Draft, Pager, Stop, broken, free, take};
+use retro_base::Refusal;
+use std::alloc::{AllocFailed, Global};
+use values::{Duplicate, Row, Seq};
+
+// Drafts that a page holds this.
+fn store(alloc: Global, draft: &mut Draft, page: u32, held: &HeapPage) -> Result<(), Refusal>
+    requires there { page < draft.old.size }
+    requires held { IsHeapPage held.now }
+    ensures drafted { OnOk result ((pages : Pages) → drafted pages draft.new.list ≡ written (drafted pages draft.old.list) page (page_bytes held.now)) }
+    ensures memory { IfErr result (λ why. why ≡ OutOfMemory) }
+    ensures size { draft.new.size ≡ draft.old.size }
+{
+    let bytes = page_of(alloc, held)?;
+    draft.put(page, &bytes)?;
+    Ok(())
+}
+
+/// Drafts a table without rows: takes its first page.
+pub fn make<P: Pager>(
+    alloc: Global,
+    pager: &mut P,
+    draft: &mut Draft,
+) -> Result<u32, Stop<P::Fault>>
+    requires { draft.old.size ≡ P.size pager.old }
+    ensures made { Drafts (λ page. page) (P.pages pager.old) draft.old.list draft.new.list (made draft.old.size) result }
+    ensures only_reads { OnlyReads P.pages P.size P.faults pager.old pager.new result }
+    ensures size { draft.new.size ≡ draft.old.size }
+{
+    let page = take(pager, draft)?;
+    let empty = HeapPage {
+        next: 0,
+        next_number: 0,
+        last: 0,
+        entries: Seq::new(alloc),
+    };
+    store(alloc, draft, page, &empty)?;
+    Ok(page)
+}
+
+// The last page of the chain that begins with a page, as that page names it.
+fn last_page(first: u32, head: &HeapPage) -> u32
+    ensures { result ≡ last_page first head.now }
+{
+    if head.last == 0 { first } else { head.last }
+}
+
+// A page with one entry, the last of its chain.
+fn page_with(alloc: Global, entry: Entry) -> Result<HeapPage, AllocFailed<Entry>>
+    requires { IsEntry entry }
+    ensures { IfOk result (λ page. (page ≡ page_with entry) × IsHeapPage page) }
+{
+    let mut entries = Seq::new(alloc);
+    entries.push(entry)?;
+    Ok(HeapPage {
+        next: 0,
+        next_number: 0,
+        last: 0,
+        entries,
+    })
+}
+
+// Drafts a new last page for an entry, behind the last page so far; the first page names it.
+fn lengthen<P: Pager>(
+    alloc: Global,
+    pager: &mut P,
+    draft: &mut Draft,
+    first: u32,
+    last: u32,
+    tail: HeapPage,
+    entry: Entry,
+) -> Result<u32, Stop<P::Fault>>
+    requires size { draft.old.size ≡ P.size pager.old }
+    requires there { last < draft.old.size }
+    requires tail { IsHeapPage tail }
+    requires entry { IsEntry entry }
+    ensures lengthened { Drafts (λ page. page) (P.pages pager.old) draft.old.list draft.new.list (λ pages. lengthened draft.old.size pages first last tail entry) result }
+    ensures only_reads { OnlyReads P.pages P.size P.faults pager.old pager.new result }
+    ensures size { draft.new.size ≡ draft.old.size }
+{
+    let next = take(pager, draft)?;
+    let page = page_with(alloc, entry)?;
+    store(alloc, draft, next, &page)?;
+    let linked = HeapPage { next, ..tail };
+    store(alloc, draft, last, &linked)?;
+    let head = load(alloc, pager, draft, first)?;
+    let named = HeapPage { last: next, ..head };
+    store(alloc, draft, first, &named)?;
+    Ok(next)
+}
+
+// Drafts an entry at the end of the chain, and answers its page.
+fn append<P: Pager>(
+    alloc: Global,
+    pager: &mut P,
+    draft: &mut Draft,
+    first: u32,
+    entry: Entry,
+) -> Result<u32, Stop<P::Fault>>
+    requires size { draft.old.size ≡ P.size pager.old }
+    requires entry { IsShort entry.row }
+    ensures appended { Drafts (λ page. page) (P.pages pager.old) draft.old.list draft.new.list (λ pages. appended draft.old.size pages first entry) result }
+    ensures only_reads { OnlyReads P.pages P.size P.faults pager.old pager.new result }
+    ensures size { draft.new.size ≡ draft.old.size }
+{
+    let head = load(alloc, pager, draft, first)?;
+    let last = last_page(first, &head);
+    let mut tail = load(alloc, pager, draft, last)?;
+    if tail.next != 0 {
+        return Err(Stop::Refused(broken(last)));
+    }
+    if !has_room(alloc, tail.entries.as_slice(), &entry)? {
+        return lengthen(alloc, pager, draft, first, last, tail, entry);
+    }
+    tail.entries.push(entry)?;
+    store(alloc, draft, last, &tail)?;
+    Ok(last)
+}
+
+/// Drafts a row under the next row number, and answers its number and page.
+pub fn add<P: Pager>(
+    alloc: Global,
+    pager: &mut P,
+    draft: &mut Draft,
+    first: u32,
+    row: &Row,
+) -> Result<(u64, u32), Stop<P::Fault>>
+    requires size { draft.old.size ≡ P.size pager.old }
+    requires row { IsShort row.now }
+    ensures added { Drafts (λ placed. placed) (P.pages pager.old) draft.old.list draft.new.list (λ pages. added draft.old.size pages first row.now) result }
+    ensures only_reads { OnlyReads P.pages P.size P.faults pager.old pager.new result }
+    ensures size { draft.new.size ≡ draft.old.size }
+{
+    let number = load(alloc, pager, draft, first)?.next_number;
+    if number == u64::MAX {
+        return Err(Stop::Refused(broken(first)));
+    }
+    let row = row.copy(alloc)?;
+    let page = append(alloc, pager, draft, first, Entry { number, row })?;
+    let head = load(alloc, pager, draft, first)?;
+    let counted = HeapPage {
+        next_number: number + 1,
+        ..head
+    };
+    store(alloc, draft, first, &counted)?;
+    Ok((number, page))
+}
+
+/// The next row number of the table that begins with that page.
+pub fn next_number<P: Pager>(
+    alloc: Global,
+    pager: &mut P,
+    draft: &Draft,
+    first: u32,
+) -> Result<u64, Stop<P::Fault>>
+    requires { draft.now.size ≡ P.size pager.old }
+    ensures next { Reads (λ number. number) (P.pages pager.old) draft.now.list (λ pages. next_of draft.now.size pages first) result }
+    ensures only_reads { OnlyReads P.pages P.size P.faults pager.old pager.new result }
+{
+    Ok(load(alloc, pager, draft, first)?.next_number)
+}
+
+/// The row of that number on that page, if there is one.
+pub fn get<P: Pager>(
+    alloc: Global,
+    pager: &mut P,
+    draft: &Draft,
+    page: u32,
+    number: u64,
+) -> Result<Option<Row>, Stop<P::Fault>>
+    requires { draft.now.size ≡ P.size pager.old }
+    ensures got { Reads (λ row. row) (P.pages pager.old) draft.now.list (λ pages. got draft.now.size pages page number) result }
+    ensures only_reads { OnlyReads P.pages P.size P.faults pager.old pager.new result }
+{
+    let held = load(alloc, pager, draft, page)?;
+    match place_of(held.entries.as_slice(), number) {
+        Some(place) => Ok(Some(held.entries.as_slice()[place].row.copy(alloc)?)),
+        None => Ok(None),
+    }
+}
+
+// The place of the entry of that number.
+fn place_of(entries: &[Entry], number: u64) -> Option<usize>
+    ensures { IsPlace number entries.now result }
+{
+    entries.iter().position(|entry| entry.number == number)
+}
+
+/// The rows of the table that begins with that page, in rising number.
+pub fn scan<P: Pager>(
+    alloc: Global,
+    pager: &mut P,
+    draft: &Draft,
+    first: u32,
+) -> Result<Vec<Placed>, Stop<P::Fault>>
+    requires { draft.now.size ≡ P.size pager.old }
+    ensures scanned { Reads (λ rows. rows.items) (P.pages pager.old) draft.now.list (λ pages. scanned draft.now.size pages first) result }
+    ensures only_reads { OnlyReads P.pages P.size P.faults pager.old pager.new result }
+{
+    let links = chain(alloc, pager, draft, first)?;
+    let mut rows = rows_of(alloc, &links)?;
+    rows.sort_by_key(|placed| placed.number)?;
+    Ok(rows)
+}
+
+/// Drafts that a row is taken out of its page.
+pub fn remove<P: Pager>(
+    alloc: Global,
+    pager: &mut P,
+    draft: &mut Draft,
+    first: u32,
+    page: u32,
+    number: u64,
+) -> Result<(), Stop<P::Fault>>
+    requires { draft.old.size ≡ P.size pager.old }
+    ensures removed { Drafts (λ u. u) (P.pages pager.old) draft.old.list draft.new.list (λ pages. removed draft.old.size pages first page number) result }
+    ensures only_reads { OnlyReads P.pages P.size P.faults pager.old pager.new result }
+    ensures size { draft.new.size ≡ draft.old.size }
+{
+    let (previous, held) = meet(alloc, pager, draft, first, page)?;
+    let Some(place) = place_of(held.entries.as_slice(), number) else {
+        return Err(Stop::Refused(broken(page)));
+    };
+    let rest = without(held, place);
+    if leaves_chain(previous, &rest) {
+        return unlink(alloc, pager, draft, first, previous, page, rest.next);
+    }
+    Ok(store(alloc, draft, page, &rest)?)
+}
+
+// Whether a page behind a previous one (0 is none) leaves its chain.
+fn leaves_chain(previous: u32, held: &HeapPage) -> bool
+    ensures { result ≡ (not (previous == 0) && (length held.now.entries == 0)) }
+{
+    previous != 0 && held.entries.is_empty()
+}
+
+// How the first page names the last one.
+fn last_field(first: u32, last: u32) -> u32
+    ensures { result ≡ last_field first last }
+{
+    if first == last { 0 } else { last }
+}
+
+// A page without the entry at that place.
+fn without(held: HeapPage, place: usize) -> HeapPage
+    requires place { place < length held.entries }
+    requires held { IsHeapPage held }
+    ensures without { result ≡ without held place }
+    ensures lawful { IsHeapPage result }
+{
+    let HeapPage {
+        next,
+        next_number,
+        last,
+        entries,
+    } = held;
+    let mut entries = Vec::from(entries);
+    entries.remove(place);
+    HeapPage {
+        next,
+        next_number,
+        last,
+        entries: Seq::from(entries),
+    }
+}
+
+// Drafts that a page is taken out of its chain, and freed: the previous page names the next one.
+fn unlink<P: Pager>(
+    alloc: Global,
+    pager: &mut P,
+    draft: &mut Draft,
+    first: u32,
+    previous: u32,
+    page: u32,
+    next: u32,
+) -> Result<(), Stop<P::Fault>>
+    requires { draft.old.size ≡ P.size pager.old }
+    ensures unlinked { Drafts (λ u. u) (P.pages pager.old) draft.old.list draft.new.list (λ pages. unlinked draft.old.size pages first previous page next) result }
+    ensures only_reads { OnlyReads P.pages P.size P.faults pager.old pager.new result }
+    ensures size { draft.new.size ≡ draft.old.size }
+{
+    let before = load(alloc, pager, draft, previous)?;
+    let linked = HeapPage { next, ..before };
+    store(alloc, draft, previous, &linked)?;
+    rename_last(alloc, pager, draft, first, previous, next)?;
+    free(pager, draft, page)
+}
+
+// Drafts that the first page names another last page, where there is no next one.
+fn rename_last<P: Pager>(
+    alloc: Global,
+    pager: &mut P,
+    draft: &mut Draft,
+    first: u32,
+    last: u32,
+    next: u32,
+) -> Result<(), Stop<P::Fault>>
+    requires { draft.old.size ≡ P.size pager.old }
+    ensures renamed { Drafts (λ u. u) (P.pages pager.old) draft.old.list draft.new.list (λ pages. renamed draft.old.size pages first last next) result }
+    ensures only_reads { OnlyReads P.pages P.size P.faults pager.old pager.new result }
+    ensures size { draft.new.size ≡ draft.old.size }
+{
+    if next != 0 {
+        return Ok(());
+    }
+    let head = load(alloc, pager, draft, first)?;
+    let named = HeapPage {
+        last: last_field(first, last),
+        ..head
+    };
+    Ok(store(alloc, draft, first, &named)?)
+}
+
+/// Drafts that a row changes, under its number, and answers the page where it then stands.
+pub fn change<P: Pager>(
+    alloc: Global,
+    pager: &mut P,
+    draft: &mut Draft,
+    first: u32,
+    page: u32,
+    number: u64,
+    row: &Row,
+) -> Result<u32, Stop<P::Fault>>
+    requires size { draft.old.size ≡ P.size pager.old }
+    requires row { IsShort row.now }
+    ensures changed { Drafts (λ page. page) (P.pages pager.old) draft.old.list draft.new.list (λ pages. changed draft.old.size pages first page (record { number = number; row = row.now })) result }
+    ensures only_reads { OnlyReads P.pages P.size P.faults pager.old pager.new result }
+    ensures size { draft.new.size ≡ draft.old.size }
+{
+    let (_, held) = meet(alloc, pager, draft, first, page)?;
+    let Some(place) = place_of(held.entries.as_slice(), number) else {
+        return Err(Stop::Refused(broken(page)));
+    };
+    let rest = without(held, place);
+    let row = row.copy(alloc)?;
+    let entry = Entry { number, row };
+    if !has_room(alloc, rest.entries.as_slice(), &entry)? {
+        store(alloc, draft, page, &rest)?;
+        return append(alloc, pager, draft, first, entry);
+    }
+    let kept = with_entry(rest, place, entry)?;
+    store(alloc, draft, page, &kept)?;
+    Ok(page)
+}
+
+// A page with one more entry, at that place.
+fn with_entry(held: HeapPage, place: usize, entry: Entry) -> Result<HeapPage, AllocFailed<Entry>>
+    requires place { place ≤ length held.entries }
+    requires held { IsHeapPage held }
+    requires entry { IsEntry entry }
+    requires room { IsTrue (fits (held.entries ++ entry ∷ [])) }
+    ensures { IfOk result (λ page. (page ≡ record held { entries = insert held.entries place entry }) × IsHeapPage page) }
+{
+    let HeapPage {
+        next,
+        next_number,
+        last,
+        entries,
+    } = held;
+    let mut entries = Vec::from(entries);
+    entries.insert(place, entry)?;
+    Ok(HeapPage {
+        next,
+        next_number,
+        last,
+        entries: Seq::from(entries),
+    })
+}

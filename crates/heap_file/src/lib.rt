@@ -1,0 +1,15 @@
+//! Tables as chains of pages: rows under numbers of their own, over any pager.
+#![tactic(auto)]
+
+mod calls;
+mod chain;
+pub mod drafting;
+mod entries;
+mod laws;
+mod page;
+#[cfg(test)]
+mod tests;
+
+pub use calls::{add, change, get, make, next_number, remove, scan};
+pub use chain::Placed;
+pub use laws::{holds_one, written_holds, zero_is_empty};

@@ -1,0 +1,113 @@
+//! Heap pages and their bytes.
+
+ghost use Rattle.std.specs.Prelude.{◌≡◌, ◌++◌, ◌∷◌, [], IfErr, IfOk, IfSome, OnOk};
+ghost use Rattle.retro_base.specs.declared.refusal.Refusal.TheVariants.{OutOfMemory};
+ghost use Rattle.heap_file.specs.Work.{fits};
+ghost use Rattle.heap_file.specs.HeapPage.{IsEntry, IsHeapPage, IsHeld, IsShort, entry_bytes, entry_code, page_bytes};
+ghost use Rattle.std.specs.List.{AllByRecursion};
+
+use crate::entries::first_entries;
+use retro_base::{PAGE_BYTES, Page, Refusal, get_u16, get_u32, get_u64};
+use row_codec::encode;
+use std::alloc::Global;
+use values::{Row, Seq};
+
+/// Where the entries of a page begin.
+pub const HEADER_BYTES: usize = 20;
+/// Byte 0 of a heap page.
+const HEAP_PAGE: u8 = 1;
+
+/// A row under its number.
+#[derive(Debug, Drop)]
+pub struct Entry {
+    pub number: u64,
+    pub row: Row,
+}
+
+/// What a heap page holds: the next page of the chain (0 is none), the next row number and the last page of the chain
+/// (0 is this page), both of a table's first page alone, and the entries.
+#[derive(Debug, Drop)]
+pub struct HeapPage {
+    pub next: u32,
+    pub next_number: u64,
+    pub last: u32,
+    pub entries: Seq<Entry>,
+}
+
+/// What the page holds. None where it is no heap page.
+pub fn held(alloc: Global, page: &Page) -> Result<Option<HeapPage>, Refusal>
+    ensures held { IfOk result (IsHeld page.now) }
+    ensures lawful { IfOk result (λ found. IfSome found IsHeapPage) }
+    ensures memory { IfErr result (λ why. why ≡ OutOfMemory) }
+{
+    let bytes = page.bytes();
+    if bytes[0] > HEAP_PAGE {
+        return Ok(None);
+    }
+    let count = usize::from(get_u16(bytes, 2));
+    let Some(entries) = first_entries(alloc, &bytes[HEADER_BYTES..], count)? else {
+        return Ok(None);
+    };
+    Ok(Some(HeapPage {
+        next: get_u32(bytes, 4),
+        next_number: get_u64(bytes, 8),
+        last: get_u32(bytes, 16),
+        entries,
+    }))
+}
+
+/// The page that holds this.
+pub fn page_of(alloc: Global, held: &HeapPage) -> Result<Page, Refusal>
+    requires { IsHeapPage held.now }
+    ensures page { IfOk result (λ page. page ≡ page_bytes held.now) }
+    ensures memory { IfErr result (λ why. why ≡ OutOfMemory) }
+{
+    let entries = entry_bytes(alloc, held.entries.as_slice())?;
+    let mut page = Page::zero();
+    page.put_bytes(0, &[HEAP_PAGE]);
+    page.put_u16(2, held.entries.len() as u16);
+    page.put_u32(4, held.next);
+    page.put_u64(8, held.next_number);
+    page.put_u32(16, held.last);
+    page.put_bytes(HEADER_BYTES, &entries);
+    Ok(page)
+}
+
+/// Whether one more entry fits in a page with these.
+pub fn has_room(alloc: Global, entries: &[Entry], entry: &Entry) -> Result<bool, Refusal>
+    requires entries { AllByRecursion IsEntry entries.now }
+    requires short { IsShort entry.now.row }
+    ensures room { IfOk result (λ room. room ≡ fits (entries.now ++ entry.now ∷ [])) }
+    ensures lawful { OnOk result (IsEntry entry.now) }
+    ensures memory { IfErr result (λ why. why ≡ OutOfMemory) }
+{
+    let mut bytes = entry_bytes(alloc, entries)?;
+    push_entry(alloc, entry, &mut bytes)?;
+    Ok(bytes.len() <= PAGE_BYTES - HEADER_BYTES)
+}
+
+// The bytes that entries take.
+fn entry_bytes(alloc: Global, entries: &[Entry]) -> Result<Vec<u8>, Refusal>
+    requires { AllByRecursion IsEntry entries.now }
+    ensures bytes { IfOk result (λ bytes. bytes.items ≡ entry_bytes entries.now) }
+    ensures memory { IfErr result (λ why. why ≡ OutOfMemory) }
+{
+    let mut bytes = Vec::new(alloc);
+    for entry in entries {
+        push_entry(alloc, entry, &mut bytes)?;
+    }
+    Ok(bytes)
+}
+
+// Appends an entry's bytes.
+fn push_entry(alloc: Global, entry: &Entry, bytes: &mut Vec<u8>) -> Result<(), Refusal>
+    requires { IsShort entry.now.row }
+    ensures pushed { OnOk result (bytes.new.items ≡ bytes.old.items ++ entry_code entry.now) }
+    ensures lawful { OnOk result (IsEntry entry.now) }
+    ensures memory { IfErr result (λ why. why ≡ OutOfMemory) }
+{
+    let code = encode(alloc, entry.number, &entry.row)?;
+    bytes.extend_from_slice(&(code.len() as u16).to_be_bytes())?;
+    bytes.extend_from_slice(&code)?;
+    Ok(())
+}

@@ -1,0 +1,136 @@
+//! What no clause says: pages byte for byte by hand, which pages each call edits, and that calls succeed.
+
+ghost use Rattle.std.specs.Prelude.{IfOk};
+ghost use Rattle.heap_file.specs.HeapPage.{IsShort};
+
+use super::*;
+use pager::{MemPager, Root, Stop};
+use retro_base::{Device, Page, Refusal};
+use std::alloc::{AllocError, Global};
+use std::test::Fail;
+use values::{Row, Seq, Text, Value};
+
+// A row of 60 encoded bytes: one text of 49 letters.
+fn sixty_bytes(alloc: Global) -> Result<Row, Refusal>
+    ensures { IfOk result IsShort }
+{
+    let letters = vec![in alloc; b'x'; 49]?;
+    let mut row = Seq::new(alloc);
+    row.push(Value::Text(Text::new(Seq::from(letters))))?;
+    let code = row_codec::encode(alloc, 0, &row)?;
+    if code.len() == 60 {
+        Ok(row)
+    } else {
+        Err(Refusal::BadSizes)
+    }
+}
+
+// A store of 16 zero pages, and the first page of a table in it.
+fn one_table(alloc: Global) -> Result<(MemPager, u32), Fail> {
+    let pages = vec![in alloc; Page::zero(); 16]?;
+    let mut pager = MemPager::new(alloc, pages, Vec::new(alloc));
+    let first = make(alloc, &mut pager)?;
+    Ok((pager, first))
+}
+
+// The page of that number, as it stands.
+fn page_at(pager: &MemPager, page: usize) -> Page {
+    let pages = pager.pages();
+    if page < pages.len() {
+        pages[page]
+    } else {
+        Page::zero()
+    }
+}
+
+// The pages that were edited after so many edits, in rising order.
+fn edited(alloc: Global, pager: &MemPager, since: usize) -> Result<Vec<u32>, AllocError> {
+    let edits = pager.edits();
+    let mut pages = edits[since.min(edits.len())..].to_vec(alloc)?;
+    pages.sort()?;
+    Ok(pages)
+}
+
+#[test]
+fn the_seventeenth_row_opens_a_page(rt: HostRuntime) -> Result<(), Fail> {
+    let alloc = rt.alloc();
+    let (mut pager, first) = one_table(alloc)?;
+    assert_eq!(rt; first, 2);
+    assert_eq!(rt; pager.edits().len(), 2);
+    let row = sixty_bytes(alloc)?;
+    for number in 0..16 {
+        assert_eq!(rt; add(alloc, &mut pager, first, &row)?, (number, 2));
+    }
+    assert_eq!(rt; edited(alloc, &pager, 2)?.len(), 16);
+    assert_eq!(rt; add(alloc, &mut pager, first, &row)?, (16, 3));
+    assert_eq!(rt; edited(alloc, &pager, 18)?.as_slice(), [0, 2, 3].as_slice());
+    remove(alloc, &mut pager, first, 3, 16)?;
+    assert_eq!(rt; edited(alloc, &pager, 21)?.as_slice(), [0, 2, 3].as_slice());
+    let root = Root::of(&page_at(&pager, 0));
+    assert_eq!(rt; (root.used, root.first_free, root.free), (2, 3, 1));
+    assert_eq!(rt; add(alloc, &mut pager, first, &row)?, (17, 3));
+    assert_eq!(rt; next_number(alloc, &mut pager, first)?, 18);
+    assert_eq!(rt; scan(alloc, &mut pager, first)?.len(), 17);
+    assert!(rt; get(alloc, &mut pager, 3, 17)?.is_some());
+    assert!(rt; get(alloc, &mut pager, 3, 16)?.is_none());
+    assert_eq!(rt; change(alloc, &mut pager, first, 3, 17, &row)?, 3);
+    assert_eq!(rt; edited(alloc, &pager, 27)?.as_slice(), [3].as_slice());
+    remove(alloc, &mut pager, first, 2, 0)?;
+    assert_eq!(rt; edited(alloc, &pager, 28)?.as_slice(), [2].as_slice());
+    Ok(())
+}
+
+// A store of 16 pages, all of them zero but page 1.
+fn with_page_one(alloc: Global, page: Page) -> Result<MemPager, AllocError> {
+    let mut pages = vec![in alloc; Page::zero(); 16]?;
+    pages[1] = page;
+    Ok(MemPager::new(alloc, pages, Vec::new(alloc)))
+}
+
+#[test]
+fn a_page_that_names_itself_is_no_chain(rt: HostRuntime) -> Result<(), Fail> {
+    let alloc = rt.alloc();
+    let broken = Refusal::NotAStore {
+        device: Device::Pages,
+        place: 1024,
+    };
+    let mut page = Page::zero();
+    page.put_u32(4, 1);
+    let mut pager = with_page_one(alloc, page)?;
+    assert!(rt; scan(alloc, &mut pager, 1).err() == Some(Stop::Refused(broken)));
+    page.put_bytes(0, &[2]);
+    let mut pager = with_page_one(alloc, page)?;
+    assert!(rt; next_number(alloc, &mut pager, 1) == Err(Stop::Refused(broken)));
+    Ok(())
+}
+
+#[test]
+fn a_page_in_bytes(rt: HostRuntime) -> Result<(), Fail> {
+    let alloc = rt.alloc();
+    let (mut pager, first) = one_table(alloc)?;
+    let row = sixty_bytes(alloc)?;
+    add(alloc, &mut pager, first, &row)?;
+    let page = page_at(&pager, 2);
+    assert_eq!(rt;
+        &page.bytes()[..16],
+        [1, 0, 0, 1, 0, 0, 0, 0, 0, 0, 0, 0, 0, 0, 0, 1].as_slice()
+    );
+    assert_eq!(rt; &page.bytes()[16..22], [0, 0, 0, 0, 0, 60].as_slice());
+    assert_eq!(rt; &page.bytes()[30..34], [1, 2, 49, b'x'].as_slice());
+    assert_eq!(rt; &page.bytes()[81..84], [b'x', 0, 0].as_slice());
+    Ok(())
+}
+
+#[test]
+fn full_before_the_first_edit(rt: HostRuntime) -> Result<(), Fail> {
+    let alloc = rt.alloc();
+    let (mut pager, _) = one_table(alloc)?;
+    for _ in 0..13 {
+        make(alloc, &mut pager)?;
+    }
+    let edits = pager.edits().len();
+    let full = Refusal::PagesFull { pages: 16 };
+    assert!(rt; make(alloc, &mut pager) == Err(Stop::Refused(full)));
+    assert_eq!(rt; pager.edits().len(), edits);
+    Ok(())
+}

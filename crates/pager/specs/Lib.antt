@@ -1,0 +1,5 @@
+pub mod Draft
+pub mod MemPages
+pub mod Pages
+pub mod Root
+pub mod Stop

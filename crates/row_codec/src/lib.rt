@@ -1,0 +1,13 @@
+//! Rows as bytes: each row has one spelling, and no bytes are the spelling of two.
+#![tactic(auto)]
+
+mod laws;
+mod reading;
+#[cfg(test)]
+mod tests;
+mod value;
+mod writing;
+
+pub use laws::one_row;
+pub use reading::decode;
+pub use writing::encode;

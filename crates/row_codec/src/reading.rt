@@ -1,0 +1,46 @@
+//! From bytes to rows.
+
+ghost use Rattle.std.specs.Prelude.{◌≡◌, IfErr, IfOk};
+ghost use Rattle.retro_base.specs.declared.refusal.Refusal.TheVariants.{OutOfMemory};
+ghost use Rattle.row_codec.specs.RowCode.{IsDecoded, AreFirstValues};
+
+use crate::value::first_value;
+use retro_base::{ROW_BYTES, Refusal, get_u64};
+use std::alloc::Global;
+use values::{Row, Seq};
+
+/// The row whose encoding the bytes are, with its number. None exactly where they are no row's.
+pub fn decode(alloc: Global, bytes: &[u8]) -> Result<Option<(u64, Row)>, Refusal>
+    ensures decoded { IfOk result (IsDecoded bytes.now) }
+    ensures memory { IfErr result (λ why. why ≡ OutOfMemory) }
+{
+    if bytes.len() < 9 || bytes.len() > ROW_BYTES || bytes[8] == 0 || bytes[8] > 16 {
+        return Ok(None);
+    }
+    let Some((row, end)) = first_values(alloc, &bytes[9..], usize::from(bytes[8]))? else {
+        return Ok(None);
+    };
+    if end < bytes.len() - 9 {
+        return Ok(None);
+    }
+    Ok(Some((get_u64(bytes, 0), row)))
+}
+
+// So many values that stand first in the bytes, and how many bytes they take. None where so many do not stand there.
+fn first_values(alloc: Global, bytes: &[u8], count: usize) -> Result<Option<(Row, usize)>, Refusal>
+    ensures found { IfOk result (AreFirstValues bytes.now count) }
+    ensures memory { IfErr result (λ why. why ≡ OutOfMemory) }
+{
+    let mut row = Seq::new(alloc);
+    let mut end = 0;
+    'values: for _ in 0..count {
+        match first_value(alloc, &bytes[end..])? {
+            Some((value, length)) => {
+                row.push(value)?;
+                end += length;
+            }
+            None => return Ok(None),
+        }
+    }
+    Ok(Some((row, end)))
+}
