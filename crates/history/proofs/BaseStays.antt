@@ -6,12 +6,12 @@ use Rattle.history.specs.declared.entry.Base.{Base}
 use Rattle.history.specs.declared.entry.Mark.{Mark}
 use Rattle.history.specs.declared.entry.Change.TheVariants.{Commit, Drop}
 use Rattle.history.specs.declared.writes.PageImage.{PageImage}
-use Rattle.history.specs.Marks.{oldest, newest, kept_marks, IsNumberedFrom}
+use Rattle.history.specs.Marks.{is_retained, oldest, newest, kept_marks, IsNumberedFrom}
 use Rattle.history.specs.Writes.{pages_of, rises, is_among}
 use Rattle.history.specs.History.{is_declared, captures_page, capturing, with_page, with_pages}
-use Rattle.history.specs.Laws.{StaysRight}
+use Rattle.history.specs.Laws.{RetainedBetween, StaysRight}
 use Rattle.history.proofs.Spelling.{newest-numbered}
-use Rattle.history.proofs.MarkLaws.{newest_start-push, kept-newest, newest_start-within}
+use Rattle.history.proofs.MarkLaws.{retained-oldest, retained-newest, numbered-retained, newest_start-push, kept-newest, newest_start-within}
 use Rattle.history.proofs.Captures.{among-with_page, undeclared-none}
 use Rattle.history.proofs.Journals.{base_marks, kept-oldest}
 
@@ -181,3 +181,15 @@ stays_right base (Drop below) right rise may =
       in_store = right.in_store;
       captured = omega (arith, right.captured, kept.1);
     }
+
+between : (base : Base) (number : ℕ) → IsNumberedFrom (oldest base.marks) base.marks → oldest base.marks ≤ number → number ≤ newest base.marks → is_retained number base.marks ≡ true
+between base number numbered le up = go base.marks numbered le up where
+  go : (marks : List Mark) → IsNumberedFrom (oldest marks) marks → oldest marks ≤ number → number ≤ newest marks → is_retained number marks ≡ true
+  go [] h a b = absurd (omega (arith, a, b))
+  go (mark ∷ marks) h a b = numbered-retained mark.number number (mark ∷ marks) h a (omega (arith, b, newest-numbered mark.number mark marks h))
+
+pub retained_between : RetainedBetween
+retained_between base number right = (
+  λ kept. (retained-oldest base.captures 0 0 number base.marks right.marks kept, retained-newest base.captures 0 0 number base.marks right.marks kept),
+  λ inside. between base number right.numbered inside.0 inside.1,
+)

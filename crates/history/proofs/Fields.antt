@@ -1,8 +1,8 @@
 -- What is read of a field is what its bytes say, and what its bytes say is read.
-use Rattle.std.proofs.Common.{◌≡◌, ◌<◌, ◌≤◌, ◌^◌, ◌++◌, ◌∙◌, ℕ, zero, suc, Bool, true, false, cond, ltb, leb, List, [], ◌∷◌, length, take, drop, Option, Some, None, refl, sym, ap, subst, arith, append_assoc}
+use Rattle.std.proofs.Common.{◌≡◌, ◌<◌, ◌≤◌, ◌-◌, ◌^◌, ◌++◌, ◌∙◌, ℕ, zero, suc, Bool, true, false, cond, ltb, leb, List, [], ◌∷◌, length, take, drop, Option, Some, None, refl, sym, ap, subst, arith, append_assoc}
 use Rattle.std.specs.Prelude.{IsTrue}
 use Rattle.std.proofs.lemmas.Bool.{ltb-false, le-ltb, leb-true, le-leb, and_parts, and_from}
-use Rattle.std.proofs.lemmas.List.{take-append-drop, drop_at, take_at, length-take, length-append}
+use Rattle.std.proofs.lemmas.List.{take_rest, take-append-drop, drop_at, take_at, length-take, length-append}
 use Rattle.retro_base.specs.declared.limits.TheConstants.{PAGE_BYTES, LABEL_BYTES}
 use Rattle.retro_base.specs.Fields.{number_at, field_bytes}
 use Rattle.history.specs.declared.entry.Mark.{Mark}
@@ -47,6 +47,13 @@ number_takes w bytes x fits e =
     let long : w ≤ length bytes = ltb-false _ _ g.0 in
     let parts : bytes ≡ field_bytes w (number_at w bytes 0) ++ drop w bytes = sym (take-append-drop w bytes) ∙ ap (λ t. t ++ drop w bytes) (sym (field_of-number w bytes long fits)) in
     subst (λ (y : ℕ × List ℕ). Takes bytes (field_bytes w y.0) y.1 × (y.0 < 256 ^ w)) g.1 (record { parts = parts; rest_fits = IsBytes-drop w bytes fits }, number-lt w bytes fits)
+
+-- what a reader of a number gives where there are enough bytes
+pub number_there : (w n : ℕ) (bytes : List ℕ) → w ≤ length bytes → n ≡ number_at w bytes 0 → take_number w bytes ≡ Some (n, take (length bytes - w) (drop w bytes))
+number_there w n bytes le e =
+    let long : ltb (length bytes) w ≡ false = le-ltb _ _ le in
+    let rest : take (length bytes - w) (drop w bytes) ≡ drop w bytes = take_rest bytes w in
+    rw (long, rest, e) refl
 
 pub number_taken : (w n : ℕ) (rest : List ℕ) → n < 256 ^ w → take_number w (field_bytes w n ++ rest) ≡ Some (n, rest)
 number_taken w n rest lt =

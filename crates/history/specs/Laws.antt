@@ -1,5 +1,5 @@
 -- What follows from these definitions, in the words of the subject.
-use Rattle.std.specs.Prelude.{◌≡◌, ◌≤◌, ◌++◌, ◌+◌, ◌&&◌, ℕ, true, not, IsTrue, List, [], ◌∷◌, length, map, filter, take, drop, Option, Some}
+use Rattle.std.specs.Prelude.{◌↔◌, ◌≡◌, ◌≤◌, ◌++◌, ◌+◌, ◌&&◌, ℕ, true, not, IsTrue, List, [], ◌∷◌, length, map, filter, take, drop, Option, Some}
 use Rattle.std.specs.List.{AllByRecursion}
 use Rattle.std.specs.Option.{option_to_list}
 use Rattle.history.specs.declared.entry.Base.{Base}
@@ -94,6 +94,10 @@ WritesRise (Drop below) = Unit {0}
 -- the base behind a right change is right
 abbrev pub StaysRight : Type 0
 StaysRight = (base : Base) (change : Change) → IsBase base → WritesRise change → IsRight base change → IsBase (base_after base change)
+
+-- behind a right base the retained snapshots are those from the oldest to the newest
+abbrev pub RetainedBetween : Type 0
+RetainedBetween = (base : Base) (number : ℕ) → IsBase base → (is_retained number base.marks ≡ true) ↔ ((oldest base.marks ≤ number) × (number ≤ newest base.marks))
 
 -- bytes are those of one entry
 abbrev pub OneEntry : Type 0

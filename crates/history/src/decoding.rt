@@ -265,6 +265,9 @@ fn images_of(
     Ok((images, rest))
 }
 
+// A base whose version is right. Its fields stand at fixed places: the sizes at 3 and 7, the changes at 11, the
+// captures at 19, the oldest and the newest snapshot at 27 and 31, how many pages are captured at 35, and from
+// 39 on the snapshots and these pages.
 #[tactic(auto, unfolding(crate::specs::Reading::base_from))]
 fn base_behind_head(
     alloc: Global,
@@ -352,7 +355,8 @@ fn whole(alloc: Global, version: Version, bytes: &[u8]) -> Result<Entry, DecodeE
     Ok(entry)
 }
 
-/// The entry that has these bytes. Malformed exactly where no entry whose fields fit theirs has them.
+/// The entry that has these bytes, all of them. Malformed exactly where no entry whose fields fit theirs has them;
+/// that the entry is right at its place is not looked at.
 pub fn decode(alloc: Global, version: Version, bytes: &[u8]) -> Result<Entry, DecodeError>
     ensures found { IfOk result (λ entry. EntryFits version entry × (bytes.now ≡ entry_bytes version entry)) }
     ensures only { (entry : Entry) → EntryFits version entry → bytes.now ≡ entry_bytes version entry → Gives (λ e. e) result (Some entry) }

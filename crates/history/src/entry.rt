@@ -16,6 +16,7 @@ pub enum Version {
 }
 
 impl Version {
+    /// The number by which a base tells its version.
     pub fn number(self) -> u16
         ensures { result ≡ version_number self }
     {

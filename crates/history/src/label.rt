@@ -35,6 +35,7 @@ impl Label {
         Label { bytes }
     }
 
+    /// The bytes of the label.
     pub fn bytes(&self) -> &[u8]
         ensures value { result.now ≡ self.now }
         ensures is_label { IsTrue (is_label self.now) }

@@ -21,7 +21,7 @@ fn is_among(page: u32, pages: &[u32]) -> bool
     pages.iter().any(|other| *other == page)
 }
 
-/// Whether the write of a page captures it.
+/// Whether the write of a page captures it: a snapshot was declared, and the page has no capture since the newest.
 pub fn captures_page(base: &Base, page: u32) -> bool
     ensures { result ≡ captures_page base.now page }
 {
@@ -152,7 +152,9 @@ fn has_captured(base: &Base) -> bool
     are_pages(base.page_count, captured) && captured.len() as u64 == count
 }
 
-/// Whether a base is right.
+/// Whether a base is right: its sizes are in their ranges and it keeps the limits, its snapshots are numbered
+/// without gaps, their starts do not fall and none is greater than its count of captures, there is no capture
+/// before the first snapshot, and as many pages are captured as there are captures since the newest one.
 pub fn is_base(base: &Base) -> bool
     ensures { IsTrue result ↔ IsBase base.now }
 {
@@ -213,7 +215,9 @@ fn is_right_commit(base: &Base, label: &Option<Label>, writes: &[PageImage]) -> 
         && keeps_limits(base.capacity, captures, base.marks.as_slice(), label)
 }
 
-/// Whether a change is right behind what the log says.
+/// Whether a change is right behind what the log says. A commit writes pages of the store, or declares, and
+/// leaves at most 2^62 captures, at most the capacity from the oldest snapshot's start on, and at most 65,536
+/// snapshots, numbered up to 4,294,967,295. A drop is of some snapshots, but not of the newest.
 pub fn is_right(base: &Base, change: &Change) -> bool
     ensures { IsTrue result ↔ IsRight base.now change.now }
 {

@@ -40,6 +40,7 @@ impl Writes {
         Writes { images }
     }
 
+    /// The written pages with their new bytes.
     pub fn images(&self) -> &[PageImage]
         ensures value { result.now ≡ self.now }
         ensures rising { IsTrue (rises 0 (pages_of self.now)) }

@@ -2,7 +2,7 @@ use Rattle.std.proofs.Common.{◌∙◌, List, ◌∷◌, length, ap, subst}
 use Rattle.std.specs.VecDeque.Iter.{deque_iter_rest}
 use Rattle.disk_mem.specs.History.{IsLoose}
 use Rattle.disk_mem.specs.declared.recording.Step.{Step}
-use Rattle.disk_mem.specs.declared.recording.Step.TheVariants.{Wrote, Lost, Synced}
+use Rattle.disk_mem.specs.declared.recording.Step.TheVariants.{Wrote, Lost}
 use Rattle.disk_mem.proofs.Fills.{fills_on, all_filled}
 use Rattle.disk_mem.proofs.crash.fill_loose.Goals as goal
 
