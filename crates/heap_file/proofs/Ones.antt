@@ -1,16 +1,13 @@
 -- One answer is allowed.
-use Rattle.std.proofs.Common.{◌≡◌, ◌∙◌, ◌++◌, ◌∷◌, [], ◌==◌, ◌^◌, ◌-◌, ℕ, List, Bool, true, false, Result, Ok, Err, inl, inr, refl, sym, ap, subst, eqb}
+use Rattle.std.proofs.Common.{◌≡◌, ◌∙◌, ℕ, Bool, true, false, Result, Ok, Err, inl, inr, sym, ap, subst}
 use Rattle.retro_base.specs.declared.refusal.Refusal.{Refusal}
-use Rattle.pager.specs.Pages.{Pages, broken, written}
-use Rattle.pager.specs.Root.{taken}
-use Rattle.values.specs.declared.value.Value.{Value}
+use Rattle.pager.specs.Pages.{Pages}
 use Rattle.heap_file.specs.declared.page.Entry.{Entry}
 use Rattle.heap_file.specs.declared.page.HeapPage.{HeapPage}
 use Rattle.heap_file.specs.Allows.{◌>>=◌, only, either}
 use Rattle.heap_file.specs.Chain.{heap_page, last_page}
-use Rattle.heap_file.specs.HeapPage.{page_bytes, empty_page}
 use Rattle.heap_file.specs.Laws.{IsOne, AnswersAreOne}
-use Rattle.heap_file.specs.Work.{added, appended, fits, got, lengthened, made, next_of, page_with, row_of}
+use Rattle.heap_file.specs.Work.{appended, lengthened}
 use Rattle.heap_file.proofs.Packing.{holds_one}
 
 only-one : {A : Type 0} (answer : Result A Refusal) → IsOne (only answer)

@@ -1,14 +1,13 @@
 -- Entries that stand first in bytes, and what a page holds.
-use Rattle.std.proofs.Common.{◌⊎◌, ◌≡◌, ◌<◌, ◌≤◌, ◌^◌, ◌+◌, ◌-◌, ◌*◌, ◌++◌, ◌∙◌, ℕ, zero, suc, List, [], ◌∷◌, length, get_or, take, drop, replicate, Option, Some, None, Ok, Err, inl, inr, refl, sym, ap, subst, arith, append_assoc}
-use Rattle.std.specs.Int.{w16}
+use Rattle.std.proofs.Common.{◌⊎◌, ◌≡◌, ◌<◌, ◌≤◌, ◌^◌, ◌+◌, ◌-◌, ◌*◌, ◌++◌, ◌∙◌, ℕ, suc, List, [], ◌∷◌, length, get_or, take, drop, replicate, Some, None, Ok, Err, inl, inr, refl, sym, ap, subst, arith, append_assoc}
 use Rattle.std.specs.List.{flat_map, AllByRecursion}
 use Rattle.std.proofs.lemmas.Bool.{cases_lt, le-leb}
-use Rattle.std.proofs.lemmas.List.{take_at, drop_at, drop-drop, drop-replicate, drop_more, take-append-drop, take-take, take-append-le, take_rest, get_or-drop, get_or-take, get_or_past, length-append, length-drop, length-take-le, append-nil}
+use Rattle.std.proofs.lemmas.List.{take_at, drop_at, drop-drop, drop-replicate, drop_more, take-append-drop, take-take, get_or-take, get_or_past, length-append, length-drop, length-take-le, append-nil}
 use Rattle.std.proofs.lemmas.List.Concat.{flat_map-cons, flat_map-append}
 use Rattle.std.proofs.lemmas.List.Elements.{All-from_recursion, recursion_from_All, All-append, All-cons, All-take, All-drop}
 use Rattle.std.proofs.lemmas.Nat.{be_bytes_2}
 use Rattle.retro_base.specs.Fields.{field_bytes, number_at}
-use Rattle.retro_base.proofs.FieldLaws.{length-field_bytes, number_at-field, number_at-fits, number_at-same}
+use Rattle.retro_base.proofs.FieldLaws.{length-field_bytes, number_at-field, number_at-same}
 use Rattle.values.specs.declared.value.Value.{Value}
 use Rattle.retro_base.specs.declared.refusal.Refusal.{Refusal}
 use Rattle.retro_base.specs.declared.refusal.Refusal.TheVariants.{OutOfMemory}
@@ -16,7 +15,7 @@ use Rattle.row_codec.specs.RowCode.{row_code, value_code, encoded, IsEncoded, Is
 use Rattle.row_codec.proofs.Codes.{same_parts, one_row}
 use Rattle.heap_file.specs.declared.page.Entry.{Entry}
 use Rattle.heap_file.specs.declared.page.HeapPage.{HeapPage}
-use Rattle.heap_file.specs.HeapPage.{entry_code, entry_bytes, IsEntry, IsShort, IsFirstEntry, AreFirstEntries, Holds, HoldsOne, ZeroIsEmpty, WrittenHolds, IsHeapPage, page_bytes, header, empty_page}
+use Rattle.heap_file.specs.HeapPage.{entry_code, entry_bytes, IsEntry, IsShort, IsFirstEntry, Holds, HoldsOne, ZeroIsEmpty, WrittenHolds, IsHeapPage, page_bytes, header}
 use Rattle.heap_file.specs.Work.{page_with, without}
 
 -- two bytes are the field of their number

@@ -1,8 +1,8 @@
 -- Ways along chains, and refusals that are handed on.
-use Rattle.std.proofs.Common.{◌≡◌, ◌≢◌, ◌&&◌, not, ◌<◌, ◌++◌, ℕ, zero, suc, Bool, true, false, List, [], ◌∷◌, length, get_or, Option, Some, None, Result, Ok, Err, eqb, inl, inr, refl, sym, subst, arith}
+use Rattle.std.proofs.Common.{◌≡◌, ◌≢◌, ◌&&◌, not, ◌<◌, ◌++◌, ℕ, zero, suc, true, false, List, [], ◌∷◌, length, get_or, Option, Some, None, Result, Ok, Err, eqb, inl, inr, refl, sym, subst, arith}
 use Rattle.std.proofs.lemmas.Bool.{lt-ltb, eq-eqb, ne_eqb}
 use Rattle.retro_base.specs.declared.refusal.Refusal.{Refusal}
-use Rattle.pager.specs.Pages.{Pages, broken, written}
+use Rattle.pager.specs.Pages.{Pages, written}
 use Rattle.pager.specs.Root.{page_in, freed}
 use Rattle.pager.specs.Stop.{Allowed, AllowedStop, MakesNone}
 use Rattle.pager.specs.declared.stop.Stop.{Stop}

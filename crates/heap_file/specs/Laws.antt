@@ -9,7 +9,7 @@ use Rattle.heap_file.specs.Work.{added, got, made, next_of}
 abbrev pub IsOne : {A : Type 0} → (Result A Refusal → Type 0) → Type 0
 IsOne {A} allows = (r s : Result A Refusal) → allows r → allows s → r ≡ s
 
--- The pages determine what each call answers, and the pages after it: one answer, with one state, is allowed.
+-- The pages determine what these calls answer, and the pages after them: one answer, with one state, is allowed.
 pub record AnswersAreOne : Type 0 where
   pub make : (size : ℕ) (pages : Pages) → IsOne (made size pages)
   pub next_number : (size : ℕ) (pages : Pages) (first : ℕ) → IsOne (next_of size pages first)

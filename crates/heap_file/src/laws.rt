@@ -19,7 +19,7 @@ pub fn written_holds()
     ensures { WrittenHolds }
 {}
 
-/// The pages determine what each call answers, and the pages after it.
+/// The pages determine what `make`, `next_number`, `get` and `add` answer, and the pages after them.
 pub fn answers_are_one()
     ensures { AnswersAreOne }
 {}

@@ -1,4 +1,4 @@
-use Rattle.std.proofs.Common.{◌∙◌, ℕ, List, inr, subst, sym}
+use Rattle.std.proofs.Common.{ℕ, List, inr, subst}
 use Rattle.pager.specs.Draft.{drafted}
 use Rattle.heap_file.specs.HeapPage.{Holds}
 use Rattle.heap_file.proofs.Ways.{page_in-bytes}

@@ -1,4 +1,4 @@
-use Rattle.std.proofs.Common.{◌≡◌, ◌<◌, ℕ, get_or, length, subst, sym, arith}
+use Rattle.std.proofs.Common.{◌<◌, ℕ, subst, sym}
 use Rattle.heap_file.specs.declared.chain.Link.{Link}
 use Rattle.heap_file.specs.HeapPage.{IsHeapPage}
 use Rattle.heap_file.proofs.chain.meet.Goals as goal

@@ -1,9 +1,8 @@
-use Rattle.std.proofs.Common.{◌≡◌, ◌∙◌, ◌^◌, ◌-◌, ◌+◌, ℕ, Bool, true, false, Ok, Err, eqb, ap, sym, inl, inr, refl}
+use Rattle.std.proofs.Common.{◌≡◌, ◌∙◌, ◌^◌, ◌-◌, false, Ok, eqb, ap, sym, inl, inr}
 use Rattle.std.proofs.lemmas.Bool.{ne_eqb}
 use Rattle.std.proofs.lemmas.Result.{err_from_is_err_and}
 use Rattle.pager.specs.Draft.{drafted}
-use Rattle.pager.specs.Pages.{Pages, written}
-use Rattle.heap_file.specs.HeapPage.{page_bytes}
+use Rattle.pager.specs.Pages.{Pages}
 use Rattle.heap_file.proofs.Ways.{allowed_stop}
 use Rattle.heap_file.proofs.drafting.add.Goals as goal
 

@@ -1,11 +1,8 @@
-use Rattle.std.proofs.Common.{◌≡◌, ◌∙◌, ◌++◌, ◌∷◌, [], ℕ, Bool, true, false, Ok, Err, Result, eqb, ap, sym, inl, inr, refl, eq-eqb}
+use Rattle.std.proofs.Common.{◌≡◌, ◌∙◌, ◌++◌, ◌∷◌, [], true, false, Ok, eqb, ap, sym, inl, inr, eq-eqb}
 use Rattle.std.proofs.lemmas.Result.{err_from_is_err_and}
-use Rattle.retro_base.specs.declared.refusal.Refusal.{Refusal}
 use Rattle.pager.specs.Draft.{drafted}
-use Rattle.pager.specs.Pages.{Pages, written, broken}
-use Rattle.heap_file.specs.declared.page.HeapPage.{HeapPage}
-use Rattle.heap_file.specs.Chain.{heap_page, last_page}
-use Rattle.heap_file.specs.HeapPage.{page_bytes}
+use Rattle.pager.specs.Pages.{Pages}
+use Rattle.heap_file.specs.Chain.{last_page}
 use Rattle.heap_file.specs.Work.{appended, fits, lengthened}
 use Rattle.heap_file.proofs.Ways.{allowed_stop, allowed_on, appended_long}
 use Rattle.heap_file.proofs.drafting.append.Goals as goal

@@ -1,4 +1,4 @@
-use Rattle.std.proofs.Common.{◌≡◌, ◌∙◌, ◌++◌, ◌∷◌, [], ℕ, List, true, false, Ok, ap, sym, subst, inl, inr}
+use Rattle.std.proofs.Common.{◌≡◌, ◌∙◌, ◌++◌, ◌∷◌, [], List, true, false, Ok, ap, sym, subst, inl, inr}
 use Rattle.values.specs.declared.value.Value.{Value}
 use Rattle.pager.specs.Draft.{drafted}
 use Rattle.pager.specs.Pages.{Pages, written}

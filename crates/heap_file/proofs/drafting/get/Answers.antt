@@ -1,4 +1,4 @@
-use Rattle.std.proofs.Common.{◌≡◌, ◌∙◌, List, get_or, Ok, Some, ap, sym}
+use Rattle.std.proofs.Common.{◌∙◌, List, get_or, Ok, Some, ap, sym}
 use Rattle.heap_file.specs.declared.page.Entry.{Entry}
 use Rattle.heap_file.proofs.Ways.{row_of-found, row_of-none}
 use Rattle.heap_file.proofs.drafting.get.Goals as goal

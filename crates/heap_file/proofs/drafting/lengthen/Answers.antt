@@ -1,10 +1,9 @@
-use Rattle.std.proofs.Common.{◌≡◌, ◌∙◌, ℕ, Ok, ap, sym, inl, inr, subst, refl}
+use Rattle.std.proofs.Common.{◌≡◌, ◌∙◌, Ok, ap, sym, inl, inr}
 use Rattle.std.proofs.lemmas.Result.{err_from_is_err_and}
 use Rattle.pager.specs.Draft.{drafted}
 use Rattle.pager.specs.Pages.{Pages, written}
 use Rattle.heap_file.specs.HeapPage.{page_bytes}
 use Rattle.heap_file.specs.Work.{page_with}
-use Rattle.heap_file.specs.Chain.{heap_page}
 use Rattle.heap_file.proofs.Ways.{allowed_stop}
 use Rattle.heap_file.proofs.drafting.lengthen.Goals as goal
 

@@ -1,4 +1,4 @@
-use Rattle.std.proofs.Common.{◌≡◌, ◌∙◌, ℕ, Ok, ap, sym}
+use Rattle.std.proofs.Common.{Ok, ap, sym}
 use Rattle.pager.specs.Draft.{drafted}
 use Rattle.pager.specs.Pages.{Pages}
 use Rattle.heap_file.proofs.drafting.make.Goals as goal

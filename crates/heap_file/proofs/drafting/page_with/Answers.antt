@@ -1,4 +1,4 @@
-use Rattle.std.proofs.Common.{◌∙◌, refl}
+use Rattle.std.proofs.Common.{refl}
 use Rattle.heap_file.proofs.Packing.{one_entry}
 use Rattle.heap_file.proofs.drafting.page_with.Goals as goal
 

@@ -1,4 +1,4 @@
-use Rattle.std.proofs.Common.{◌≡◌, ◌∙◌, true, Ok, eqb, ap, sym, inl, eq-eqb}
+use Rattle.std.proofs.Common.{◌≡◌, true, Ok, eqb, ap, sym, inl, eq-eqb}
 use Rattle.std.proofs.lemmas.Result.{err_from_is_err_and}
 use Rattle.pager.specs.Pages.{Pages}
 use Rattle.heap_file.proofs.Ways.{allowed_stop}

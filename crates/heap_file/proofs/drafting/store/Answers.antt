@@ -1,4 +1,4 @@
-use Rattle.std.proofs.Common.{◌≡◌, ◌∙◌, ap, sym}
+use Rattle.std.proofs.Common.{◌≡◌, sym}
 use Rattle.heap_file.specs.HeapPage.{page_bytes}
 use Rattle.heap_file.proofs.drafting.store.Goals as goal
 

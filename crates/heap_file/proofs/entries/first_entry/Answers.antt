@@ -1,4 +1,4 @@
-use Rattle.std.proofs.Common.{◌≡◌, ◌∙◌, ◌+◌, ◌-◌, ℕ, None, Some, ap, subst, take, drop, arith}
+use Rattle.std.proofs.Common.{◌≡◌, ◌∙◌, ◌+◌, ◌-◌, ℕ, None, Some, subst, take, drop, arith}
 use Rattle.retro_base.specs.Fields.{number_at}
 use Rattle.row_codec.specs.RowCode.{IsDecoded}
 use Rattle.heap_file.proofs.Packing.{short_for_entry, past_the_end, no_row_there, entry_there}

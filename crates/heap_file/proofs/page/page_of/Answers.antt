@@ -1,4 +1,4 @@
-use Rattle.std.proofs.Common.{◌≡◌, ◌∙◌, ◌++◌, ℕ, List, Ok, length, replicate, ap, sym, refl, arith}
+use Rattle.std.proofs.Common.{◌≡◌, ◌++◌, replicate, refl, arith}
 use Rattle.retro_base.specs.Fields.{field_bytes}
 use Rattle.heap_file.specs.HeapPage.{entry_bytes, header}
 use Rattle.heap_file.proofs.Packing.{entries-few, behind_header}

@@ -1,4 +1,4 @@
-use Rattle.std.proofs.Common.{◌≡◌, ◌∙◌, length, ap, refl, arith, append_assoc}
+use Rattle.std.proofs.Common.{◌≡◌, length, ap, refl, arith, append_assoc}
 use Rattle.retro_base.specs.Fields.{field_bytes}
 use Rattle.row_codec.specs.RowCode.{row_code}
 use Rattle.std.proofs.lemmas.Result.{err_from_is_err_and}
