@@ -1,4 +1,4 @@
-ghost use Rattle.std.specs.Prelude.{◌≡◌, ◌↔◌, ◌≤◌, ◌+◌, ◌*◌, OnOk, OnErr};
+ghost use Rattle.std.specs.Prelude.{◌≡◌, ◌↔◌, ◌*◌, OnOk, OnErr};
 ghost use Rattle.block_file.specs.Blocks.{block_at, ChangesOnly, HasBlock, KeepsSettled};
 ghost use Rattle.block_file.specs.Cause.{FaultsAlone};
 ghost use Rattle.disk_model.specs.Disk.{IsDurable, IsImage, Unchanged};

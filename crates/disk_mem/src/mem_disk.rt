@@ -1,9 +1,9 @@
-ghost use Rattle.std.specs.Prelude.{◌≡◌, ◌⊎◌, ◌≤◌, ◌↔◌, [], ◌∷◌, ◌+◌, length, take, drop, replicate, refl, None, IfOk, IfErr, IsErr, OnOk, OnErr};
+ghost use Rattle.std.specs.Prelude.{◌≡◌, ◌⊎◌, ◌≤◌, ◌↔◌, [], ◌+◌, length, take, drop, replicate, refl, None, IfOk, IfErr, IsErr, OnOk, OnErr};
 ghost use Rattle.disk_mem.specs.Disks.{called, failed, fresh, LosesRange, MustFail, with_step};
 ghost use Rattle.disk_mem.specs.History.{clock_of, Filled, state_of};
 ghost use Rattle.disk_mem.specs.Plan.{made};
 ghost use Rattle.disk_mem.specs.Moments.{now_counts, only_now};
-ghost use Rattle.disk_mem.specs.declared.recording.Step.TheVariants.{Wrote, Lost, Synced};
+ghost use Rattle.disk_mem.specs.declared.recording.Step.TheVariants.{Wrote, Synced};
 ghost use Rattle.disk_mem.specs.declared.schedule.Call.TheVariants.{Read, Write, Sync};
 ghost use Rattle.disk_model.specs.Cause.{HasCause};
 ghost use Rattle.disk_model.specs.Moments.{Elapses};

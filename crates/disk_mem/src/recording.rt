@@ -1,5 +1,5 @@
 // The bytes of a device in memory, and what made them so.
-ghost use Rattle.std.specs.Prelude.{◌≡◌, ◌+◌, ◌≤◌, [], ◌∷◌, ◌++◌, length, OnOk, OnErr, IfOk, IfErr};
+ghost use Rattle.std.specs.Prelude.{◌≡◌, ◌+◌, ◌≤◌, [], length, OnOk, OnErr, IfOk};
 ghost use Rattle.disk_mem.specs.declared.recording.Step.TheVariants.{Wrote, Lost, Synced};
 ghost use Rattle.disk_mem.specs.Disks.{stepped};
 ghost use Rattle.disk_mem.specs.History.{Filled, seen_after, state_of};

@@ -1,7 +1,6 @@
 // Which calls of a device fail.
 ghost use Rattle.std.specs.Prelude.{◌≡◌, ◌↔◌, IsTrue};
 ghost use Rattle.disk_mem.specs.Plan.{counted, IsFate, IsListed, IsStopped, made};
-ghost use Rattle.retro_base.specs.Cause.{raised};
 
 use std::marker::Model;
 
@@ -33,7 +32,6 @@ pub struct Schedule {
 }
 
 impl Model for Schedule {
-    ghost use Rattle.disk_mem.specs.declared.schedule.Call.{Call};
     ghost use Rattle.disk_mem.specs.Plan.{Plan};
 
     ghost Value = { Plan };
