@@ -5,7 +5,7 @@ use Rattle.std.proofs.lemmas.List.{get_or-take, get_or-drop}
 use Rattle.retro_base.specs.Fields.{number_at}
 use Rattle.retro_base.specs.declared.limits.TheConstants.{OPEN_GATE}
 use Rattle.gate_log.specs.Region.{generation_at}
-use Rattle.gate_log.proofs.Numbers.{number_at-bytes}
+use Rattle.retro_base.proofs.Numbers.{number_at-bytes}
 use Rattle.area_log.specs.Header.{IsHeader}
 use Rattle.area_log.specs.declared.header.Header.{Header}
 

@@ -8,7 +8,7 @@ use Rattle.retro_base.specs.declared.limits.TheConstants.{OPEN_GATE}
 use Rattle.gate_log.specs.Appending.{LooseOrIn}
 use Rattle.gate_log.specs.Log.{Fills}
 use Rattle.gate_log.specs.Region.{IsOpen, generation_at}
-use Rattle.gate_log.proofs.Numbers.{number_at-bytes}
+use Rattle.retro_base.proofs.Numbers.{number_at-bytes}
 use Rattle.gate_log.proofs.Ranges.{outside_alone}
 use Rattle.gate_log.proofs.Regions.{lists-same}
 use Rattle.area_log.specs.Rewrite.{IsFilled, Rewriting, Rewritten, Shutting}

@@ -2,7 +2,8 @@ ghost use Rattle.std.specs.Prelude.{◌≡◌, ◌≤◌, ◌<◌, ◌+◌, ◌*
 ghost use Rattle.disk_model.specs.Disk.{IsImage, Unchanged};
 ghost use Rattle.disk_model.specs.Moments.{LeavesOnly};
 ghost use Rattle.retro_base.specs.Framing.{next_generation};
-ghost use Rattle.gate_log.specs.Cause.{FaultsAlone, IsReadRefusal};
+ghost use Rattle.retro_base.specs.Cause.{FaultsAlone};
+ghost use Rattle.gate_log.specs.Cause.{IsReadRefusal};
 ghost use Rattle.area_log.specs.Header.{HeaderCounts, IsCounting, IsHeader};
 ghost use Rattle.area_log.specs.Regions.{Counts, IsHalf, NoneCounts};
 

@@ -1,7 +1,7 @@
 ghost use Rattle.std.specs.Prelude.{◌≡◌, ◌≤◌, ◌<◌, ◌+◌, ◌^◌, ◌↔◌, ℕ, List, IsTrue, length, OnOk, IfOk};
 ghost use Rattle.disk_model.specs.Disk.{InRange, IsDurable, SameOutside};
 ghost use Rattle.disk_model.specs.Moments.{LeavesOnly};
-ghost use Rattle.gate_log.specs.Cause.{FaultsAlone};
+ghost use Rattle.retro_base.specs.Cause.{FaultsAlone};
 ghost use Rattle.gate_log.specs.Log.{IsPrepared};
 ghost use Rattle.gate_log.specs.Region.{IsOpen};
 ghost use Rattle.area_log.specs.Rewrite.{Rewriting, Rewritten, Shutting};

@@ -1,6 +1,6 @@
 ghost use Rattle.std.specs.Prelude.{◌≡◌, ◌↔◌, ◌*◌, OnOk, OnErr};
 ghost use Rattle.block_file.specs.Blocks.{block_at, ChangesOnly, HasBlock, KeepsSettled};
-ghost use Rattle.block_file.specs.Cause.{FaultsAlone};
+ghost use Rattle.retro_base.specs.Cause.{FaultsAlone};
 ghost use Rattle.disk_model.specs.Disk.{IsDurable, IsImage, Unchanged};
 ghost use Rattle.disk_model.specs.Moments.{LeavesOnly};
 ghost use Rattle.retro_base.specs.declared.refusal.Refusal.TheVariants.{DiskFault};

@@ -8,7 +8,7 @@ use Rattle.retro_base.specs.Framing.{records_of}
 use Rattle.retro_base.proofs.FieldLaws.{number_at-field, length-field_bytes}
 use Rattle.gate_log.specs.Log.{region_tail, Fills, IsPrepared}
 use Rattle.gate_log.specs.Region.{gate_behind}
-use Rattle.gate_log.proofs.Numbers.{number_at-bytes}
+use Rattle.retro_base.proofs.Numbers.{number_at-bytes}
 use Rattle.gate_log.proofs.Regions.{Stands, lists}
 
 length-header : (generation : ℕ) → length (replicate 7 0 ++ field_bytes 8 generation) ≡ 15

@@ -1,7 +1,6 @@
 pub mod Appends
 pub mod Fills
 pub mod Framing
-pub mod Numbers
 pub mod Ranges
 pub mod Regions
 pub mod Splits

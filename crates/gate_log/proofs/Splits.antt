@@ -4,7 +4,7 @@ use Rattle.std.proofs.lemmas.List.{take_rest, length-take-le, take-append-drop}
 use Rattle.retro_base.specs.Fields.{number_at, field_bytes}
 use Rattle.retro_base.specs.Framing.{sized}
 use Rattle.retro_base.proofs.FieldLaws.{number_at-same}
-use Rattle.gate_log.proofs.Numbers.{field_bytes-number_at}
+use Rattle.retro_base.proofs.Numbers.{field_bytes-number_at}
 
 -- the number behind the first byte
 pub count_behind : (rest : List ℕ) → number_at 4 rest 1 ≡ number_at 4 (drop 1 rest) 0

@@ -1,25 +1,16 @@
 -- Why a call was refused.
-use Rattle.std.specs.Prelude.{◌≡◌, ℕ, ◌+◌, ◌-◌, ◌<◌, ◌≤◌, List, length, Result, MatchResult}
-use Rattle.disk_model.specs.Cause.{Rose}
+use Rattle.std.specs.Prelude.{◌≡◌, ℕ, ◌+◌, ◌-◌, ◌<◌, ◌≤◌, List, length}
+use Rattle.retro_base.specs.Cause.{IsFault}
 use Rattle.retro_base.specs.Framing.{records_of, BreaksAt}
 use Rattle.retro_base.specs.declared.device.Device.{Device}
 use Rattle.retro_base.specs.declared.refusal.Refusal.{Refusal}
 use Rattle.retro_base.specs.declared.refusal.Refusal.TheVariants.{OutOfMemory, DiskFault, NotAStore, NoRoom}
 use Rattle.gate_log.specs.Log.{Region}
 
--- a fault of that device, with its new count, which rose
-abbrev pub IsFault : Device → ℕ → ℕ → Refusal → Type 0
-IsFault device before now (DiskFault which count) = (which ≡ device) × (count ≡ now) × (before ≤ now) × Rose before now
-IsFault device before now _ = ⊥
-
 -- the refusal tells a fault of a device
 abbrev pub IsDiskFault : Refusal → Type 0
 IsDiskFault (DiskFault which count) = Unit {0}
 IsDiskFault _ = ⊥
-
--- The only refusal is a fault of the device. The count is as before where the call succeeded.
-abbrev pub FaultsAlone : {T : Type 0} → Device → ℕ → ℕ → Result T Refusal → Type 0
-FaultsAlone device before now result = MatchResult result (λ _. now ≡ before) (IsFault device before now)
 
 -- the bytes of the record of a body of that length, and of the gate behind it, fit behind the log's gate
 abbrev pub HasRoom : Region → ℕ → Type 0

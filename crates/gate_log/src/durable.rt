@@ -3,7 +3,7 @@ ghost use Rattle.disk_model.specs.Cause.{HasCause};
 ghost use Rattle.disk_model.specs.Disk.{IsDurable, SameOutside, written};
 ghost use Rattle.disk_model.specs.Moments.{LeavesOnly};
 ghost use Rattle.gate_log.specs.Appending.{LooseOrIn};
-ghost use Rattle.gate_log.specs.Cause.{FaultsAlone};
+ghost use Rattle.retro_base.specs.Cause.{FaultsAlone};
 ghost use Rattle.retro_base.specs.declared.refusal.Refusal.TheVariants.{DiskFault};
 
 use disk_model::{Disk, Failed};

@@ -12,7 +12,8 @@ use Rattle.history.specs.Label.{is_label}
 use Rattle.history.specs.Entries.{page_width, label_bytes, declaration_bytes, mark_bytes, write_bytes, MarkFits, WriteFits, LabelFits}
 use Rattle.history.specs.Writes.{pages_of, rises}
 use Rattle.history.specs.Reading.{◌>>=◌, where_true, take_number, take_bytes, take_label, take_declaration, take_mark, take_page, take_image, take_list, after_image}
-use Rattle.history.proofs.Bytes.{IsBytes, IsBytes-drop, field_of-number, number-lt, number-again, length-field, byte_field}
+use Rattle.retro_base.proofs.FieldLaws.{length-field_bytes}
+use Rattle.history.proofs.Bytes.{IsBytes, IsBytes-drop, field_of-number, number-lt, number-again, byte_field}
 
 -- the value of a step that gave one
 pub bind_some : {A B : Type 0} (o : Option A) (f : A → Option B) (y : B) → (o >>= f) ≡ Some y → (x : A) × (o ≡ Some x) × (f x ≡ Some y)
@@ -57,7 +58,7 @@ number_there w n bytes le e =
 
 pub number_taken : (w n : ℕ) (rest : List ℕ) → n < 256 ^ w → take_number w (field_bytes w n ++ rest) ≡ Some (n, rest)
 number_taken w n rest lt =
-    let len : length (field_bytes w n) ≡ w = length-field w n in
+    let len : length (field_bytes w n) ≡ w = length-field_bytes w n in
     let long : ltb (length (field_bytes w n ++ rest)) w ≡ false = le-ltb _ _ (omega (arith, length-append (field_bytes w n) rest)) in
     rw (long, number-again w n rest lt, drop_at (field_bytes w n) rest w len) refl
 

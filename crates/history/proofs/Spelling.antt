@@ -21,7 +21,8 @@ use Rattle.history.specs.Writes.{pages_of, rises}
 use Rattle.history.specs.Entries.{version_number, page_width, declaration_bytes, mark_bytes, write_bytes, base_bytes, change_bytes, entry_bytes, MarkFits, BaseFits, WriteFits, ChangeFits, EntryFits}
 use Rattle.history.specs.Laws.{OneEntry}
 use Rattle.history.specs.Reading.{◌>>=◌, Gives, where_true, take_number, take_declaration, take_mark, take_page, take_image, take_list, take_marks, base_from, take_base, take_commit, take_drop, take_entry, whole_entry, after_mark, after_page, after_image}
-use Rattle.history.proofs.Bytes.{IsBytes, IsBytes-drop, field_of-number, number-drop, number-lt, number-again, length-field}
+use Rattle.retro_base.proofs.FieldLaws.{length-field_bytes}
+use Rattle.history.proofs.Bytes.{IsBytes, IsBytes-drop, field_of-number, number-drop, number-lt, number-again}
 use Rattle.history.proofs.Fields.{bind_some, where_some, some_is, Takes, Takes-then, number_takes, number_taken, declaration_takes, declaration_taken, mark_takes, mark_taken, page_takes, page_taken, image_takes, image_taken}
 use Rattle.history.proofs.Lists.{AllInTurn, list_takes, list_taken}
 
@@ -140,8 +141,8 @@ record At (w value place : ℕ) (bytes rest : List ℕ) : Type 0 where
 field_at : (w value place : ℕ) (bytes rest : List ℕ) → 0 < w → value < 256 ^ w → drop place bytes ≡ field_bytes w value ++ rest → At w value place bytes rest
 field_at w value place bytes rest wide lt e = record {
   value_is = number-drop w place bytes ∙ ap (λ t. number_at w t 0) e ∙ number-again w value rest lt;
-  rest_is = sym (drop-drop w place bytes) ∙ ap (drop w) e ∙ drop_at (field_bytes w value) rest w (length-field w value);
-  long = omega (arith, wide, length-drop place bytes, ap length e, length-append (field_bytes w value) rest, length-field w value);
+  rest_is = sym (drop-drop w place bytes) ∙ ap (drop w) e ∙ drop_at (field_bytes w value) rest w (length-field_bytes w value);
+  long = omega (arith, wide, length-drop place bytes, ap length e, length-append (field_bytes w value) rest, length-field_bytes w value);
 }
 
 -- ---- a base

@@ -3,235 +3,238 @@
 use crate::tests::run;
 use std::test::Fail;
 
+// A status, a script, and the transcript worked out by hand.
+const SCRIPTS: [(u8, &[u8], &[u8]); 61] = [
+    (0, b"", b"journal\n"),
+    (0, b"\n\n# only a comment\n", b"journal\n"),
+    (0, b"PHASE", b"phase 1\njournal\n"),
+    (
+        0,
+        b"phase\r\nsession a\r\n",
+        b"phase 1\nsession a\njournal\n",
+    ),
+    (
+        0,
+        b"SESSION a\nCOMMIT",
+        b"phase 1\nsession a\nitem 1\ncommitted\njournal\n1 a 1 done\n",
+    ),
+    (
+        0,
+        b"  \t SESSION \t a \t\n\tCOMMIT \t;\t\r\n",
+        b"phase 1\nsession a\nitem 1\ncommitted\njournal\n1 a 1 done\n",
+    ),
+    (
+        0,
+        b"SESSION a\n# one\n-- two\n\n;\n  ;\nCOMMIT",
+        b"phase 1\nsession a\nitem 1\ncommitted\njournal\n1 a 1 done\n",
+    ),
+    (
+        0,
+        b"SESSION abcdefghijklmn01\nCOMMIT",
+        b"phase 1\nsession abcdefghijklmn01\nitem 1\ncommitted\njournal\n1 abcdefghijklmn01 1 done\n",
+    ),
+    (
+        0,
+        b"SESSION a\nPHASE 1\nCOMMIT",
+        b"phase 1\nsession a\nitem 1\nrefused 19 Syntax 0\ncommitted\njournal\n1 a 1 done\n",
+    ),
+    (
+        0,
+        b"SESSION a\nCOMMIT WITH SNAPSHOT\nCOMMIT WITH SNAPSHOT 'x'\nCOMMIT",
+        b"phase 1\nsession a\nitem 1\ncommitted as 1\nitem 2\ncommitted as 2\nitem 3\ncommitted\njournal\n1 a 1 done as 1\n1 a 2 done as 2\n1 a 3 done\n",
+    ),
+    (
+        0,
+        b"SESSION a\ncommit with snapshot 'xxxxxxxxxxxxxxxxxxxxxxxxxxxxxxxxxxxxxxxxxxxxxxxxxxxxxxxxxxxxxxxx'",
+        b"phase 1\nsession a\nitem 1\ncommitted as 1\njournal\n1 a 1 done as 1\n",
+    ),
+    (
+        0,
+        b"session a\ncreate table t(a int)\ncommit with snapshot ''\nselect as of 1 * from t",
+        b"phase 1\nsession a\nitem 1\nok\ncommitted as 1\nitem 2\nrows 0\njournal\n1 a 1 done as 1\n1 a 2 looked 1\n1 a 2 unlooked\n",
+    ),
+    (
+        0,
+        b"SESSION a\nSELECT AS OF 1 * FROM t",
+        b"phase 1\nsession a\nitem 1\nrefused 9 NoSuchSnapshot 1 0\njournal\n1 a 1 refused 9\n",
+    ),
+    (
+        0,
+        b"SESSION a\nCOMMIT WITH SNAPSHOT\nSELECT AS OF 0 * FROM t\nSELECT AS OF 4294967297 * FROM t",
+        b"phase 1\nsession a\nitem 1\ncommitted as 1\nitem 2\nrefused 9 NoSuchSnapshot 0 1\nitem 3\nrefused 9 NoSuchSnapshot 4294967297 1\njournal\n1 a 1 done as 1\n1 a 2 refused 9\n1 a 3 refused 9\n",
+    ),
+    (
+        0,
+        b"SESSION a\nCOMMIT WITH SNAPSHOT\nCREATE TABLE t(a INT)\nCOMMIT\nSELECT AS OF 1 * FROM t",
+        b"phase 1\nsession a\nitem 1\ncommitted as 1\nitem 2\nok\ncommitted\nitem 3\nrefused 20 UnknownName\njournal\n1 a 1 done as 1\n1 a 2 done\n1 a 3 looked 1\n1 a 3 refused 20\n",
+    ),
+    (
+        0,
+        b"SESSION a\nCREATE TABLE t(a INT)\nCOMMIT WITH SNAPSHOT\nINSERT INTO t VALUES (1)\nCOMMIT WITH SNAPSHOT\nSELECT AS OF 01 * FROM t\nSELECT AS OF 2 * FROM t",
+        b"phase 1\nsession a\nitem 1\nok\ncommitted as 1\nitem 2\nok 1\ncommitted as 2\nitem 3\nrows 0\nitem 4\nrows 1\n1\njournal\n1 a 1 done as 1\n1 a 2 done as 2\n1 a 3 looked 1\n1 a 3 unlooked\n1 a 4 looked 2\n1 a 4 unlooked\n",
+    ),
+    (
+        0,
+        b"SESSION a\nSELECT AS OF x * FROM t\nSELECT AS OF 1\nSELECT AS OF 9223372036854775808 * FROM t\nSELECT AS OF -1 * FROM t",
+        b"phase 1\nsession a\nitem 1\nrefused 19 Syntax 0\nitem 2\nrefused 19 Syntax 0\nitem 3\nrefused 19 Syntax 0\nitem 4\nrefused 19 Syntax 0\njournal\n",
+    ),
+    (
+        0,
+        b"SESSION a\nCREATE TABLE t(a INT)\nCREATE TABLE T(a INT)\nINSERT INTO T VALUES (1)\nSELECT * FROM t\nSELECT * FROM T\nCOMMIT",
+        b"phase 1\nsession a\nitem 1\nok\nok\nok 1\nrows 0\nrows 1\n1\ncommitted\njournal\n1 a 1 done\n",
+    ),
+    (
+        0,
+        b"SESSION a\nCREATE TABLE t(a INT)\nCREATE TABLE t(b TEXT)\nCREATE TABLE u(a INT, b TEXT, a INT)\nCREATE TABLE SnapIds(a INT)\nCREATE TABLE rql_(a INT)\nCOMMIT",
+        b"phase 1\nsession a\nitem 1\nok\nrefused 19 Syntax 0\nrefused 19 Syntax 0\nrefused 19 Syntax 0\nrefused 19 Syntax 0\ncommitted\njournal\n1 a 1 done\n",
+    ),
+    (
+        0,
+        b"SESSION a\nCREATE TABLE snapids(a INT)\nCREATE TABLE RQL_x(a INT)\nCREATE TABLE rqlx(a INT)\nSELECT * FROM snapids\nCOMMIT",
+        b"phase 1\nsession a\nitem 1\nok\nok\nok\nrows 0\ncommitted\njournal\n1 a 1 done\n",
+    ),
+    (
+        0,
+        b"SESSION a\nCREATE TABLE nnnnnnnnnnnnnnnnnnnnnnnnnnnnnnnn(a INT)\nCREATE TABLE nnnnnnnnnnnnnnnnnnnnnnnnnnnnnnnnn(a INT)\nCREATE TABLE 1abc(a INT)\nCREATE TABLE select(a INT)\nCREATE TABLE t(count INT)\nCOMMIT",
+        b"phase 1\nsession a\nitem 1\nok\nrefused 19 Syntax 0\nrefused 19 Syntax 0\nrefused 19 Syntax 0\nrefused 19 Syntax 0\ncommitted\njournal\n1 a 1 done\n",
+    ),
+    (
+        0,
+        b"SESSION a\nSELECT * FROM nosuch\nINSERT INTO nosuch VALUES (1)\nCOMMIT",
+        b"phase 1\nsession a\nitem 1\nrefused 20 UnknownName\nrefused 20 UnknownName\ncommitted\njournal\n1 a 1 done\n",
+    ),
+    (
+        0,
+        b"SESSION a\nCREATE TABLE t(c0 INT,c1 INT,c2 INT,c3 INT,c4 INT,c5 INT,c6 INT,c7 INT,c8 INT,c9 INT,c10 INT,c11 INT,c12 INT,c13 INT,c14 INT,c15 INT)\nCREATE TABLE u(c0 INT,c1 INT,c2 INT,c3 INT,c4 INT,c5 INT,c6 INT,c7 INT,c8 INT,c9 INT,c10 INT,c11 INT,c12 INT,c13 INT,c14 INT,c15 INT,c16 INT)\nSELECT * FROM t\nCOMMIT",
+        b"phase 1\nsession a\nitem 1\nok\nrefused 19 Syntax 0\nrows 0\ncommitted\njournal\n1 a 1 done\n",
+    ),
+    (
+        0,
+        b"SESSION a\nCREATE TABLE t()\nCREATE TABLE t(a)\nCREATE TABLE t(a INT,)\nCREATE TABLE t a INT\nCREATE t(a INT)\nCOMMIT",
+        b"phase 1\nsession a\nitem 1\nrefused 19 Syntax 0\nrefused 19 Syntax 0\nrefused 19 Syntax 0\nrefused 19 Syntax 0\nrefused 19 Syntax 0\ncommitted\njournal\n1 a 1 done\n",
+    ),
+    (
+        0,
+        b"SESSION a\nCREATE\tTABLE t ( a INT , b TEXT ) ;\nINSERT INTO t VALUES(1,'x');\nCOMMIT;",
+        b"phase 1\nsession a\nitem 1\nok\nok 1\ncommitted\njournal\n1 a 1 done\n",
+    ),
+    (
+        0,
+        b"SESSION a\nCREATE TABLE t(a INT, b TEXT)\nINSERT INTO t VALUES (1)\nINSERT INTO t VALUES ('x','y')\nINSERT INTO t VALUES (1,2)\nINSERT INTO t VALUES (1,'x',2)\nSELECT * FROM t\nCOMMIT",
+        b"phase 1\nsession a\nitem 1\nok\nrefused 19 Syntax 0\nrefused 19 Syntax 0\nrefused 19 Syntax 0\nrefused 19 Syntax 0\nrows 0\ncommitted\njournal\n1 a 1 done\n",
+    ),
+    (
+        0,
+        b"SESSION a\nCREATE TABLE t(a INT)\nINSERT INTO t VALUES (9223372036854775807)\nINSERT INTO t VALUES (-9223372036854775807)\nINSERT INTO t VALUES (9223372036854775808)\nINSERT INTO t VALUES (007)\nINSERT INTO t VALUES (- 5)\nINSERT INTO t VALUES (--5)\nINSERT INTO t VALUES (0)\nSELECT * FROM t\nCOMMIT",
+        b"phase 1\nsession a\nitem 1\nok\nok 1\nok 1\nrefused 19 Syntax 0\nok 1\nok 1\nrefused 19 Syntax 0\nok 1\nrows 5\n9223372036854775807\n-9223372036854775807\n7\n-5\n0\ncommitted\njournal\n1 a 1 done\n",
+    ),
+    (
+        0,
+        b"SESSION a\nCREATE TABLE t(a TEXT)\nINSERT INTO t VALUES ('it''s')\nINSERT INTO t VALUES ('a;b')\nINSERT INTO t VALUES ('--')\nINSERT INTO t VALUES (' ')\nINSERT INTO t VALUES ('')\nINSERT INTO t VALUES ('\"')\nINSERT INTO t VALUES (',')\nSELECT * FROM t\nCOMMIT",
+        b"phase 1\nsession a\nitem 1\nok\nok 1\nok 1\nok 1\nok 1\nok 1\nok 1\nok 1\nrows 7\nit's\na;b\n--\n \n\"\"\n\"\"\"\"\n\",\"\ncommitted\njournal\n1 a 1 done\n",
+    ),
+    (
+        0,
+        b"SESSION a\nCREATE TABLE t(a TEXT, b TEXT)\nINSERT INTO t VALUES ('','')\nINSERT INTO t VALUES ('x','')\nINSERT INTO t VALUES ('','a,\"b\"')\nSELECT * FROM t\nCOMMIT",
+        b"phase 1\nsession a\nitem 1\nok\nok 1\nok 1\nok 1\nrows 3\n,\nx,\n,\"a,\"\"b\"\"\"\ncommitted\njournal\n1 a 1 done\n",
+    ),
+    (
+        0,
+        b"SESSION a\nCREATE TABLE t(a INT)\nINSERT INTO t VALUES (1),(2)\nINSERT INTO t (a) VALUES (1)\nINSERT t VALUES (1)\nCOMMIT",
+        b"phase 1\nsession a\nitem 1\nok\nrefused 19 Syntax 0\nrefused 19 Syntax 0\nrefused 19 Syntax 0\ncommitted\njournal\n1 a 1 done\n",
+    ),
+    (
+        0,
+        b"SESSION a\nCREATE TABLE t(a INT)\nINSERT INTO t VALUES (2)\nSELECT * FROM t\nINSERT INTO t VALUES (1)\nSELECT * FROM t\nCOMMIT\nSELECT * FROM t\nCOMMIT",
+        b"phase 1\nsession a\nitem 1\nok\nok 1\nrows 1\n2\nok 1\nrows 2\n2\n1\ncommitted\nitem 2\nrows 2\n2\n1\ncommitted\njournal\n1 a 1 done\n1 a 2 done\n",
+    ),
+    (
+        0,
+        b"SESSION a\nSELECT * FROM\nSELECT\nSELECT * FROM t;;\nSELECT * t\nHELLO\nDROP TABLE t\nCOMMIT",
+        b"phase 1\nsession a\nitem 1\nrefused 19 Syntax 0\nrefused 19 Syntax 0\nrefused 19 Syntax 0\nrefused 19 Syntax 0\nrefused 19 Syntax 0\nrefused 19 Syntax 0\ncommitted\njournal\n1 a 1 done\n",
+    ),
+    (
+        0,
+        b"SESSION a\nINSERT INTO t VALUES ('x\n'COMMIT\n? COMMIT\nSELECT * FROM t 'COMMIT\nCOMMIT",
+        b"phase 1\nsession a\nitem 1\nrefused 19 Syntax 0\nrefused 19 Syntax 0\nrefused 19 Syntax 0\nrefused 19 Syntax 0\ncommitted\njournal\n1 a 1 done\n",
+    ),
+    (3, b"COMMIT", b"retro: bad script at line 1\n"),
+    (3, b"PHASE\nCOMMIT", b"retro: bad script at line 2\n"),
+    (3, b"PHASE 1", b"retro: bad script at line 1\n"),
+    (3, b"SESSION", b"retro: bad script at line 1\n"),
+    (3, b"SESSION A", b"retro: bad script at line 1\n"),
+    (3, b"SESSION a b", b"retro: bad script at line 1\n"),
+    (3, b"SESSION copier", b"retro: bad script at line 1\n"),
+    (3, b"SESSION flusher", b"retro: bad script at line 1\n"),
+    (
+        3,
+        b"SESSION abcdefghijklmnopq",
+        b"retro: bad script at line 1\n",
+    ),
+    (3, b"SESSIONa", b"retro: bad script at line 1\n"),
+    (3, b"SESSION a\nSESSION b", b"retro: bad script at line 2\n"),
+    (3, b"SESSION a\nPHASE", b"retro: bad script at line 2\n"),
+    (3, b"SESSION a\nROLLBACK", b"retro: bad script at line 2\n"),
+    (
+        3,
+        b"SESSION a\nDROP SNAPSHOTS BELOW 2",
+        b"retro: bad script at line 2\n",
+    ),
+    (
+        3,
+        b"SESSION a\nSELECT * FROM rql_x\nCOMMIT",
+        b"retro: bad script at line 2\n",
+    ),
+    (
+        3,
+        b"SESSION a\nSELECT a FROM SnapIds, t\nCOMMIT",
+        b"retro: bad script at line 2\n",
+    ),
+    (
+        3,
+        b"SESSION a\nCollateData('a','b','c')",
+        b"retro: bad script at line 2\n",
+    ),
+    (3, b"SESSION a\nCOMMIT x", b"retro: bad script at line 2\n"),
+    (3, b"SESSION a\nCOMMIT ?", b"retro: bad script at line 2\n"),
+    (
+        3,
+        b"SESSION a\nCOMMIT;COMMIT",
+        b"retro: bad script at line 2\n",
+    ),
+    (
+        3,
+        b"SESSION a\nCOMMIT WITH SNAPSHOT x",
+        b"retro: bad script at line 2\n",
+    ),
+    (
+        3,
+        b"SESSION a\nCOMMIT WITH SNAPSHOT 'xxxxxxxxxxxxxxxxxxxxxxxxxxxxxxxxxxxxxxxxxxxxxxxxxxxxxxxxxxxxxxxxx'",
+        b"retro: bad script at line 2\n",
+    ),
+    (
+        3,
+        b"SESSION a\nHELLO\nSELECT AS OF 1 * FROM t\nCOMMIT",
+        b"retro: bad script at line 3\n",
+    ),
+    (3, b"SESSION a\nHELLO", b"retro: bad script at line 3\n"),
+    (3, b"SESSION a\nHELLO\n\n", b"retro: bad script at line 4\n"),
+    (
+        3,
+        b"SESSION a\nCOMMIT\nHELLO\nSESSION b\n",
+        b"retro: bad script at line 4\n",
+    ),
+    (3, b"\x00\xff\xfe", b"retro: bad script at line 1\n"),
+    (
+        0,
+        b"session a\n\x00\xff\ncommit",
+        b"phase 1\nsession a\nitem 1\nrefused 19 Syntax 0\ncommitted\njournal\n1 a 1 done\n",
+    ),
+];
+
 #[test]
 fn small_scripts_have_the_transcripts_worked_out_by_hand(rt: HostRuntime) -> Result<(), Fail> {
-    for (status, script, want) in [
-        (0, b"".as_slice(), b"journal\n".as_slice()),
-        (0, b"\n\n# only a comment\n", b"journal\n"),
-        (0, b"PHASE", b"phase 1\njournal\n"),
-        (
-            0,
-            b"phase\r\nsession a\r\n",
-            b"phase 1\nsession a\njournal\n",
-        ),
-        (
-            0,
-            b"SESSION a\nCOMMIT",
-            b"phase 1\nsession a\nitem 1\ncommitted\njournal\n1 a 1 done\n",
-        ),
-        (
-            0,
-            b"  \t SESSION \t a \t\n\tCOMMIT \t;\t\r\n",
-            b"phase 1\nsession a\nitem 1\ncommitted\njournal\n1 a 1 done\n",
-        ),
-        (
-            0,
-            b"SESSION a\n# one\n-- two\n\n;\n  ;\nCOMMIT",
-            b"phase 1\nsession a\nitem 1\ncommitted\njournal\n1 a 1 done\n",
-        ),
-        (
-            0,
-            b"SESSION abcdefghijklmn01\nCOMMIT",
-            b"phase 1\nsession abcdefghijklmn01\nitem 1\ncommitted\njournal\n1 abcdefghijklmn01 1 done\n",
-        ),
-        (
-            0,
-            b"SESSION a\nPHASE 1\nCOMMIT",
-            b"phase 1\nsession a\nitem 1\nrefused 19 Syntax 0\ncommitted\njournal\n1 a 1 done\n",
-        ),
-        (
-            0,
-            b"SESSION a\nCOMMIT WITH SNAPSHOT\nCOMMIT WITH SNAPSHOT 'x'\nCOMMIT",
-            b"phase 1\nsession a\nitem 1\ncommitted as 1\nitem 2\ncommitted as 2\nitem 3\ncommitted\njournal\n1 a 1 done as 1\n1 a 2 done as 2\n1 a 3 done\n",
-        ),
-        (
-            0,
-            b"SESSION a\ncommit with snapshot 'xxxxxxxxxxxxxxxxxxxxxxxxxxxxxxxxxxxxxxxxxxxxxxxxxxxxxxxxxxxxxxxx'",
-            b"phase 1\nsession a\nitem 1\ncommitted as 1\njournal\n1 a 1 done as 1\n",
-        ),
-        (
-            0,
-            b"session a\ncreate table t(a int)\ncommit with snapshot ''\nselect as of 1 * from t",
-            b"phase 1\nsession a\nitem 1\nok\ncommitted as 1\nitem 2\nrows 0\njournal\n1 a 1 done as 1\n1 a 2 looked 1\n1 a 2 unlooked\n",
-        ),
-        (
-            0,
-            b"SESSION a\nSELECT AS OF 1 * FROM t",
-            b"phase 1\nsession a\nitem 1\nrefused 9 NoSuchSnapshot 1 0\njournal\n1 a 1 refused 9\n",
-        ),
-        (
-            0,
-            b"SESSION a\nCOMMIT WITH SNAPSHOT\nSELECT AS OF 0 * FROM t\nSELECT AS OF 4294967297 * FROM t",
-            b"phase 1\nsession a\nitem 1\ncommitted as 1\nitem 2\nrefused 9 NoSuchSnapshot 0 1\nitem 3\nrefused 9 NoSuchSnapshot 4294967297 1\njournal\n1 a 1 done as 1\n1 a 2 refused 9\n1 a 3 refused 9\n",
-        ),
-        (
-            0,
-            b"SESSION a\nCOMMIT WITH SNAPSHOT\nCREATE TABLE t(a INT)\nCOMMIT\nSELECT AS OF 1 * FROM t",
-            b"phase 1\nsession a\nitem 1\ncommitted as 1\nitem 2\nok\ncommitted\nitem 3\nrefused 20 UnknownName\njournal\n1 a 1 done as 1\n1 a 2 done\n1 a 3 looked 1\n1 a 3 refused 20\n",
-        ),
-        (
-            0,
-            b"SESSION a\nCREATE TABLE t(a INT)\nCOMMIT WITH SNAPSHOT\nINSERT INTO t VALUES (1)\nCOMMIT WITH SNAPSHOT\nSELECT AS OF 01 * FROM t\nSELECT AS OF 2 * FROM t",
-            b"phase 1\nsession a\nitem 1\nok\ncommitted as 1\nitem 2\nok 1\ncommitted as 2\nitem 3\nrows 0\nitem 4\nrows 1\n1\njournal\n1 a 1 done as 1\n1 a 2 done as 2\n1 a 3 looked 1\n1 a 3 unlooked\n1 a 4 looked 2\n1 a 4 unlooked\n",
-        ),
-        (
-            0,
-            b"SESSION a\nSELECT AS OF x * FROM t\nSELECT AS OF 1\nSELECT AS OF 9223372036854775808 * FROM t\nSELECT AS OF -1 * FROM t",
-            b"phase 1\nsession a\nitem 1\nrefused 19 Syntax 0\nitem 2\nrefused 19 Syntax 0\nitem 3\nrefused 19 Syntax 0\nitem 4\nrefused 19 Syntax 0\njournal\n",
-        ),
-        (
-            0,
-            b"SESSION a\nCREATE TABLE t(a INT)\nCREATE TABLE T(a INT)\nINSERT INTO T VALUES (1)\nSELECT * FROM t\nSELECT * FROM T\nCOMMIT",
-            b"phase 1\nsession a\nitem 1\nok\nok\nok 1\nrows 0\nrows 1\n1\ncommitted\njournal\n1 a 1 done\n",
-        ),
-        (
-            0,
-            b"SESSION a\nCREATE TABLE t(a INT)\nCREATE TABLE t(b TEXT)\nCREATE TABLE u(a INT, b TEXT, a INT)\nCREATE TABLE SnapIds(a INT)\nCREATE TABLE rql_(a INT)\nCOMMIT",
-            b"phase 1\nsession a\nitem 1\nok\nrefused 19 Syntax 0\nrefused 19 Syntax 0\nrefused 19 Syntax 0\nrefused 19 Syntax 0\ncommitted\njournal\n1 a 1 done\n",
-        ),
-        (
-            0,
-            b"SESSION a\nCREATE TABLE snapids(a INT)\nCREATE TABLE RQL_x(a INT)\nCREATE TABLE rqlx(a INT)\nSELECT * FROM snapids\nCOMMIT",
-            b"phase 1\nsession a\nitem 1\nok\nok\nok\nrows 0\ncommitted\njournal\n1 a 1 done\n",
-        ),
-        (
-            0,
-            b"SESSION a\nCREATE TABLE nnnnnnnnnnnnnnnnnnnnnnnnnnnnnnnn(a INT)\nCREATE TABLE nnnnnnnnnnnnnnnnnnnnnnnnnnnnnnnnn(a INT)\nCREATE TABLE 1abc(a INT)\nCREATE TABLE select(a INT)\nCREATE TABLE t(count INT)\nCOMMIT",
-            b"phase 1\nsession a\nitem 1\nok\nrefused 19 Syntax 0\nrefused 19 Syntax 0\nrefused 19 Syntax 0\nrefused 19 Syntax 0\ncommitted\njournal\n1 a 1 done\n",
-        ),
-        (
-            0,
-            b"SESSION a\nSELECT * FROM nosuch\nINSERT INTO nosuch VALUES (1)\nCOMMIT",
-            b"phase 1\nsession a\nitem 1\nrefused 20 UnknownName\nrefused 20 UnknownName\ncommitted\njournal\n1 a 1 done\n",
-        ),
-        (
-            0,
-            b"SESSION a\nCREATE TABLE t(c0 INT,c1 INT,c2 INT,c3 INT,c4 INT,c5 INT,c6 INT,c7 INT,c8 INT,c9 INT,c10 INT,c11 INT,c12 INT,c13 INT,c14 INT,c15 INT)\nCREATE TABLE u(c0 INT,c1 INT,c2 INT,c3 INT,c4 INT,c5 INT,c6 INT,c7 INT,c8 INT,c9 INT,c10 INT,c11 INT,c12 INT,c13 INT,c14 INT,c15 INT,c16 INT)\nSELECT * FROM t\nCOMMIT",
-            b"phase 1\nsession a\nitem 1\nok\nrefused 19 Syntax 0\nrows 0\ncommitted\njournal\n1 a 1 done\n",
-        ),
-        (
-            0,
-            b"SESSION a\nCREATE TABLE t()\nCREATE TABLE t(a)\nCREATE TABLE t(a INT,)\nCREATE TABLE t a INT\nCREATE t(a INT)\nCOMMIT",
-            b"phase 1\nsession a\nitem 1\nrefused 19 Syntax 0\nrefused 19 Syntax 0\nrefused 19 Syntax 0\nrefused 19 Syntax 0\nrefused 19 Syntax 0\ncommitted\njournal\n1 a 1 done\n",
-        ),
-        (
-            0,
-            b"SESSION a\nCREATE\tTABLE t ( a INT , b TEXT ) ;\nINSERT INTO t VALUES(1,'x');\nCOMMIT;",
-            b"phase 1\nsession a\nitem 1\nok\nok 1\ncommitted\njournal\n1 a 1 done\n",
-        ),
-        (
-            0,
-            b"SESSION a\nCREATE TABLE t(a INT, b TEXT)\nINSERT INTO t VALUES (1)\nINSERT INTO t VALUES ('x','y')\nINSERT INTO t VALUES (1,2)\nINSERT INTO t VALUES (1,'x',2)\nSELECT * FROM t\nCOMMIT",
-            b"phase 1\nsession a\nitem 1\nok\nrefused 19 Syntax 0\nrefused 19 Syntax 0\nrefused 19 Syntax 0\nrefused 19 Syntax 0\nrows 0\ncommitted\njournal\n1 a 1 done\n",
-        ),
-        (
-            0,
-            b"SESSION a\nCREATE TABLE t(a INT)\nINSERT INTO t VALUES (9223372036854775807)\nINSERT INTO t VALUES (-9223372036854775807)\nINSERT INTO t VALUES (9223372036854775808)\nINSERT INTO t VALUES (007)\nINSERT INTO t VALUES (- 5)\nINSERT INTO t VALUES (--5)\nINSERT INTO t VALUES (0)\nSELECT * FROM t\nCOMMIT",
-            b"phase 1\nsession a\nitem 1\nok\nok 1\nok 1\nrefused 19 Syntax 0\nok 1\nok 1\nrefused 19 Syntax 0\nok 1\nrows 5\n9223372036854775807\n-9223372036854775807\n7\n-5\n0\ncommitted\njournal\n1 a 1 done\n",
-        ),
-        (
-            0,
-            b"SESSION a\nCREATE TABLE t(a TEXT)\nINSERT INTO t VALUES ('it''s')\nINSERT INTO t VALUES ('a;b')\nINSERT INTO t VALUES ('--')\nINSERT INTO t VALUES (' ')\nINSERT INTO t VALUES ('')\nINSERT INTO t VALUES ('\"')\nINSERT INTO t VALUES (',')\nSELECT * FROM t\nCOMMIT",
-            b"phase 1\nsession a\nitem 1\nok\nok 1\nok 1\nok 1\nok 1\nok 1\nok 1\nok 1\nrows 7\nit's\na;b\n--\n \n\"\"\n\"\"\"\"\n\",\"\ncommitted\njournal\n1 a 1 done\n",
-        ),
-        (
-            0,
-            b"SESSION a\nCREATE TABLE t(a TEXT, b TEXT)\nINSERT INTO t VALUES ('','')\nINSERT INTO t VALUES ('x','')\nINSERT INTO t VALUES ('','a,\"b\"')\nSELECT * FROM t\nCOMMIT",
-            b"phase 1\nsession a\nitem 1\nok\nok 1\nok 1\nok 1\nrows 3\n,\nx,\n,\"a,\"\"b\"\"\"\ncommitted\njournal\n1 a 1 done\n",
-        ),
-        (
-            0,
-            b"SESSION a\nCREATE TABLE t(a INT)\nINSERT INTO t VALUES (1),(2)\nINSERT INTO t (a) VALUES (1)\nINSERT t VALUES (1)\nCOMMIT",
-            b"phase 1\nsession a\nitem 1\nok\nrefused 19 Syntax 0\nrefused 19 Syntax 0\nrefused 19 Syntax 0\ncommitted\njournal\n1 a 1 done\n",
-        ),
-        (
-            0,
-            b"SESSION a\nCREATE TABLE t(a INT)\nINSERT INTO t VALUES (2)\nSELECT * FROM t\nINSERT INTO t VALUES (1)\nSELECT * FROM t\nCOMMIT\nSELECT * FROM t\nCOMMIT",
-            b"phase 1\nsession a\nitem 1\nok\nok 1\nrows 1\n2\nok 1\nrows 2\n2\n1\ncommitted\nitem 2\nrows 2\n2\n1\ncommitted\njournal\n1 a 1 done\n1 a 2 done\n",
-        ),
-        (
-            0,
-            b"SESSION a\nSELECT * FROM\nSELECT\nSELECT * FROM t;;\nSELECT * t\nHELLO\nDROP TABLE t\nCOMMIT",
-            b"phase 1\nsession a\nitem 1\nrefused 19 Syntax 0\nrefused 19 Syntax 0\nrefused 19 Syntax 0\nrefused 19 Syntax 0\nrefused 19 Syntax 0\nrefused 19 Syntax 0\ncommitted\njournal\n1 a 1 done\n",
-        ),
-        (
-            0,
-            b"SESSION a\nINSERT INTO t VALUES ('x\n'COMMIT\n? COMMIT\nSELECT * FROM t 'COMMIT\nCOMMIT",
-            b"phase 1\nsession a\nitem 1\nrefused 19 Syntax 0\nrefused 19 Syntax 0\nrefused 19 Syntax 0\nrefused 19 Syntax 0\ncommitted\njournal\n1 a 1 done\n",
-        ),
-        (3, b"COMMIT", b"retro: bad script at line 1\n"),
-        (3, b"PHASE\nCOMMIT", b"retro: bad script at line 2\n"),
-        (3, b"PHASE 1", b"retro: bad script at line 1\n"),
-        (3, b"SESSION", b"retro: bad script at line 1\n"),
-        (3, b"SESSION A", b"retro: bad script at line 1\n"),
-        (3, b"SESSION a b", b"retro: bad script at line 1\n"),
-        (3, b"SESSION copier", b"retro: bad script at line 1\n"),
-        (3, b"SESSION flusher", b"retro: bad script at line 1\n"),
-        (
-            3,
-            b"SESSION abcdefghijklmnopq",
-            b"retro: bad script at line 1\n",
-        ),
-        (3, b"SESSIONa", b"retro: bad script at line 1\n"),
-        (3, b"SESSION a\nSESSION b", b"retro: bad script at line 2\n"),
-        (3, b"SESSION a\nPHASE", b"retro: bad script at line 2\n"),
-        (3, b"SESSION a\nROLLBACK", b"retro: bad script at line 2\n"),
-        (
-            3,
-            b"SESSION a\nDROP SNAPSHOTS BELOW 2",
-            b"retro: bad script at line 2\n",
-        ),
-        (
-            3,
-            b"SESSION a\nSELECT * FROM rql_x\nCOMMIT",
-            b"retro: bad script at line 2\n",
-        ),
-        (
-            3,
-            b"SESSION a\nSELECT a FROM SnapIds, t\nCOMMIT",
-            b"retro: bad script at line 2\n",
-        ),
-        (
-            3,
-            b"SESSION a\nCollateData('a','b','c')",
-            b"retro: bad script at line 2\n",
-        ),
-        (3, b"SESSION a\nCOMMIT x", b"retro: bad script at line 2\n"),
-        (3, b"SESSION a\nCOMMIT ?", b"retro: bad script at line 2\n"),
-        (
-            3,
-            b"SESSION a\nCOMMIT;COMMIT",
-            b"retro: bad script at line 2\n",
-        ),
-        (
-            3,
-            b"SESSION a\nCOMMIT WITH SNAPSHOT x",
-            b"retro: bad script at line 2\n",
-        ),
-        (
-            3,
-            b"SESSION a\nCOMMIT WITH SNAPSHOT 'xxxxxxxxxxxxxxxxxxxxxxxxxxxxxxxxxxxxxxxxxxxxxxxxxxxxxxxxxxxxxxxxx'",
-            b"retro: bad script at line 2\n",
-        ),
-        (
-            3,
-            b"SESSION a\nHELLO\nSELECT AS OF 1 * FROM t\nCOMMIT",
-            b"retro: bad script at line 3\n",
-        ),
-        (3, b"SESSION a\nHELLO", b"retro: bad script at line 3\n"),
-        (3, b"SESSION a\nHELLO\n\n", b"retro: bad script at line 4\n"),
-        (
-            3,
-            b"SESSION a\nCOMMIT\nHELLO\nSESSION b\n",
-            b"retro: bad script at line 4\n",
-        ),
-        (3, b"\x00\xff\xfe", b"retro: bad script at line 1\n"),
-        (
-            0,
-            b"session a\n\x00\xff\ncommit",
-            b"phase 1\nsession a\nitem 1\nrefused 19 Syntax 0\ncommitted\njournal\n1 a 1 done\n",
-        ),
-    ] {
+    for (status, script, want) in SCRIPTS {
         let outcome = run(&rt, script)?;
         assert_eq!(rt; outcome.text.as_slice(), want);
         assert_eq!(rt; outcome.status, status);

@@ -4,77 +4,98 @@ use crate::{
 use std::alloc::AllocError;
 use std::test::Fail;
 
+const REFUSALS: [(Refusal, u8, &str); 26] = [
+    (Refusal::OutOfMemory, 1, "OutOfMemory"),
+    (
+        Refusal::DiskFault {
+            device: Device::Log,
+            count: 2,
+        },
+        2,
+        "DiskFault",
+    ),
+    (Refusal::SourceFault, 3, "SourceFault"),
+    (Refusal::SinkFault, 4, "SinkFault"),
+    (
+        Refusal::NotAStore {
+            device: Device::Log,
+            place: 0,
+        },
+        5,
+        "NotAStore",
+    ),
+    (Refusal::BadWords, 6, "BadWords"),
+    (Refusal::BadScript { line: 7 }, 7, "BadScript"),
+    (
+        Refusal::Overlap {
+            session: 1,
+            item: 2,
+        },
+        8,
+        "Overlap",
+    ),
+    (
+        Refusal::NoSuchSnapshot {
+            asked: 9,
+            newest: 3,
+        },
+        9,
+        "NoSuchSnapshot",
+    ),
+    (
+        Refusal::Dropped {
+            asked: 1,
+            oldest: 2,
+        },
+        10,
+        "Dropped",
+    ),
+    (
+        Refusal::Pinned {
+            snapshot: 1,
+            session: 2,
+        },
+        11,
+        "Pinned",
+    ),
+    (
+        Refusal::ArchiveFull { needed: 1, room: 0 },
+        12,
+        "ArchiveFull",
+    ),
+    (
+        Refusal::JournalFull {
+            lines: 1,
+            images: 2,
+        },
+        13,
+        "JournalFull",
+    ),
+    (Refusal::PagesFull { pages: 16 }, 14, "PagesFull"),
+    (Refusal::TooManyPages { needed: 17 }, 15, "TooManyPages"),
+    (
+        Refusal::Stopped {
+            device: Device::Log,
+            count: 1,
+        },
+        16,
+        "Stopped",
+    ),
+    (Refusal::NoRoom { needed: 1, free: 0 }, 17, "NoRoom"),
+    (Refusal::SnapshotsFull { retained: 1 }, 18, "SnapshotsFull"),
+    (Refusal::Syntax { place: 1 }, 19, "Syntax"),
+    (Refusal::UnknownName, 20, "UnknownName"),
+    (Refusal::NameTaken, 21, "NameTaken"),
+    (Refusal::WrongType, 22, "WrongType"),
+    (Refusal::Overflow, 23, "Overflow"),
+    (Refusal::RowTooLong { bytes: 901 }, 24, "RowTooLong"),
+    (Refusal::NotOneValue { snapshot: 1 }, 25, "NotOneValue"),
+    (Refusal::BadSizes, 26, "BadSizes"),
+];
+
 #[test]
 fn refusals_are_numbered_and_named(rt: HostRuntime) {
-    let device = Device::Log;
-    let table = [
-        (Refusal::OutOfMemory, 1, "OutOfMemory"),
-        (Refusal::DiskFault { device, count: 2 }, 2, "DiskFault"),
-        (Refusal::SourceFault, 3, "SourceFault"),
-        (Refusal::SinkFault, 4, "SinkFault"),
-        (Refusal::NotAStore { device, place: 0 }, 5, "NotAStore"),
-        (Refusal::BadWords, 6, "BadWords"),
-        (Refusal::BadScript { line: 7 }, 7, "BadScript"),
-        (
-            Refusal::Overlap {
-                session: 1,
-                item: 2,
-            },
-            8,
-            "Overlap",
-        ),
-        (
-            Refusal::NoSuchSnapshot {
-                asked: 9,
-                newest: 3,
-            },
-            9,
-            "NoSuchSnapshot",
-        ),
-        (
-            Refusal::Dropped {
-                asked: 1,
-                oldest: 2,
-            },
-            10,
-            "Dropped",
-        ),
-        (
-            Refusal::Pinned {
-                snapshot: 1,
-                session: 2,
-            },
-            11,
-            "Pinned",
-        ),
-        (
-            Refusal::ArchiveFull { needed: 1, room: 0 },
-            12,
-            "ArchiveFull",
-        ),
-        (
-            Refusal::JournalFull {
-                lines: 1,
-                images: 2,
-            },
-            13,
-            "JournalFull",
-        ),
-        (Refusal::PagesFull { pages: 16 }, 14, "PagesFull"),
-        (Refusal::TooManyPages { needed: 17 }, 15, "TooManyPages"),
-        (Refusal::Stopped { device, count: 1 }, 16, "Stopped"),
-        (Refusal::NoRoom { needed: 1, free: 0 }, 17, "NoRoom"),
-        (Refusal::SnapshotsFull { retained: 1 }, 18, "SnapshotsFull"),
-        (Refusal::Syntax { place: 1 }, 19, "Syntax"),
-        (Refusal::UnknownName, 20, "UnknownName"),
-        (Refusal::NameTaken, 21, "NameTaken"),
-        (Refusal::WrongType, 22, "WrongType"),
-        (Refusal::Overflow, 23, "Overflow"),
-        (Refusal::RowTooLong { bytes: 901 }, 24, "RowTooLong"),
-        (Refusal::NotOneValue { snapshot: 1 }, 25, "NotOneValue"),
-        (Refusal::BadSizes, 26, "BadSizes"),
-    ];
-    for (refusal, number, name) in table {
+    for (refusal, number, name) in REFUSALS {
         assert_eq!(rt; refusal.number(), number);
         assert_eq!(rt; refusal.name(), name);
     }
