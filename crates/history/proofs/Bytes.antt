@@ -14,7 +14,7 @@ IsBytes-drop n bytes h i = rw get_or-drop (h (n + i))
 
 -- the bytes of the number that stands in bytes are these bytes
 pub field_of-number : (n : ℕ) (bytes : List ℕ) → n ≤ length bytes → IsBytes bytes → field_bytes n (number_at n bytes 0) ≡ take n bytes
-field_of-number n bytes le h = field_bytes-number_at n bytes 0 h le
+field_of-number n bytes le h = field_bytes-number_at n bytes 0 h (omega (arith, le))
 
 -- a number at a place is the one at the front of what stands there
 pub number-drop : (n place : ℕ) (bytes : List ℕ) → number_at n bytes place ≡ number_at n (drop place bytes) 0
