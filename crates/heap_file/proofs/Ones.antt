@@ -10,17 +10,17 @@ use Rattle.heap_file.specs.Laws.{IsOne, AnswersAreOne}
 use Rattle.heap_file.specs.Work.{appended, lengthened}
 use Rattle.heap_file.proofs.Packing.{holds_one}
 
-only-one : {A : Type 0} (answer : Result A Refusal) → IsOne (only answer)
+pub only-one : {A : Type 0} (answer : Result A Refusal) → IsOne (only answer)
 only-one answer r s p q = sym p ∙ q
 
-either-one : {A : Type 0} (b : Bool) (m n : Result A Refusal → Type 0) → IsOne m → IsOne n → IsOne (either b m n)
+pub either-one : {A : Type 0} (b : Bool) (m n : Result A Refusal → Type 0) → IsOne m → IsOne n → IsOne (either b m n)
 either-one true m n one other = one
 either-one false m n one other = other
 
-differ : {A : Type 0} {P : Type 0} (x : A) (why : Refusal) → Ok x ≡ Err why → P
+pub differ : {A : Type 0} {P : Type 0} (x : A) (why : Refusal) → Ok x ≡ Err why → P
 differ x why e = absurd cc
 
-next-one : {A B : Type 0} (m : Result A Refusal → Type 0) (f : A → Result B Refusal → Type 0) → IsOne m → ((x : A) → IsOne (f x)) → IsOne (m >>= f)
+pub next-one : {A B : Type 0} (m : Result A Refusal → Type 0) (f : A → Result B Refusal → Type 0) → IsOne m → ((x : A) → IsOne (f x)) → IsOne (m >>= f)
 next-one m f one each (Ok y) (Ok z) a b =
     let same : a.0 ≡ b.0 = cc (one (Ok a.0) (Ok b.0) a.1 b.1) in
     each b.0 (Ok y) (Ok z) (subst (λ v. f v (Ok y)) same a.2) b.2
@@ -40,7 +40,7 @@ next-one m f one each (Err why) (Err reason) (inr a) (inr b) =
     each b.0 (Err why) (Err reason) (subst (λ v. f v (Err why)) same a.2) b.2
 
 -- a page holds one thing, or is broken
-page-one : (size : ℕ) (pages : Pages) (page : ℕ) → IsOne (heap_page size pages page)
+pub page-one : (size : ℕ) (pages : Pages) (page : ℕ) → IsOne (heap_page size pages page)
 page-one size pages page (Ok held) (Ok other) p q = ap (λ (h : HeapPage). Ok h) (holds_one (pages.at page) held other p.holds q.holds)
 page-one size pages page (Ok held) (Err why) p q = absurd (q.1 held p)
 page-one size pages page (Err why) (Ok held) p q = absurd (p.1 held q)
@@ -50,7 +50,7 @@ lengthened-one : (size : ℕ) (pages : Pages) (first last : ℕ) (tail : HeapPag
 lengthened-one size pages first last tail entry =
     next-one _ _ (only-one _) (λ next. next-one _ _ (page-one _ _ _) (λ head. only-one _))
 
-appended-one : (size : ℕ) (pages : Pages) (first : ℕ) (entry : Entry) → IsOne (appended size pages first entry)
+pub appended-one : (size : ℕ) (pages : Pages) (first : ℕ) (entry : Entry) → IsOne (appended size pages first entry)
 appended-one size pages first entry =
     next-one _ _ (page-one _ _ _) (λ head. next-one _ _ (page-one _ _ _) (λ tail.
     either-one _ _ _ (either-one _ _ _ (only-one _) (lengthened-one size pages first (last_page first head) tail entry)) (only-one _)))

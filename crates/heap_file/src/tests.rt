@@ -1,6 +1,6 @@
 //! What no clause says: pages byte for byte by hand, which pages each call edits, and that calls succeed.
 
-ghost use Rattle.std.specs.Prelude.{IfOk};
+ghost use Rattle.std.specs.Prelude.{◌≤◌, IfOk};
 ghost use Rattle.heap_file.specs.HeapPage.{IsShort};
 
 use super::*;
@@ -10,19 +10,27 @@ use std::alloc::{AllocError, Global};
 use std::test::Fail;
 use values::{Row, Seq, Text, Value};
 
-// A row of 60 encoded bytes: one text of 49 letters.
-fn sixty_bytes(alloc: Global) -> Result<Row, Refusal>
+// A row of one text of so many letters: 11 bytes more when it is encoded.
+fn one_text(alloc: Global, letters: usize) -> Result<Row, Refusal>
+    requires { letters ≤ 200 }
     ensures { IfOk result IsShort }
 {
-    let letters = vec![in alloc; b'x'; 49]?;
+    let text = vec![in alloc; b'x'; letters]?;
     let mut row = Seq::new(alloc);
-    row.push(Value::Text(Text::new(Seq::from(letters))))?;
+    row.push(Value::Text(Text::new(Seq::from(text))))?;
     let code = row_codec::encode(alloc, 0, &row)?;
-    if code.len() == 60 {
+    if code.len() == letters + 11 {
         Ok(row)
     } else {
         Err(Refusal::BadSizes)
     }
+}
+
+// A row of 60 encoded bytes.
+fn sixty_bytes(alloc: Global) -> Result<Row, Refusal>
+    ensures { IfOk result IsShort }
+{
+    one_text(alloc, 49)
 }
 
 // A store of 16 zero pages, and the first page of a table in it.
@@ -132,5 +140,43 @@ fn full_before_the_first_edit(rt: HostRuntime) -> Result<(), Fail> {
     let full = Refusal::PagesFull { pages: 16 };
     assert!(rt; make(alloc, &mut pager) == Err(Stop::Refused(full)));
     assert_eq!(rt; pager.edits().len(), edits);
+    Ok(())
+}
+
+// A table of 17 rows of 60 bytes: sixteen on page 2, which leave 12 bytes free there, and row 16 on page 3.
+fn two_pages(alloc: Global) -> Result<(MemPager, u32), Fail> {
+    let (mut pager, first) = one_table(alloc)?;
+    let row = sixty_bytes(alloc)?;
+    for _ in 0..17 {
+        add(alloc, &mut pager, first, &row)?;
+    }
+    Ok((pager, first))
+}
+
+#[test]
+fn a_longer_row_moves_to_the_last_page(rt: HostRuntime) -> Result<(), Fail> {
+    let alloc = rt.alloc();
+    let (mut pager, first) = two_pages(alloc)?;
+    let edits = pager.edits().len();
+    let row = one_text(alloc, 69)?;
+    assert_eq!(rt; change(alloc, &mut pager, first, 2, 0, &row)?, 3);
+    assert_eq!(rt; edited(alloc, &pager, edits)?.as_slice(), [2, 3].as_slice());
+    let page = page_at(&pager, 2);
+    assert_eq!(rt; &page.bytes()[..4], [1, 0, 0, 15].as_slice());
+    assert_eq!(rt;
+        &page.bytes()[20..30],
+        [0, 60, 0, 0, 0, 0, 0, 0, 0, 1].as_slice()
+    );
+    let page = page_at(&pager, 3);
+    assert_eq!(rt; &page.bytes()[..4], [1, 0, 0, 2].as_slice());
+    assert_eq!(rt;
+        &page.bytes()[20..30],
+        [0, 60, 0, 0, 0, 0, 0, 0, 0, 16].as_slice()
+    );
+    assert_eq!(rt;
+        &page.bytes()[82..96],
+        [0, 80, 0, 0, 0, 0, 0, 0, 0, 0, 1, 2, 69, b'x'].as_slice()
+    );
+    assert_eq!(rt; scan(alloc, &mut pager, first)?.len(), 17);
     Ok(())
 }

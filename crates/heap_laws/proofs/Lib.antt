@@ -1,0 +1,17 @@
+pub mod Adding
+pub mod Appending
+pub mod Changing
+pub mod Counts
+pub mod Editing
+pub mod Fresh
+pub mod Indexing
+pub mod Making
+pub mod Ones
+pub mod Orders
+pub mod Reading
+pub mod Removing
+pub mod Roots
+pub mod Routes
+pub mod Rows
+pub mod Spotting
+pub mod Stores
