@@ -4,7 +4,7 @@ use crate::tests::run;
 use std::test::Fail;
 
 // A status, a script, and the transcript worked out by hand.
-const SCRIPTS: [(u8, &[u8], &[u8]); 61] = [
+const SCRIPTS: [(u8, &[u8], &[u8]); 66] = [
     (0, b"", b"journal\n"),
     (0, b"\n\n# only a comment\n", b"journal\n"),
     (0, b"PHASE", b"phase 1\njournal\n"),
@@ -76,7 +76,7 @@ const SCRIPTS: [(u8, &[u8], &[u8]); 61] = [
     (
         0,
         b"SESSION a\nSELECT AS OF x * FROM t\nSELECT AS OF 1\nSELECT AS OF 9223372036854775808 * FROM t\nSELECT AS OF -1 * FROM t",
-        b"phase 1\nsession a\nitem 1\nrefused 19 Syntax 0\nitem 2\nrefused 19 Syntax 0\nitem 3\nrefused 19 Syntax 0\nitem 4\nrefused 19 Syntax 0\njournal\n",
+        b"phase 1\nsession a\nitem 1\nrefused 19 Syntax 13\nitem 2\nrefused 19 Syntax 14\nitem 3\nrefused 19 Syntax 13\nitem 4\nrefused 19 Syntax 13\njournal\n",
     ),
     (
         0,
@@ -86,7 +86,7 @@ const SCRIPTS: [(u8, &[u8], &[u8]); 61] = [
     (
         0,
         b"SESSION a\nCREATE TABLE t(a INT)\nCREATE TABLE t(b TEXT)\nCREATE TABLE u(a INT, b TEXT, a INT)\nCREATE TABLE SnapIds(a INT)\nCREATE TABLE rql_(a INT)\nCOMMIT",
-        b"phase 1\nsession a\nitem 1\nok\nrefused 19 Syntax 0\nrefused 19 Syntax 0\nrefused 19 Syntax 0\nrefused 19 Syntax 0\ncommitted\njournal\n1 a 1 done\n",
+        b"phase 1\nsession a\nitem 1\nok\nrefused 21 NameTaken\nrefused 21 NameTaken\nrefused 21 NameTaken\nrefused 21 NameTaken\ncommitted\njournal\n1 a 1 done\n",
     ),
     (
         0,
@@ -96,7 +96,7 @@ const SCRIPTS: [(u8, &[u8], &[u8]); 61] = [
     (
         0,
         b"SESSION a\nCREATE TABLE nnnnnnnnnnnnnnnnnnnnnnnnnnnnnnnn(a INT)\nCREATE TABLE nnnnnnnnnnnnnnnnnnnnnnnnnnnnnnnnn(a INT)\nCREATE TABLE 1abc(a INT)\nCREATE TABLE select(a INT)\nCREATE TABLE t(count INT)\nCOMMIT",
-        b"phase 1\nsession a\nitem 1\nok\nrefused 19 Syntax 0\nrefused 19 Syntax 0\nrefused 19 Syntax 0\nrefused 19 Syntax 0\ncommitted\njournal\n1 a 1 done\n",
+        b"phase 1\nsession a\nitem 1\nok\nrefused 19 Syntax 13\nrefused 19 Syntax 13\nrefused 19 Syntax 13\nrefused 19 Syntax 15\ncommitted\njournal\n1 a 1 done\n",
     ),
     (
         0,
@@ -106,12 +106,12 @@ const SCRIPTS: [(u8, &[u8], &[u8]); 61] = [
     (
         0,
         b"SESSION a\nCREATE TABLE t(c0 INT,c1 INT,c2 INT,c3 INT,c4 INT,c5 INT,c6 INT,c7 INT,c8 INT,c9 INT,c10 INT,c11 INT,c12 INT,c13 INT,c14 INT,c15 INT)\nCREATE TABLE u(c0 INT,c1 INT,c2 INT,c3 INT,c4 INT,c5 INT,c6 INT,c7 INT,c8 INT,c9 INT,c10 INT,c11 INT,c12 INT,c13 INT,c14 INT,c15 INT,c16 INT)\nSELECT * FROM t\nCOMMIT",
-        b"phase 1\nsession a\nitem 1\nok\nrefused 19 Syntax 0\nrows 0\ncommitted\njournal\n1 a 1 done\n",
+        b"phase 1\nsession a\nitem 1\nok\nrefused 19 Syntax 132\nrows 0\ncommitted\njournal\n1 a 1 done\n",
     ),
     (
         0,
         b"SESSION a\nCREATE TABLE t()\nCREATE TABLE t(a)\nCREATE TABLE t(a INT,)\nCREATE TABLE t a INT\nCREATE t(a INT)\nCOMMIT",
-        b"phase 1\nsession a\nitem 1\nrefused 19 Syntax 0\nrefused 19 Syntax 0\nrefused 19 Syntax 0\nrefused 19 Syntax 0\nrefused 19 Syntax 0\ncommitted\njournal\n1 a 1 done\n",
+        b"phase 1\nsession a\nitem 1\nrefused 19 Syntax 15\nrefused 19 Syntax 16\nrefused 19 Syntax 21\nrefused 19 Syntax 15\nrefused 19 Syntax 7\ncommitted\njournal\n1 a 1 done\n",
     ),
     (
         0,
@@ -121,12 +121,12 @@ const SCRIPTS: [(u8, &[u8], &[u8]); 61] = [
     (
         0,
         b"SESSION a\nCREATE TABLE t(a INT, b TEXT)\nINSERT INTO t VALUES (1)\nINSERT INTO t VALUES ('x','y')\nINSERT INTO t VALUES (1,2)\nINSERT INTO t VALUES (1,'x',2)\nSELECT * FROM t\nCOMMIT",
-        b"phase 1\nsession a\nitem 1\nok\nrefused 19 Syntax 0\nrefused 19 Syntax 0\nrefused 19 Syntax 0\nrefused 19 Syntax 0\nrows 0\ncommitted\njournal\n1 a 1 done\n",
+        b"phase 1\nsession a\nitem 1\nok\nrefused 22 WrongType\nrefused 22 WrongType\nrefused 22 WrongType\nrefused 22 WrongType\nrows 0\ncommitted\njournal\n1 a 1 done\n",
     ),
     (
         0,
         b"SESSION a\nCREATE TABLE t(a INT)\nINSERT INTO t VALUES (9223372036854775807)\nINSERT INTO t VALUES (-9223372036854775807)\nINSERT INTO t VALUES (9223372036854775808)\nINSERT INTO t VALUES (007)\nINSERT INTO t VALUES (- 5)\nINSERT INTO t VALUES (--5)\nINSERT INTO t VALUES (0)\nSELECT * FROM t\nCOMMIT",
-        b"phase 1\nsession a\nitem 1\nok\nok 1\nok 1\nrefused 19 Syntax 0\nok 1\nok 1\nrefused 19 Syntax 0\nok 1\nrows 5\n9223372036854775807\n-9223372036854775807\n7\n-5\n0\ncommitted\njournal\n1 a 1 done\n",
+        b"phase 1\nsession a\nitem 1\nok\nok 1\nok 1\nrefused 19 Syntax 22\nok 1\nok 1\nrefused 19 Syntax 23\nok 1\nrows 5\n9223372036854775807\n-9223372036854775807\n7\n-5\n0\ncommitted\njournal\n1 a 1 done\n",
     ),
     (
         0,
@@ -141,7 +141,7 @@ const SCRIPTS: [(u8, &[u8], &[u8]); 61] = [
     (
         0,
         b"SESSION a\nCREATE TABLE t(a INT)\nINSERT INTO t VALUES (1),(2)\nINSERT INTO t (a) VALUES (1)\nINSERT t VALUES (1)\nCOMMIT",
-        b"phase 1\nsession a\nitem 1\nok\nrefused 19 Syntax 0\nrefused 19 Syntax 0\nrefused 19 Syntax 0\ncommitted\njournal\n1 a 1 done\n",
+        b"phase 1\nsession a\nitem 1\nok\nok 2\nrefused 19 Syntax 14\nrefused 19 Syntax 7\ncommitted\njournal\n1 a 1 done\n",
     ),
     (
         0,
@@ -151,12 +151,27 @@ const SCRIPTS: [(u8, &[u8], &[u8]); 61] = [
     (
         0,
         b"SESSION a\nSELECT * FROM\nSELECT\nSELECT * FROM t;;\nSELECT * t\nHELLO\nDROP TABLE t\nCOMMIT",
-        b"phase 1\nsession a\nitem 1\nrefused 19 Syntax 0\nrefused 19 Syntax 0\nrefused 19 Syntax 0\nrefused 19 Syntax 0\nrefused 19 Syntax 0\nrefused 19 Syntax 0\ncommitted\njournal\n1 a 1 done\n",
+        b"phase 1\nsession a\nitem 1\nrefused 19 Syntax 13\nrefused 19 Syntax 6\nrefused 19 Syntax 15\nrefused 19 Syntax 9\nrefused 19 Syntax 0\nrefused 19 Syntax 5\ncommitted\njournal\n1 a 1 done\n",
     ),
     (
         0,
         b"SESSION a\nINSERT INTO t VALUES ('x\n'COMMIT\n? COMMIT\nSELECT * FROM t 'COMMIT\nCOMMIT",
-        b"phase 1\nsession a\nitem 1\nrefused 19 Syntax 0\nrefused 19 Syntax 0\nrefused 19 Syntax 0\nrefused 19 Syntax 0\ncommitted\njournal\n1 a 1 done\n",
+        b"phase 1\nsession a\nitem 1\nrefused 19 Syntax 24\nrefused 19 Syntax 7\nrefused 19 Syntax 0\nrefused 19 Syntax 23\ncommitted\njournal\n1 a 1 done\n",
+    ),
+    (
+        0,
+        b"SESSION a\nCREATE TABLE t(a INT)\nSELEC * FROM t\nSELECT * FORM t\nSELECT * FROM nosuch\nCREATE TABLE t(a INT)\nINSERT INTO t VALUES ('x')\nINSERT INTO t VALUES (9223372036854775807)\nUPDATE t SET a = a + 1\nSELECT * FROM t\nCOMMIT",
+        b"phase 1\nsession a\nitem 1\nok\nrefused 19 Syntax 0\nrefused 19 Syntax 9\nrefused 20 UnknownName\nrefused 21 NameTaken\nrefused 22 WrongType\nok 1\nrefused 23 Overflow\nrows 1\n9223372036854775807\ncommitted\njournal\n1 a 1 done\n",
+    ),
+    (
+        0,
+        b"SESSION a\nCREATE TABLE t(a INT, b TEXT)\nINSERT INTO t VALUES (3,'x'),(1,'y'),(3,'z')\nCREATE INDEX i ON t(a)\nSELECT a, COUNT(*) AS n FROM t GROUP BY a\nSELECT b FROM t ORDER BY a DESC LIMIT 2\nSELECT SUM(a) FROM t WHERE a > 9\nSELECT MIN(a) FROM t WHERE a > 9\nCOMMIT",
+        b"phase 1\nsession a\nitem 1\nok\nok 3\nok\nrows 2\n3,2\n1,1\nrows 2\nx\nz\nrows 1\n0\nrows 0\ncommitted\njournal\n1 a 1 done\n",
+    ),
+    (
+        0,
+        b"SESSION a\nCREATE TABLE t(a INT)\nINSERT INTO t VALUES (4)\nCOMMIT WITH SNAPSHOT\nSELECT AS OF 1 current_snapshot() + a FROM t\nSELECT current_snapshot() FROM t\nSELECT a FROM t WHERE b = 1\nCOMMIT\nSELECT AS OF 1 a + 9223372036854775807 FROM t",
+        b"phase 1\nsession a\nitem 1\nok\nok 1\ncommitted as 1\nitem 2\nrows 1\n5\nitem 3\nrefused 20 UnknownName\nrefused 20 UnknownName\ncommitted\nitem 4\nrefused 23 Overflow\njournal\n1 a 1 done as 1\n1 a 2 looked 1\n1 a 2 unlooked\n1 a 3 done\n1 a 4 looked 1\n1 a 4 refused 23\n",
     ),
     (3, b"COMMIT", b"retro: bad script at line 1\n"),
     (3, b"PHASE\nCOMMIT", b"retro: bad script at line 2\n"),
@@ -174,7 +189,21 @@ const SCRIPTS: [(u8, &[u8], &[u8]); 61] = [
     (3, b"SESSIONa", b"retro: bad script at line 1\n"),
     (3, b"SESSION a\nSESSION b", b"retro: bad script at line 2\n"),
     (3, b"SESSION a\nPHASE", b"retro: bad script at line 2\n"),
-    (3, b"SESSION a\nROLLBACK", b"retro: bad script at line 2\n"),
+    (
+        0,
+        b"SESSION a\nROLLBACK",
+        b"phase 1\nsession a\nitem 1\nrolled back\njournal\n1 a 1 rolled back\n",
+    ),
+    (
+        0,
+        b"SESSION a\nCREATE TABLE t(a INT)\nCOMMIT\nINSERT INTO t VALUES (1)\nSELECT * FROM t\nrollback;\nSELECT * FROM t\nCOMMIT",
+        b"phase 1\nsession a\nitem 1\nok\ncommitted\nitem 2\nok 1\nrows 1\n1\nrolled back\nitem 3\nrows 0\ncommitted\njournal\n1 a 1 done\n1 a 2 rolled back\n1 a 3 done\n",
+    ),
+    (
+        3,
+        b"SESSION a\nROLLBACK WORK",
+        b"retro: bad script at line 2\n",
+    ),
     (
         3,
         b"SESSION a\nDROP SNAPSHOTS BELOW 2",
@@ -234,7 +263,7 @@ const SCRIPTS: [(u8, &[u8], &[u8]); 61] = [
 
 #[test]
 fn small_scripts_have_the_transcripts_worked_out_by_hand(rt: HostRuntime) -> Result<(), Fail> {
-    for (status, script, want) in SCRIPTS {
+    for &(status, script, want) in &SCRIPTS {
         let outcome = run(&rt, script)?;
         assert_eq!(rt; outcome.text.as_slice(), want);
         assert_eq!(rt; outcome.status, status);

@@ -2,6 +2,7 @@
 
 use crate::program::retro;
 use feeds::{MemSink, MemSource};
+use std::alloc::AllocError;
 use std::test::Fail;
 
 #[derive(Drop)]
@@ -124,6 +125,38 @@ fn a_line_as_long_as_a_script_is_bad(rt: HostRuntime) -> Result<(), Fail> {
     assert_eq!(rt;
         outcome.text.as_slice(),
         b"phase 1\nsession a\nitem 1\nrefused 19 Syntax 0\ncommitted\njournal\n1 a 1 done\n".as_slice()
+    );
+    Ok(())
+}
+
+// Adds an insert of five texts to a script: four of 200 bytes, and one of so many.
+fn push_long_row(script: &mut Vec<u8>, last: usize) -> Result<(), AllocError> {
+    script.extend_from_slice(b"INSERT INTO t VALUES (")?;
+    for _ in 0..4 {
+        script.push(b'\'')?;
+        script.extend_from_slice(&[b'x'; 200])?;
+        script.extend_from_slice(b"',")?;
+    }
+    script.push(b'\'')?;
+    for _ in 0..last {
+        script.push(b'y')?;
+    }
+    script.extend_from_slice(b"')\n")
+}
+
+#[test]
+fn a_row_of_nine_hundred_bytes_is_the_longest(rt: HostRuntime) -> Result<(), Fail> {
+    let mut script = b"SESSION a\nCREATE TABLE t(a TEXT, b TEXT, c TEXT, d TEXT, e TEXT)\n".to_vec(
+        rt.alloc(),
+    )?;
+    push_long_row(&mut script, 81)?;
+    push_long_row(&mut script, 82)?;
+    script.extend_from_slice(b"COMMIT")?;
+    let outcome = run(&rt, script.as_slice())?;
+    assert_eq!(rt; outcome.status, 0);
+    assert_eq!(rt;
+        outcome.text.as_slice(),
+        b"phase 1\nsession a\nitem 1\nok\nok 1\nrefused 24 RowTooLong 901\ncommitted\njournal\n1 a 1 done\n".as_slice()
     );
     Ok(())
 }

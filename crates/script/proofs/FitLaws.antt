@@ -8,9 +8,8 @@ use Rattle.script.specs.declared.draft.Draft.{Draft}
 use Rattle.script.specs.declared.draft.Draft.TheVariants as draft
 use Rattle.script.specs.declared.draft.OpenSession.{OpenSession}
 use Rattle.script.specs.declared.line.Line.{Line}
-use Rattle.script.specs.declared.line.Line.TheVariants.{Skipped, Commit, AsOf, Statement}
+use Rattle.script.specs.declared.line.Line.TheVariants.{Skipped, Ends, AsOf, Statement}
 use Rattle.script.specs.declared.line.Line.TheVariants as line
-use Rattle.script.specs.declared.structure.End.TheVariants as ending
 use Rattle.script.specs.declared.structure.Item.TheVariants as item
 use Rattle.script.specs.declared.structure.Script.{Script}
 
@@ -42,8 +41,8 @@ step_fits number draft.Phase (line.Session name) fits new = (omega arith, tt, tt
 step_fits number draft.Phase one fits new = tt
 step_fits number (draft.Session session) Skipped fits new = (omega (arith, fits.0), fits.1, fits.2)
 step_fits number (draft.Session session) (Statement reading) fits new = (omega (arith, fits.0), fits.1, fit_push StatementFits session.statements reading fits.2 new)
-step_fits number (draft.Session session) (Commit label) fits new =
-    let done = item.Transaction (record { statements = session.statements; end = ending.Commit label }) in
+step_fits number (draft.Session session) (Ends end) fits new =
+    let done = item.Transaction (record { statements = session.statements; end = end }) in
     (omega (arith, fits.0, length-append session.items (done ∷ [])), fit_push ItemFits session.items done fits.1 (fits.2, new), tt)
 step_fits number (draft.Session session) (AsOf reading) fits new = as_of_fits number session reading (length session.statements == 0) refl fits
 step_fits number (draft.Session session) one fits new = tt

@@ -4,14 +4,15 @@ use Rattle.sql_lexer.specs.Lexes.{Lexes, HasOneReading}
 use Rattle.sql_lexer.specs.declared.token.Ending.{Ending}
 use Rattle.sql_lexer.specs.declared.token.Placed.{Placed}
 use Rattle.sql_text.specs.Line.{Spells, SyntaxAt, BrokenLinesSayNothing, LinesBreakAtOnePlace}
-use Rattle.sql_text.specs.declared.parsed.Parsed.{Parsed}
-use Rattle.sql_text.specs.declared.parsed.Parsed.TheVariants as parsed
+use Rattle.sql_parts.specs.declared.parsed.Parsed.{Parsed}
+use Rattle.sql_parts.specs.declared.parsed.Parsed.TheVariants as parsed
 use Rattle.script.specs.Class.{class_of, is_run}
 use Rattle.script.specs.Line.{IsOfClass, IsStatementLine, IsOnly, parsed_line, refused_line}
 use Rattle.script.specs.declared.class.Class.{Class}
 use Rattle.script.specs.declared.class.Class.TheVariants as class
 use Rattle.script.specs.declared.line.Line.{Line}
-use Rattle.script.specs.declared.line.Line.TheVariants.{Commit, AsOf, Statement, Bad}
+use Rattle.script.specs.declared.line.Line.TheVariants.{Ends, AsOf, Statement, Bad}
+use Rattle.script.specs.declared.structure.End.TheVariants as ending
 use Rattle.script.specs.declared.structure.Reading.TheVariants.{Read, Syntax}
 
 -- where the grammar has the text
@@ -19,11 +20,12 @@ of_parsed_only : (kind : Class) (text : List ℕ) (p : Parsed) (other : Line) �
     → IsOfClass kind text other → other ≡ parsed_line p
 of_parsed_only class.Statement text p (Statement (Read s)) r only none is = ap parsed_line (only (parsed.Plain s) is)
 of_parsed_only class.Statement text p (Statement (Syntax place)) r only none is = absurd (none place is)
-of_parsed_only class.Commit text p (Commit label) r only none is = ap parsed_line (only (parsed.Commit label) is)
+of_parsed_only class.Commit text p (Ends (ending.Commit label)) r only none is = ap parsed_line (only (parsed.Commit label) is)
 of_parsed_only class.Commit text p Bad r only none is = absurd (none is.0 is.1)
 of_parsed_only class.AsOf text p (AsOf (Read q)) r only none is = ap parsed_line (only (parsed.AsOf q) is)
 of_parsed_only class.AsOf text p (AsOf (Syntax place)) r only none is = absurd (none place is)
-of_parsed_only class.Rollback text p other r only none is = cc
+of_parsed_only class.Rollback text p (Ends ending.Rollback) r only none is = ap parsed_line (only parsed.Rollback is)
+of_parsed_only class.Rollback text p Bad r only none is = absurd (none is.0 is.1)
 of_parsed_only class.NotRun text p other r only none is = cc
 of_parsed_only kind text p other r only none is = absurd is
 
@@ -32,21 +34,22 @@ of_refused_only : (kind : Class) (text : List ℕ) (place : ℕ) (other : Line) 
     → IsOfClass kind text other → other ≡ refused_line kind place
 of_refused_only class.Statement text place (Statement (Read s)) r none one is = absurd (none (parsed.Plain s) is)
 of_refused_only class.Statement text place (Statement (Syntax p)) r none one is = ap (λ x. Statement (Syntax x)) (one p is)
-of_refused_only class.Commit text place (Commit label) r none one is = absurd (none (parsed.Commit label) is)
+of_refused_only class.Commit text place (Ends (ending.Commit label)) r none one is = absurd (none (parsed.Commit label) is)
 of_refused_only class.Commit text place Bad r none one is = refl
 of_refused_only class.AsOf text place (AsOf (Read q)) r none one is = absurd (none (parsed.AsOf q) is)
 of_refused_only class.AsOf text place (AsOf (Syntax p)) r none one is = ap (λ x. AsOf (Syntax x)) (one p is)
-of_refused_only class.Rollback text place other r none one is = cc
+of_refused_only class.Rollback text place (Ends ending.Rollback) r none one is = absurd (none parsed.Rollback is)
+of_refused_only class.Rollback text place Bad r none one is = refl
 of_refused_only class.NotRun text place other r none one is = cc
 of_refused_only kind text place other r none one is = absurd is
 
 -- where this version does not run it
 of_not_run : (kind : Class) (text : List ℕ) (other : Line) → is_run kind ≡ false → IsOfClass kind text other → other ≡ Bad
-of_not_run class.Rollback text Bad r is = refl
 of_not_run class.NotRun text Bad r is = refl
 of_not_run class.Statement text other r is = cc
 of_not_run class.Commit text other r is = cc
 of_not_run class.AsOf text other r is = cc
+of_not_run class.Rollback text other r is = cc
 of_not_run kind text other r is = absurd is
 
 -- a statement line has the class of each list of its tokens

@@ -9,21 +9,20 @@ use Rattle.std.proofs.lemmas.List.{take_at, map-append}
 use Rattle.std.proofs.lemmas.List.Elements.{filter-append}
 use Rattle.std.proofs.lemmas.List.Folds.{list_any-append}
 use Rattle.std.proofs.lemmas.Option.{slice_get_past}
-use Rattle.script.specs.Rules.{opens_phase, opens_session, commits, is_open, breaks, breaks_at, IsFirstBreak, item_lines, counts, counted, in_phase, Tells}
+use Rattle.script.specs.Rules.{opens_phase, opens_session, is_end, is_open, breaks, breaks_at, IsFirstBreak, item_lines, counts, counted, in_phase, Tells}
 use Rattle.script.specs.Script.{step, finished, script_from, script_of}
 use Rattle.script.specs.declared.draft.Draft.{Draft}
 use Rattle.script.specs.declared.draft.Draft.TheVariants as draft
 use Rattle.script.specs.declared.draft.OpenSession.{OpenSession}
 use Rattle.script.specs.declared.line.Line.{Line}
-use Rattle.script.specs.declared.line.Line.TheVariants.{Skipped, Phase, Session, Commit, AsOf, Statement, Bad}
-use Rattle.script.specs.declared.structure.End.TheVariants as ending
+use Rattle.script.specs.declared.line.Line.TheVariants.{Skipped, Phase, Session, Ends, AsOf, Statement, Bad}
 use Rattle.script.specs.declared.structure.Item.TheVariants as item
 use Rattle.script.specs.declared.structure.Script.{Script}
 
 -- whether a transaction is open behind one line more
 abbrev open_behind : Bool → Line → Bool
 open_behind b (Statement reading) = true
-open_behind b (Commit label) = false
+open_behind b (Ends end) = false
 open_behind b line = b
 
 or_false : (b : Bool) → (b || false) ≡ b
@@ -34,12 +33,12 @@ or_true : (b : Bool) → (b || true) ≡ true
 or_true true = refl
 or_true false = refl
 
-open_bits : (a b : Bool) (line : Line) → (not (a || commits line) || open_behind b line) ≡ open_behind (not a || b) line
+open_bits : (a b : Bool) (line : Line) → (not (a || is_end line) || open_behind b line) ≡ open_behind (not a || b) line
 open_bits true b (Statement reading) = refl
-open_bits true b (Commit label) = refl
+open_bits true b (Ends end) = refl
 open_bits true b line = refl
 open_bits false b (Statement reading) = refl
-open_bits false b (Commit label) = refl
+open_bits false b (Ends end) = refl
 open_bits false b line = refl
 
 list_any-push : {X : Type 0} (p : X → Bool) (xs : List X) (y : X) → list_any p (xs ++ y ∷ []) ≡ (list_any p xs || p y)
@@ -48,7 +47,7 @@ list_any-push p xs y = list_any-append p xs (y ∷ []) ∙ ap (λ b. list_any p 
 is_open-push : (xs : List Line) (y : Line) → is_open (xs ++ y ∷ []) ≡ open_behind (is_open xs) y
 is_open-push [] (Statement reading) = refl
 is_open-push [] y = refl
-is_open-push (Statement reading ∷ xs) y = rw (list_any-push commits xs y, is_open-push xs y) (open_bits (list_any commits xs) (is_open xs) y)
+is_open-push (Statement reading ∷ xs) y = rw (list_any-push is_end xs y, is_open-push xs y) (open_bits (list_any is_end xs) (is_open xs) y)
 is_open-push (x ∷ xs) y = is_open-push xs y
 
 -- what the lines before say of what was read
@@ -82,7 +81,7 @@ goes before draft.Empty Phase t =
     (rw (t.0, t.1, t.2) refl, (rw (list_any-push opens_phase before Phase, t.0) refl, rw (list_any-push opens_session before Phase, t.1) refl, rw (is_open-push before Phase) t.2))
 goes before draft.Empty (Session name) t =
     (rw (t.1, t.2) refl, (rw (list_any-push opens_session before (Session name), t.1) refl, rw (is_open-push before (Session name)) t.2))
-goes before draft.Empty (Commit label) t = rw t.1 refl
+goes before draft.Empty (Ends end) t = rw t.1 refl
 goes before draft.Empty (AsOf reading) t = rw t.1 refl
 goes before draft.Empty (Statement reading) t = rw t.1 refl
 goes before draft.Empty Bad t = refl
@@ -91,7 +90,7 @@ goes before draft.Phase Skipped t =
 goes before draft.Phase Phase t = rw t.0 refl
 goes before draft.Phase (Session name) t =
     (rw (t.1, t.2) refl, (rw (list_any-push opens_session before (Session name), t.1) refl, rw (is_open-push before (Session name)) t.2))
-goes before draft.Phase (Commit label) t = rw t.1 refl
+goes before draft.Phase (Ends end) t = rw t.1 refl
 goes before draft.Phase (AsOf reading) t = rw t.1 refl
 goes before draft.Phase (Statement reading) t = rw t.1 refl
 goes before draft.Phase Bad t = refl
@@ -99,8 +98,8 @@ goes before (draft.Session session) Skipped t =
     (refl, (rw (list_any-push opens_session before Skipped, t.0) refl, rw (is_open-push before Skipped) t.1))
 goes before (draft.Session session) Phase t = rw t.0 (ap (λ b. b || is_open before) (or_true (list_any opens_phase before)))
 goes before (draft.Session session) (Session name) t = rw t.0 refl
-goes before (draft.Session session) (Commit label) t =
-    (rw t.0 refl, (rw (list_any-push opens_session before (Commit label), t.0) refl, rw (is_open-push before (Commit label)) refl))
+goes before (draft.Session session) (Ends end) t =
+    (rw t.0 refl, (rw (list_any-push opens_session before (Ends end), t.0) refl, rw (is_open-push before (Ends end)) refl))
 goes before (draft.Session session) (AsOf reading) t = as_of_goes before session reading (length session.statements == 0) refl t
 goes before (draft.Session session) (Statement reading) t =
     (rw t.0 refl, (rw (list_any-push opens_session before (Statement reading), t.0) refl, rw (is_open-push before (Statement reading), nonempty-push session.statements reading) refl))
@@ -314,10 +313,10 @@ told_more before (draft.Session session) Skipped t = ap in_phase (counted-skip b
 told_more before (draft.Session session) (Statement reading) t =
     said_more before (Statement reading) session refl t
     ∙ statement_more (Phase ∷ Session session.name ∷ flat_map item_lines session.items) session.statements reading
-told_more before (draft.Session session) (Commit label) t =
-    let done = item.Transaction (record { statements = session.statements; end = ending.Commit label }) in
-    said_more before (Commit label) session refl t
-    ∙ commit_more Phase (Session session.name) (Commit label) (flat_map item_lines session.items) (flat_map item_lines (session.items ++ done ∷ [])) session.statements (item_more session done)
+told_more before (draft.Session session) (Ends end) t =
+    let done = item.Transaction (record { statements = session.statements; end = end }) in
+    said_more before (Ends end) session refl t
+    ∙ commit_more Phase (Session session.name) (Ends end) (flat_map item_lines session.items) (flat_map item_lines (session.items ++ done ∷ [])) session.statements (item_more session done)
 told_more before (draft.Session session) (AsOf reading) t = as_of_told before session reading (length session.statements == 0) refl t
 told_more before (draft.Session session) line t = tt
 

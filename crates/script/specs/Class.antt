@@ -80,6 +80,6 @@ class_of tokens = class_behind tokens (keyword_at tokens 0)
 abbrev pub is_run : Class → Bool
 is_run Statement = true
 is_run Commit = true
-is_run Rollback = false
+is_run Rollback = true
 is_run AsOf = true
 is_run NotRun = false

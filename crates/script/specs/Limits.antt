@@ -5,7 +5,7 @@ use Rattle.retro_base.specs.declared.limits.TheConstants.{ITEMS, LABEL_BYTES, PH
 use Rattle.sql_tree.specs.Statement.{IsStatement}
 use Rattle.sql_tree.specs.declared.statement.Statement.{Statement as StatementOf}
 use Rattle.script.specs.declared.line.Line.{Line}
-use Rattle.script.specs.declared.line.Line.TheVariants.{Commit, Statement}
+use Rattle.script.specs.declared.line.Line.TheVariants.{Ends, Statement}
 use Rattle.script.specs.declared.structure.End.{End}
 use Rattle.script.specs.declared.structure.End.TheVariants as ending
 use Rattle.script.specs.declared.structure.Item.{Item}
@@ -29,6 +29,7 @@ LabelFits None = Unit {0}
 -- the label of an end is within the limit
 abbrev pub EndFits : End → Type 0
 EndFits (ending.Commit label) = LabelFits label
+EndFits ending.Rollback = Unit {0}
 
 -- the statements and the label of an item are within the limits
 abbrev pub ItemFits : Item → Type 0
@@ -50,5 +51,5 @@ ScriptFits script = (length script.phases ≤ PHASES) × AllByRecursion PhaseFit
 -- the limits of one line
 abbrev pub LineFits : Line → Type 0
 LineFits (Statement reading) = StatementFits reading
-LineFits (Commit label) = LabelFits label
+LineFits (Ends end) = EndFits end
 LineFits line = Unit {0}

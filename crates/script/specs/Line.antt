@@ -4,15 +4,16 @@ use Rattle.sql_lexer.specs.Lexes.{Lexes}
 use Rattle.sql_lexer.specs.declared.token.Ending.{Ending}
 use Rattle.sql_lexer.specs.declared.token.Placed.{Placed}
 use Rattle.sql_text.specs.Line.{Spells, SyntaxAt}
-use Rattle.sql_text.specs.declared.parsed.Parsed.{Parsed}
-use Rattle.sql_text.specs.declared.parsed.Parsed.TheVariants as parsed
+use Rattle.sql_parts.specs.declared.parsed.Parsed.{Parsed}
+use Rattle.sql_parts.specs.declared.parsed.Parsed.TheVariants as parsed
 use Rattle.script.specs.Class.{class_of}
 use Rattle.script.specs.Name.{IsSessionName}
 use Rattle.script.specs.Text.{text_of, is_skipped, is_phase, is_session, session_name}
 use Rattle.script.specs.declared.class.Class.{Class}
 use Rattle.script.specs.declared.class.Class.TheVariants as class
 use Rattle.script.specs.declared.line.Line.{Line}
-use Rattle.script.specs.declared.line.Line.TheVariants.{Skipped, Phase, Session, Commit, AsOf, Statement, Bad}
+use Rattle.script.specs.declared.line.Line.TheVariants.{Skipped, Phase, Session, Ends, AsOf, Statement, Bad}
+use Rattle.script.specs.declared.structure.End.TheVariants as ending
 use Rattle.script.specs.declared.structure.Reading.{Reading}
 use Rattle.script.specs.declared.structure.Reading.TheVariants.{Read, Syntax}
 
@@ -24,10 +25,11 @@ Reads parse text (Syntax place) = SyntaxAt text place
 -- what a statement line of a class is
 abbrev pub IsOfClass : Class → List ℕ → Line → Type 0
 IsOfClass class.Statement text (Statement reading) = Reads parsed.Plain text reading
-IsOfClass class.Commit text (Commit label) = Spells text (parsed.Commit label)
+IsOfClass class.Commit text (Ends (ending.Commit label)) = Spells text (parsed.Commit label)
 IsOfClass class.Commit text Bad = (place : ℕ) × SyntaxAt text place
 IsOfClass class.AsOf text (AsOf reading) = Reads parsed.AsOf text reading
-IsOfClass class.Rollback text Bad = Unit {0}
+IsOfClass class.Rollback text (Ends ending.Rollback) = Spells text parsed.Rollback
+IsOfClass class.Rollback text Bad = (place : ℕ) × SyntaxAt text place
 IsOfClass class.NotRun text Bad = Unit {0}
 IsOfClass kind text line = ⊥
 
@@ -60,7 +62,9 @@ IsOnly Says line = (other : Line) → Says other → other ≡ line
 abbrev pub parsed_line : Parsed → Line
 parsed_line (parsed.Plain statement) = Statement (Read statement)
 parsed_line (parsed.AsOf query) = AsOf (Read query)
-parsed_line (parsed.Commit label) = Commit label
+parsed_line (parsed.Commit label) = Ends (ending.Commit label)
+parsed_line parsed.Rollback = Ends ending.Rollback
+parsed_line (parsed.DropBelow below) = Bad
 
 -- the line of this class that the grammar refuses at this place
 abbrev pub refused_line : Class → ℕ → Line

@@ -5,9 +5,7 @@ use Rattle.std.specs.Option.{option_map_or}
 use Rattle.retro_base.specs.declared.limits.TheConstants.{SCRIPT_BYTES}
 use Rattle.script.specs.Script.{script_of, ReadsAs, IsOnlyReading}
 use Rattle.script.specs.declared.line.Line.{Line}
-use Rattle.script.specs.declared.line.Line.TheVariants.{Skipped, Phase, Session, Commit, AsOf, Statement, Bad}
-use Rattle.script.specs.declared.structure.End.{End}
-use Rattle.script.specs.declared.structure.End.TheVariants as ending
+use Rattle.script.specs.declared.line.Line.TheVariants.{Skipped, Phase, Session, Ends, AsOf, Statement, Bad}
 use Rattle.script.specs.declared.structure.Item.{Item}
 use Rattle.script.specs.declared.structure.Item.TheVariants as item
 use Rattle.script.specs.declared.structure.Phase.{Phase as PhaseOf}
@@ -24,15 +22,15 @@ abbrev pub opens_session : Line → Bool
 opens_session (Session name) = true
 opens_session line = false
 
--- a COMMIT line
-abbrev pub commits : Line → Bool
-commits (Commit label) = true
-commits line = false
+-- a COMMIT or ROLLBACK line
+abbrev pub is_end : Line → Bool
+is_end (Ends end) = true
+is_end line = false
 
--- a transaction is open behind these lines: a statement stands there with no COMMIT line behind it
+-- a transaction is open behind these lines: a statement stands there with no line behind it that ends one
 abbrev pub is_open : List Line → Bool
 is_open [] = false
-is_open (Statement reading ∷ lines) = not (list_any commits lines) || is_open lines
+is_open (Statement reading ∷ lines) = not (list_any is_end lines) || is_open lines
 is_open (line ∷ lines) = is_open lines
 
 -- whether a line breaks a rule, behind these lines
@@ -40,7 +38,7 @@ abbrev pub breaks : List Line → Line → Bool
 breaks before Skipped = false
 breaks before Phase = list_any opens_phase before || list_any opens_session before || is_open before
 breaks before (Session name) = list_any opens_session before || is_open before
-breaks before (Commit label) = not (list_any opens_session before)
+breaks before (Ends end) = not (list_any opens_session before)
 breaks before (AsOf reading) = not (list_any opens_session before) || is_open before
 breaks before (Statement reading) = not (list_any opens_session before)
 breaks before Bad = true
@@ -54,13 +52,9 @@ abbrev pub IsFirstBreak : List Line → ℕ → Type 0
 IsFirstBreak lines number =
     (place : ℕ) × (number ≡ place + 1) × (breaks_at lines place ≡ true) × ((earlier : ℕ) → earlier < place → breaks_at lines earlier ≡ false)
 
--- the line that ends a transaction so
-abbrev pub end_line : End → Line
-end_line (ending.Commit label) = Commit label
-
 -- the lines of an item
 abbrev pub item_lines : Item → List Line
-item_lines (item.Transaction t) = map Statement t.statements ++ end_line t.end ∷ []
+item_lines (item.Transaction t) = map Statement t.statements ++ Ends t.end ∷ []
 item_lines (item.AsOf reading) = AsOf reading ∷ []
 
 -- the lines of a session

@@ -10,8 +10,7 @@ use Rattle.script.specs.declared.draft.Draft.{Draft}
 use Rattle.script.specs.declared.draft.Draft.TheVariants as draft
 use Rattle.script.specs.declared.draft.OpenSession.{OpenSession}
 use Rattle.script.specs.declared.line.Line.{Line}
-use Rattle.script.specs.declared.line.Line.TheVariants.{Skipped, Phase, Session, Commit, AsOf, Statement}
-use Rattle.script.specs.declared.structure.End.TheVariants as ending
+use Rattle.script.specs.declared.line.Line.TheVariants.{Skipped, Phase, Session, Ends, AsOf, Statement}
 use Rattle.script.specs.declared.structure.Item.TheVariants as item
 use Rattle.script.specs.declared.structure.Script.{Script}
 use Rattle.script.specs.declared.structure.Session.{Session as SessionOf}
@@ -24,8 +23,8 @@ new_session name = record { name = name; items = []; statements = [] }
 abbrev pub session_step : OpenSession → Line → Option OpenSession
 session_step session Skipped = Some session
 session_step session (Statement reading) = Some (record session { statements = session.statements ++ reading ∷ [] })
-session_step session (Commit label) =
-    let transaction = item.Transaction (record { statements = session.statements; end = ending.Commit label }) in
+session_step session (Ends end) =
+    let transaction = item.Transaction (record { statements = session.statements; end = end }) in
     Some (record session { items = session.items ++ transaction ∷ []; statements = [] })
 session_step session (AsOf reading) =
     if length session.statements == 0 then Some (record session { items = session.items ++ item.AsOf reading ∷ [] }) else None

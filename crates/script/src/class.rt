@@ -30,7 +30,7 @@ impl Class {
         match self {
             Class::Statement => true,
             Class::Commit => true,
-            Class::Rollback => false,
+            Class::Rollback => true,
             Class::AsOf => true,
             Class::NotRun => false,
         }

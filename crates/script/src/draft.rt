@@ -5,7 +5,7 @@ ghost use Rattle.script.specs.Script.{new_session, session_step, step, finished}
 
 use crate::line::Line;
 use crate::name::SessionName;
-use crate::structure::{End, Item, Phase, Reading, Script, Session, Transaction};
+use crate::structure::{Item, Phase, Reading, Script, Session, Transaction};
 use retro_base::Refusal;
 use sql_tree::Statement;
 use std::alloc::{AllocError, Global};
@@ -50,9 +50,8 @@ impl OpenSession {
         match line {
             Line::Skipped => {}
             Line::Statement(reading) => self.statements.push(reading)?,
-            Line::Commit(label) => {
+            Line::Ends(end) => {
                 let statements = mem::replace(&mut self.statements, Seq::new(alloc));
-                let end = End::Commit(label);
                 self.items
                     .push(Item::Transaction(Transaction { statements, end }))?;
             }
@@ -97,17 +96,8 @@ impl Draft {
         ensures { IfOk result (λ next. next ≡ step self line) }
     {
         match self {
-            Draft::Empty => Ok(match line {
-                Line::Skipped => Some(Draft::Empty),
-                Line::Phase => Some(Draft::Phase),
-                Line::Session(name) => Some(Draft::Session(OpenSession::new(alloc, name))),
-                _ => None,
-            }),
-            Draft::Phase => Ok(match line {
-                Line::Skipped => Some(Draft::Phase),
-                Line::Session(name) => Some(Draft::Session(OpenSession::new(alloc, name))),
-                _ => None,
-            }),
+            Draft::Empty => Ok(before_phase(alloc, line)),
+            Draft::Phase => Ok(before_session(alloc, line)),
             Draft::Session(session) => {
                 let next = session.step(alloc, line)?;
                 Ok(next.map(|session| Draft::Session(session)))
@@ -135,6 +125,27 @@ impl Draft {
             }
             Draft::Session(session) => session.finish(alloc, number),
         }
+    }
+}
+
+fn before_phase(alloc: Global, line: Line) -> Option<Draft>
+    ensures { result ≡ step Draft.Empty line }
+{
+    match line {
+        Line::Skipped => Some(Draft::Empty),
+        Line::Phase => Some(Draft::Phase),
+        Line::Session(name) => Some(Draft::Session(OpenSession::new(alloc, name))),
+        _ => None,
+    }
+}
+
+fn before_session(alloc: Global, line: Line) -> Option<Draft>
+    ensures { result ≡ step Draft.Phase line }
+{
+    match line {
+        Line::Skipped => Some(Draft::Phase),
+        Line::Session(name) => Some(Draft::Session(OpenSession::new(alloc, name))),
+        _ => None,
     }
 }
 

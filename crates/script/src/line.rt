@@ -7,14 +7,14 @@ ghost use Rattle.script.specs.Text.{in_bounds};
 
 use crate::class::{Class, class_of};
 use crate::name::{SessionName, is_session_name};
-use crate::structure::Reading;
+use crate::structure::{End, Reading};
 use crate::text::{is_phase, is_session, is_skipped, session_name, text_of};
 use retro_base::{LINE_BYTES, Refusal};
 use sql_lexer::{lex, one_reading};
 use sql_text::{AsOf, Parsed, broken_lines_say_nothing, lines_break_at_one_place, parse_lexed};
 use sql_tree::Statement;
 use std::alloc::{AllocError, Global};
-use values::{Seq, Text};
+use values::Seq;
 
 /// What a line of a script is.
 #[derive(Debug, Drop)]
@@ -25,8 +25,8 @@ pub enum Line {
     Phase,
     /// `SESSION` and a name.
     Session(SessionName),
-    /// The end of a transaction: the label of the snapshot that it declares, if it declares one.
-    Commit(Option<Text>),
+    /// The end of a transaction.
+    Ends(End),
     /// A query as of a snapshot: an item of its own.
     AsOf(Reading<AsOf>),
     /// A statement of a transaction.
@@ -46,7 +46,9 @@ impl From<Parsed> for Line {
         match parsed {
             Parsed::Plain(statement) => Line::Statement(Reading::Read(statement)),
             Parsed::AsOf(query) => Line::AsOf(Reading::Read(query)),
-            Parsed::Commit(label) => Line::Commit(label),
+            Parsed::Commit(label) => Line::Ends(End::Commit(label)),
+            Parsed::Rollback => Line::Ends(End::Rollback),
+            Parsed::DropBelow(_) => Line::Bad,
         }
     }
 }

@@ -18,6 +18,8 @@ pub enum Reading<T> {
 pub enum End {
     /// `COMMIT`, or `COMMIT WITH SNAPSHOT` and the snapshot's label.
     Commit(Option<Text>),
+    /// `ROLLBACK`.
+    Rollback,
 }
 
 /// The statement lines of a transaction in order, and its end.

@@ -51,6 +51,7 @@ fn show_transaction(text: &mut String, transaction: &Transaction) -> Result<(), 
             Reading::Read(Statement::CreateTable(_)) => text.push_str("; create")?,
             Reading::Read(Statement::Insert(_)) => text.push_str("; insert")?,
             Reading::Read(Statement::Select(_)) => text.push_str("; select")?,
+            Reading::Read(_) => text.push_str("; other")?,
             Reading::Syntax { place } => write!(text, "; syntax {place}")?,
         }
     }
@@ -60,6 +61,7 @@ fn show_transaction(text: &mut String, transaction: &Transaction) -> Result<(), 
             text.push_str("; commit as ")?;
             push_bytes(text, label.bytes())
         }
+        End::Rollback => text.push_str("; rollback"),
     }
 }
 
@@ -94,7 +96,11 @@ fn good_scripts(rt: HostRuntime) -> Result<(), Fail> {
         ),
         (
             b"SESSION a\nSELECT * FROM snapids\nSELECT * FROM RQL_a\nSELECT AS\nDROP t\nCOMMIT\n",
-            "phase; session a; select; select; syntax 9; syntax 0; commit",
+            "phase; session a; select; select; syntax 9; syntax 5; commit",
+        ),
+        (
+            b"SESSION a\nROLLBACK\nSELECT * FROM t\nrollback ;\nCOMMIT",
+            "phase; session a; rollback; select; rollback; commit",
         ),
     ] {
         let got = answer(rt.alloc(), script)?;
@@ -118,7 +124,8 @@ fn bad_lines(rt: HostRuntime) -> Result<(), Fail> {
         (b"PHASE\n#\nPHASE\n", "bad 3"),
         (b"SESSION a\nPHASE\n", "bad 2"),
         (b"SESSION a\nSESSION b\n", "bad 2"),
-        (b"SESSION a\nROLLBACK\nCOMMIT x\n", "bad 2"),
+        (b"SESSION a\nROLLBACK\nCOMMIT x\n", "bad 3"),
+        (b"SESSION a\nROLLBACK WORK\n", "bad 2"),
         (b"SESSION a\n\nCOMMIT x\n", "bad 3"),
         (b"SESSION a\nCOMMIT\r", "bad 2"),
         (b"SESSION a\nCOMMIT\r\r\n", "bad 2"),

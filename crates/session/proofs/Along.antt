@@ -13,12 +13,12 @@ use Rattle.session.specs.Items.{Entry, entry, entries_of, entries_of_items, entr
 use Rattle.session.specs.Journal.{visible_text}
 use Rattle.session.specs.Lawful.{AtEach, InOrder, IsRun, Lawful, Precedes, own}
 use Rattle.session.specs.Line.{line}
-use Rattle.session.specs.Transcript.{Fate, fate, items_text, or_else, phases_text, reply, sessions_text, transcript}
+use Rattle.session.specs.Transcript.{Fate, behind_it, fate, items_text, phases_text, reply, sessions_text, transcript}
 use Rattle.session.specs.World.{World, empty_world, world}
 use Rattle.session.specs.declared.journal.Line.{Line}
 use Rattle.session.specs.declared.journal.What.{What}
 use Rattle.session.specs.declared.run.Run.{Run}
-use Rattle.session.proofs.Lines.{noted, own_append, own_noted, own_other, world_append, fate_append, no_fate}
+use Rattle.session.proofs.Lines.{noted, own_append, own_noted, own_other, world_append, behind_none, fate_append, no_fate}
 use Rattle.session.proofs.Places.{Earlier, Rising, Belong, all_append, apart_back, apart_from, belong_all, rising_entries}
 use Rattle.session.proofs.Played.{after_all, after_of, fresh, lines_of, phases_wrote, played, said_items, said_phases, said_sessions, text_of, wrote}
 use Rattle.session.proofs.Ran.{AllAlong, Fine, Ran, ran}
@@ -97,20 +97,16 @@ module _ (entries : List Entry) where
       ∙ ap (own e.who) r.lines
       ∙ own_noted e.who r.whats
 
-  or_none : (a : Option Fate) → or_else a None ≡ a
-  or_none (Some x) = refl
-  or_none None = refl
-
   fate_here : (opening : World) (before : List Line) (now : World) (e : Entry) (es : List Entry) (r : Ran entries now e) → world entries opening before ≡ now → own e.who before ≡ [] → own e.who (played (after_of now e) es) ≡ []
       → fate entries e.who opening (before ++ (lines_of now e ++ played (after_of now e) es)) ≡ fate entries e.who now (noted e.who r.whats)
   fate_here opening before now e es r reached none later =
       let rest = lines_of now e ++ played (after_of now e) es in
       fate_append entries e.who opening before rest
-      ∙ ap (or_else (fate entries e.who (world entries opening before) rest)) (no_fate entries e.who opening before none)
-      ∙ or_none (fate entries e.who (world entries opening before) rest)
+      ∙ ap (behind_it (fate entries e.who (world entries opening before) rest)) (no_fate entries e.who opening before none)
+      ∙ behind_none (fate entries e.who (world entries opening before) rest)
       ∙ ap (λ (w : World). fate entries e.who w rest) reached
       ∙ fate_append entries e.who now (lines_of now e) (played (after_of now e) es)
-      ∙ ap (λ (a : Option Fate). or_else a (fate entries e.who now (lines_of now e))) (no_fate entries e.who (world entries now (lines_of now e)) (played (after_of now e) es) later)
+      ∙ ap (λ (a : Option Fate). behind_it a (fate entries e.who now (lines_of now e))) (no_fate entries e.who (world entries now (lines_of now e)) (played (after_of now e) es) later)
       ∙ ap (fate entries e.who now) r.lines
 
   none_more : (before : List Line) (now : World) (e : Entry) (es : List Entry) (r : Ran entries now e) → AllByRecursion (λ (f : Entry). Earlier e.who f.who) es → AllByRecursion (λ (f : Entry). own f.who before ≡ []) es

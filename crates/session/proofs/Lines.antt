@@ -1,11 +1,12 @@
 -- What the lines of items say, and what becomes of them.
 use Rattle.std.proofs.Common.{◌≡◌, ◌++◌, Bool, true, false, cond, List, [], ◌∷◌, Option, Some, None, map, filter, refl, ap, sym, ◌∙◌}
+use Rattle.std.specs.Option.{option_or}
 use Rattle.std.proofs.lemmas.List.{map-append}
 use Rattle.std.proofs.lemmas.List.Elements.{filter-append}
 use Rattle.retro_base.specs.declared.who.Who.{Who}
 use Rattle.session.specs.Items.{Entry, same_who, item_of}
 use Rattle.session.specs.Lawful.{own}
-use Rattle.session.specs.Transcript.{Fate, or_else, fate}
+use Rattle.session.specs.Transcript.{Fate, began_in, behind_it, fate}
 use Rattle.session.specs.World.{World, behind, world}
 use Rattle.session.specs.declared.journal.Line.{Line}
 use Rattle.session.specs.declared.journal.What.{What}
@@ -33,29 +34,38 @@ pub world_append : (entries : List Entry) (now : World) (xs ys : List Line) → 
 world_append entries now [] ys = refl
 world_append entries now (line ∷ xs) ys = world_append entries (behind (item_of entries line.who) line.what now) xs ys
 
-or_else_assoc : (a b c : Option Fate) → or_else (or_else a b) c ≡ or_else a (or_else b c)
-or_else_assoc (Some x) b c = refl
-or_else_assoc None b c = refl
-
-pub fate_append : (entries : List Entry) (who : Who) (now : World) (xs ys : List Line) → fate entries who now (xs ++ ys) ≡ or_else (fate entries who (world entries now xs) ys) (fate entries who now xs)
-fate_append entries who now [] ys = sym (or_else_none (fate entries who now ys))
+behind_it_assoc : (a b c : Option Fate) → behind_it (behind_it a b) c ≡ behind_it a (behind_it b c)
+behind_it_assoc (Some x) (Some y) (Some z) = ap (λ (began : Option World). Some (record x { began = began })) (or_assoc x.began y.began z.began)
   where
-    or_else_none : (a : Option Fate) → or_else a None ≡ a
-    or_else_none (Some x) = refl
-    or_else_none None = refl
+    or_assoc : (f g h : Option World) → option_or (option_or f g) h ≡ option_or f (option_or g h)
+    or_assoc (Some w) g h = refl
+    or_assoc None g h = refl
+behind_it_assoc (Some x) (Some y) None = refl
+behind_it_assoc (Some x) None c = refl
+behind_it_assoc None b c = refl
+
+pub behind_none : (a : Option Fate) → behind_it a None ≡ a
+behind_none (Some x) = refl
+behind_none None = refl
+
+pub fate_append : (entries : List Entry) (who : Who) (now : World) (xs ys : List Line) → fate entries who now (xs ++ ys) ≡ behind_it (fate entries who (world entries now xs) ys) (fate entries who now xs)
+fate_append entries who now [] ys = sym (behind_none (fate entries who now ys))
 fate_append entries who now (line ∷ xs) ys =
     let next = behind (item_of entries line.who) line.what now in
-    let here = cond (same_who line.who who) (Some (record { now = now; last = line.what })) None in
-    ap (λ (a : Option Fate). or_else a here) (fate_append entries who next xs ys)
-    ∙ or_else_assoc (fate entries who (world entries next xs) ys) (fate entries who next xs) here
+    let here = cond (same_who line.who who) (Some (record { now = now; last = line.what; began = began_in now line.what })) None in
+    ap (λ (a : Option Fate). behind_it a here) (fate_append entries who next xs ys)
+    ∙ behind_it_assoc (fate entries who (world entries next xs) ys) (fate entries who next xs) here
 
 -- nothing became of an item without lines
 pub no_fate : (entries : List Entry) (who : Who) (now : World) (lines : List Line) → own who lines ≡ [] → fate entries who now lines ≡ None
 no_fate entries who now [] none = refl
 no_fate entries who now (line ∷ lines) none = by_test (same_who line.who who) refl none (no_fate entries who (behind (item_of entries line.who) line.what now) lines)
   where
+    here : Fate
+    here = record { now = now; last = line.what; began = began_in now line.what }
+
     by_test : (mine : Bool) → same_who line.who who ≡ mine → map (λ (l : Line). l.what) (cond mine (line ∷ filter (λ (l : Line). same_who l.who who) lines) (filter (λ (l : Line). same_who l.who who) lines)) ≡ []
         → (own who lines ≡ [] → fate entries who (behind (item_of entries line.who) line.what now) lines ≡ None)
-        → or_else (fate entries who (behind (item_of entries line.who) line.what now) lines) (cond mine (Some (record { now = now; last = line.what })) None) ≡ None
+        → behind_it (fate entries who (behind (item_of entries line.who) line.what now) lines) (cond mine (Some here) None) ≡ None
     by_test true e none rest = cc
     by_test false e none rest = rw (rest none) refl

@@ -1,24 +1,26 @@
 -- A run whose sessions go one after the other: its lines, item by item.
-use Rattle.std.proofs.Common.{◌≡◌, ◌+◌, ◌++◌, ◌&&◌, ℕ, Bool, true, false, List, [], ◌∷◌, Result, Ok, Err, is_some, refl, ap, ◌∙◌, append_assoc}
+use Rattle.std.proofs.Common.{◌≡◌, ◌+◌, ◌++◌, ◌&&◌, ℕ, Bool, true, false, Option, List, [], ◌∷◌, Result, Ok, Err, is_some, refl, ap, ◌∙◌, append_assoc}
 use Rattle.std.proofs.lemmas.List.{append-nil}
 use Rattle.std.specs.Fmt.{decimal}
 use Rattle.std.specs.Prelude.{codes}
 use Rattle.retro_base.specs.declared.refusal.Refusal.{Refusal}
 use Rattle.retro_base.specs.declared.refusal.Refusal.TheVariants as refusal
 use Rattle.retro_base.specs.declared.who.Who.{Who}
+use Rattle.script.specs.declared.structure.End.{End}
+use Rattle.script.specs.declared.structure.End.TheVariants as ending
 use Rattle.script.specs.declared.structure.Item.{Item}
 use Rattle.script.specs.declared.structure.Item.TheVariants as item
 use Rattle.script.specs.declared.structure.Phase.{Phase}
+use Rattle.script.specs.declared.structure.Reading.{Reading}
 use Rattle.script.specs.declared.structure.Reading.TheVariants.{Read, Syntax}
 use Rattle.script.specs.declared.structure.Session.{Session}
-use Rattle.script.specs.declared.structure.Transaction.{Transaction}
-use Rattle.sql_text.specs.declared.parsed.AsOf.{AsOf}
-use Rattle.tables.specs.Meaning.{answer_of}
-use Rattle.tables.specs.declared.reply.Answer.{Answer}
-use Rattle.session.specs.InTurn.{State, say, note, label_of, run_transaction, run_look_at, run_query, run_item, run_items, run_sessions, run_phases}
+use Rattle.sql_tree.specs.declared.statement.Statement.{Statement}
+use Rattle.sql_parts.specs.declared.parsed.AsOf.{AsOf}
+use Rattle.sql_select.specs.declared.answer.Answer.{Answer}
+use Rattle.session.specs.InTurn.{State, say, note, run_commit, run_to, run_look_at, run_query, run_item, run_items, run_sessions, run_phases}
 use Rattle.session.specs.Items.{Entry, entry, entries_of_items, entries_of_sessions, entries_of_phases}
 use Rattle.session.specs.Line.{line}
-use Rattle.session.specs.World.{Tables, World, as_of, is_full}
+use Rattle.session.specs.World.{Tables, World, answer_at, as_of, is_full}
 use Rattle.session.specs.declared.journal.Line.{Line}
 use Rattle.session.specs.declared.journal.What.TheVariants.{Looked}
 
@@ -30,20 +32,24 @@ fresh now = record { now = now; journal = []; text = [] }
 abbrev onto : State → State → State
 onto s run = record { now = run.now; journal = s.journal ++ run.journal; text = s.text ++ run.text }
 
-onto_transaction : (who : Who) (t : Transaction) (s : State) (full : Bool) → (is_some (label_of t.end) && is_full s.now) ≡ full → run_transaction who t s ≡ onto s (run_transaction who t (fresh s.now))
-onto_transaction who t s true e = rw e (simp append_assoc)
-onto_transaction who t s false e = rw e (simp append_assoc)
+onto_commit : (who : Who) (lines : List (Reading Statement)) (label : Option (List ℕ)) (s : State) (full : Bool) → (is_some label && is_full s.now) ≡ full → run_commit who lines label s ≡ onto s (run_commit who lines label (fresh s.now))
+onto_commit who lines label s true e = rw e (simp append_assoc)
+onto_commit who lines label s false e = rw e (simp append_assoc)
+
+onto_transaction : (who : Who) (lines : List (Reading Statement)) (end : End) (s : State) → run_to who lines end s ≡ onto s (run_to who lines end (fresh s.now))
+onto_transaction who lines (ending.Commit label) s = onto_commit who lines label s (is_some label && is_full s.now) refl
+onto_transaction who lines ending.Rollback s = simp append_assoc
 
 onto_answer : (who : Who) (n : ℕ) (a : Result Answer Refusal) (s : State) → run_query who a (note who (Looked n) s) ≡ onto s (run_query who a (note who (Looked n) (fresh s.now)))
 onto_answer who n (Ok a) s = simp append_assoc
 onto_answer who n (Err why) s = simp append_assoc
 
 onto_look : (who : Who) (query : AsOf) (found : Result Tables Refusal) (s : State) → run_look_at who query found s ≡ onto s (run_look_at who query found (fresh s.now))
-onto_look who query (Ok tables) s = onto_answer who query.snapshot (answer_of query.query tables) s
+onto_look who query (Ok tables) s = onto_answer who query.snapshot (answer_at query tables) s
 onto_look who query (Err why) s = refl
 
 onto_item : (who : Who) (one : Item) (s : State) → run_item who one s ≡ onto s (run_item who one (fresh s.now))
-onto_item who (item.Transaction t) s = onto_transaction who t s (is_some (label_of t.end) && is_full s.now) refl
+onto_item who (item.Transaction t) s = onto_transaction who t.statements t.end s
 onto_item who (item.AsOf (Read query)) s = onto_look who query (as_of query.snapshot s.now) s
 onto_item who (item.AsOf (Syntax place)) s = simp append-nil
 

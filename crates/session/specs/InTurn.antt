@@ -13,17 +13,16 @@ use Rattle.script.specs.declared.structure.Reading.{Reading}
 use Rattle.script.specs.declared.structure.Reading.TheVariants.{Read, Syntax}
 use Rattle.script.specs.declared.structure.Session.{Session}
 use Rattle.script.specs.declared.structure.Transaction.{Transaction}
-use Rattle.sql_text.specs.declared.parsed.AsOf.{AsOf}
+use Rattle.sql_parts.specs.declared.parsed.AsOf.{AsOf}
 use Rattle.sql_tree.specs.declared.statement.Statement.{Statement}
-use Rattle.tables.specs.Meaning.{answer_of}
-use Rattle.tables.specs.declared.reply.Answer.{Answer}
+use Rattle.sql_select.specs.declared.answer.Answer.{Answer}
 use Rattle.session.specs.Line.{line}
-use Rattle.session.specs.Texts.{answer_text, outcome_text, refusal_text, shown_as}
+use Rattle.session.specs.Texts.{answer_text, outcome_text, refusal_text}
 use Rattle.session.specs.Transcript.{end_text}
-use Rattle.session.specs.World.{Tables, World, as_of, declared, is_full, newest, replies, transaction}
+use Rattle.session.specs.World.{Tables, World, answer_at, as_of, declared, is_full, newest, replies, transaction}
 use Rattle.session.specs.declared.journal.Line.{Line}
 use Rattle.session.specs.declared.journal.What.{What}
-use Rattle.session.specs.declared.journal.What.TheVariants.{Began, Done, Looked, Unlooked, Refused}
+use Rattle.session.specs.declared.journal.What.TheVariants.{Began, Done, RolledBack, Looked, Unlooked, Refused}
 use Rattle.session.specs.declared.run.Run.{Run}
 
 -- a run so far: the world, the journal and the replies
@@ -51,22 +50,30 @@ run_end who label s =
 
 -- refused with a line of the journal
 abbrev pub run_refused : Who → Refusal → State → State
-run_refused who why s = say (refusal_text (shown_as why)) (note who (Refused why) s)
+run_refused who why s = say (refusal_text why) (note who (Refused why) s)
 
-abbrev pub label_of : End → Option (List ℕ)
-label_of (ending.Commit label) = label
+abbrev pub run_commit : Who → List (Reading Statement) → Option (List ℕ) → State → State
+run_commit who statements label s =
+    if is_some label && is_full s.now then run_refused who (refusal.SnapshotsFull (length s.now.marks)) (note who Began s)
+    else run_end who label (run_statements statements (note who Began s))
+
+-- the statements reply, and change nothing
+abbrev pub rolled_back : Who → List (Reading Statement) → State → State
+rolled_back who statements s = say (line (codes "rolled back")) (note who RolledBack (record (run_statements statements s) { now = s.now }))
+
+abbrev pub run_to : Who → List (Reading Statement) → End → State → State
+run_to who statements (ending.Commit label) s = run_commit who statements label s
+run_to who statements ending.Rollback s = rolled_back who statements (note who Began s)
 
 abbrev pub run_transaction : Who → Transaction → State → State
-run_transaction who t s =
-    if is_some (label_of t.end) && is_full s.now then run_refused who (refusal.SnapshotsFull (length s.now.marks)) (note who Began s)
-    else run_end who (label_of t.end) (run_statements t.statements (note who Began s))
+run_transaction who t s = run_to who t.statements t.end s
 
 abbrev pub run_query : Who → Result Answer Refusal → State → State
 run_query who (Ok answer) s = say (answer_text answer) (note who Unlooked s)
 run_query who (Err why) s = run_refused who why s
 
 abbrev pub run_look_at : Who → AsOf → Result Tables Refusal → State → State
-run_look_at who query (Ok tables) s = run_query who (answer_of query.query tables) (note who (Looked query.snapshot) s)
+run_look_at who query (Ok tables) s = run_query who (answer_at query tables) (note who (Looked query.snapshot) s)
 run_look_at who query (Err why) s = run_refused who why s
 
 abbrev pub run_look : Who → AsOf → State → State
@@ -75,7 +82,7 @@ run_look who query s = run_look_at who query (as_of query.snapshot s.now) s
 abbrev pub run_item : Who → Item → State → State
 run_item who (item.Transaction t) s = run_transaction who t s
 run_item who (item.AsOf (Read query)) s = run_look who query s
-run_item who (item.AsOf (Syntax place)) s = say (refusal_text (shown_as (refusal.Syntax place))) s
+run_item who (item.AsOf (Syntax place)) s = say (refusal_text (refusal.Syntax place)) s
 
 abbrev pub run_items : ℕ → ℕ → ℕ → List Item → State → State
 run_items phase session number [] s = s

@@ -8,7 +8,7 @@ use Rattle.script.specs.declared.structure.Script.{Script}
 use Rattle.script.specs.declared.structure.Session.{Session}
 use Rattle.session.specs.declared.journal.Line.{Line}
 use Rattle.session.specs.declared.journal.What.{What}
-use Rattle.session.specs.declared.journal.What.TheVariants.{Began, Done, Looked, Unlooked, Refused}
+use Rattle.session.specs.declared.journal.What.TheVariants.{Began, Done, RolledBack, Looked, Unlooked, Refused}
 use Rattle.session.specs.Line.{line}
 
 abbrev pub name_of_session : Option Session → List ℕ
@@ -28,6 +28,7 @@ abbrev pub what_text : ℕ → What → Option (List ℕ)
 what_text declared Began = None
 what_text declared (Done None) = Some (codes "done")
 what_text declared (Done (Some label)) = Some (codes "done as " ++ decimal (declared + 1))
+what_text declared RolledBack = Some (codes "rolled back")
 what_text declared (Looked snapshot) = Some (codes "looked " ++ decimal snapshot)
 what_text declared Unlooked = Some (codes "unlooked")
 what_text declared (Refused why) = Some (codes "refused " ++ decimal (number_of why))

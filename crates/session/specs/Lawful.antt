@@ -8,12 +8,12 @@ use Rattle.script.specs.declared.structure.End.TheVariants as ending
 use Rattle.script.specs.declared.structure.Item.{Item}
 use Rattle.script.specs.declared.structure.Item.TheVariants.{Transaction, AsOf}
 use Rattle.script.specs.declared.structure.Reading.TheVariants.{Read, Syntax}
-use Rattle.tables.specs.declared.reply.Answer.{Answer}
+use Rattle.sql_select.specs.declared.answer.Answer.{Answer}
 use Rattle.session.specs.Items.{Entry, same_who, item_of}
 use Rattle.session.specs.World.{World, world, as_of, answer, mark_of, is_full}
 use Rattle.session.specs.declared.journal.Line.{Line}
 use Rattle.session.specs.declared.journal.What.{What}
-use Rattle.session.specs.declared.journal.What.TheVariants.{Began, Done, Looked, Unlooked, Refused}
+use Rattle.session.specs.declared.journal.What.TheVariants.{Began, Done, RolledBack, Looked, Unlooked, Refused}
 
 -- what the lines of an item say
 abbrev pub own : Who → List Line → List What
@@ -35,10 +35,11 @@ has_begun who lines = list_any is_began (own who lines)
 abbrev pub has_looked : Who → List Line → Bool
 has_looked who lines = list_any is_looked (own who lines)
 
--- What the lines of an item say, in order: a transaction begins and then is done or refused; a look begins and then ends with its answer
+-- What the lines of an item say, in order: a transaction begins and then is done, rolled back or refused; a look begins and then ends with its answer
 -- or refused, or it is refused alone; a line that the grammar refuses leaves none.
 abbrev pub IsRun : Item → List What → Type 0
 IsRun (Transaction t) (Began ∷ Done label ∷ []) = Unit {0}
+IsRun (Transaction t) (Began ∷ RolledBack ∷ []) = Unit {0}
 IsRun (Transaction t) (Began ∷ Refused why ∷ []) = Unit {0}
 IsRun (AsOf (Read query)) (Looked snapshot ∷ Unlooked ∷ []) = Unit {0}
 IsRun (AsOf (Read query)) (Looked snapshot ∷ Refused why ∷ []) = Unit {0}
@@ -60,10 +61,12 @@ pub record HasShape (entries : List Entry) (journal : List Line) : Type 0 where
   pub order : InOrder journal
   pub runs : AllByRecursion (λ (e : Entry). IsRun e.item (own e.who journal)) entries
 
--- done stands only where the script commits, with its label
+-- done stands only where the script commits, with its label, and rolled back only where the script rolls back
 abbrev pub IsEnding : Option Item → What → Type 0
 IsEnding (Some (Transaction t)) (Done label) = t.end ≡ ending.Commit label
+IsEnding (Some (Transaction t)) RolledBack = t.end ≡ ending.Rollback
 IsEnding item (Done label) = ⊥
+IsEnding item RolledBack = ⊥
 IsEnding item what = Unit {0}
 
 -- a look that has begun ends with its answer only where there is one, and refused only with its refusal, or for want of memory

@@ -4,19 +4,11 @@ use Rattle.std.specs.Fmt.{decimal}
 use Rattle.retro_base.specs.declared.refusal.Refusal.{Refusal}
 use Rattle.retro_base.specs.declared.refusal.Refusal.TheVariants as refusal
 use Rattle.retro_base.specs.Refusal.{number_of, name_of}
-use Rattle.tables.specs.declared.reply.Answer.{Answer}
+use Rattle.sql_select.specs.declared.answer.Answer.{Answer}
 use Rattle.tables.specs.declared.reply.Reply.{Reply}
 use Rattle.tables.specs.declared.reply.Reply.TheVariants.{Plain, Count, Rows}
 use Rattle.session.specs.Line.{line}
 use Rattle.session.specs.Rows.{row_lines}
-
--- the refusal that this version replies: a statement that only a later version tells apart is refused as syntax, at place 0
-abbrev pub shown_as : Refusal → Refusal
-shown_as (refusal.Syntax place) = refusal.Syntax 0
-shown_as refusal.NameTaken = refusal.Syntax 0
-shown_as refusal.WrongType = refusal.Syntax 0
-shown_as (refusal.RowTooLong bytes) = refusal.Syntax 0
-shown_as other = other
 
 -- a value of a refusal, behind a blank
 abbrev pub value_text : ℕ → List ℕ
@@ -27,6 +19,7 @@ abbrev pub values_text : Refusal → List ℕ
 values_text (refusal.NoSuchSnapshot asked newest) = value_text asked ++ value_text newest
 values_text (refusal.Syntax place) = value_text place
 values_text (refusal.SnapshotsFull retained) = value_text retained
+values_text (refusal.RowTooLong bytes) = value_text bytes
 values_text other = []
 
 -- a refusal: its number, its name and its values
@@ -46,9 +39,9 @@ reply_text (Rows answer) = answer_text answer
 -- the reply of a statement, or its refusal
 abbrev pub outcome_text : Result Reply Refusal → List ℕ
 outcome_text (Ok reply) = reply_text reply
-outcome_text (Err why) = refusal_text (shown_as why)
+outcome_text (Err why) = refusal_text why
 
 -- the answer of a query, or its refusal
 abbrev pub query_text : Result Answer Refusal → List ℕ
 query_text (Ok answer) = answer_text answer
-query_text (Err why) = refusal_text (shown_as why)
+query_text (Err why) = refusal_text why

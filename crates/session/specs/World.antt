@@ -9,21 +9,20 @@ use Rattle.script.specs.declared.structure.Item.{Item}
 use Rattle.script.specs.declared.structure.Item.TheVariants as item
 use Rattle.script.specs.declared.structure.Reading.{Reading}
 use Rattle.script.specs.declared.structure.Reading.TheVariants.{Read, Syntax}
-use Rattle.sql_text.specs.declared.parsed.AsOf.{AsOf}
+use Rattle.sql_parts.specs.declared.parsed.AsOf.{AsOf}
 use Rattle.sql_tree.specs.declared.statement.Statement.{Statement}
-use Rattle.tables.specs.Meaning.{does, answer_of}
-use Rattle.tables.specs.declared.reply.Answer.{Answer}
+use Rattle.tables.specs.Meaning.{asked, does}
+use Rattle.sql_select.specs.declared.answer.Answer.{Answer}
 use Rattle.tables.specs.declared.reply.Reply.{Reply}
-use Rattle.tables.specs.declared.table.Table.{Table}
+use Rattle.tables.specs.Tables.{Tables as TablesOf, no_tables}
 use Rattle.session.specs.Items.{Entry, item_of}
 use Rattle.session.specs.declared.journal.Line.{Line}
 use Rattle.session.specs.declared.journal.What.{What}
 use Rattle.session.specs.declared.journal.What.TheVariants.{Done}
 use Rattle.session.specs.declared.world.Mark.{Mark}
 
--- tables by name
 abbrev pub Tables : Type 0
-Tables = List (List ℕ × Table)
+Tables = TablesOf
 
 -- the tables now, and the retained snapshots in rising number
 pub record World : Type 0 where
@@ -32,7 +31,7 @@ pub record World : Type 0 where
 
 -- a store without tables and without snapshots
 abbrev pub empty_world : World
-empty_world = record { current = []; marks = [] }
+empty_world = record { current = no_tables; marks = [] }
 
 -- the number of the last of these snapshots, or this one where there is none
 abbrev pub newest_behind : ℕ → List Mark → ℕ
@@ -66,9 +65,13 @@ as_of asked world =
     if (asked == 0) || nat_lt (newest world) asked then Err (NoSuchSnapshot asked (newest world))
     else tables_of asked (oldest world) (mark_of asked world.marks)
 
+-- the answer of a query over the tables of its snapshot, whose number it can ask for
+abbrev pub answer_at : AsOf → Tables → Result Answer Refusal
+answer_at query tables = asked query.query (Some query.snapshot) tables
+
 -- the answer of a query as of its snapshot
 abbrev pub answer : AsOf → World → Result Answer Refusal
-answer query world = as_of query.snapshot world >>= answer_of query.query
+answer query world = as_of query.snapshot world >>= answer_at query
 
 -- a statement that is refused leaves the tables
 abbrev pub outcome : Tables → Result (Tables × Reply) Refusal → Tables × Result Reply Refusal
@@ -77,7 +80,7 @@ outcome before (Err refusal) = (before, Err refusal)
 
 -- what a statement line does to the tables, and its reply
 abbrev pub does_line : Reading Statement → Tables → Tables × Result Reply Refusal
-does_line (Read statement) tables = outcome tables (does statement tables)
+does_line (Read statement) tables = outcome tables (does statement None tables)
 does_line (Syntax place) tables = (tables, Err (refusal.Syntax place))
 
 -- the tables behind the statement lines of a transaction

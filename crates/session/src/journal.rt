@@ -15,6 +15,8 @@ pub enum What {
     Began,
     /// It was committed; with a label it declared a snapshot.
     Done { label: Option<Text> },
+    /// It was rolled back, as its script says.
+    RolledBack,
     /// A look at a snapshot began.
     Looked { snapshot: u32 },
     /// It ended with its answer.
@@ -56,6 +58,7 @@ impl What {
                 let number = declared + 1;
                 format!(in alloc; "done as {number}")?
             }
+            What::RolledBack => String::from_str(alloc, "rolled back")?,
             What::Looked { snapshot } => format!(in alloc; "looked {snapshot}")?,
             What::Unlooked => String::from_str(alloc, "unlooked")?,
             What::Refused { why } => {

@@ -4,7 +4,7 @@ ghost use Rattle.std.specs.Prelude.{◌≡◌, ◌≤◌, ◌++◌, ◌∷◌, [
 ghost use Rattle.std.specs.Fmt.{decimal};
 ghost use Rattle.std.specs.List.{AllByRecursion};
 ghost use Rattle.script.specs.Limits.{ItemFits, PhaseFits, ScriptFits, SessionFits, StatementFits};
-ghost use Rattle.session.specs.InTurn.{label_of, note, run_end, run_item, run_items, run_look, run_phase, run_phases, run_query, run_refused, run_session, run_statements, run_transaction, say, state_of};
+ghost use Rattle.session.specs.InTurn.{note, rolled_back, run_end, run_item, run_items, run_look, run_phase, run_phases, run_query, run_refused, run_session, run_statements, run_transaction, say, state_of};
 ghost use Rattle.session.specs.Items.{entries_of};
 ghost use Rattle.session.specs.Lawful.{Lawful};
 ghost use Rattle.session.specs.Line.{line};
@@ -12,7 +12,7 @@ ghost use Rattle.session.specs.Transcript.{transcript};
 ghost use Rattle.session.specs.World.{empty_world, is_full};
 
 use crate::journal::{Journal, Line, What, write_visible};
-use crate::texts::{shown, write_answer, write_refusal, write_reply};
+use crate::texts::{write_answer, write_refusal, write_reply};
 use crate::world::World;
 use retro_base::{PHASES, RETAINED_SNAPSHOTS, Refusal, Who};
 use script::{End, Item, Phase, Reading, Script, Session, Transaction};
@@ -56,7 +56,7 @@ impl Run {
         ensures { OnOk result (state_of self.new ≡ run_refused who why (state_of self.old)) }
     {
         self.note(who, What::Refused { why })?;
-        write_refusal(alloc, shown(why), &mut self.replies)
+        write_refusal(alloc, why, &mut self.replies)
     }
 
     // Does a statement and writes its reply.
@@ -67,7 +67,7 @@ impl Run {
         match self.world.does(alloc, line) {
             Ok(reply) => write_reply(alloc, &reply, &mut self.replies),
             Err(Refusal::OutOfMemory) => Err(AllocError),
-            Err(why) => write_refusal(alloc, shown(why), &mut self.replies),
+            Err(why) => write_refusal(alloc, why, &mut self.replies),
         }
     }
 
@@ -122,14 +122,36 @@ impl Run {
         requires { AllByRecursion StatementFits transaction.now.statements }
         ensures { OnOk result (state_of self.new ≡ run_transaction who transaction.now (state_of self.old)) }
     {
-        let End::Commit(label) = &transaction.end;
+        let statements = transaction.statements.as_slice();
         self.note(who, What::Began)?;
-        if label.is_some() && self.world.is_full() {
-            let retained = RETAINED_SNAPSHOTS;
-            return self.refuse(alloc, who, Refusal::SnapshotsFull { retained });
+        match &transaction.end {
+            End::Commit(label) if label.is_some() && self.world.is_full() => {
+                let retained = RETAINED_SNAPSHOTS;
+                self.refuse(alloc, who, Refusal::SnapshotsFull { retained })
+            }
+            End::Commit(label) => {
+                self.statements(alloc, statements)?;
+                self.commit(alloc, who, label)
+            }
+            End::Rollback => self.roll_back(alloc, who, statements),
         }
-        self.statements(alloc, transaction.statements.as_slice())?;
-        self.commit(alloc, who, label)
+    }
+
+    // Writes the replies of statements, and leaves the tables as they were.
+    fn roll_back(
+        &mut self,
+        alloc: Global,
+        who: Who,
+        statements: &[Reading<Statement>],
+    ) -> Result<(), AllocError>
+        requires { AllByRecursion StatementFits statements.now }
+        ensures { OnOk result (state_of self.new ≡ rolled_back who statements.now (state_of self.old)) }
+    {
+        let tables = self.world.current().copy(alloc)?;
+        self.statements(alloc, statements)?;
+        self.world.restore(tables);
+        self.note(who, What::RolledBack)?;
+        self.say(b"rolled back\n")
     }
 
     // Ends a look by its answer, or refused.
@@ -155,7 +177,7 @@ impl Run {
         ensures { OnOk result (state_of self.new ≡ run_look who query.now (state_of self.old)) }
     {
         let answer = match self.world.as_of(query.snapshot) {
-            Ok(tables) => ask(alloc, &query.query, tables),
+            Ok(tables) => ask(alloc, &query.query, Some(query.snapshot as u32), tables),
             Err(why) => return self.refuse(alloc, who, why),
         };
         if let Err(Refusal::OutOfMemory) = answer {
@@ -175,7 +197,7 @@ impl Run {
             Item::AsOf(Reading::Read(query)) => self.look(alloc, who, query),
             Item::AsOf(Reading::Syntax { place }) => {
                 let why = Refusal::Syntax { place: *place };
-                write_refusal(alloc, shown(why), &mut self.replies)
+                write_refusal(alloc, why, &mut self.replies)
             }
         }
     }

@@ -1,26 +1,12 @@
 //! The texts of replies.
 
 ghost use Rattle.std.specs.Prelude.{◌≡◌, ◌++◌, OnOk};
-ghost use Rattle.session.specs.Texts.{answer_text, refusal_text, reply_text, shown_as, value_text, values_text};
+ghost use Rattle.session.specs.Texts.{answer_text, refusal_text, reply_text, value_text, values_text};
 
 use crate::rows::write_rows;
 use retro_base::Refusal;
 use std::alloc::{AllocError, Global};
 use tables::{Answer, Reply};
-
-/// The refusal that a reply of this version shows: a statement whose fault only a later version tells apart is refused as syntax,
-/// at place 0.
-pub fn shown(refusal: Refusal) -> Refusal
-    ensures { result ≡ shown_as refusal }
-{
-    match refusal {
-        Refusal::Syntax { .. }
-        | Refusal::NameTaken
-        | Refusal::WrongType
-        | Refusal::RowTooLong { .. } => Refusal::Syntax { place: 0 },
-        other => other,
-    }
-}
 
 // Appends a value of a refusal, behind a blank.
 fn write_value(alloc: Global, value: u64, out: &mut Vec<u8>) -> Result<(), AllocError>
@@ -41,6 +27,7 @@ fn write_values(alloc: Global, refusal: Refusal, out: &mut Vec<u8>) -> Result<()
         }
         Refusal::Syntax { place } => write_value(alloc, u64::from(place), out),
         Refusal::SnapshotsFull { retained } => write_value(alloc, u64::from(retained), out),
+        Refusal::RowTooLong { bytes } => write_value(alloc, u64::from(bytes), out),
         _ => Ok(()),
     }
 }

@@ -57,6 +57,13 @@ impl World {
         &self.current
     }
 
+    /// Puts these tables in the place of the tables now.
+    pub fn restore(&mut self, tables: Tables)
+        ensures { self.new ≡ record self.old { current = tables } }
+    {
+        self.current = tables;
+    }
+
     /// Does a statement line: changes the tables now as it says, and replies. After a refusal they are as before.
     pub fn does(&mut self, alloc: Global, line: &Reading<Statement>) -> Result<Reply, Refusal>
         requires { StatementFits line.now }
@@ -66,7 +73,7 @@ impl World {
         ensures marks { self.new.marks ≡ self.old.marks }
     {
         match line {
-            Reading::Read(statement) => does(alloc, statement, &mut self.current),
+            Reading::Read(statement) => does(alloc, statement, None, &mut self.current),
             Reading::Syntax { place } => Err(Refusal::Syntax { place: *place }),
         }
     }

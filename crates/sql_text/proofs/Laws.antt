@@ -7,11 +7,11 @@ use Rattle.sql_lexer.specs.declared.token.Ending.TheVariants.{Whole, BadByte, Un
 use Rattle.sql_lexer.specs.declared.token.Placed.{Placed}
 use Rattle.sql_lexer.specs.declared.token.Token.{Token}
 use Rattle.sql_lexer.specs.Lexes.{HasOneReading}
-use Rattle.sql_text.specs.declared.grammar.Op.{Op}
-use Rattle.sql_text.specs.declared.grammar.Rule.{Rule}
-use Rattle.sql_text.specs.declared.grammar.Rule.TheVariants.{Sentence}
-use Rattle.sql_text.specs.declared.parsed.Parsed.{Parsed}
-use Rattle.sql_text.specs.Derivation.{Begins, Breaks, IsSentence, Reaches}
+use Rattle.sql_parts.specs.declared.action.Op.{Op}
+use Rattle.sql_grammar.specs.declared.grammar.Rule.{Rule}
+use Rattle.sql_grammar.specs.declared.grammar.Rule.TheVariants.{Sentence}
+use Rattle.sql_parts.specs.declared.parsed.Parsed.{Parsed}
+use Rattle.sql_grammar.specs.Derivation.{Begins, Breaks, IsSentence, Reaches}
 use Rattle.sql_text.specs.Line.{FaultAt, Spells, SyntaxAt}
 use Rattle.sql_text.specs.Places.{place_at, tokens_of}
 

@@ -1,11 +1,6 @@
-pub mod Classes
-pub mod Finishing
-pub mod Gathering
+pub mod Balance
 pub mod Laws
 pub mod Lexing
 pub mod Meaning
 pub mod Placing
 pub mod Saying
-pub mod Stack
-pub mod Steps
-pub mod Tables

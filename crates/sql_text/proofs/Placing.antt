@@ -2,12 +2,12 @@
 use Rattle.std.proofs.Common.{◌≡◌, ◌<◌, ◌+◌, ◌∙◌, ◌++◌, ◌∷◌, [], ℕ, suc, List, Bool, true, false, length, take, refl, ap, subst, sym, append_assoc, append-nil, add-one, arith}
 use Rattle.sql_lexer.specs.declared.token.Placed.{Placed}
 use Rattle.sql_lexer.specs.declared.token.Token.{Token}
-use Rattle.sql_text.specs.declared.grammar.Op.{Op}
-use Rattle.sql_text.specs.declared.grammar.Rule.{Rule}
-use Rattle.sql_text.specs.declared.grammar.Rule.TheVariants.{Sentence}
-use Rattle.sql_text.specs.declared.grammar.Symbol.{Symbol}
-use Rattle.sql_text.specs.Derivation.{Begins, Reaches}
-use Rattle.sql_text.specs.Machine.{Stands, Takes}
+use Rattle.sql_parts.specs.declared.action.Op.{Op}
+use Rattle.sql_grammar.specs.declared.grammar.Rule.{Rule}
+use Rattle.sql_grammar.specs.declared.grammar.Rule.TheVariants.{Sentence}
+use Rattle.sql_grammar.specs.declared.grammar.Symbol.{Symbol}
+use Rattle.sql_grammar.specs.Derivation.{Begins, Reaches}
+use Rattle.sql_grammar.specs.Machine.{Stands, Takes}
 use Rattle.sql_text.specs.Places.{AllBefore, place_at, tokens_of}
 use Rattle.sql_text.specs.Reading.{StopsAt}
 

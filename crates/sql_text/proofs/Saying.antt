@@ -7,16 +7,16 @@ use Rattle.sql_lexer.specs.declared.token.Ending.TheVariants.{Whole, Unclosed}
 use Rattle.sql_lexer.specs.declared.token.Lexed.{Lexed}
 use Rattle.sql_lexer.specs.declared.token.Placed.{Placed}
 use Rattle.sql_lexer.specs.declared.token.Token.{Token}
-use Rattle.sql_text.specs.declared.grammar.Op.{Op}
-use Rattle.sql_text.specs.declared.grammar.Rule.TheVariants.{Sentence}
-use Rattle.sql_text.specs.declared.parsed.Parsed.{Parsed}
-use Rattle.sql_text.specs.Built.{built}
-use Rattle.sql_text.specs.Derivation.{Begins, IsSentence}
+use Rattle.sql_parts.specs.declared.action.Op.{Op}
+use Rattle.sql_grammar.specs.declared.grammar.Rule.TheVariants.{Sentence}
+use Rattle.sql_parts.specs.declared.parsed.Parsed.{Parsed}
+use Rattle.sql_build.specs.Built.{built}
+use Rattle.sql_grammar.specs.Derivation.{Begins, IsSentence}
 use Rattle.sql_text.specs.Line.{FaultAt, HasLimits, Starts}
-use Rattle.sql_text.specs.Machine.{Ends}
+use Rattle.sql_grammar.specs.Machine.{Ends}
 use Rattle.sql_text.specs.Places.{place_at, tokens_of}
 use Rattle.sql_text.specs.Reading.{IsRefusedAmong, IsRefusedEarly, IsRefusedFor, IsSaid, StopsAt}
-use Rattle.sql_text.proofs.Classes.{some_injective}
+use Rattle.sql_parts.proofs.Common.{some_injective}
 use Rattle.sql_text.proofs.Meaning.{says}
 use Rattle.sql_text.proofs.Placing.{length-tokens_of, place_at-end, reaches_all}
 

@@ -5,10 +5,10 @@ use Rattle.retro_base.specs.declared.refusal.Refusal.TheVariants.{OutOfMemory, S
 use Rattle.sql_lexer.specs.declared.token.Lexed.{Lexed}
 use Rattle.sql_lexer.specs.declared.token.Placed.{Placed}
 use Rattle.sql_lexer.specs.declared.token.Token.{Token}
-use Rattle.sql_text.specs.declared.grammar.Op.{Op}
-use Rattle.sql_text.specs.declared.grammar.Rule.TheVariants as rule
-use Rattle.sql_text.specs.declared.parsed.Parsed.{Parsed}
-use Rattle.sql_text.specs.Derivation.{IsSentence, Reaches}
+use Rattle.sql_parts.specs.declared.action.Op.{Op}
+use Rattle.sql_grammar.specs.declared.grammar.Rule.TheVariants as rule
+use Rattle.sql_parts.specs.declared.parsed.Parsed.{Parsed}
+use Rattle.sql_grammar.specs.Derivation.{IsSentence, Reaches}
 use Rattle.sql_text.specs.Line.{FaultAt, HasLimits, Says, Starts}
 use Rattle.sql_text.specs.Places.{place_at, tokens_of}
 

@@ -3,19 +3,18 @@
 ghost use Rattle.std.specs.Prelude.{◌≡◌, ◌<◌, ◌^◌, List, IfOk, IfErr, length};
 ghost use Rattle.sql_lexer.specs.declared.token.Token.{Token};
 ghost use Rattle.sql_lexer.specs.Lexes.{Lexes};
-ghost use Rattle.sql_text.specs.declared.grammar.Rule.TheVariants as rule;
-ghost use Rattle.sql_text.specs.declared.parsed.Parsed.{Parsed};
+ghost use Rattle.sql_grammar.specs.declared.grammar.Rule.TheVariants as rule;
+ghost use Rattle.sql_parts.specs.declared.parsed.Parsed.{Parsed};
 ghost use Rattle.sql_text.specs.Line.{BrokenLinesSayNothing, HasLimits, IsRefused, LinesBreakAtOnePlace, Spells, StartsAsLine};
-ghost use Rattle.sql_text.specs.Machine.{Stands};
+ghost use Rattle.sql_grammar.specs.Machine.{Stands};
 ghost use Rattle.sql_text.specs.Places.{AllBefore, IsWithin, tokens_of};
 ghost use Rattle.sql_text.specs.Reading.{IsRefusedAmong, IsRefusedEarly, IsRefusedFor, IsSaid};
 
-use crate::assembly::assemble;
-use crate::grammar::Rule;
-use crate::machine::Machine;
-use crate::parsed::Parsed;
 use retro_base::Refusal;
+use sql_build::assemble;
+use sql_grammar::{Machine, Rule};
 use sql_lexer::{Ending, Lexed, Placed, lex, one_reading};
+use sql_parts::Parsed;
 use std::alloc::Global;
 use values::Seq;
 

@@ -1,2 +1,9 @@
+pub mod Condition
+pub mod ConditionCode
+pub mod Evaluation
+pub mod Expression
+pub mod ExpressionCode
 pub mod Name
+pub mod Scope
 pub mod Statement
+pub mod Steps

@@ -1,8 +1,23 @@
 //! The statements of the SQL as trees.
 #![tactic(auto)]
 
+mod condition;
+mod evaluation;
+mod expression;
 mod name;
+mod schema;
+mod scope;
+mod select;
 mod statement;
+#[cfg(test)]
+mod tests;
 
-pub use name::Name;
-pub use statement::{Column, CreateTable, Insert, Select, SelectList, Statement};
+pub use condition::{Comparison, Condition, ConditionStep, Operand};
+pub use expression::{Expression, ExpressionStep, Operator};
+pub use name::{ColumnName, Name};
+pub use schema::{IndexSchema, Schema, TableSchema};
+pub use scope::{Scope, column_place};
+pub use select::{Aggregate, Direction, OrderKey, Output, OutputValue, Select, SelectList};
+pub use statement::{
+    Assignment, Column, CreateIndex, CreateTable, Delete, Insert, Statement, Update,
+};

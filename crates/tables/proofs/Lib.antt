@@ -1,5 +1,10 @@
-pub mod Entries
-pub mod Fitting
+pub mod Answering
+pub mod Facts
+pub mod Finding
 pub mod Following
-pub mod Rising
-pub mod Writing
+pub mod Inserting
+pub mod Keeping
+pub mod Numbering
+pub mod Places
+pub mod Reworking
+pub mod Sound

@@ -1,5 +1,5 @@
 pub mod Laws
 pub mod Meaning
-pub mod Names
+pub mod Reworked
 pub mod Rows
 pub mod Tables

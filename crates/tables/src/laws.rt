@@ -1,27 +1,33 @@
 //! What follows from the meaning of statements.
 
-ghost use Rattle.tables.specs.Laws.{CreatedIsEmpty, InsertedAreLast, OthersStay, TablesStaySound};
+ghost use Rattle.tables.specs.Laws.{CreatedIsEmpty, GoneStaysGone, InsertedAreLast, OthersStay, TablesStaySound, UpdatedKeepPlaces};
 
 /// After `CREATE TABLE`, `SELECT *` gives the new table's columns, and no rows.
-#[tactic(auto, using(crate::proofs::Following::created_is_empty))]
 pub fn created_is_empty()
     ensures { CreatedIsEmpty }
 {}
 
 /// After `INSERT`, `SELECT *` gives the rows as before it, and then those of the insert, in their order.
-#[tactic(auto, using(crate::proofs::Following::inserted_are_last))]
 pub fn inserted_are_last()
     ensures { InsertedAreLast }
 {}
 
 /// After a statement about another table, `SELECT *` gives what it gave before.
-#[tactic(auto, using(crate::proofs::Following::others_stay))]
 pub fn others_stay()
     ensures { OthersStay }
 {}
 
 /// Tables stay sound, and each row of an answer has one value of each column's kind.
-#[tactic(auto, using(crate::proofs::Following::tables_stay_sound))]
 pub fn tables_stay_sound()
     ensures { TablesStaySound }
+{}
+
+/// An `UPDATE` leaves each row its number and its place.
+pub fn updated_keep_places()
+    ensures { UpdatedKeepPlaces }
+{}
+
+/// A row number that was given and that no row has any more is never given again.
+pub fn gone_stays_gone()
+    ensures { GoneStaysGone }
 {}

@@ -1,9 +1,9 @@
 use Rattle.std.proofs.Common.{◌∙◌, subst, sym}
 use Rattle.retro_base.specs.declared.refusal.Refusal.{Refusal}
-use Rattle.sql_text.specs.declared.grammar.Rule.TheVariants.{Sentence}
+use Rattle.sql_grammar.specs.declared.grammar.Rule.TheVariants.{Sentence}
 use Rattle.sql_text.specs.Reading.{IsRefusedAmong}
 use Rattle.sql_text.proofs.Placing.{all_done, none_left, one_on, stops, took}
-use Rattle.sql_text.proofs.Steps.{reads}
+use Rattle.sql_grammar.proofs.Steps.{reads}
 use Rattle.sql_text.proofs.reading.begin.Goals as goal
 
 pub loop-placed-preserved : goal.loop-placed-preserved

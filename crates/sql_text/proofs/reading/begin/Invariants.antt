@@ -1,7 +1,7 @@
 use Rattle.std.proofs.Common.{◌≡◌, ◌++◌}
 use Rattle.std.specs.Vec.Iter.{into_iter_items}
-use Rattle.sql_text.specs.declared.grammar.Rule.TheVariants.{Sentence}
-use Rattle.sql_text.specs.Machine.{Stands}
+use Rattle.sql_grammar.specs.declared.grammar.Rule.TheVariants.{Sentence}
+use Rattle.sql_grammar.specs.Machine.{Stands}
 use Rattle.sql_text.specs.Places.{tokens_of}
 use Rattle.sql_text.proofs.reading.begin.Given as goal
 

@@ -1,4 +1,4 @@
-use Rattle.sql_text.specs.declared.grammar.Rule.TheVariants.{Sentence}
+use Rattle.sql_grammar.specs.declared.grammar.Rule.TheVariants.{Sentence}
 use Rattle.sql_text.proofs.Saying.{builds_some, said, too_early}
 use Rattle.sql_text.proofs.reading.finish.Goals as goal
 

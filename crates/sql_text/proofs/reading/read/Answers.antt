@@ -1,7 +1,7 @@
 use Rattle.std.proofs.lemmas.Result.{err_from_is_err_and, IfErr-weaker}
-use Rattle.sql_text.specs.declared.grammar.Rule.TheVariants.{Sentence}
+use Rattle.sql_grammar.specs.declared.grammar.Rule.TheVariants.{Sentence}
 use Rattle.sql_text.proofs.Saying.{open_at_end, refused_early, refused_whole}
-use Rattle.sql_text.proofs.Steps.{reads}
+use Rattle.sql_grammar.proofs.Steps.{reads}
 use Rattle.sql_text.proofs.reading.read.Goals as goal
 
 pub returns-in_err-begin-in-Whole-clause-err : goal.returns-in_err-begin-in-Whole-clause-err

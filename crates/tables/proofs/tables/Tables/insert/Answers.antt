@@ -1,28 +1,23 @@
-use Rattle.std.proofs.Common.{◌≡◌, sym, ◌∙◌}
-use Rattle.std.proofs.lemmas.Result.{on_err_weaker}
-use Rattle.tables.proofs.Entries.{IsTables-with_table, with_table-written}
-use Rattle.tables.proofs.Writing.{gives_written, unwritten}
+use Rattle.std.proofs.Common.{subst}
+use Rattle.tables.specs.Tables.{IsTables, Tables}
+use Rattle.tables.proofs.Inserting.{done_by, no_contents, refused_by, tuples_short}
 use Rattle.tables.proofs.tables.Tables.insert.Goals as goal
+
+pub insert_at-requires-clause-width : goal.insert_at-requires-clause-width
+insert_at-requires-clause-width c =
+    rw c.as_slice-tuples.ensures (tuples_short c.args.insert.now c.args.self.now c.in_ok-place.place (subst IsTables c.self.view_is c.self.invariant) c.in_ok-place.ensures c.requires)
+
+pub returns-in-Err-clause-means : goal.returns-in-Err-clause-means
+returns-in-Err-clause-means c =
+    let inside : Tables = record { schema = c.self.inside.schema; contents = c.self.inside.contents.items } in
+    refused_by c.args.insert.now inside c.args.self.now c.in_ok-place.place c.as_slice-tuples.result.now c.in-Err.why c.self.view_is c.as_slice-tuples.ensures c.self.invariant c.in_ok-place.ensures c.requires (c.in-Err.ensures.means no_contents)
 
 pub invariant_of-self-2 : goal.invariant_of-self-2
 invariant_of-self-2 c =
-    let name = c.args.insert.now.table in
-    let old = c.self.inside.map.entries in
-    let table = c.insert.new.self in
-    let new_is = with_table-written name old _ c.in-Some.table.now table c.self.invariant (sym c.in-Some.ensures.value) (c.get_mut.follows.holds table).0 in
-    rw new_is (IsTables-with_table name table old c.self.invariant c.insert.ensures.is_table)
+    let inside : Tables = record { schema = c.self.inside.schema; contents = c.self.inside.contents.items } in
+    (done_by c.args.insert.now inside c.args.self.now c.in_ok-place.place c.as_slice-tuples.result.now c.insert_at.new.contents.items c.self.view_is c.as_slice-tuples.ensures c.self.invariant c.in_ok-place.ensures c.requires (c.in_default.ensures.means no_contents) (c.in_default.ensures.set no_contents)).sound
 
 pub returns-clause-means : goal.returns-clause-means
 returns-clause-means c =
-    let name = c.args.insert.now.table in
-    let old = c.self.inside.map.entries in
-    let table = c.insert.new.self in
-    let new_is = with_table-written name old _ c.in-Some.table.now table c.self.invariant (sym c.in-Some.ensures.value) (c.get_mut.follows.holds table).0 in
-    rw (← c.self.view_is) (gives_written c.args.insert.now old _ c.in-Some.table.now table c.insert.result (sym c.in-Some.ensures.value) new_is (rw c.as_slice.ensures at c.insert.ensures.means) (rw c.as_slice.ensures at c.insert.ensures.ok))
-
-pub returns-clause-err : goal.returns-clause-err
-returns-clause-err c =
-    let table = c.insert.new.self in
-    on_err_weaker c.insert.result
-    (λ (same : table ≡ c.in-Some.table.now). unwritten c.args.insert.now.table c.self.inside.map.entries _ c.in-Some.table.now table (sym c.in-Some.ensures.value) (c.get_mut.follows.holds table).0 same ∙ c.self.view_is)
-    c.insert.ensures.err
+    let inside : Tables = record { schema = c.self.inside.schema; contents = c.self.inside.contents.items } in
+    (done_by c.args.insert.now inside c.args.self.now c.in_ok-place.place c.as_slice-tuples.result.now c.insert_at.new.contents.items c.self.view_is c.as_slice-tuples.ensures c.self.invariant c.in_ok-place.ensures c.requires (c.in_default.ensures.means no_contents) (c.in_default.ensures.set no_contents)).means

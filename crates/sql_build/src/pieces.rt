@@ -1,0 +1,434 @@
+//! What each action puts together of the last parts.
+
+ghost use Rattle.std.specs.Prelude.{◌≡◌, ◌++◌, ◌∷◌, [], IfOk};
+ghost use Rattle.sql_build.specs.Parts.{line, Makes, negative, output, plain, plain_query, query, row, select_list, table, term, update};
+ghost use Rattle.sql_parts.specs.declared.action.ListAction.TheVariants as list_action;
+ghost use Rattle.sql_parts.specs.declared.action.QueryAction.TheVariants as query_action;
+ghost use Rattle.sql_parts.specs.declared.action.RowAction.TheVariants as row_action;
+ghost use Rattle.sql_parts.specs.declared.action.TableAction.TheVariants as table_action;
+ghost use Rattle.sql_parts.specs.declared.action.UpdateAction.TheVariants as update_action;
+ghost use Rattle.sql_parts.specs.declared.part.Part.TheVariants as part;
+
+use sql_parts::{
+    AsOf, LineAction, ListAction, OutputAction, Parsed, Part, Parts, QueryAction, RowAction,
+    TableAction, TermAction, UpdateAction,
+};
+use sql_tree::{
+    Aggregate, Assignment, Column, ColumnName, CreateIndex, CreateTable, Delete, Direction, Insert,
+    Name, Operand, OrderKey, Output, OutputValue, Select, SelectList, Statement, Update,
+};
+use std::alloc::{AllocError, Global};
+use values::{Seq, Text, Value};
+
+// A list of one item.
+fn one<T: Drop>(alloc: Global, item: T) -> Result<Seq<T>, AllocError>
+    ensures { IfOk result (λ list. list ≡ item ∷ []) }
+{
+    let mut list = Seq::new(alloc);
+    list.push(item)?;
+    Ok(list)
+}
+
+fn behind_minus(number: i64) -> i64
+    ensures { result ≡ negative number }
+{
+    if number < 0 { number } else { -number }
+}
+
+fn plain(statement: Statement) -> Part
+    ensures { result ≡ plain statement }
+{
+    Part::Parsed(Parsed::Plain(statement))
+}
+
+/// Literals, columns and operands.
+pub fn term(action: TermAction, parts: &mut Parts) -> Option<Part>
+    ensures { Makes result parts.new (term action parts.old) }
+{
+    match action {
+        TermAction::Integer => Some(Part::Literal(Value::Int(parts.number()?))),
+        TermAction::Negative => Some(Part::Literal(Value::Int(behind_minus(parts.number()?)))),
+        TermAction::Text => Some(Part::Literal(Value::Text(parts.text()?))),
+        TermAction::PlainColumn => Some(Part::ColumnName(ColumnName {
+            column: parts.name()?,
+            table: None,
+        })),
+        TermAction::QualifiedColumn => Some(Part::ColumnName(ColumnName {
+            column: parts.name()?,
+            table: Some(parts.name()?),
+        })),
+        TermAction::LiteralOperand => Some(Part::Operand(Operand::Literal(parts.literal()?))),
+        TermAction::ColumnOperand => Some(Part::Operand(Operand::Column(parts.column_name()?))),
+        TermAction::CurrentSnapshot => Some(Part::Operand(Operand::CurrentSnapshot)),
+    }
+}
+
+/// CREATE TABLE and CREATE INDEX.
+pub fn table(
+    alloc: Global,
+    action: TableAction,
+    parts: &mut Parts,
+) -> Result<Option<Part>, AllocError>
+    ensures { IfOk result (λ part. Makes part parts.new (table action parts.old)) }
+{
+    match action {
+        TableAction::Column(kind) => match parts.name() {
+            Some(name) => Ok(Some(Part::Column(Column { name, kind }))),
+            None => Ok(None),
+        },
+        TableAction::CreateTable => create_table(alloc, parts),
+        TableAction::NextColumn => next_column(parts),
+        TableAction::Finish => match parts.create_table() {
+            Some(create) => Ok(Some(plain(Statement::CreateTable(create)))),
+            None => Ok(None),
+        },
+        TableAction::CreateIndex => Ok(index(parts)),
+    }
+}
+
+fn create_table(alloc: Global, parts: &mut Parts) -> Result<Option<Part>, AllocError>
+    ensures { IfOk result (λ part. Makes part parts.new (table table_action.CreateTable parts.old)) }
+{
+    match (parts.column(), parts.name()) {
+        (Some(column), Some(table)) => Ok(Some(Part::CreateTable(CreateTable {
+            table,
+            columns: one(alloc, column)?,
+        }))),
+        (_column, _table) => Ok(None),
+    }
+}
+
+fn next_column(parts: &mut Parts) -> Result<Option<Part>, AllocError>
+    ensures { IfOk result (λ part. Makes part parts.new (table table_action.NextColumn parts.old)) }
+{
+    match (parts.column(), parts.create_table()) {
+        (Some(column), Some(mut create)) => {
+            create.columns.push(column)?;
+            Ok(Some(Part::CreateTable(create)))
+        }
+        (_column, _create) => Ok(None),
+    }
+}
+
+fn index(parts: &mut Parts) -> Option<Part>
+    ensures { Makes result parts.new (table table_action.CreateIndex parts.old) }
+{
+    let column = parts.name()?;
+    let table = parts.name()?;
+    let index = parts.name()?;
+    Some(plain(Statement::CreateIndex(CreateIndex {
+        index,
+        table,
+        column,
+    })))
+}
+
+/// INSERT.
+pub fn row(alloc: Global, action: RowAction, parts: &mut Parts) -> Result<Option<Part>, AllocError>
+    ensures { IfOk result (λ part. Makes part parts.new (row action parts.old)) }
+{
+    match action {
+        RowAction::FirstValue => match parts.literal() {
+            Some(value) => Ok(Some(Part::Row(one(alloc, value)?))),
+            None => Ok(None),
+        },
+        RowAction::NextValue => next_value(parts),
+        RowAction::Insert => insert(alloc, parts),
+        RowAction::NextTuple => next_tuple(parts),
+        RowAction::Finish => match parts.insert() {
+            Some(insert) => Ok(Some(plain(Statement::Insert(insert)))),
+            None => Ok(None),
+        },
+    }
+}
+
+fn next_value(parts: &mut Parts) -> Result<Option<Part>, AllocError>
+    ensures { IfOk result (λ part. Makes part parts.new (row row_action.NextValue parts.old)) }
+{
+    match (parts.literal(), parts.row()) {
+        (Some(value), Some(mut row)) => {
+            row.push(value)?;
+            Ok(Some(Part::Row(row)))
+        }
+        (_value, _row) => Ok(None),
+    }
+}
+
+fn insert(alloc: Global, parts: &mut Parts) -> Result<Option<Part>, AllocError>
+    ensures { IfOk result (λ part. Makes part parts.new (row row_action.Insert parts.old)) }
+{
+    match (parts.row(), parts.name()) {
+        (Some(row), Some(table)) => Ok(Some(Part::Insert(Insert {
+            table,
+            tuples: one(alloc, row)?,
+        }))),
+        (_row, _table) => Ok(None),
+    }
+}
+
+fn next_tuple(parts: &mut Parts) -> Result<Option<Part>, AllocError>
+    ensures { IfOk result (λ part. Makes part parts.new (row row_action.NextTuple parts.old)) }
+{
+    match (parts.row(), parts.insert()) {
+        (Some(row), Some(mut insert)) => {
+            insert.tuples.push(row)?;
+            Ok(Some(Part::Insert(insert)))
+        }
+        (_row, _insert) => Ok(None),
+    }
+}
+
+/// UPDATE and DELETE.
+pub fn update(
+    alloc: Global,
+    action: UpdateAction,
+    parts: &mut Parts,
+) -> Result<Option<Part>, AllocError>
+    ensures { IfOk result (λ part. Makes part parts.new (update action parts.old)) }
+{
+    match action {
+        UpdateAction::Assign => Ok(assignment(parts)),
+        UpdateAction::Update => first_assignment(alloc, parts),
+        UpdateAction::NextAssignment => next_assignment(parts),
+        UpdateAction::Finish => Ok(finished_update(parts)),
+        UpdateAction::Delete => Ok(delete(parts)),
+    }
+}
+
+fn assignment(parts: &mut Parts) -> Option<Part>
+    ensures { Makes result parts.new (update update_action.Assign parts.old) }
+{
+    let value = parts.expression()?;
+    let column = parts.name()?;
+    Some(Part::Assignment(Assignment { column, value }))
+}
+
+fn first_assignment(alloc: Global, parts: &mut Parts) -> Result<Option<Part>, AllocError>
+    ensures { IfOk result (λ part. Makes part parts.new (update update_action.Update parts.old)) }
+{
+    match (parts.assignment(), parts.name()) {
+        (Some(assignment), Some(table)) => Ok(Some(Part::Update(Update {
+            table,
+            assignments: one(alloc, assignment)?,
+            condition: None,
+        }))),
+        (_assignment, _table) => Ok(None),
+    }
+}
+
+fn next_assignment(parts: &mut Parts) -> Result<Option<Part>, AllocError>
+    ensures { IfOk result (λ part. Makes part parts.new (update update_action.NextAssignment parts.old)) }
+{
+    match (parts.assignment(), parts.update()) {
+        (Some(assignment), Some(mut update)) => {
+            update.assignments.push(assignment)?;
+            Ok(Some(Part::Update(update)))
+        }
+        (_assignment, _update) => Ok(None),
+    }
+}
+
+fn finished_update(parts: &mut Parts) -> Option<Part>
+    ensures { Makes result parts.new (update update_action.Finish parts.old) }
+{
+    let condition = parts.condition()?;
+    let mut update = parts.update()?;
+    update.condition = condition;
+    Some(plain(Statement::Update(update)))
+}
+
+fn delete(parts: &mut Parts) -> Option<Part>
+    ensures { Makes result parts.new (update update_action.Delete parts.old) }
+{
+    let condition = parts.condition()?;
+    let table = parts.name()?;
+    Some(plain(Statement::Delete(Delete { table, condition })))
+}
+
+/// The outputs of a select.
+pub fn output(action: OutputAction, parts: &mut Parts) -> Option<Part>
+    ensures { Makes result parts.new (output action parts.old) }
+{
+    let value = match action {
+        OutputAction::Value => OutputValue::Expression(parts.expression()?),
+        OutputAction::CountRows => OutputValue::Aggregate(Aggregate::CountRows),
+        OutputAction::Count => OutputValue::Aggregate(Aggregate::Count(parts.expression()?)),
+        OutputAction::Sum => OutputValue::Aggregate(Aggregate::Sum(parts.expression()?)),
+        OutputAction::Min => OutputValue::Aggregate(Aggregate::Min(parts.expression()?)),
+        OutputAction::Max => OutputValue::Aggregate(Aggregate::Max(parts.expression()?)),
+        OutputAction::Named => {
+            return Some(Part::Output(Output {
+                name: Some(parts.name()?),
+                value: parts.output_value()?,
+            }));
+        }
+        OutputAction::Unnamed => {
+            return Some(Part::Output(Output {
+                value: parts.output_value()?,
+                name: None,
+            }));
+        }
+    };
+    Some(Part::OutputValue(value))
+}
+
+/// The list of a select, and its first table.
+pub fn select_list(
+    alloc: Global,
+    action: ListAction,
+    parts: &mut Parts,
+) -> Result<Option<Part>, AllocError>
+    ensures { IfOk result (λ part. Makes part parts.new (select_list action parts.old)) }
+{
+    match action {
+        ListAction::All => match parts.name() {
+            Some(table) => Ok(Some(query_of(alloc, SelectList::All, table))),
+            None => Ok(None),
+        },
+        ListAction::First => match parts.output() {
+            Some(output) => Ok(Some(Part::Outputs(one(alloc, output)?))),
+            None => Ok(None),
+        },
+        ListAction::Next => next_output(parts),
+        ListAction::From => Ok(from(alloc, parts)),
+    }
+}
+
+fn next_output(parts: &mut Parts) -> Result<Option<Part>, AllocError>
+    ensures { IfOk result (λ part. Makes part parts.new (select_list list_action.Next parts.old)) }
+{
+    match (parts.output(), parts.outputs()) {
+        (Some(output), Some(mut outputs)) => {
+            outputs.push(output)?;
+            Ok(Some(Part::Outputs(outputs)))
+        }
+        (_output, _outputs) => Ok(None),
+    }
+}
+
+fn from(alloc: Global, parts: &mut Parts) -> Option<Part>
+    ensures { Makes result parts.new (select_list list_action.From parts.old) }
+{
+    let table = parts.name()?;
+    let outputs = parts.outputs()?;
+    Some(query_of(alloc, SelectList::Outputs(outputs), table))
+}
+
+// A select without the parts that may be left out.
+fn query_of(alloc: Global, list: SelectList, table: Name) -> Part
+    ensures { result ≡ part.Query (plain_query list table) }
+{
+    Part::Query(Select {
+        distinct: false,
+        list,
+        table,
+        second: None,
+        condition: None,
+        group_by: Seq::new(alloc),
+        order_by: Seq::new(alloc),
+        limit: None,
+    })
+}
+
+/// The other parts of a select.
+pub fn query(action: QueryAction, parts: &mut Parts) -> Result<Option<Part>, AllocError>
+    ensures { IfOk result (λ part. Makes part parts.new (query action parts.old)) }
+{
+    match action {
+        QueryAction::Distinct => Ok(distinct(parts)),
+        QueryAction::Second => Ok(second(parts)),
+        QueryAction::Filter => Ok(filter(parts)),
+        QueryAction::GroupBy => group_by(parts),
+        QueryAction::OrderBy(direction) => order_by(direction, parts),
+        QueryAction::Limit => Ok(limit(parts)),
+        QueryAction::Finish => match parts.query() {
+            Some(query) => Ok(Some(plain(Statement::Select(query)))),
+            None => Ok(None),
+        },
+        QueryAction::AsOf => Ok(as_of(parts)),
+    }
+}
+
+fn distinct(parts: &mut Parts) -> Option<Part>
+    ensures { Makes result parts.new (query query_action.Distinct parts.old) }
+{
+    let mut query = parts.query()?;
+    query.distinct = true;
+    Some(Part::Query(query))
+}
+
+fn second(parts: &mut Parts) -> Option<Part>
+    ensures { Makes result parts.new (query query_action.Second parts.old) }
+{
+    let table = parts.name()?;
+    let mut query = parts.query()?;
+    query.second = Some(table);
+    Some(Part::Query(query))
+}
+
+fn filter(parts: &mut Parts) -> Option<Part>
+    ensures { Makes result parts.new (query query_action.Filter parts.old) }
+{
+    let condition = parts.condition()?;
+    let mut query = parts.query()?;
+    query.condition = condition;
+    Some(Part::Query(query))
+}
+
+fn group_by(parts: &mut Parts) -> Result<Option<Part>, AllocError>
+    ensures { IfOk result (λ part. Makes part parts.new (query query_action.GroupBy parts.old)) }
+{
+    match (parts.column_name(), parts.query()) {
+        (Some(column), Some(mut query)) => {
+            query.group_by.push(column)?;
+            Ok(Some(Part::Query(query)))
+        }
+        (_column, _query) => Ok(None),
+    }
+}
+
+fn order_by(direction: Direction, parts: &mut Parts) -> Result<Option<Part>, AllocError>
+    ensures { IfOk result (λ part. Makes part parts.new (query (query_action.OrderBy direction) parts.old)) }
+{
+    match (parts.column_name(), parts.query()) {
+        (Some(column), Some(mut query)) => {
+            query.order_by.push(OrderKey { column, direction })?;
+            Ok(Some(Part::Query(query)))
+        }
+        (_column, _query) => Ok(None),
+    }
+}
+
+fn limit(parts: &mut Parts) -> Option<Part>
+    ensures { Makes result parts.new (query query_action.Limit parts.old) }
+{
+    let number = parts.number()?;
+    let mut query = parts.query()?;
+    query.limit = Some(number.unsigned_abs());
+    Some(Part::Query(query))
+}
+
+fn as_of(parts: &mut Parts) -> Option<Part>
+    ensures { Makes result parts.new (query query_action.AsOf parts.old) }
+{
+    let query = parts.query()?;
+    let number = parts.number()?;
+    Some(Part::Parsed(Parsed::AsOf(AsOf {
+        snapshot: number.unsigned_abs(),
+        query,
+    })))
+}
+
+/// Lines that are no statements.
+pub fn line(alloc: Global, action: LineAction, parts: &mut Parts) -> Option<Part>
+    ensures { Makes result parts.new (line action parts.old) }
+{
+    let parsed = match action {
+        LineAction::Commit => Parsed::Commit(None),
+        LineAction::CommitUnlabelled => Parsed::Commit(Some(Text::new(Seq::new(alloc)))),
+        LineAction::CommitLabelled => Parsed::Commit(Some(parts.text()?)),
+        LineAction::Rollback => Parsed::Rollback,
+        LineAction::DropBelow => Parsed::DropBelow(parts.number()?.unsigned_abs()),
+    };
+    Some(Part::Parsed(parsed))
+}

@@ -1,0 +1,5 @@
+pub mod Checked
+pub mod Fitting
+pub mod Numbering
+pub mod Stepwise
+pub mod Truths

@@ -1,0 +1,8 @@
+pub mod Check
+pub mod Expressions
+pub mod Laws
+pub mod Names
+pub mod Outputs
+pub mod Rows
+pub mod Selects
+pub mod Steps

@@ -1,0 +1,19 @@
+//! The names and types of statements.
+#![tactic(auto)]
+
+mod checking;
+mod expressions;
+mod laws;
+mod names;
+mod outputs;
+mod rows;
+mod selects;
+#[cfg(test)]
+mod tests;
+
+pub use checking::{check, check_select, select_scope};
+pub use laws::{conditions_are_decided, expressions_keep_their_kind};
+pub use names::is_reserved;
+pub use outputs::answer_columns;
+pub use rows::fits;
+pub use selects::is_grouped;

@@ -1,0 +1,206 @@
+//! The names and types of selects.
+
+ghost use Rattle.std.specs.Prelude.{◌≡◌, ◌&&◌, ◌||◌, not, is_none, IfOk, List};
+ghost use Rattle.std.specs.List.{list_any};
+ghost use Rattle.sql_tree.specs.declared.select.OrderKey.{OrderKey};
+ghost use Rattle.sql_tree.specs.declared.select.Output.{Output};
+ghost use Rattle.sql_check.specs.Expressions.{is_unknown, output_has_unknown, output_kind};
+ghost use Rattle.sql_check.specs.Selects.{breaks_groups, has_aggregate, is_aggregate, is_grouped, is_grouped_by, is_key, is_of_group, keys_have_unknown, lacks_kind, list_has_unknown, names_output, output_is_of_group, outputs_of, same_place, select_has_unknown, select_is_mistyped, where_compares_apart, where_has_unknown};
+
+use crate::expressions::{
+    compares_apart, has_unknown_operand, is_unknown, output_has_unknown, output_kind,
+};
+use crate::names::has_name;
+use crate::outputs::answer_columns;
+use sql_tree::{
+    Column, ColumnName, Condition, Expression, OrderKey, Output, OutputValue, Scope, Select,
+    SelectList,
+};
+use std::alloc::{AllocError, Global};
+
+/// Whether a WHERE has an unknown side.
+pub(crate) fn where_has_unknown(
+    scope: &Scope<'_>,
+    snapshot: Option<u32>,
+    condition: &Option<Condition>,
+) -> bool
+    ensures { result ≡ where_has_unknown scope.now snapshot condition.now }
+{
+    match condition {
+        Some(condition) => has_unknown_operand(scope, snapshot, condition),
+        None => false,
+    }
+}
+
+/// Whether a WHERE compares INT with TEXT.
+pub(crate) fn where_compares_apart(scope: &Scope<'_>, condition: &Option<Condition>) -> bool
+    ensures { result ≡ where_compares_apart scope.now condition.now }
+{
+    match condition {
+        Some(condition) => compares_apart(scope, condition),
+        None => false,
+    }
+}
+
+fn is_aggregate(value: &OutputValue) -> bool
+    ensures { result ≡ is_aggregate value.now }
+{
+    match value {
+        OutputValue::Expression(_) => false,
+        OutputValue::Aggregate(_) => true,
+    }
+}
+
+// The outputs that the list writes out; `*` writes out none.
+fn outputs_of(list: &SelectList) -> &[Output]
+    ensures { result.now ≡ outputs_of list.now }
+{
+    match list {
+        SelectList::All => &[],
+        SelectList::Outputs(outputs) => outputs.as_slice(),
+    }
+}
+
+fn has_aggregate(list: &SelectList) -> bool
+    ensures { result ≡ has_aggregate list.now }
+{
+    outputs_of(list)
+        .iter()
+        .any(|output| is_aggregate(&output.value))
+}
+
+/// Whether the select gives a row for each group, or one for all rows.
+pub fn is_grouped(select: &Select) -> bool
+    ensures { result ≡ is_grouped select.now }
+{
+    has_aggregate(&select.list) || !select.group_by.is_empty()
+}
+
+fn list_has_unknown(scope: &Scope<'_>, snapshot: Option<u32>, list: &SelectList) -> bool
+    ensures { result ≡ list_has_unknown scope.now snapshot list.now }
+{
+    outputs_of(list).iter().any(|output| output_has_unknown(scope, snapshot, &output.value))
+}
+
+fn names_output(columns: &[Column], name: &ColumnName) -> bool
+    ensures { result ≡ names_output columns.now name.now }
+{
+    name.table.is_none() && has_name(&name.column, columns)
+}
+
+// Whether rows can be ordered by what the name stands for.
+fn is_key(scope: &Scope<'_>, select: &Select, columns: &[Column], name: &ColumnName) -> bool
+    ensures { result ≡ is_key scope.now select.now columns.now name.now }
+{
+    let from_one_row = !(is_grouped(select) || select.distinct);
+    names_output(columns, name) || (from_one_row && !is_unknown(scope, name))
+}
+
+fn keys_have_unknown(
+    scope: &Scope<'_>,
+    select: &Select,
+    columns: &[Column],
+    keys: &[OrderKey],
+) -> bool
+    ensures { result ≡ list_any (λ (key : OrderKey). not (is_key scope.now select.now columns.now key.column)) keys.now }
+{
+    keys.iter()
+        .any(|key| !is_key(scope, select, columns, &key.column))
+}
+
+fn any_is_unknown(scope: &Scope<'_>, names: &[ColumnName]) -> bool
+    ensures { result ≡ list_any (is_unknown scope.now) names.now }
+{
+    names.iter().any(|name| is_unknown(scope, name))
+}
+
+/// Whether the select has an unknown name in its outputs, its WHERE, its GROUP BY or its ORDER BY.
+pub(crate) fn select_has_unknown(
+    alloc: Global,
+    snapshot: Option<u32>,
+    select: &Select,
+    scope: &Scope<'_>,
+) -> Result<bool, AllocError>
+    ensures { IfOk result (λ found. found ≡ select_has_unknown snapshot select.now scope.now) }
+{
+    let columns = answer_columns(alloc, scope, &select.list)?;
+    let in_list = list_has_unknown(scope, snapshot, &select.list);
+    let in_where = where_has_unknown(scope, snapshot, &select.condition);
+    let in_groups = any_is_unknown(scope, select.group_by.as_slice());
+    let in_keys = keys_have_unknown(
+        scope,
+        select,
+        columns.as_slice(),
+        select.order_by.as_slice(),
+    );
+    Ok(in_list || in_where || in_groups || in_keys)
+}
+
+fn same_place(a: Option<usize>, b: Option<usize>) -> bool
+    ensures { result ≡ same_place a b }
+{
+    match (a, b) {
+        (Some(a), Some(b)) => a == b,
+        _ => false,
+    }
+}
+
+fn is_grouped_by(scope: &Scope<'_>, columns: &[ColumnName], name: &ColumnName) -> bool
+    ensures { result ≡ is_grouped_by scope.now columns.now name.now }
+{
+    columns.iter().any(|column| same_place(scope.place(column), scope.place(name)))
+}
+
+// Whether the expression has one value for each group.
+fn is_of_group(scope: &Scope<'_>, columns: &[ColumnName], of: &Expression) -> bool
+    ensures { result ≡ is_of_group scope.now columns.now of.now }
+{
+    match of.column() {
+        Some(name) => of.is_constant() || is_grouped_by(scope, columns, name),
+        None => of.is_constant(),
+    }
+}
+
+fn output_is_of_group(scope: &Scope<'_>, columns: &[ColumnName], value: &OutputValue) -> bool
+    ensures { result ≡ output_is_of_group scope.now columns.now value.now }
+{
+    match value {
+        OutputValue::Expression(of) => is_of_group(scope, columns, of),
+        OutputValue::Aggregate(_) => true,
+    }
+}
+
+fn any_breaks_groups(scope: &Scope<'_>, columns: &[ColumnName], outputs: &[Output]) -> bool
+    ensures { result ≡ list_any (λ (output : Output). not (output_is_of_group scope.now columns.now output.value)) outputs.now }
+{
+    outputs.iter().any(|output| !output_is_of_group(scope, columns, &output.value))
+}
+
+// Whether an output has more than one value for a group, as `*` has.
+fn breaks_groups(scope: &Scope<'_>, columns: &[ColumnName], list: &SelectList) -> bool
+    ensures { result ≡ breaks_groups scope.now columns.now list.now }
+{
+    match list {
+        SelectList::All => true,
+        SelectList::Outputs(outputs) => any_breaks_groups(scope, columns, outputs.as_slice()),
+    }
+}
+
+fn lacks_kind(scope: &Scope<'_>, list: &SelectList) -> bool
+    ensures { result ≡ lacks_kind scope.now list.now }
+{
+    outputs_of(list)
+        .iter()
+        .any(|output| output_kind(scope, &output.value).is_none())
+}
+
+/// Whether the select has a wrong type in its outputs or its WHERE, or an output that breaks its groups.
+pub(crate) fn select_is_mistyped(select: &Select, scope: &Scope<'_>) -> bool
+    ensures { result ≡ select_is_mistyped select.now scope.now }
+{
+    let in_list = lacks_kind(scope, &select.list);
+    let in_where = where_compares_apart(scope, &select.condition);
+    let in_groups = is_grouped(select)
+        && breaks_groups(scope, select.group_by.as_slice(), &select.list);
+    in_list || in_where || in_groups
+}

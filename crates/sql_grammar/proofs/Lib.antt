@@ -1,0 +1,5 @@
+pub mod Classes
+pub mod Finishing
+pub mod Stack
+pub mod Steps
+pub mod Tables

@@ -1,0 +1,4 @@
+pub mod Derivation
+pub mod Grammar
+pub mod Machine
+pub mod Table

@@ -1,0 +1,2 @@
+pub mod PartCode
+pub mod Taking

@@ -1,0 +1,13 @@
+//! What a line of the SQL says, what its sentence puts out, and the parts that are not put together yet.
+#![tactic(auto)]
+
+mod action;
+mod parsed;
+mod part;
+
+pub use action::{
+    Action, LineAction, ListAction, Op, OutputAction, QueryAction, RowAction, StepAction,
+    TableAction, TermAction, UpdateAction,
+};
+pub use parsed::{AsOf, Parsed};
+pub use part::{Part, Parts};

@@ -1,0 +1,260 @@
+//! The parts of a sentence that are not put together yet.
+
+ghost use Rattle.std.specs.Prelude.{◌≡◌, ◌∷◌, [], MatchOption, OnOk};
+ghost use Rattle.sql_parts.specs.Taking.{a_column, a_column_name, a_condition, a_create_table, a_line, a_literal, a_name, a_number, a_query, a_row, a_text, an_assignment, an_expression, an_insert, an_operand, an_output, an_output_value, an_update, outputs, Takes};
+
+use crate::parsed::Parsed;
+use sql_tree::{
+    Assignment, Column, ColumnName, Condition, CreateTable, Expression, Insert, Name, Operand,
+    Output, OutputValue, Select, Update,
+};
+use std::alloc::{AllocError, Global};
+use std::marker::Model;
+use values::{Row, Seq, Text, Value};
+
+/// A part of a sentence.
+#[derive(Drop)]
+pub enum Part {
+    Name(Name),
+    Number(i64),
+    Text(Text),
+    Literal(Value),
+    ColumnName(ColumnName),
+    Operand(Operand),
+    Expression(Expression),
+    /// A condition, or none where there is no WHERE.
+    Condition(Option<Condition>),
+    Column(Column),
+    CreateTable(CreateTable),
+    Row(Row),
+    Insert(Insert),
+    Assignment(Assignment),
+    Update(Update),
+    OutputValue(OutputValue),
+    Output(Output),
+    Outputs(Seq<Output>),
+    Query(Select),
+    Parsed(Parsed),
+}
+
+/// Parts, one above the other. Contracts see the last first.
+#[derive(Drop)]
+pub struct Parts {
+    items: Vec<Part>,
+}
+
+impl Model for Parts {
+    ghost use Rattle.std.specs.Prelude.{List, reverse};
+    ghost use Rattle.sql_parts.specs.PartCode.{parts_code};
+    ghost use Rattle.sql_parts.specs.declared.part.Part.{Part};
+
+    ghost Value = { List Part };
+
+    ghost coded = { parts_code };
+
+    ghost view = { λ p. reverse p.items.items };
+}
+
+impl Parts {
+    pub fn new(alloc: Global) -> Parts
+        ensures { result ≡ [] }
+    {
+        Parts {
+            items: Vec::new(alloc),
+        }
+    }
+
+    pub fn push(&mut self, part: Part) -> Result<(), AllocError>
+        ensures { OnOk result (self.new ≡ part ∷ self.old) }
+    {
+        self.items.push(part)?;
+        Ok(())
+    }
+
+    pub fn pop(&mut self) -> Option<Part>
+        ensures { MatchOption result ((self.old ≡ []) × (self.new ≡ [])) (λ part. self.old ≡ part ∷ self.new) }
+    {
+        self.items.pop()
+    }
+}
+
+// The part is of another kind.
+fn none_of<T>(_other: Part) -> Option<T>
+    ensures { result ≡ None }
+{
+    None
+}
+
+/// The last part, where it is one of that kind.
+impl Parts {
+    pub fn name(&mut self) -> Option<Name>
+        ensures { Takes result self.new (a_name self.old) }
+    {
+        match self.pop()? {
+            Part::Name(part) => Some(part),
+            other => none_of(other),
+        }
+    }
+
+    pub fn number(&mut self) -> Option<i64>
+        ensures { Takes result self.new (a_number self.old) }
+    {
+        match self.pop()? {
+            Part::Number(part) => Some(part),
+            other => none_of(other),
+        }
+    }
+
+    pub fn text(&mut self) -> Option<Text>
+        ensures { Takes result self.new (a_text self.old) }
+    {
+        match self.pop()? {
+            Part::Text(part) => Some(part),
+            other => none_of(other),
+        }
+    }
+
+    pub fn literal(&mut self) -> Option<Value>
+        ensures { Takes result self.new (a_literal self.old) }
+    {
+        match self.pop()? {
+            Part::Literal(part) => Some(part),
+            other => none_of(other),
+        }
+    }
+
+    pub fn column_name(&mut self) -> Option<ColumnName>
+        ensures { Takes result self.new (a_column_name self.old) }
+    {
+        match self.pop()? {
+            Part::ColumnName(part) => Some(part),
+            other => none_of(other),
+        }
+    }
+
+    pub fn operand(&mut self) -> Option<Operand>
+        ensures { Takes result self.new (an_operand self.old) }
+    {
+        match self.pop()? {
+            Part::Operand(part) => Some(part),
+            other => none_of(other),
+        }
+    }
+
+    pub fn expression(&mut self) -> Option<Expression>
+        ensures { Takes result self.new (an_expression self.old) }
+    {
+        match self.pop()? {
+            Part::Expression(part) => Some(part),
+            other => none_of(other),
+        }
+    }
+
+    pub fn condition(&mut self) -> Option<Option<Condition>>
+        ensures { Takes result self.new (a_condition self.old) }
+    {
+        match self.pop()? {
+            Part::Condition(part) => Some(part),
+            other => none_of(other),
+        }
+    }
+
+    pub fn column(&mut self) -> Option<Column>
+        ensures { Takes result self.new (a_column self.old) }
+    {
+        match self.pop()? {
+            Part::Column(part) => Some(part),
+            other => none_of(other),
+        }
+    }
+
+    pub fn create_table(&mut self) -> Option<CreateTable>
+        ensures { Takes result self.new (a_create_table self.old) }
+    {
+        match self.pop()? {
+            Part::CreateTable(part) => Some(part),
+            other => none_of(other),
+        }
+    }
+
+    pub fn row(&mut self) -> Option<Row>
+        ensures { Takes result self.new (a_row self.old) }
+    {
+        match self.pop()? {
+            Part::Row(part) => Some(part),
+            other => none_of(other),
+        }
+    }
+
+    pub fn insert(&mut self) -> Option<Insert>
+        ensures { Takes result self.new (an_insert self.old) }
+    {
+        match self.pop()? {
+            Part::Insert(part) => Some(part),
+            other => none_of(other),
+        }
+    }
+
+    pub fn assignment(&mut self) -> Option<Assignment>
+        ensures { Takes result self.new (an_assignment self.old) }
+    {
+        match self.pop()? {
+            Part::Assignment(part) => Some(part),
+            other => none_of(other),
+        }
+    }
+
+    pub fn update(&mut self) -> Option<Update>
+        ensures { Takes result self.new (an_update self.old) }
+    {
+        match self.pop()? {
+            Part::Update(part) => Some(part),
+            other => none_of(other),
+        }
+    }
+
+    pub fn output_value(&mut self) -> Option<OutputValue>
+        ensures { Takes result self.new (an_output_value self.old) }
+    {
+        match self.pop()? {
+            Part::OutputValue(part) => Some(part),
+            other => none_of(other),
+        }
+    }
+
+    pub fn output(&mut self) -> Option<Output>
+        ensures { Takes result self.new (an_output self.old) }
+    {
+        match self.pop()? {
+            Part::Output(part) => Some(part),
+            other => none_of(other),
+        }
+    }
+
+    pub fn outputs(&mut self) -> Option<Seq<Output>>
+        ensures { Takes result self.new (outputs self.old) }
+    {
+        match self.pop()? {
+            Part::Outputs(part) => Some(part),
+            other => none_of(other),
+        }
+    }
+
+    pub fn query(&mut self) -> Option<Select>
+        ensures { Takes result self.new (a_query self.old) }
+    {
+        match self.pop()? {
+            Part::Query(part) => Some(part),
+            other => none_of(other),
+        }
+    }
+
+    pub fn parsed(&mut self) -> Option<Parsed>
+        ensures { Takes result self.new (a_line self.old) }
+    {
+        match self.pop()? {
+            Part::Parsed(part) => Some(part),
+            other => none_of(other),
+        }
+    }
+}

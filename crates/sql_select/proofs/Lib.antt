@@ -1,0 +1,7 @@
+pub mod CheckedSelects
+pub mod Eaches
+pub mod Firsts
+pub mod Following
+pub mod InGroups
+pub mod SortKeys
+pub mod Sorting

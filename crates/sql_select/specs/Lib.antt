@@ -1,0 +1,11 @@
+pub mod Aggregates
+pub mod Checked
+pub mod Each
+pub mod Groups
+pub mod Laws
+pub mod Order
+pub mod Outputs
+pub mod Rows
+pub mod Same
+pub mod Sameness
+pub mod Select

@@ -1,0 +1,73 @@
+//! Rows at their first appearance, and rows in groups.
+
+ghost use Rattle.std.specs.Prelude.{◌≡◌, ◌++◌, ◌∷◌, [], IfErr, IfOk, OnOk};
+ghost use Rattle.indexmap.specs.IndexSet.{insert_key};
+ghost use Rattle.std.specs.List.{position_or_len};
+ghost use Rattle.retro_base.specs.declared.refusal.Refusal.TheVariants.{OutOfMemory};
+ghost use Rattle.sql_select.specs.Groups.{distinct, groups, with_member};
+ghost use Rattle.sql_select.specs.Same.{same_row};
+
+use crate::output_row::OutputRow;
+use crate::row_key::RowKey;
+use indexmap::IndexSet;
+use retro_base::Refusal;
+use std::alloc::Global;
+use values::{Duplicate, Row, Seq};
+
+/// A row beside its values in the columns of GROUP BY.
+#[derive(Debug, Drop)]
+pub struct KeyedRow {
+    pub key: Row,
+    pub row: Row,
+}
+
+/// The first of the rows with the same outputs.
+pub(crate) fn distinct(alloc: Global, rows: Vec<OutputRow>) -> Result<Vec<OutputRow>, Refusal>
+    ensures rows { IfOk result (λ found. found.items ≡ distinct rows.items) }
+    ensures memory { IfErr result (λ why. why ≡ OutOfMemory) }
+{
+    let mut seen = IndexSet::new(alloc);
+    let mut found = Vec::new(alloc);
+    for row in rows {
+        let key = RowKey::new(row.outputs.copy(alloc)?);
+        if seen.insert(key)? {
+            found.push(row)?;
+        }
+    }
+    Ok(found)
+}
+
+/// One group of rows for each key, in order of first appearance.
+pub(crate) fn groups(alloc: Global, rows: Vec<KeyedRow>) -> Result<Vec<Seq<Row>>, Refusal>
+    ensures rows { IfOk result (λ found. found.items ≡ groups rows.items) }
+    ensures memory { IfErr result (λ why. why ≡ OutOfMemory) }
+{
+    let mut keys = IndexSet::new(alloc);
+    let mut found = Vec::new(alloc);
+    for keyed in rows {
+        let (place, _) = keys.insert_full(RowKey::new(keyed.key))?;
+        add_member(alloc, &mut found, place, keyed.row)?;
+    }
+    Ok(found)
+}
+
+// Adds a row to the group at the place, or to a new group behind them all where none stands there.
+fn add_member(
+    alloc: Global,
+    groups: &mut Vec<Seq<Row>>,
+    place: usize,
+    row: Row,
+) -> Result<(), Refusal>
+    ensures rows { OnOk result (groups.new.items ≡ with_member groups.old.items place row) }
+    ensures memory { IfErr result (λ why. why ≡ OutOfMemory) }
+{
+    if place < groups.len() {
+        let group = &mut groups[place];
+        group.push(row)?;
+    } else {
+        let mut group = Seq::new(alloc);
+        group.push(row)?;
+        groups.push(group)?;
+    }
+    Ok(())
+}

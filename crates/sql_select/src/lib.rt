@@ -1,0 +1,24 @@
+//! The answer of a select over the rows of its one or two tables.
+#![tactic(auto)]
+
+mod aggregates;
+mod answer;
+mod grouping;
+mod joining;
+mod laws;
+mod ordering;
+mod output_row;
+mod output_rows;
+mod outputs;
+mod row_key;
+mod selecting;
+#[cfg(test)]
+mod tests;
+
+pub use answer::Answer;
+pub use joining::HasRow;
+pub use laws::{
+    checked_selects_answer, distinct_leaves_one, groups_are_not_empty, limit_gives_a_front,
+    min_is_least, order_keeps_rows, star_gives_rows,
+};
+pub use selecting::select;

@@ -1,0 +1,134 @@
+//! The answer of a select.
+
+ghost use Rattle.std.specs.Prelude.{◌≡◌, map, OnOk, IfOk, IfErr, not, ◌||◌};
+ghost use Rattle.std.specs.Option.{option_copied, option_map};
+ghost use Rattle.retro_base.specs.Gives.{Gives};
+ghost use Rattle.retro_base.specs.declared.refusal.Refusal.TheVariants.{OutOfMemory};
+ghost use Rattle.sql_select.specs.Each.{each};
+ghost use Rattle.sql_select.specs.Rows.{holds_at, joined_rows, kept};
+ghost use Rattle.sql_select.specs.Select.{answer, finished, key_place, limited, output_place, outputs_of, sort_key};
+
+use crate::answer::Answer;
+use crate::grouping::distinct;
+use crate::joining::{HasRow, keep_of_one, keep_of_two};
+use crate::ordering::{KeyPlace, SortKey, sort};
+use crate::output_row::OutputRow;
+use crate::output_rows::output_rows;
+use retro_base::Refusal;
+use sql_check::is_grouped;
+use sql_tree::{Column, ColumnName, OrderKey, Scope, Select, column_place};
+use std::alloc::Global;
+use values::{Row, Seq};
+
+/// The answer of a select, with these columns, over the rows of its first table and, where it has one, of its second.
+/// `scope` tells the tables' columns, `columns` the answer's, and `snapshot` is the number of `current_snapshot()`.
+/// A checked select is refused for want of memory, or by Overflow where a number that it works out at a kept row, or the
+/// end of a SUM, is outside i64. What the check refuses is refused here where a row or a key shows it.
+pub fn select<R: HasRow>(
+    alloc: Global,
+    select: &Select,
+    scope: &Scope<'_>,
+    columns: Seq<Column>,
+    snapshot: Option<u32>,
+    firsts: &[R],
+    seconds: Option<&[R]>,
+) -> Result<Answer, Refusal>
+    ensures { Gives (λ answer. answer) result (answer select.now scope.now columns snapshot (map R.row_of firsts.now) (option_map (map R.row_of) (option_copied seconds.entry))) }
+{
+    let rows = match seconds {
+        None => keep_of_one(alloc, &select.condition, scope, snapshot, firsts)?,
+        Some(seconds) => {
+            keep_of_two(alloc, &select.condition, scope, snapshot, firsts, seconds)?
+        }
+    };
+    let found = output_rows(alloc, scope, snapshot, select, rows)?;
+    let keys = sort_keys(alloc, select, scope, columns.as_slice())?;
+    let rows = finish(alloc, select, &keys, found)?;
+    Ok(Answer { columns, rows })
+}
+
+fn sort_keys(
+    alloc: Global,
+    select: &Select,
+    scope: &Scope<'_>,
+    columns: &[Column],
+) -> Result<Vec<SortKey>, Refusal>
+    ensures { Gives (λ keys. keys.items) result (each (sort_key select.now scope.now columns.now) select.now.order_by) }
+{
+    let mut keys = Vec::new(alloc);
+    for key in select.order_by.as_slice() {
+        keys.push(sort_key(select, scope, columns, key)?)?;
+    }
+    Ok(keys)
+}
+
+fn sort_key(
+    select: &Select,
+    scope: &Scope<'_>,
+    columns: &[Column],
+    key: &OrderKey,
+) -> Result<SortKey, Refusal>
+    ensures { result ≡ sort_key select.now scope.now columns.now key.now }
+{
+    let of_rows = !(is_grouped(select) || select.distinct);
+    let output = output_place(columns, &key.column);
+    let place = key_place(of_rows, output, scope.place(&key.column))?;
+    let direction = key.direction;
+    Ok(SortKey { place, direction })
+}
+
+fn output_place(columns: &[Column], name: &ColumnName) -> Option<usize>
+    ensures { result ≡ output_place columns.now name.now.table name.now.column }
+{
+    match name.table {
+        None => column_place(&name.column, columns),
+        Some(_) => None,
+    }
+}
+
+fn key_place(
+    of_rows: bool,
+    output: Option<usize>,
+    column: Option<usize>,
+) -> Result<KeyPlace, Refusal>
+    ensures { result ≡ key_place of_rows output column }
+{
+    match (output, column) {
+        (Some(place), _) => Ok(KeyPlace::Output(place)),
+        (None, Some(place)) if of_rows => Ok(KeyPlace::Column(place)),
+        (None, _) => Err(Refusal::UnknownName),
+    }
+}
+
+// DISTINCT, then ORDER BY, then LIMIT.
+fn finish(
+    alloc: Global,
+    select: &Select,
+    keys: &[SortKey],
+    rows: Vec<OutputRow>,
+) -> Result<Seq<Row>, Refusal>
+    ensures rows { IfOk result (λ found. found ≡ finished select.now keys.now rows.items) }
+    ensures memory { IfErr result (λ why. why ≡ OutOfMemory) }
+{
+    let mut rows = if select.distinct {
+        distinct(alloc, rows)?
+    } else {
+        rows
+    };
+    sort(&mut rows, keys)?;
+    if let Some(limit) = select.limit {
+        rows.truncate(limit as usize);
+    }
+    outputs_of(alloc, rows)
+}
+
+fn outputs_of(alloc: Global, rows: Vec<OutputRow>) -> Result<Seq<Row>, Refusal>
+    ensures rows { IfOk result (λ found. found ≡ map outputs_of rows.items) }
+    ensures memory { IfErr result (λ why. why ≡ OutOfMemory) }
+{
+    let mut found = Vec::with_capacity(alloc, rows.len())?;
+    for row in rows {
+        found.push(row.outputs)?;
+    }
+    Ok(Seq::from(found))
+}

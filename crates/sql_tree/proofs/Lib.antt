@@ -1,0 +1,5 @@
+mod Conditions
+mod Expressions
+mod Narrow
+mod Places
+mod Running

@@ -1,0 +1,66 @@
+//! How long encoded rows are.
+
+ghost use Rattle.std.specs.Prelude.{◌≡◌, ◌≤◌, ◌∷◌, [], List, length};
+ghost use Rattle.std.specs.List.{AllByRecursion};
+ghost use Rattle.values.specs.declared.value.Value.{Value as ValueOf};
+ghost use Rattle.tables.specs.Meaning.{check_lengths};
+ghost use Rattle.tables.specs.Rows.{row_bytes, rows_of, value_bytes};
+
+use crate::contents::NumberedRow;
+use retro_base::{ROW_BYTES, Refusal};
+use values::{Row, Value};
+
+fn value_bytes(value: &Value) -> u32
+    ensures value { result ≡ value_bytes value.now }
+    ensures bound { result ≤ 202 }
+{
+    match value {
+        Value::Int(_) => 9,
+        Value::Text(text) => 2 + text.bytes().len() as u32,
+    }
+}
+
+fn row_bytes(row: &[Value]) -> u32
+    requires { length row.now ≤ 16 }
+    ensures { result ≡ row_bytes row.now }
+{
+    let mut bytes = 9;
+    for value in row {
+        bytes += value_bytes(value);
+    }
+    bytes
+}
+
+// Refused where the encoded row takes more than 900 bytes.
+fn check_length(row: &[Value]) -> Result<(), Refusal>
+    requires { length row.now ≤ 16 }
+    ensures { result ≡ check_lengths (row.now ∷ []) }
+{
+    let bytes = row_bytes(row);
+    if bytes > ROW_BYTES as u32 {
+        return Err(Refusal::RowTooLong { bytes });
+    }
+    Ok(())
+}
+
+/// Refused where an encoded row takes more than 900 bytes; the first such row is told.
+pub fn check_tuples(rows: &[Row]) -> Result<(), Refusal>
+    requires { AllByRecursion (λ (row : List ValueOf). length row ≤ 16) rows.now }
+    ensures { result ≡ check_lengths rows.now }
+{
+    for row in rows {
+        check_length(row.as_slice())?;
+    }
+    Ok(())
+}
+
+/// The same of numbered rows.
+pub fn check_rows(rows: &[NumberedRow]) -> Result<(), Refusal>
+    requires { AllByRecursion (λ (row : List ValueOf). length row ≤ 16) (rows_of rows.now) }
+    ensures { result ≡ check_lengths (rows_of rows.now) }
+{
+    for row in rows {
+        check_length(row.row.as_slice())?;
+    }
+    Ok(())
+}
