@@ -1,0 +1,13 @@
+mod Conditions
+mod Contents
+mod Derived
+mod Drafts
+mod Expressions
+mod Keeping
+mod Leads
+mod Lines
+mod Once
+mod Said
+mod Selects
+mod Spelling
+mod Writers
