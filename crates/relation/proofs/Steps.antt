@@ -1,0 +1,117 @@
+-- Steps for each item of a list.
+use Rattle.std.proofs.Common.{◌≡◌, ◌∙◌, ◌<◌, ◌+◌, ◌++◌, ◌⊎◌, ℕ, suc, List, [], ◌∷◌, length, get_or, take, drop, Option, Some, None, Result, Ok, Err, inl, inr, refl, sym, ap, subst, drop-cons}
+use Rattle.std.specs.List.{cons_option, filter_map}
+use Rattle.std.proofs.lemmas.List.{append-nil, take_more, take-append-drop}
+use Rattle.std.proofs.lemmas.List.Elements.{filter_map-append}
+use Rattle.retro_base.specs.declared.refusal.Refusal.{Refusal}
+use Rattle.values.specs.declared.value.Value.{Value}
+use Rattle.sql_tree.specs.declared.statement.Column.{Column}
+use Rattle.pager.specs.Draft.{Edits, drafted}
+use Rattle.pager.specs.Pages.{Pages}
+use Rattle.heap_file.specs.Allows.{◌>>=◌, only}
+use Rattle.relation.specs.Each.{each, in_turn}
+use Rattle.relation.specs.Work.{all_added, created}
+
+-- one item more
+pub each-push : {A B : Type 0} (step : A → Result B Refusal → Type 0) (xs : List A) (ys : List B) (x : A) (y : B) → each step xs (Ok ys) → step x (Ok y) → each step (xs ++ x ∷ []) (Ok (ys ++ y ∷ []))
+each-push step [] ys x y h s = (y, s, ([], refl, ap (λ l. Ok (l ++ y ∷ [])) (let same : [] ≡ ys = cc in same)))
+each-push step (z ∷ xs) ys x y h s =
+    let same : h.0 ∷ h.2.0 ≡ ys = cc (h.2.2) in
+    (h.0, h.1, (h.2.0 ++ y ∷ [], each-push step xs h.2.0 x y h.2.1 s, ap (λ l. Ok (l ++ y ∷ [])) same))
+
+-- an item of which nothing is made
+pub each-stop : {A B : Type 0} (step : A → Result B Refusal → Type 0) (xs : List A) (ys : List B) (x : A) (behind : List A) (why : Refusal) → each step xs (Ok ys) → step x (Err why) → each step (xs ++ x ∷ behind) (Err why)
+each-stop step [] ys x behind why h s = inl s
+each-stop step (z ∷ xs) ys x behind why h s = inr (h.0, h.1, inl (each-stop step xs h.2.0 x behind why h.2.1 s))
+
+-- a list around one of its items
+pub around : {A : Type 0} (xs : List A) (i : ℕ) (d : A) → i < length xs → take i xs ++ get_or xs i d ∷ drop (suc i) xs ≡ xs
+around xs i d lt = ap (λ l. take i xs ++ l) (sym (drop-cons xs i d lt)) ∙ take-append-drop i xs
+
+abbrev pub pages_in : Pages → Result (Unit {0} × Pages) Refusal → Pages
+pages_in other (Ok done) = done.1
+pages_in other (Err why) = other
+
+pub left_pages : (p q : Pages) → only {A = Unit {0} × Pages} (Ok (tt, p)) (Ok (tt, q)) → p ≡ q
+left_pages p q h = ap (pages_in p) h
+
+-- one edit more
+pub in_turn-push : {A X : Type 0} (step : A → Pages → Result (X × Pages) Refusal → Type 0) (xs : List A) (x : A) (v : X) (p q r : Pages) → in_turn step xs p (Ok (tt, q)) → step x q (Ok (v, r)) → in_turn step (xs ++ x ∷ []) p (Ok (tt, r))
+in_turn-push step [] x v p q r h s =
+    let same : q ≡ p = sym (left_pages p q h) in
+    ((v, r), subst (λ (at : Pages). step x at (Ok (v, r))) same s, refl)
+in_turn-push step (z ∷ xs) x v p q r h s = (h.0, h.1, in_turn-push step xs x v h.0.1 q r h.2 s)
+
+-- an edit that is refused
+pub in_turn-stop : {A X : Type 0} (step : A → Pages → Result (X × Pages) Refusal → Type 0) (xs : List A) (x : A) (behind : List A) (p q : Pages) (why : Refusal) → in_turn step xs p (Ok (tt, q)) → step x q (Err why) → in_turn step (xs ++ x ∷ behind) p (Err why)
+in_turn-stop step [] x behind p q why h s =
+    let same : q ≡ p = sym (left_pages p q h) in
+    inl (subst (λ (at : Pages). step x at (Err why)) same s)
+in_turn-stop step (z ∷ xs) x behind p q why h s = inr (h.0, h.1, in_turn-stop step xs x behind h.0.1 q why h.2 s)
+
+-- one item more of a list that is read from its front
+pub each-next : {A B : Type 0} (step : A → Result B Refusal → Type 0) (xs : List A) (i : ℕ) (x : A) (ys : List B) (y : B) → i < length xs → x ≡ get_or xs i x → each step (take i xs) (Ok ys) → step x (Ok y) → each step (take (i + 1) xs) (Ok (ys ++ y ∷ []))
+each-next step xs i x ys y lt is h s =
+    rw (take_more xs i x lt, ← is) (each-push step (take i xs) ys x y h s)
+
+pub each-ended : {A B : Type 0} (step : A → Result B Refusal → Type 0) (xs : List A) (i : ℕ) (x : A) (ys : List B) (why : Refusal) → i < length xs → x ≡ get_or xs i x → each step (take i xs) (Ok ys) → step x (Err why) → each step xs (Err why)
+each-ended step xs i x ys why lt is h s =
+    subst (λ l. each step l (Err why)) (ap (λ y. take i xs ++ y ∷ drop (suc i) xs) is ∙ around xs i x lt) (each-stop step (take i xs) ys x (drop (suc i) xs) why h s)
+
+-- one edit more, and one that is refused, for a list that is read from its front
+pub in_turn-next : {A X : Type 0} (step : A → Pages → Result (X × Pages) Refusal → Type 0) (xs : List A) (i : ℕ) (x : A) (v : X) (p q r : Pages) → i < length xs → x ≡ get_or xs i x → in_turn step (take i xs) p (Ok (tt, q)) → step x q (Ok (v, r)) → in_turn step (take (i + 1) xs) p (Ok (tt, r))
+in_turn-next step xs i x v p q r lt is h s =
+    rw (take_more xs i x lt, ← is) (in_turn-push step (take i xs) x v p q r h s)
+
+pub in_turn-ended : {A X : Type 0} (step : A → Pages → Result (X × Pages) Refusal → Type 0) (xs : List A) (i : ℕ) (x : A) (p q : Pages) (why : Refusal) → i < length xs → x ≡ get_or xs i x → in_turn step (take i xs) p (Ok (tt, q)) → step x q (Err why) → in_turn step xs p (Err why)
+in_turn-ended step xs i x p q why lt is h s =
+    subst (λ l. in_turn step l p (Err why)) (ap (λ y. take i xs ++ y ∷ drop (suc i) xs) is ∙ around xs i x lt) (in_turn-stop step (take i xs) x (drop (suc i) xs) p q why h s)
+
+-- a refusal that is handed on
+pub handed_on : {M P Q B : Type 0} → (P → Q) → M ⊎ (P × B) → M ⊎ (Q × B)
+handed_on go (inl memory) = inl memory
+handed_on go (inr told) = inr (go told.0, told.1)
+
+-- what is made of one item more
+pub filter_map-next : {A B : Type 0} (h : A → Option B) (xs : List A) (i : ℕ) (x : A) → i < length xs → x ≡ get_or xs i x → filter_map h (take (i + 1) xs) ≡ filter_map h (take i xs) ++ cons_option (h x) []
+filter_map-next h xs i x lt is = rw (take_more xs i x lt, ← is) (filter_map-append h (take i xs) (x ∷ []))
+
+pub filter_map-some : {A B : Type 0} (h : A → Option B) (xs : List A) (i : ℕ) (x : A) (b : B) → i < length xs → x ≡ get_or xs i x → h x ≡ Some b → filter_map h (take (i + 1) xs) ≡ filter_map h (take i xs) ++ b ∷ []
+filter_map-some h xs i x b lt is made = rw (filter_map-next h xs i x lt is, made) refl
+
+pub filter_map-none : {A B : Type 0} (h : A → Option B) (xs : List A) (i : ℕ) (x : A) → i < length xs → x ≡ get_or xs i x → h x ≡ None → filter_map h (take (i + 1) xs) ≡ filter_map h (take i xs)
+filter_map-none h xs i x lt is made = rw (filter_map-next h xs i x lt is, made, append-nil) refl
+
+-- a step for an item, where something is made of it, and where nothing is
+pub some-next : {A B C : Type 0} (h : A → Option B) (step : B → Result C Refusal → Type 0) (xs : List A) (i : ℕ) (x : A) (b : B) (ys : List C) (y : C) → i < length xs → x ≡ get_or xs i x → h x ≡ Some b → each step (filter_map h (take i xs)) (Ok ys) → step b (Ok y) → each step (filter_map h (take (i + 1) xs)) (Ok (ys ++ y ∷ []))
+some-next h step xs i x b ys y lt is made so_far s =
+    rw (filter_map-next h xs i x lt is, made) (each-push step (filter_map h (take i xs)) ys b y so_far s)
+
+pub none-next : {A B C : Type 0} (h : A → Option B) (step : B → Result C Refusal → Type 0) (xs : List A) (i : ℕ) (x : A) (ys : List C) → i < length xs → x ≡ get_or xs i x → h x ≡ None → each step (filter_map h (take i xs)) (Ok ys) → each step (filter_map h (take (i + 1) xs)) (Ok ys)
+none-next h step xs i x ys lt is made so_far =
+    rw (filter_map-next h xs i x lt is, made, append-nil) so_far
+
+pub some-ended : {A B C : Type 0} (h : A → Option B) (step : B → Result C Refusal → Type 0) (xs : List A) (i : ℕ) (x : A) (b : B) (ys : List C) (why : Refusal) → i < length xs → x ≡ get_or xs i x → h x ≡ Some b → each step (filter_map h (take i xs)) (Ok ys) → step b (Err why) → each step (filter_map h xs) (Err why)
+some-ended h step xs i x b ys why lt is made so_far s =
+    let split : filter_map h xs ≡ filter_map h (take i xs) ++ b ∷ filter_map h (drop (suc i) xs) =
+    ap (filter_map h) (sym (around xs i x lt)) ∙ filter_map-append h (take i xs) (get_or xs i x ∷ drop (suc i) xs) ∙ ap (λ l. filter_map h (take i xs) ++ l) (rw (← is, made) refl) in
+    rw split (each-stop step (filter_map h (take i xs)) ys b (filter_map h (drop (suc i) xs)) why so_far s)
+
+pub handed_to : {M P Q B : Type 0} → (P → Q) → M ⊎ (P × B) → M ⊎ Q
+handed_to go (inl memory) = inl memory
+handed_to go (inr told) = inr (go told.0)
+
+-- an answer of the second of two steps
+pub next_step : {A B : Type 0} (step : Result A Refusal → Type 0) (next : A → Result B Refusal → Type 0) (x : A) → step (Ok x) → (a : Result B Refusal) → next x a → (step >>= next) a
+next_step step next x s (Ok y) h = (x, s, h)
+next_step step next x s (Err why) h = inr (x, s, h)
+
+-- the same rows in the same store
+pub added_at : (size width first : ℕ) (rows others : List (List Value)) (pages : Pages) (a : Result (Unit {0} × Pages) Refusal) → width ≡ size → others ≡ rows → all_added width first others pages a → all_added size first rows pages a
+added_at size width first rows others pages a e f h =
+    subst (λ (s : ℕ). all_added s first rows pages a) e (subst (λ (r : List (List Value)). all_added width first r pages a) f h)
+
+-- a table that is made under no edits
+pub created_on : (draft : Edits) (size width : ℕ) (shown : Pages) (name : List ℕ) (columns : List Column) (a : Result (Unit {0} × Pages) Refusal) → draft ≡ record { size = width; list = [] } → width ≡ size → created draft.size (drafted shown draft.list) name columns a → created size shown name columns a
+created_on draft size width shown name columns a e f h =
+    subst (λ (s : ℕ). created s shown name columns a) f (subst (λ (d : Edits). created d.size (drafted shown d.list) name columns a) e h)

@@ -1,0 +1,4 @@
+pub mod Catalog
+pub mod CatalogRow
+pub mod Each
+pub mod Work

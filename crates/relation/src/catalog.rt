@@ -1,0 +1,268 @@
+//! The catalog: what tables and indexes there are.
+
+ghost use Rattle.std.specs.Prelude.{◌≡◌, None, Some, MatchOption, IfOk};
+ghost use Rattle.pager.specs.Draft.{Reads};
+ghost use Rattle.pager.specs.Stop.{OnlyReads};
+ghost use Rattle.relation.specs.Catalog.{AreColumnsOf, as_column, as_index, as_table, IsPlaceNamed, IsPlaceTold, catalog, catalog_rows, column_rows, index_rows, index_told, schema_of, table_named, table_rows, table_told, told};
+ghost use Rattle.relation.specs.Each.{each, Tells};
+
+use crate::row::{CatalogRow, ColumnRow, IndexRow, TableRow, row_of};
+use heap_file::{Placed, drafting};
+use pager::{Draft, Pager, Stop, broken};
+use retro_base::Refusal;
+use sql_tree::{Column, IndexSchema, Name, Schema, TableSchema};
+use std::alloc::{AllocError, Global};
+use values::{Duplicate, Seq};
+
+/// The first page of the catalog.
+pub const CATALOG: u32 = 1;
+/// The most columns that a table has.
+const MOST_COLUMNS: usize = 16;
+
+/// What a row of the catalog tells, and the page where it stands.
+#[derive(Drop)]
+pub struct Told {
+    pub page: u32,
+    pub row: CatalogRow,
+}
+
+/// A table: its name, its first page, and its columns in order.
+#[derive(Drop)]
+pub struct StoredTable {
+    pub name: Name,
+    pub first: u32,
+    pub columns: Seq<Column>,
+}
+
+/// The tables and indexes, in the order in which they were made.
+#[derive(Drop)]
+pub struct Catalog {
+    pub tables: Seq<StoredTable>,
+    pub indexes: Seq<IndexSchema>,
+}
+
+/// The tables and indexes of the catalog.
+pub fn read_catalog<P: Pager>(
+    alloc: Global,
+    pager: &mut P,
+    draft: &Draft,
+) -> Result<Catalog, Stop<P::Fault>>
+    requires { draft.now.size ≡ P.size pager.old }
+    ensures read { Reads (λ catalog. catalog) (P.pages pager.old) draft.now.list (λ pages. catalog draft.now.size pages) result }
+    ensures only_reads { OnlyReads P.pages P.size P.faults pager.old pager.new result }
+{
+    let rows = read_rows(alloc, pager, draft)?;
+    let tables = tables_told(alloc, &rows)?;
+    let indexes = indexes_told(alloc, &tables, &rows)?;
+    Ok(Catalog {
+        tables: Seq::from(tables),
+        indexes: Seq::from(indexes),
+    })
+}
+
+// The rows of the catalog, in rising number.
+fn read_rows<P: Pager>(
+    alloc: Global,
+    pager: &mut P,
+    draft: &Draft,
+) -> Result<Vec<Told>, Stop<P::Fault>>
+    requires { draft.now.size ≡ P.size pager.old }
+    ensures read { Reads (λ rows. rows.items) (P.pages pager.old) draft.now.list (λ pages. catalog_rows draft.now.size pages) result }
+    ensures only_reads { OnlyReads P.pages P.size P.faults pager.old pager.new result }
+{
+    let rows = drafting::scan(alloc, pager, draft, CATALOG)?;
+    let next = drafting::next_number(alloc, pager, draft, CATALOG)?;
+    if next != rows.len() as u64 {
+        return Err(Stop::Refused(broken(CATALOG)));
+    }
+    Ok(all_told(alloc, &rows)?)
+}
+
+// What stored rows of the catalog tell.
+fn all_told(alloc: Global, rows: &[Placed]) -> Result<Vec<Told>, Refusal>
+    ensures { Tells (λ told. told.items) (each told rows.now) result }
+{
+    let mut all = Vec::new(alloc);
+    for placed in rows {
+        all.push(told_by(alloc, placed)?)?;
+    }
+    Ok(all)
+}
+
+// What a stored row of the catalog tells.
+fn told_by(alloc: Global, placed: &Placed) -> Result<Told, Refusal>
+    ensures { Tells (λ told. told) (told placed.now) result }
+{
+    let page = placed.page;
+    match row_of(alloc, placed.row.as_slice())? {
+        Some(row) => Ok(Told { page, row }),
+        None => Err(broken(page)),
+    }
+}
+
+// The tables that the rows tell.
+fn tables_told(alloc: Global, rows: &[Told]) -> Result<Vec<StoredTable>, Refusal>
+    ensures { Tells (λ tables. tables.items) (each (table_told rows.now) (table_rows rows.now)) result }
+{
+    let mut tables = Vec::new(alloc);
+    for told in rows {
+        if let Some(row) = table_row(told) {
+            tables.push(table_told(alloc, rows, told.page, row)?)?;
+        }
+    }
+    Ok(tables)
+}
+
+// A table's row.
+fn table_row(told: &Told) -> Option<&TableRow>
+    ensures { MatchOption result (as_table told.now.page told.now.row ≡ None) (λ row. as_table told.now.page told.now.row ≡ Some (told.now.page, row.now)) }
+{
+    match &told.row {
+        CatalogRow::Table(row) => Some(row),
+        CatalogRow::Column(_) => None,
+        CatalogRow::Index(_) => None,
+    }
+}
+
+// The table of a row that stands on that page.
+fn table_told(
+    alloc: Global,
+    rows: &[Told],
+    page: u32,
+    row: &TableRow,
+) -> Result<StoredTable, Refusal>
+    ensures { Tells (λ table. table) (table_told rows.now (page, row.now)) result }
+{
+    let told = column_rows(alloc, rows, &row.name)?;
+    let Some(columns) = columns_of(alloc, &told)? else {
+        return Err(broken(page));
+    };
+    Ok(StoredTable {
+        name: row.name.copy(alloc)?,
+        first: row.first,
+        columns,
+    })
+}
+
+// The rows of the columns of that table.
+fn column_rows(alloc: Global, rows: &[Told], table: &Name) -> Result<Vec<ColumnRow>, AllocError>
+    ensures { IfOk result (λ told. told.items ≡ column_rows table.now rows.now) }
+{
+    let mut columns = Vec::new(alloc);
+    for told in rows {
+        if let Some(row) = column_row(told, table) {
+            columns.push(row.copy(alloc)?)?;
+        }
+    }
+    Ok(columns)
+}
+
+// The row of a column of that table.
+fn column_row<'a>(told: &'a Told, table: &Name) -> Option<&'a ColumnRow>
+    ensures { MatchOption result (as_column table.now told.now.row ≡ None) (λ row. as_column table.now told.now.row ≡ Some row.now) }
+{
+    match &told.row {
+        CatalogRow::Column(row) if row.table == *table => Some(row),
+        CatalogRow::Column(_) => None,
+        CatalogRow::Table(_) => None,
+        CatalogRow::Index(_) => None,
+    }
+}
+
+// The columns that their rows tell. None where they tell no table's columns.
+fn columns_of(alloc: Global, rows: &[ColumnRow]) -> Result<Option<Seq<Column>>, AllocError>
+    ensures { IfOk result (AreColumnsOf rows.now) }
+{
+    if rows.is_empty() || rows.len() > MOST_COLUMNS {
+        return Ok(None);
+    }
+    let mut columns = Seq::new(alloc);
+    'places: for place in 0..rows.len() {
+        match at_place(rows, place as u32) {
+            Some(k) => columns.push(rows[k].column.copy(alloc)?)?,
+            None => return Ok(None),
+        }
+    }
+    Ok(Some(columns))
+}
+
+// Which of the rows tells the column at that place.
+fn at_place(rows: &[ColumnRow], place: u32) -> Option<usize>
+    ensures { IsPlaceTold place rows.now result }
+{
+    rows.iter().position(|row| row.place == place)
+}
+
+// The indexes that the rows tell, over these tables.
+fn indexes_told(
+    alloc: Global,
+    tables: &[StoredTable],
+    rows: &[Told],
+) -> Result<Vec<IndexSchema>, Refusal>
+    ensures { Tells (λ indexes. indexes.items) (each (index_told tables.now) (index_rows rows.now)) result }
+{
+    let mut indexes = Vec::new(alloc);
+    for told in rows {
+        if let Some(row) = index_row(told) {
+            indexes.push(index_told(alloc, tables, told.page, row)?)?;
+        }
+    }
+    Ok(indexes)
+}
+
+// An index's row.
+fn index_row(told: &Told) -> Option<&IndexRow>
+    ensures { MatchOption result (as_index told.now.page told.now.row ≡ None) (λ row. as_index told.now.page told.now.row ≡ Some (told.now.page, row.now)) }
+{
+    match &told.row {
+        CatalogRow::Table(_) => None,
+        CatalogRow::Column(_) => None,
+        CatalogRow::Index(row) => Some(row),
+    }
+}
+
+// The index of a row that stands on that page.
+fn index_told(
+    alloc: Global,
+    tables: &[StoredTable],
+    page: u32,
+    row: &IndexRow,
+) -> Result<IndexSchema, Refusal>
+    ensures { Tells (λ index. index) (index_told tables.now (page, row.now)) result }
+{
+    let Some(table) = find(tables, &row.table) else {
+        return Err(broken(page));
+    };
+    let Some(column) = tables[table].columns.as_slice().get(row.place as usize) else {
+        return Err(broken(page));
+    };
+    Ok(IndexSchema {
+        name: row.name.copy(alloc)?,
+        table: row.table.copy(alloc)?,
+        column: column.name.copy(alloc)?,
+    })
+}
+
+/// The place of the first table of that name.
+pub fn find(tables: &[StoredTable], name: &Name) -> Option<usize>
+    ensures { IsPlaceNamed name.now tables.now result }
+{
+    tables.iter().position(|table| table.name == *name)
+}
+
+/// The catalog without pages.
+pub fn schema_of(alloc: Global, catalog: &Catalog) -> Result<Schema, AllocError>
+    ensures { IfOk result (λ schema. schema ≡ schema_of catalog.now) }
+{
+    let mut tables = Seq::new(alloc);
+    for table in catalog.tables.as_slice() {
+        tables.push(TableSchema {
+            name: table.name.copy(alloc)?,
+            columns: table.columns.copy(alloc)?,
+        })?;
+    }
+    Ok(Schema {
+        tables,
+        indexes: catalog.indexes.copy(alloc)?,
+    })
+}

@@ -1,0 +1,12 @@
+//! The catalog and the tables of a store, over any pager.
+#![tactic(auto)]
+
+mod calls;
+mod catalog;
+mod drafting;
+mod row;
+#[cfg(test)]
+mod tests;
+
+pub use calls::{create_table, delete, insert, next_number, rows, schema, update};
+pub use heap_file::Placed;

@@ -1,0 +1,220 @@
+-- The pages that changed rows take.
+use Rattle.std.proofs.Common.{◌≡◌, ◌≢◌, ◌∙◌, ◌<◌, ◌≤◌, ◌+◌, ◌==◌, cond, ℕ, Bool, true, false, nat_le, List, [], ◌∷◌, length, Some, Ok, refl, sym, ap, subst, arith}
+use Rattle.std.specs.List.{AllByRecursion, Contains, insert}
+use Rattle.std.proofs.lemmas.Bool.{leb-true}
+use Rattle.values.specs.declared.value.Value.{Value}
+use Rattle.pager.specs.Pages.{Pages, written}
+use Rattle.heap_file.specs.declared.chain.Placed.{Placed}
+use Rattle.heap_file.specs.declared.page.Entry.{Entry}
+use Rattle.heap_file.specs.declared.page.HeapPage.{HeapPage}
+use Rattle.heap_file.specs.Allows.{either, only}
+use Rattle.heap_file.specs.Chain.{IsAt, last_page, met}
+use Rattle.heap_file.specs.HeapPage.{IsEntry, entry_bytes, page_bytes}
+use Rattle.heap_file.specs.Work.{IsPlace, appended, changed, without}
+use Rattle.heap_file.proofs.Packing.{with_fits, without_fits}
+use Rattle.heap_laws.specs.Store.{IsSized, WellFormed, free_pages, next_free, times}
+use Rattle.heap_laws.specs.Table.{ChangeIsFull, EndsAt, IsTable, Table, has_room, without_row}
+use Rattle.heap_laws.proofs.Adding.{IsPut, put-answer, tail-there}
+use Rattle.heap_laws.proofs.Appending.{update-head}
+use Rattle.heap_laws.proofs.Editing.{Finished, free-same}
+use Rattle.heap_laws.proofs.Reading.{ok-one, reads}
+use Rattle.heap_laws.proofs.Removing.{place-there, take-out, without-sized}
+use Rattle.heap_laws.proofs.Routes.{IsRoute, around, link_of, route-update, written-other}
+use Rattle.heap_laws.proofs.Spotting.{spot}
+use Rattle.relation_laws.specs.Needs.{ChangesNeed, Goes, bytes_on, has_room_for, moved_to, page_under, row_bytes}
+use Rattle.relation_laws.proofs.Filling.{put-ends}
+use Rattle.relation_laws.proofs.Needing.{bytes-push, ends-one, entry-length, last-one}
+use Rattle.relation_laws.proofs.Reaching.{all-imp, free-apart, own, own-last}
+use Rattle.relation_laws.proofs.Weighing.{on-last, on-page, rows-own}
+
+-- where a changed row goes, and what the last page of its table is then
+pub record Moves (size : ℕ) (pages after : Pages) (first last page : ℕ) (change : ℕ × List Value) (rows : List Placed) (to : ℕ) : Type 0 where
+  pub end : ℕ
+  pub opens : ℕ
+  pub next : HeapPage
+  pub ends : EndsAt size after first end next
+  pub goes : Goes (has_room_for change page rows) (has_room_for change last rows) page last rows to end opens
+  pub takes : opens + free_pages size after ≡ free_pages size pages
+
+-- a page that is written leaves the last page of a chain, where it names the same one
+ends-after : (size : ℕ) (pages : Pages) (firsts indexes : List ℕ) (first last page : ℕ) (tail held now : HeapPage) → IsAt size pages page held → IsSized now → now.last ≡ held.last → now.next_number ≡ held.next_number → WellFormed size (written pages page (page_bytes now)) firsts indexes → Contains firsts first
+    → EndsAt size pages first last tail → (next : HeapPage) × EndsAt size (written pages page (page_bytes now)) first last next
+ends-after size pages firsts indexes first last page tail held now at sized lasts numbers well has ends =
+    let head = update-head size pages first ends.head page held now ends.at_first at sized lasts numbers in
+    let named : last_page first head.0 ≡ last = ap (λ (l : ℕ). cond (l == 0) first l) head.2 ∙ ends.named in
+    let there = tail-there size (written pages page (page_bytes now)) firsts indexes first well has head.0 head.1 in
+    (there.0, record { head = head.0; at_first = head.1; named = named; at_last = subst (λ (p : ℕ). IsAt size (written pages page (page_bytes now)) p there.0) named there.1 })
+
+-- whether there is room, by the bytes of the rows
+room-is : (page : ℕ) (held : HeapPage) (number : ℕ) (row : List Value) (rows : List Placed) → bytes_on page rows ≡ length (entry_bytes held.entries) → has_room held (record { number = number; row = row }) ≡ nat_le (bytes_on page rows + row_bytes row) 1004
+room-is page held number row rows weighs =
+    ap (λ (n : ℕ). nat_le n 1004) (bytes-push held.entries (record { number = number; row = row }) ∙ ap (λ (k : ℕ). length (entry_bytes held.entries) + k) (entry-length number row) ∙ ap (λ (k : ℕ). k + row_bytes row) (sym weighs))
+
+-- a store with a row taken out: the rows that are left weigh what stands on their page and on the last one
+record Out (size : ℕ) (pages : Pages) (firsts indexes : List ℕ) (first : ℕ) (table : Table) (placed : Placed) (last : ℕ) (rest : HeapPage) : Type 0 where
+  held : HeapPage
+  there : IsAt size pages placed.page held
+  finished : Finished size pages (written pages placed.page (page_bytes rest)) firsts indexes first (without_row table placed.number)
+  weighs : bytes_on placed.page (without_row table placed.number).rows ≡ length (entry_bytes rest.entries)
+  tail : HeapPage
+  ends : EndsAt size (written pages placed.page (page_bytes rest)) first last tail
+  weighs_last : bytes_on last (without_row table placed.number).rows ≡ length (entry_bytes tail.entries)
+
+out-of : (size : ℕ) (pages : Pages) (firsts indexes : List ℕ) (first : ℕ) (table : Table) (placed : Placed) (found : ℕ × HeapPage) (place last : ℕ) (tail : HeapPage) → WellFormed size pages firsts indexes → Contains firsts first → IsTable size pages first table
+    → met size pages first placed.page (Ok found) → IsPlace placed.number found.1.entries (Some place) → EndsAt size pages first last tail → Out size pages firsts indexes first table placed last (without found.1 place)
+out-of size pages firsts indexes first table placed found place last tail well has shows at here ends =
+    let read = reads size pages firsts indexes first well has in
+    let it = spot size pages first placed.page placed.number found.0 place found.1 read.one.chain.links read.route.leads at here in
+    let route = subst (IsRoute size pages first) it.links_are read.route in
+    let stands = around size pages first it.before (link_of placed.page found.1) it.behind route in
+    let rest = without found.1 place in
+    let sized = without-sized found.1 place (place-there read.one.chain.links placed.page placed.number found.0 found.1 place it) stands.sized_here in
+    let finished = take-out size pages firsts indexes first table placed.page placed.number found.0 found.1 place well has shows read it in
+    let end = ends-after size pages firsts indexes first last placed.page tail found.1 rest stands.here sized refl refl finished.well has ends in
+    record {
+      held = found.1;
+      there = stands.here;
+      finished = finished;
+      weighs = on-page size (written pages placed.page (page_bytes rest)) first (without_row table placed.number) it.before placed.page rest it.behind (route-update size pages first it.before (link_of placed.page found.1) it.behind rest route refl sized) finished.shows;
+      tail = end.0;
+      ends = end.1;
+      weighs_last = on-last size (written pages placed.page (page_bytes rest)) firsts indexes first (without_row table placed.number) last end.0 finished.well has finished.shows end.1;
+    }
+
+-- a page with a changed row in its place
+kept-sized : (size : ℕ) (pages : Pages) (firsts indexes : List ℕ) (first : ℕ) (placed : Placed) (row : List Value) (found : ℕ × HeapPage) (place : ℕ) → WellFormed size pages firsts indexes → Contains firsts first → IsEntry (record { number = placed.number; row = row })
+    → met size pages first placed.page (Ok found) → IsPlace placed.number found.1.entries (Some place) → has_room (without found.1 place) (record { number = placed.number; row = row }) ≡ true
+    → IsSized (record (without found.1 place) { entries = insert (without found.1 place).entries place (record { number = placed.number; row = row }) })
+kept-sized size pages firsts indexes first placed row found place well has is at here room =
+    let read = reads size pages firsts indexes first well has in
+    let it = spot size pages first placed.page placed.number found.0 place found.1 read.one.chain.links read.route.leads at here in
+    let stands = around size pages first it.before (link_of placed.page found.1) it.behind (subst (IsRoute size pages first) it.links_are read.route) in
+    record {
+      page = with_fits (without found.1 place) place (record { number = placed.number; row = row }) (without_fits found.1 place (place-there read.one.chain.links placed.page placed.number found.0 found.1 place it) stands.sized_here.page) is (leb-true _ _ room);
+      next = stands.sized_here.next;
+      next_number = stands.sized_here.next_number;
+      last = stands.sized_here.last;
+    }
+
+found-at : (size : ℕ) (pages : Pages) (firsts indexes : List ℕ) (first : ℕ) (placed : Placed) (found : ℕ × HeapPage) (place : ℕ) → WellFormed size pages firsts indexes → Contains firsts first → met size pages first placed.page (Ok found) → IsPlace placed.number found.1.entries (Some place) → IsAt size pages placed.page found.1
+found-at size pages firsts indexes first placed found place well has at here =
+    let read = reads size pages firsts indexes first well has in
+    let it = spot size pages first placed.page placed.number found.0 place found.1 read.one.chain.links read.route.leads at here in
+    (around size pages first it.before (link_of placed.page found.1) it.behind (subst (IsRoute size pages first) it.links_are read.route)).here
+
+next-same : (pages out : Pages) → out.at 0 ≡ pages.at 0 → next_free out ≡ next_free pages
+next-same pages out same = ap (λ (bytes : List ℕ). next_free (record { at = λ page. bytes; edited = λ page. false })) same
+
+-- a changed row that goes to the end of its table
+moves-on : (size : ℕ) (pages : Pages) (firsts indexes : List ℕ) (first : ℕ) (table : Table) (placed : Placed) (row : List Value) (y : ℕ × Pages) (last : ℕ) (tail rest : HeapPage) → WellFormed size pages firsts indexes → Contains firsts first → IsTable size pages first table → IsEntry (record { number = placed.number; row = row }) → EndsAt size pages first last tail
+    → Out size pages firsts indexes first table placed last rest → has_room rest (record { number = placed.number; row = row }) ≡ false
+    → appended size (written pages placed.page (page_bytes rest)) first (record { number = placed.number; row = row }) (Ok y) → Moves size pages y.1 first last placed.page (placed.number, row) table.rows y.0
+moves-on size pages firsts indexes first table placed row y last tail rest well has shows is ends out full h =
+    let entry : Entry = record { number = placed.number; row = row } in
+    let taken : Pages = written pages placed.page (page_bytes rest) in
+    let put = put-answer size taken firsts indexes first entry (Ok y) out.finished.well has is h in
+    let ended = put-ends size taken firsts indexes first entry y out.finished.well has is h in
+    let tails : ended.tail ≡ out.tail = ends-one size taken first ended.last last ended.tail out.tail ended.ends out.ends in
+    let lasts : ended.last ≡ last = last-one size taken first ended.last last ended.tail out.tail ended.ends out.ends in
+    let puts : put.tail ≡ out.tail = ends-one size taken first put.last last put.tail out.tail put.ends out.ends in
+    let goals : put.last ≡ last = last-one size taken first put.last last put.tail out.tail put.ends out.ends in
+    let effect : IsPut (has_room out.tail entry) size taken y.1 first last y.0 = subst (λ (l : ℕ). IsPut (has_room out.tail entry) size taken y.1 first l y.0) goals (subst (λ (t : HeapPage). IsPut (has_room t entry) size taken y.1 first put.last y.0) puts put.effect) in
+    choose (has_room out.tail entry) ended.to ended.ended.tail ended.ended.ends (room-is last out.tail placed.number row (without_row table placed.number).rows out.weighs_last)
+    (λ room. ended.stays (subst (λ (t : HeapPage). has_room t entry ≡ true) (sym tails) room) ∙ lasts) (λ room. ended.moves (subst (λ (t : HeapPage). has_room t entry ≡ false) (sym tails) room)) effect
+  where
+    root : (written pages placed.page (page_bytes rest)).at 0 ≡ pages.at 0
+    root = written-other pages placed.page 0 (page_bytes rest) (λ e. absurd (omega (arith, e, out.there.named)))
+
+    none : has_room_for (placed.number, row) placed.page table.rows ≡ false
+    none = sym (room-is placed.page rest placed.number row (without_row table placed.number).rows out.weighs) ∙ full
+
+    choose : (b : Bool) (to : ℕ) (next : HeapPage) → EndsAt size y.1 first to next → b ≡ has_room_for (placed.number, row) last table.rows → (b ≡ true → to ≡ last) → (b ≡ false → to ≡ y.0)
+        → IsPut b size (written pages placed.page (page_bytes rest)) y.1 first last y.0 → Moves size pages y.1 first last placed.page (placed.number, row) table.rows y.0
+    choose true to next ended room stays moves_ effect = record {
+      end = last;
+      opens = 0;
+      next = next;
+      ends = subst (λ (p : ℕ). EndsAt size y.1 first p next) (stays refl) ended;
+      goes = subst (λ (b : Bool). Goes b (has_room_for (placed.number, row) last table.rows) placed.page last table.rows y.0 last 0) (sym none) (subst (λ (b : Bool). Goes false b placed.page last table.rows y.0 last 0) room (effect.0, refl, refl));
+      takes = omega (arith, effect.1, free-same size pages (written pages placed.page (page_bytes rest)) root);
+    }
+    choose false to next ended room stays moves_ effect =
+        let fresh : y.0 ≡ next_free pages = effect.0.next ∙ next-same pages (written pages placed.page (page_bytes rest)) root in
+        record {
+          end = y.0;
+          opens = 1;
+          next = next;
+          ends = subst (λ (p : ℕ). EndsAt size y.1 first p next) (moves_ refl) ended;
+          goes = subst (λ (b : Bool). Goes b (has_room_for (placed.number, row) last table.rows) placed.page last table.rows y.0 y.0 1) (sym none) (subst (λ (b : Bool). Goes false b placed.page last table.rows y.0 y.0 1) room (
+            (λ e. free-apart size pages firsts indexes first well has last (own-last size pages firsts indexes first last tail well has ends) (sym e ∙ fresh)),
+            all-imp (λ (p : Placed). 0 < times p.page (own size pages firsts indexes first well has)) (λ (p : Placed). p.page ≢ y.0) table.rows (λ p here e. free-apart size pages firsts indexes first well has p.page here (e ∙ fresh)) (rows-own size pages firsts indexes first table well has shows),
+            refl,
+            refl,
+          ));
+          takes = omega (arith, effect.0.one_less, free-same size pages (written pages placed.page (page_bytes rest)) root);
+        }
+
+-- a changed row, wherever it goes
+pub moves : (size : ℕ) (pages : Pages) (firsts indexes : List ℕ) (first : ℕ) (table : Table) (placed : Placed) (row : List Value) (y : ℕ × Pages) (last : ℕ) (tail : HeapPage) → WellFormed size pages firsts indexes → Contains firsts first → IsTable size pages first table → IsEntry (record { number = placed.number; row = row })
+    → changed size pages first placed.page (record { number = placed.number; row = row }) (Ok y) → WellFormed size y.1 firsts indexes → EndsAt size pages first last tail → Moves size pages y.1 first last placed.page (placed.number, row) table.rows y.0
+moves size pages firsts indexes first table placed row y last tail well has shows is (found, at, (place, here, work)) well_after ends =
+    go (has_room (without found.1 place) (record { number = placed.number; row = row })) refl (out-of size pages firsts indexes first table placed found place last tail well has shows at here ends) work
+  where
+    go : (b : Bool) → has_room (without found.1 place) (record { number = placed.number; row = row }) ≡ b → Out size pages firsts indexes first table placed last (without found.1 place)
+        → either b (only (Ok (placed.page, written pages placed.page (page_bytes (record (without found.1 place) { entries = insert (without found.1 place).entries place (record { number = placed.number; row = row }) })))))
+        (appended size (written pages placed.page (page_bytes (without found.1 place))) first (record { number = placed.number; row = row })) (Ok y) → Moves size pages y.1 first last placed.page (placed.number, row) table.rows y.0
+    go true e out h =
+        let now : HeapPage = record (without found.1 place) { entries = insert (without found.1 place).entries place (record { number = placed.number; row = row }) } in
+        let sized = kept-sized size pages firsts indexes first placed row found place well has is at here e in
+        let page_at = found-at size pages firsts indexes first placed found place well has at here in
+        let still : WellFormed size (written pages placed.page (page_bytes now)) firsts indexes = subst (λ (z : ℕ × Pages). WellFormed size z.1 firsts indexes) (sym (ok-one h)) well_after in
+        let end = ends-after size pages firsts indexes first last placed.page tail found.1 now page_at sized refl refl still has ends in
+        let room : has_room_for (placed.number, row) placed.page table.rows ≡ true = sym (room-is placed.page (without found.1 place) placed.number row (without_row table placed.number).rows out.weighs) ∙ e in
+        subst (λ (z : ℕ × Pages). Moves size pages z.1 first last placed.page (placed.number, row) table.rows z.0) (ok-one h) (record {
+          end = last;
+          opens = 0;
+          next = end.0;
+          ends = end.1;
+          goes = subst (λ (b : Bool). Goes b (has_room_for (placed.number, row) last table.rows) placed.page last table.rows placed.page last 0) (sym room) (refl, refl, refl);
+          takes = omega (arith, free-same size pages (written pages placed.page (page_bytes now)) (written-other pages placed.page 0 (page_bytes now) (λ e. absurd (omega (arith, e, out.there.named)))));
+        })
+    go false e out h = moves-on size pages firsts indexes first table placed row y last tail (without found.1 place) well has shows is ends out e h
+
+-- a change that is refused has room nowhere
+pub full-both : (size : ℕ) (pages : Pages) (firsts indexes : List ℕ) (first : ℕ) (table : Table) (placed : Placed) (row : List Value) (last : ℕ) (tail : HeapPage) → WellFormed size pages firsts indexes → Contains firsts first → IsTable size pages first table → EndsAt size pages first last tail
+    → ChangeIsFull size pages first placed.page (record { number = placed.number; row = row }) → (has_room_for (placed.number, row) placed.page table.rows ≡ false) × (has_room_for (placed.number, row) last table.rows ≡ false)
+full-both size pages firsts indexes first table placed row last tail well has shows ends full =
+    let stands = full.stands in
+    let out = out-of size pages firsts indexes first table placed (stands.previous, stands.held) stands.place last tail well has shows stands.stood stands.here ends in
+    let rest : HeapPage = without stands.held stands.place in
+    let ended : EndsAt size (written pages placed.page (page_bytes rest)) first full.last full.tail = subst (λ (h : HeapPage). EndsAt size (written pages placed.page (page_bytes h)) first full.last full.tail) stands.rest_is stands.ends in
+    let tails : full.tail ≡ out.tail = ends-one size (written pages placed.page (page_bytes rest)) first full.last last full.tail out.tail ended out.ends in (
+      sym (room-is placed.page rest placed.number row (without_row table placed.number).rows out.weighs) ∙ subst (λ (h : HeapPage). has_room h (record { number = placed.number; row = row }) ≡ false) stands.rest_is full.room_here,
+      sym (room-is last out.tail placed.number row (without_row table placed.number).rows out.weighs_last) ∙ subst (λ (h : HeapPage). has_room h (record { number = placed.number; row = row }) ≡ false) tails full.room_last,
+    )
+
+-- a page that no row stands on
+abbrev pub above : ℕ → List Placed → ℕ
+above last [] = last + 1
+above last (placed ∷ rows) = placed.page + above last rows
+
+pub above-last : (last : ℕ) (rows : List Placed) → last < above last rows
+above-last last [] = omega arith
+above-last last (placed ∷ rows) = omega (arith, above-last last rows)
+
+pub above-all : (last n : ℕ) (rows : List Placed) → above last rows ≤ n → AllByRecursion (λ (placed : Placed). placed.page ≢ n) rows
+above-all last n [] le = tt
+above-all last n (placed ∷ rows) le = ((λ e. absurd (omega (arith, e, le, above-last last rows))), above-all last n rows (omega (arith, le)))
+
+-- changes need some number of pages
+pub some-needs : (last : ℕ) (rows : List Placed) (changes : List (ℕ × List Value)) → (needs : ℕ) × ChangesNeed last rows changes needs
+some-needs last rows [] = (0, refl)
+some-needs last rows (change ∷ changes) =
+    go (some-needs last (moved_to change (page_under change.0 rows) rows) changes) (some-needs last (moved_to change last rows) changes) (some-needs (above last rows) (moved_to change (above last rows) rows) changes)
+    (has_room_for change (page_under change.0 rows) rows) (has_room_for change last rows)
+  where
+    go : (needs : ℕ) × ChangesNeed last (moved_to change (page_under change.0 rows) rows) changes needs → (needs : ℕ) × ChangesNeed last (moved_to change last rows) changes needs → (needs : ℕ) × ChangesNeed (above last rows) (moved_to change (above last rows) rows) changes needs
+        → (here room : Bool) → (needs : ℕ) × ((to : ℕ) × (end : ℕ) × (opens : ℕ) × (behind : ℕ) × Goes here room (page_under change.0 rows) last rows to end opens × ChangesNeed end (moved_to change to rows) changes behind × (needs ≡ opens + behind))
+    go a b c true room = (0 + a.0, (page_under change.0 rows, last, 0, a.0, (refl, refl, refl), a.1, refl))
+    go a b c false true = (0 + b.0, (last, last, 0, b.0, (refl, refl, refl), b.1, refl))
+    go a b c false false = (1 + c.0, (above last rows, above last rows, 1, c.0, ((λ e. absurd (omega (arith, e, above-last last rows))), above-all last (above last rows) rows (omega arith), refl, refl), c.1, refl))

@@ -1,0 +1,118 @@
+-- Each call takes the pages that it needs.
+use Rattle.std.proofs.Common.{◌≡◌, ◌+◌, ℕ, Bool, false, List, [], ◌∷◌, map, Result, Ok, Err, inl, inr, refl, sym, ap, subst, arith}
+use Rattle.std.specs.List.{AllByRecursion, Contains}
+use Rattle.retro_base.specs.declared.refusal.Refusal.{Refusal}
+use Rattle.values.specs.declared.value.Value.{Value}
+use Rattle.pager.specs.Pages.{Pages}
+use Rattle.heap_file.specs.declared.chain.Placed.{Placed}
+use Rattle.heap_file.specs.declared.page.HeapPage.{HeapPage}
+use Rattle.heap_file.specs.Allows.{◌>>=◌}
+use Rattle.heap_file.specs.HeapPage.{IsEntry}
+use Rattle.heap_laws.specs.Store.{WellFormed, free_pages}
+use Rattle.heap_laws.specs.Table.{EndsAt, IsStorable, IsTable, Table, with_changed}
+use Rattle.heap_laws.proofs.Appending.{head-sized, storable-entry}
+use Rattle.heap_laws.proofs.Changing.{change_law}
+use Rattle.heap_laws.proofs.Orders.{number_of}
+use Rattle.heap_laws.proofs.Reading.{reads, rows-numbered, rows-read as table-read}
+use Rattle.heap_laws.proofs.Rows.{keyed-contains}
+use Rattle.relation.specs.Each.{in_turn}
+use Rattle.relation.specs.Work.{page_of, row_changed, rows_at, updated}
+use Rattle.relation.proofs.Steps.{left_pages}
+use Rattle.relation_laws.specs.Laws.{AreChangesOf, IsStoreOf, NeedsLaw}
+use Rattle.relation_laws.specs.Needs.{ChangesNeed, Goes, TakesNeeded, UpdateNeeds, has_room_for, moved_to, page_under}
+use Rattle.relation_laws.specs.Tables.{PlainTable, PlainTables}
+use Rattle.relation_laws.proofs.Catalogs.{goes-on}
+use Rattle.relation_laws.proofs.Changed.{above, above-all, above-last, full-both, moves, some-needs}
+use Rattle.relation_laws.proofs.Deleting.{StillThere, still}
+use Rattle.relation_laws.proofs.Needing.{create-needs, ends-there, insert-needs}
+use Rattle.relation_laws.proofs.Singling.{by-name, firsts_of, has-first, named-here, pages_in, rows-here, rows-read, single}
+use Rattle.relation_laws.proofs.Updating.{changed_at, numbers_of, still-changed, storable-changes}
+use Rattle.relation_laws.proofs.Weighing.{under-one}
+
+-- a change that is made
+record Change (size : ℕ) (pages after : Pages) (firsts indexes : List ℕ) (first last : ℕ) (table : Table) (change : ℕ × List Value) (to : ℕ) : Type 0 where
+  well : WellFormed size after firsts indexes
+  shows : IsTable size after first (with_changed table (record { number = change.0; page = to; row = change.1 }))
+  end : ℕ
+  opens : ℕ
+  next : HeapPage
+  ends : EndsAt size after first end next
+  goes : Goes (has_room_for change (page_under change.0 table.rows) table.rows) (has_room_for change last table.rows) (page_under change.0 table.rows) last table.rows to end opens
+  takes : opens + free_pages size after ≡ free_pages size pages
+
+one-change : (size : ℕ) (pages : Pages) (firsts indexes : List ℕ) (first : ℕ) (rows : List Placed) (table : Table) (change : ℕ × List Value) (last : ℕ) (tail : HeapPage) (y : ℕ × Pages) → WellFormed size pages firsts indexes → Contains firsts first → IsTable size pages first table → IsStorable change.1
+    → (found : Placed) × (found.number ≡ change.0) × Contains table.rows found × (page_of first change.0 rows ≡ Ok found.page) → EndsAt size pages first last tail → row_changed size first rows change pages (Ok y) → Change size pages y.1 firsts indexes first last table change y.0
+one-change size pages firsts indexes first rows table change last tail y well among is storable there ends h =
+    let found = there.0 in
+    let work = changed_at size first rows found change pages (Ok y) there.1 there.3 h in
+    let one = change_law size pages firsts indexes first table found change.1 (Ok y) well among is there.2 storable work in
+    let read = reads size pages firsts indexes first well among in
+    let numbered = table-read size pages first table read.one.chain.links read.one.lawful.head is read.route.leads read.head_at in
+    let sized = head-sized size pages first read.one.chain.links read.one.lawful.head read.route read.head_at in
+    let entry : IsEntry (record { number = found.number; row = change.1 }) = storable-entry found.number change.1 (omega (arith, sized.next_number, numbered.next_number, (rows-numbered size pages firsts indexes first table well among is found.number).1 (keyed-contains number_of table.rows found there.2))) storable in
+    let move = moves size pages firsts indexes first table found change.1 y last tail well among is entry work one.well ends in
+    let under = under-one change.0 table.rows found (rows-numbered size pages firsts indexes first table well among is change.0).0 there.2 there.1 in
+    record {
+      well = one.well;
+      shows = subst (λ (n : ℕ). IsTable size y.1 first (with_changed table (record { number = n; page = y.0; row = change.1 }))) there.1 one.shows;
+      end = move.end;
+      opens = move.opens;
+      next = move.next;
+      ends = move.ends;
+      goes = subst (λ (p : ℕ). Goes (has_room_for change p table.rows) (has_room_for change last table.rows) p last table.rows y.0 move.end move.opens) (sym under)
+          (subst (λ (n : ℕ). Goes (has_room_for (n, change.1) found.page table.rows) (has_room_for (n, change.1) last table.rows) found.page last table.rows y.0 move.end move.opens) there.1 move.goes);
+      takes = move.takes;
+    }
+
+-- changes take the pages that they need
+needed : (size : ℕ) (pages : Pages) (firsts indexes : List ℕ) (first : ℕ) (rows : List Placed) (table : Table) (changes : List (ℕ × List Value)) (last : ℕ) (tail : HeapPage) (answer : Result (Unit {0} × Pages) Refusal) → WellFormed size pages firsts indexes → Contains firsts first → IsTable size pages first table → AllByRecursion (λ (change : ℕ × List Value). IsStorable change.1) changes → StillThere first rows table (numbers_of changes) → EndsAt size pages first last tail
+    → in_turn (row_changed size first rows) changes pages answer → (needs : ℕ) × ChangesNeed last table.rows changes needs × TakesNeeded size pages needs answer
+needed size pages firsts indexes first rows table [] last tail (Ok y) well among is storable there ends h = (0, refl, omega (arith, ap (λ (p : Pages). free_pages size p) (left_pages pages y.1 h)))
+needed size pages firsts indexes first rows table [] last tail (Err why) well among is storable there ends h = absurd cc
+needed size pages firsts indexes first rows table (change ∷ changes) last tail (Ok y) well among is storable there ends h =
+    let step = one-change size pages firsts indexes first rows table change last tail h.0 well among is storable.0 there.0 ends h.1 in
+    let rest = needed size h.0.1 firsts indexes first rows (with_changed table (record { number = change.0; page = h.0.0; row = change.1 })) changes step.end step.next (Ok y) step.well among step.shows storable.1 (still-changed first rows table (record { number = change.0; page = h.0.0; row = change.1 }) (numbers_of changes) there.1 there.2) step.ends h.2 in
+    (step.opens + rest.0, (h.0.0, step.end, step.opens, rest.0, step.goes, rest.1, refl), omega (arith, step.takes, rest.2))
+needed size pages firsts indexes first rows table (change ∷ changes) last tail (Err why) well among is storable there ends (inl h) =
+    let found = there.0.0 in
+    let stop = change_law size pages firsts indexes first table found change.1 (Err why) well among is there.0.2 storable.0 (changed_at size first rows found change pages (Err why) there.0.1 there.0.3 h) in
+    let both = full-both size pages firsts indexes first table found change.1 last tail well among is ends stop.1 in
+    let fresh = above last table.rows in
+    let rest = some-needs fresh (moved_to change fresh table.rows) changes in
+    let under = under-one change.0 table.rows found (rows-numbered size pages firsts indexes first table well among is change.0).0 there.0.2 there.0.1 in
+    let here : has_room_for change (page_under change.0 table.rows) table.rows ≡ false = subst (λ (p : ℕ). has_room_for change p table.rows ≡ false) (sym under) (subst (λ (n : ℕ). has_room_for (n, change.1) found.page table.rows ≡ false) there.0.1 both.0) in
+    let end : has_room_for change last table.rows ≡ false = subst (λ (n : ℕ). has_room_for (n, change.1) last table.rows ≡ false) there.0.1 both.1 in (
+      1 + rest.0,
+      (
+        fresh,
+        fresh,
+        1,
+        rest.0,
+        subst (λ (b : Bool). Goes b (has_room_for change last table.rows) (page_under change.0 table.rows) last table.rows fresh fresh 1) (sym here)
+            (subst (λ (b : Bool). Goes false b (page_under change.0 table.rows) last table.rows fresh fresh 1) (sym end)
+            ((λ e. absurd (omega (arith, e, above-last last table.rows))), above-all last fresh table.rows (omega arith), refl, refl)),
+        rest.1,
+        refl,
+      ),
+      omega (arith, stop.1.none),
+    )
+needed size pages firsts indexes first rows table (change ∷ changes) last tail (Err why) well among is storable there ends (inr h) =
+    let step = one-change size pages firsts indexes first rows table change last tail h.0 well among is storable.0 there.0 ends h.1 in
+    let rest = needed size h.0.1 firsts indexes first rows (with_changed table (record { number = change.0; page = h.0.0; row = change.1 })) changes step.end step.next (Err why) step.well among step.shows storable.1 (still-changed first rows table (record { number = change.0; page = h.0.0; row = change.1 }) (numbers_of changes) there.1 there.2) step.ends h.2 in
+    (step.opens + rest.0, (h.0.0, step.end, step.opens, rest.0, step.goes, rest.1, refl), omega (arith, step.takes, rest.2))
+
+update-needs : (size : ℕ) (pages : Pages) (all : PlainTables) (table : PlainTable) (changes : List (ℕ × List Value)) (answer : Result (Unit {0} × Pages) Refusal)
+    → IsStoreOf size pages all → Contains all.tables table → AreChangesOf table changes
+    → updated size pages table.name changes answer → (needs : ℕ) × UpdateNeeds size pages table.name changes needs × TakesNeeded size pages needs answer
+update-needs size pages all table changes answer is has these work =
+    let one = single size pages all table is has in
+    let before : Table = record { next_number = table.next_number; rows = one.shows.placed } in
+    let there = still one.stored.first before (numbers_of changes) (subst (λ (rows : List (ℕ × List Value)). AllByRecursion (λ (number : ℕ). Contains (map (λ (row : ℕ × List Value). row.0) rows) number) (numbers_of changes)) one.shows.rows these.0.0) these.0.1 in
+    let end = ends-there size pages (firsts_of is.store.found) (pages_in is.store.held) one.stored.first is.store.heap (has-first is.store.found one.stored one.has) in
+    let needs = needed size pages (firsts_of is.store.found) (pages_in is.store.held) one.stored.first one.shows.placed before changes end.0 end.1 answer is.store.heap (has-first is.store.found one.stored one.has) one.shows.is_table (storable-changes table changes these.1) there end.2
+    (goes-on (rows_at size pages one.stored) (λ rows. in_turn (row_changed size one.stored.first rows) changes pages) one.shows.placed (rows-read size pages all table is one) answer
+    (by-name size pages all table is one (λ stored. rows_at size pages stored >>= λ rows. in_turn (row_changed size stored.first rows) changes pages) answer work)) in
+    (needs.0, (one.stored, named-here size pages all table is one, one.shows.placed, rows-here size pages all table is one, end.0, end.1, end.2, needs.1), needs.2)
+
+pub needs_law : NeedsLaw
+needs_law = record { insert = insert-needs; update = update-needs; create = create-needs }

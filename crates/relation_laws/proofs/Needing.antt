@@ -1,0 +1,317 @@
+-- The pages that added rows take.
+use Rattle.std.proofs.Common.{◌≡◌, ◌∙◌, ◌<◌, ◌≤◌, ◌+◌, ◌-◌, ◌++◌, ◌^◌, ◌||◌, cond, ℕ, pos, Bool, true, false, nat_le, List, [], ◌∷◌, ◌==◌, flat_map, length, map, Result, Ok, Err, inl, inr, refl, sym, ap, subst, arith, length-append, append-nil}
+use Rattle.std.specs.List.{AllByRecursion, Contains, list_any}
+use Rattle.std.proofs.lemmas.List.Concat.{flat_map-append, flat_map-cons}
+use Rattle.retro_base.specs.Fields.{field_bytes}
+use Rattle.retro_base.specs.declared.refusal.Refusal.{Refusal}
+use Rattle.retro_base.proofs.FieldLaws.{length-field_bytes}
+use Rattle.values.specs.declared.value.Value.{Value}
+use Rattle.values.specs.declared.value.Value.TheVariants.{Int, Text}
+use Rattle.sql_tree.specs.declared.statement.Column.{Column as TableColumn}
+use Rattle.row_codec.specs.RowCode.{row_code, value_code}
+use Rattle.pager.specs.Pages.{Pages}
+use Rattle.heap_file.specs.declared.page.Entry.{Entry}
+use Rattle.heap_file.specs.declared.page.HeapPage.{HeapPage}
+use Rattle.heap_file.specs.Chain.{IsAt, last_page}
+use Rattle.heap_file.specs.HeapPage.{entry_bytes, entry_code}
+use Rattle.heap_file.specs.Work.{added}
+use Rattle.heap_laws.specs.Store.{WellFormed, free_pages}
+use Rattle.heap_laws.specs.Table.{Adds, Edits, EndsAt, IsAdded, IsStorable, IsTable, Makes, Table, has_room, with_row}
+use Rattle.heap_laws.proofs.Adding.{add_law, tail-there}
+use Rattle.heap_laws.proofs.Editing.{edits-as}
+use Rattle.heap_laws.proofs.Making.{make_law}
+use Rattle.heap_laws.proofs.Reading.{reads}
+use Rattle.heap_laws.proofs.Routes.{at-one, at-same}
+use Rattle.relation.specs.declared.catalog.TheConstants.{CATALOG}
+use Rattle.relation.specs.declared.row.CatalogRow.TheVariants.{Table as TableOf}
+use Rattle.relation.specs.CatalogRow.{row_values}
+use Rattle.relation.specs.Work.{all_added, created, inserted, rows_of_columns, rows_of_table}
+use Rattle.relation.proofs.Fitting.{codes-cons, int-length, row-length as fixed-length}
+use Rattle.relation.proofs.Steps.{left_pages}
+use Rattle.relation_laws.specs.Laws.{AreTableColumns, EditsLaw, IsNewName, IsRowFor, IsStoreOf}
+use Rattle.relation_laws.specs.Needs.{CreateNeeds, InsertNeeds, TakesNeeded, opened, row_bytes}
+use Rattle.relation_laws.specs.Reach.{with_root}
+use Rattle.relation_laws.specs.Tables.{PlainTable, PlainTables}
+use Rattle.relation_laws.proofs.Creating.{ready}
+use Rattle.relation_laws.proofs.Filling.{add-ends, entries_after}
+use Rattle.relation_laws.proofs.Inserting.{storable-rows}
+use Rattle.relation_laws.proofs.Lists.{contains-left}
+use Rattle.relation_laws.proofs.Reaching.{made-spares, own-first, own-last}
+use Rattle.relation_laws.proofs.Singling.{Single, by-name, firsts_of, has-catalog, has-first, named-here, pages_in, single}
+
+-- a row takes as many bytes under each number
+row-length : (number : ℕ) (row : List Value) → length (row_code number row) ≡ length (row_code 0 row)
+row-length number row = omega (arith, length-append (field_bytes 8 number) (length row ∷ flat_map value_code row), length-append (field_bytes 8 0) (length row ∷ flat_map value_code row), length-field_bytes 8 number, length-field_bytes 8 0)
+
+pub entry-length : (number : ℕ) (row : List Value) → length (entry_code (record { number = number; row = row })) ≡ row_bytes row
+entry-length number row =
+    omega (arith, length-append (field_bytes 2 (length (row_code number row))) (row_code number row), length-append (field_bytes 2 (length (row_code 0 row))) (row_code 0 row), length-field_bytes 2 (length (row_code number row)), length-field_bytes 2 (length (row_code 0 row)), row-length number row)
+
+bytes-one : (entry : Entry) → length (entry_bytes (entry ∷ [])) ≡ length (entry_code entry)
+bytes-one entry = ap length (flat_map-cons entry_code entry [] ∙ append-nil (entry_code entry))
+
+pub bytes-push : (entries : List Entry) (entry : Entry) → length (entry_bytes (entries ++ entry ∷ [])) ≡ length (entry_bytes entries) + length (entry_code entry)
+bytes-push entries entry =
+    omega (arith, ap length (flat_map-append entry_code entries (entry ∷ [])), length-append (entry_bytes entries) (entry_bytes (entry ∷ [])), bytes-one entry)
+
+-- the last page of a table is one
+pub ends-one : (size : ℕ) (pages : Pages) (first last other : ℕ) (tail also : HeapPage) → EndsAt size pages first last tail → EndsAt size pages first other also → tail ≡ also
+ends-one size pages first last other tail also one two =
+    let heads : one.head ≡ two.head = at-one size size pages first one.head two.head one.at_first two.at_first in
+    let same : last ≡ other = sym one.named ∙ ap (λ (h : HeapPage). cond (h.last == 0) first h.last) heads ∙ two.named in
+    at-one size size pages other tail also (subst (λ (p : ℕ). IsAt size pages p tail) same one.at_last) two.at_last
+
+pub last-one : (size : ℕ) (pages : Pages) (first last other : ℕ) (tail also : HeapPage) → EndsAt size pages first last tail → EndsAt size pages first other also → last ≡ other
+last-one size pages first last other tail also one two =
+    let heads : one.head ≡ two.head = at-one size size pages first one.head two.head one.at_first two.at_first in
+    sym one.named ∙ ap (λ (h : HeapPage). cond (h.last == 0) first h.last) heads ∙ two.named
+
+-- edits after edits
+or-assoc : (a b c : Bool) → (a || (b || c)) ≡ ((a || b) || c)
+or-assoc true b c = refl
+or-assoc false b c = refl
+
+or-none : (a b : Bool) → (a || b) ≡ false → (a ≡ false) × (b ≡ false)
+or-none true b e = absurd cc
+or-none false b e = (refl, e)
+
+edits-then : (pages mid after : Pages) (one two all : List ℕ) → ((p : ℕ) → list_any (λ other. p == other) all ≡ (list_any (λ other. p == other) two || list_any (λ other. p == other) one)) → Edits pages mid one → Edits mid after two → Edits pages after all
+edits-then pages mid after one two all joined first_half second_half = record {
+  same = λ p none.
+      let parts = or-none (list_any (λ other. p == other) two) (list_any (λ other. p == other) one) (sym (joined p) ∙ none) in
+      second_half.same p parts.0 ∙ first_half.same p parts.1;
+  edited = λ p.
+      second_half.edited p ∙ ap (λ (b : Bool). list_any (λ other. p == other) two || b) (first_half.edited p)
+      ∙ or-assoc (list_any (λ other. p == other) two) (list_any (λ other. p == other) one) (pages.edited p) ∙ ap (λ (b : Bool). b || pages.edited p) (sym (joined p));
+}
+
+-- the page that a row opens, if it opens one, and the last page then
+abbrev opens_ : Bool → ℕ → List ℕ
+opens_ room page = cond room [] (page ∷ [])
+
+abbrev end_in : Bool → ℕ → ℕ → ℕ
+end_in room last page = cond room last page
+
+-- the edits of a row and of those behind it
+rows-join : (pages mid after : Pages) (first last page : ℕ) (room : Bool) (more : List ℕ) → Edits pages mid (first ∷ last ∷ with_root (opens_ room page)) → Edits mid after (first ∷ end_in room last page ∷ with_root more) → Edits pages after (first ∷ last ∷ with_root (opens_ room page ++ more))
+rows-join pages mid after first last page true more one two =
+    edits-then pages mid after (first ∷ last ∷ []) (first ∷ last ∷ with_root more) (first ∷ last ∷ with_root more) (λ p. again (p == first) (p == last) (list_any (λ other. p == other) (with_root more))) one two
+  where
+    again : (f l x : Bool) → (f || (l || x)) ≡ ((f || (l || x)) || (f || (l || false)))
+    again true l x = refl
+    again false true x = refl
+    again false false true = refl
+    again false false false = refl
+rows-join pages mid after first last page false [] one two =
+    edits-then pages mid after (first ∷ last ∷ 0 ∷ page ∷ []) (first ∷ page ∷ []) (first ∷ last ∷ 0 ∷ page ∷ []) (λ p. again (p == first) (p == last) (p == 0) (p == page)) one two
+  where
+    again : (f l z n : Bool) → (f || (l || (z || (n || false)))) ≡ ((f || (n || false)) || (f || (l || (z || (n || false)))))
+    again true l z n = refl
+    again false true z true = refl
+    again false true z false = refl
+    again false false true true = refl
+    again false false true false = refl
+    again false false false true = refl
+    again false false false false = refl
+rows-join pages mid after first last page false (q ∷ more) one two =
+    edits-then pages mid after (first ∷ last ∷ 0 ∷ page ∷ []) (first ∷ page ∷ 0 ∷ q ∷ more) (first ∷ last ∷ 0 ∷ page ∷ q ∷ more) (λ p. again (p == first) (p == last) (p == 0) (p == page) (list_any (λ other. p == other) (q ∷ more))) one two
+  where
+    again : (f l z n y : Bool) → (f || (l || (z || (n || y)))) ≡ ((f || (n || (z || y))) || (f || (l || (z || (n || false)))))
+    again true l z n y = refl
+    again false true z true y = refl
+    again false true true false y = refl
+    again false true false false true = refl
+    again false true false false false = refl
+    again false false true true y = refl
+    again false false true false y = refl
+    again false false false true y = refl
+    again false false false false true = refl
+    again false false false false false = refl
+
+-- a row that is added opens a page where it has no room, and the rows behind it go on from where it stands
+record Steps (size : ℕ) (pages after : Pages) (first last : ℕ) (tail : HeapPage) (row : List Value) : Type 0 where
+  room : Bool
+  page : ℕ
+  next : HeapPage
+  ends : EndsAt size after first (end_in room last page) next
+  opens : (rows : List (List Value)) → opened (length (entry_bytes tail.entries)) (row ∷ rows) ≡ length (opens_ room page) + opened (length (entry_bytes next.entries)) rows
+  takes : length (opens_ room page) + free_pages size after ≡ free_pages size pages
+  edits : Edits pages after (first ∷ last ∷ with_root (opens_ room page))
+
+steps : (size : ℕ) (pages : Pages) (firsts indexes : List ℕ) (first : ℕ) (table : Table) (row : List Value) (y : (ℕ × ℕ) × Pages) (last : ℕ) (tail : HeapPage) → WellFormed size pages firsts indexes → Contains firsts first → IsTable size pages first table → IsStorable row → table.next_number < 2 ^ 64 - 1
+    → added size pages first row (Ok y) → Adds size pages firsts indexes first table row y.0 y.1 → EndsAt size pages first last tail → Steps size pages y.1 first last tail row
+steps size pages firsts indexes first table row y last tail well has shows storable small work adds ends =
+    let put = add-ends size pages firsts indexes first table row y well has shows storable small work in
+    let entry : Entry = record { number = table.next_number; row = row } in
+    let tails : put.tail ≡ tail = ends-one size pages first put.last last put.tail tail put.ends ends in
+    let lasts : put.last ≡ last = last-one size pages first put.last last put.tail tail put.ends ends in
+    let others : adds.tail ≡ tail = ends-one size pages first adds.last last adds.tail tail adds.ends ends in
+    go (has_room tail entry) put.to put.ended.tail put.ended.ends
+    (subst (λ (n : ℕ). has_room tail entry ≡ nat_le n 1004) (bytes-push tail.entries entry ∙ ap (λ (k : ℕ). length (entry_bytes tail.entries) + k) (entry-length table.next_number row)) refl)
+    (subst (λ (t : HeapPage). put.ended.tail.entries ≡ entries_after (has_room t entry) t entry) tails put.ended.are)
+    (λ room. put.stays (subst (λ (t : HeapPage). has_room t entry ≡ true) (sym tails) room) ∙ lasts)
+    (λ room. put.moves (subst (λ (t : HeapPage). has_room t entry ≡ false) (sym tails) room))
+    (subst (λ (l : ℕ). IsAdded (has_room tail entry) size pages y.1 first l y.0.1) (last-one size pages first adds.last last adds.tail tail adds.ends ends) (subst (λ (t : HeapPage). IsAdded (has_room t entry) size pages y.1 first adds.last y.0.1) others adds.effect))
+  where
+    turn : (f l n z : Bool) → (f || (l || (n || (z || false)))) ≡ (f || (l || (z || (n || false))))
+    turn true l n z = refl
+    turn false true n z = refl
+    turn false false true true = refl
+    turn false false true false = refl
+    turn false false false true = refl
+    turn false false false false = refl
+
+    go : (b : Bool) (to : ℕ) (next : HeapPage) → EndsAt size y.1 first to next → b ≡ nat_le (length (entry_bytes tail.entries) + row_bytes row) 1004
+        → next.entries ≡ entries_after b tail (record { number = table.next_number; row = row }) → (b ≡ true → to ≡ last) → (b ≡ false → to ≡ y.0.1)
+        → IsAdded b size pages y.1 first last y.0.1 → Steps size pages y.1 first last tail row
+    go true to next ended e are stays moves effect =
+        let long : length (entry_bytes next.entries) ≡ length (entry_bytes tail.entries) + row_bytes row = ap (λ (es : List Entry). length (entry_bytes es)) are ∙ bytes-push tail.entries (record { number = table.next_number; row = row }) ∙ ap (λ (k : ℕ). length (entry_bytes tail.entries) + k) (entry-length table.next_number row) in
+        record {
+          room = true;
+          page = y.0.1;
+          next = next;
+          ends = subst (λ (p : ℕ). EndsAt size y.1 first p next) (stays refl) ended;
+          opens = λ rows. omega (arith, ap (λ (b : Bool). cond b (opened (length (entry_bytes tail.entries) + row_bytes row) rows) (1 + opened (row_bytes row) rows)) e, ap (λ (n : ℕ). opened n rows) long);
+          takes = omega (arith, effect.1);
+          edits = effect.2;
+        }
+    go false to next ended e are stays moves effect =
+        let long : length (entry_bytes next.entries) ≡ row_bytes row = ap (λ (es : List Entry). length (entry_bytes es)) are ∙ bytes-one (record { number = table.next_number; row = row }) ∙ entry-length table.next_number row in
+        record {
+          room = false;
+          page = y.0.1;
+          next = next;
+          ends = subst (λ (p : ℕ). EndsAt size y.1 first p next) (moves refl) ended;
+          opens = λ rows. omega (arith, ap (λ (b : Bool). cond b (opened (length (entry_bytes tail.entries) + row_bytes row) rows) (1 + opened (row_bytes row) rows)) e, ap (λ (n : ℕ). opened n rows) long);
+          takes = omega (arith, effect.0.one_less);
+          edits = edits-as pages y.1 (first ∷ last ∷ y.0.1 ∷ 0 ∷ []) (first ∷ last ∷ 0 ∷ y.0.1 ∷ []) (λ p. turn (p == first) (p == last) (p == y.0.1) (p == 0)) effect.1;
+        }
+
+-- rows that are added take the pages that they open
+pub rows-take : (size : ℕ) (pages after : Pages) (firsts indexes : List ℕ) (first : ℕ) (table : Table) (rows : List (List Value)) (last : ℕ) (tail : HeapPage) → WellFormed size pages firsts indexes → Contains firsts first → IsTable size pages first table → AllByRecursion IsStorable rows → table.next_number + length rows < 2 ^ 64 → EndsAt size pages first last tail
+    → all_added size first rows pages (Ok (tt, after)) → opened (length (entry_bytes tail.entries)) rows + free_pages size after ≡ free_pages size pages
+rows-take size pages after firsts indexes first table [] last tail well among is storable room ends h = omega (arith, ap (λ (p : Pages). free_pages size p) (left_pages pages after h))
+rows-take size pages after firsts indexes first table (row ∷ rows) last tail well among is storable room ends h =
+    let one = add_law size pages firsts indexes first table row (Ok h.0) well among is storable.0 (omega (arith, room)) h.1 in
+    let step = steps size pages firsts indexes first table row h.0 last tail well among is storable.0 (omega (arith, room)) h.1 one ends in
+    let rest = rows-take size h.0.1 after firsts indexes first (with_row table h.0.0.1 row) rows (end_in step.room last step.page) step.next one.well among one.shows storable.1 (omega (arith, room)) step.ends h.2 in
+    let opens = step.opens rows in
+    omega (arith, rest, opens, step.takes)
+
+-- the pages that added rows edit
+rows-edit : (size : ℕ) (pages after : Pages) (firsts indexes : List ℕ) (first : ℕ) (table : Table) (rows : List (List Value)) (last : ℕ) (tail : HeapPage) → WellFormed size pages firsts indexes → Contains firsts first → IsTable size pages first table → AllByRecursion IsStorable rows → table.next_number + length rows < 2 ^ 64 → EndsAt size pages first last tail → 1 ≤ length rows
+    → all_added size first rows pages (Ok (tt, after)) → (taken : List ℕ) × (length taken ≡ opened (length (entry_bytes tail.entries)) rows) × Edits pages after (first ∷ last ∷ with_root taken)
+rows-edit size pages after firsts indexes first table [] last tail well among is storable room ends some h = absurd (omega (arith, some))
+rows-edit size pages after firsts indexes first table (row ∷ []) last tail well among is storable room ends some h =
+    let one = add_law size pages firsts indexes first table row (Ok h.0) well among is storable.0 (omega (arith, room)) h.1 in
+    let step = steps size pages firsts indexes first table row h.0 last tail well among is storable.0 (omega (arith, room)) h.1 one ends in
+    let opens = step.opens [] in
+    (opens_ step.room step.page, omega (arith, opens), subst (λ (p : Pages). Edits pages p (first ∷ last ∷ with_root (opens_ step.room step.page))) (left_pages h.0.1 after h.2) step.edits)
+rows-edit size pages after firsts indexes first table (row ∷ next ∷ rows) last tail well among is storable room ends some h =
+    let one = add_law size pages firsts indexes first table row (Ok h.0) well among is storable.0 (omega (arith, room)) h.1 in
+    let step = steps size pages firsts indexes first table row h.0 last tail well among is storable.0 (omega (arith, room)) h.1 one ends in
+    let rest = rows-edit size h.0.1 after firsts indexes first (with_row table h.0.0.1 row) (next ∷ rows) (end_in step.room last step.page) step.next one.well among one.shows storable.1 (omega (arith, room)) step.ends (omega arith) h.2 in
+    let opens = step.opens (next ∷ rows) in
+    (opens_ step.room step.page ++ rest.0, omega (arith, opens, rest.1, length-append (opens_ step.room step.page) rest.0), rows-join pages h.0.1 after first last step.page step.room rest.0 step.edits rest.2)
+
+-- rows that are refused open more pages than are free
+pub rows-full : (size : ℕ) (pages : Pages) (firsts indexes : List ℕ) (first : ℕ) (table : Table) (rows : List (List Value)) (why : Refusal) (last : ℕ) (tail : HeapPage) → WellFormed size pages firsts indexes → Contains firsts first → IsTable size pages first table → AllByRecursion IsStorable rows → table.next_number + length rows < 2 ^ 64 → EndsAt size pages first last tail
+    → all_added size first rows pages (Err why) → free_pages size pages < opened (length (entry_bytes tail.entries)) rows
+rows-full size pages firsts indexes first table [] why last tail well among is storable room ends h = absurd cc
+rows-full size pages firsts indexes first table (row ∷ rows) why last tail well among is storable room ends (inl h) =
+    let full = (add_law size pages firsts indexes first table row (Err why) well among is storable.0 (omega (arith, room)) h).1 in
+    let same : full.tail ≡ tail = ends-one size pages first full.last last full.tail tail full.ends ends in
+    none (nat_le (length (entry_bytes tail.entries) + row_bytes row) 1004) refl full.none (subst (λ (t : HeapPage). has_room t (record { number = table.next_number; row = row }) ≡ false) same full.room)
+  where
+    clash : true ≡ false → ⊥
+    clash e = absurd cc
+
+    none : (b : Bool) → nat_le (length (entry_bytes tail.entries) + row_bytes row) 1004 ≡ b → free_pages size pages ≡ 0 → has_room tail (record { number = table.next_number; row = row }) ≡ false
+        → free_pages size pages < cond b (opened (length (entry_bytes tail.entries) + row_bytes row) rows) (1 + opened (row_bytes row) rows)
+    none true e free room = absurd (clash (sym e ∙ sym (ap (λ (n : ℕ). nat_le n 1004) (bytes-push tail.entries (record { number = table.next_number; row = row }) ∙ ap (λ (k : ℕ). length (entry_bytes tail.entries) + k) (entry-length table.next_number row))) ∙ room))
+    none false e free room = omega (arith, free)
+rows-full size pages firsts indexes first table (row ∷ rows) why last tail well among is storable room ends (inr h) =
+    let one = add_law size pages firsts indexes first table row (Ok h.0) well among is storable.0 (omega (arith, room)) h.1 in
+    let step = steps size pages firsts indexes first table row h.0 last tail well among is storable.0 (omega (arith, room)) h.1 one ends in
+    let rest = rows-full size h.0.1 firsts indexes first (with_row table h.0.0.1 row) rows why (end_in step.room last step.page) step.next one.well among one.shows storable.1 (omega (arith, room)) step.ends h.2 in
+    let opens = step.opens rows in
+    omega (arith, rest, opens, step.takes)
+
+-- each table has a last page
+pub ends-there : (size : ℕ) (pages : Pages) (firsts indexes : List ℕ) (first : ℕ) → WellFormed size pages firsts indexes → Contains firsts first → (last : ℕ) × (tail : HeapPage) × EndsAt size pages first last tail
+ends-there size pages firsts indexes first well has =
+    let read = reads size pages firsts indexes first well has in
+    let tail = tail-there size pages firsts indexes first well has read.one.lawful.head read.head_at in
+    (last_page first read.one.lawful.head, tail.0, record { head = read.one.lawful.head; at_first = read.head_at; named = refl; at_last = tail.1 })
+
+-- a table's row in the catalog is as long whatever its first page is
+table-length : (name : List ℕ) (first : ℕ) → length (row_code 0 (row_values (TableOf (record { name = name; first = first })))) ≡ 27 + length (value_code (Text name))
+table-length name first =
+    omega (arith, fixed-length (Int (pos 1) ∷ Text name ∷ Int (pos first) ∷ []), codes-cons (Int (pos 1)) (Text name ∷ Int (pos first) ∷ []), codes-cons (Text name) (Int (pos first) ∷ []), codes-cons (Int (pos first)) [], int-length (pos 1), int-length (pos first))
+
+table-bytes : (name : List ℕ) (first other : ℕ) → row_bytes (row_values (TableOf (record { name = name; first = first }))) ≡ row_bytes (row_values (TableOf (record { name = name; first = other })))
+table-bytes name first other = omega (arith, two-more (row_values (TableOf (record { name = name; first = first }))), two-more (row_values (TableOf (record { name = name; first = other }))), lengths)
+  where
+    two-more : (row : List Value) → row_bytes row ≡ 2 + length (row_code 0 row)
+    two-more row = omega (arith, length-append (field_bytes 2 (length (row_code 0 row))) (row_code 0 row), length-field_bytes 2 (length (row_code 0 row)))
+
+    lengths : length (row_code 0 (row_values (TableOf (record { name = name; first = first })))) ≡ length (row_code 0 (row_values (TableOf (record { name = name; first = other }))))
+    lengths = table-length name first ∙ sym (table-length name other)
+
+opened-same : (taken : ℕ) (name : List ℕ) (first other : ℕ) (columns : List TableColumn) → opened taken (map row_values (rows_of_table name first columns)) ≡ opened taken (map row_values (rows_of_table name other columns))
+opened-same taken name first other columns =
+    ap (λ (n : ℕ). cond (nat_le (taken + n) 1004) (opened (taken + n) (map row_values (rows_of_columns name 0 columns))) (1 + opened n (map row_values (rows_of_columns name 0 columns)))) (table-bytes name first other)
+
+pub insert-needs : (size : ℕ) (pages : Pages) (all : PlainTables) (table : PlainTable) (rows : List (List Value)) (answer : Result (Unit {0} × Pages) Refusal)
+    → IsStoreOf size pages all → Contains all.tables table → AllByRecursion (IsRowFor table) rows → table.next_number + length rows < 2 ^ 64
+    → inserted size pages table.name rows answer → (needs : ℕ) × InsertNeeds size pages table.name rows needs × TakesNeeded size pages needs answer
+insert-needs size pages all table rows answer is has fit room work =
+    let one = single size pages all table is has in
+    let end = ends-there size pages (firsts_of is.store.found) (pages_in is.store.held) one.stored.first is.store.heap (has-first is.store.found one.stored one.has) in
+    (opened (length (entry_bytes end.1.entries)) rows, (one.stored, named-here size pages all table is one, (end.0, end.1, end.2, refl)), go one end.0 end.1 end.2 answer (by-name size pages all table is one (λ stored. all_added size stored.first rows pages) answer work))
+  where
+    go : (one : Single size pages all table is) (last : ℕ) (tail : HeapPage) → EndsAt size pages one.stored.first last tail → (answer : Result (Unit {0} × Pages) Refusal) → all_added size one.stored.first rows pages answer → TakesNeeded size pages (opened (length (entry_bytes tail.entries)) rows) answer
+    go one last tail ends (Ok y) h = rows-take size pages y.1 (firsts_of is.store.found) (pages_in is.store.held) one.stored.first (record { next_number = table.next_number; rows = one.shows.placed }) rows last tail is.store.heap (has-first is.store.found one.stored one.has) one.shows.is_table (storable-rows table rows fit) room ends h
+    go one last tail ends (Err why) h = rows-full size pages (firsts_of is.store.found) (pages_in is.store.held) one.stored.first (record { next_number = table.next_number; rows = one.shows.placed }) rows why last tail is.store.heap (has-first is.store.found one.stored one.has) one.shows.is_table (storable-rows table rows fit) room ends h
+
+pub create-needs : (size : ℕ) (pages : Pages) (all : PlainTables) (name : List ℕ) (columns : List TableColumn) (answer : Result (Unit {0} × Pages) Refusal)
+    → IsStoreOf size pages all → IsNewName all name → AreTableColumns columns
+    → created size pages name columns answer → (needs : ℕ) × CreateNeeds size pages name columns needs × TakesNeeded size pages needs answer
+create-needs size pages all name columns answer is new_name are work =
+    let end = ends-there size pages (firsts_of is.store.found) (pages_in is.store.held) CATALOG is.store.heap (has-catalog is.store.found) in
+    let behind = opened (length (entry_bytes end.1.entries)) (map row_values (rows_of_table name 0 columns)) in
+    (1 + behind, (behind, (end.0, end.1, end.2, refl), refl), go end.0 end.1 end.2 answer work)
+  where
+    ends_after : (table : ℕ × Pages) → Makes size pages (firsts_of is.store.found) (pages_in is.store.held) table.0 table.1 → (last : ℕ) (tail : HeapPage) → EndsAt size pages CATALOG last tail → EndsAt size table.1 CATALOG last tail
+    ends_after table makes last tail ends =
+        let read = reads size pages (firsts_of is.store.found) (pages_in is.store.held) CATALOG is.store.heap (has-catalog is.store.found) in
+        let same = made-spares size pages table.1 (firsts_of is.store.found) (pages_in is.store.held) table.0 is.store.heap makes CATALOG (has-catalog is.store.found) read.one.chain.links read.route.leads in
+        record {
+          head = ends.head;
+          at_first = at-same size pages table.1 CATALOG ends.head (same CATALOG (own-first size pages (firsts_of is.store.found) (pages_in is.store.held) CATALOG is.store.heap (has-catalog is.store.found))).0 ends.at_first;
+          named = ends.named;
+          at_last = at-same size pages table.1 last tail (same last (own-last size pages (firsts_of is.store.found) (pages_in is.store.held) CATALOG last tail is.store.heap (has-catalog is.store.found) ends)).0 ends.at_last;
+        }
+
+    go : (last : ℕ) (tail : HeapPage) → EndsAt size pages CATALOG last tail → (answer : Result (Unit {0} × Pages) Refusal) → created size pages name columns answer → TakesNeeded size pages (1 + opened (length (entry_bytes tail.entries)) (map row_values (rows_of_table name 0 columns))) answer
+    go last tail ends (Ok y) (table, make, add) =
+        let makes = make_law size pages (firsts_of is.store.found) (pages_in is.store.held) (Ok table) is.store.heap make in
+        let base = ready size pages is.store name columns table.0 table.1 new_name.is_name are makes in
+        let took = rows-take size table.1 y.1 (firsts_of is.store.found ++ table.0 ∷ []) (pages_in is.store.held) CATALOG (record { next_number = length is.store.placed; rows = is.store.placed }) (map row_values (rows_of_table name table.0 columns)) last tail makes.well (contains-left (firsts_of is.store.found) (table.0 ∷ []) CATALOG (has-catalog is.store.found)) base.is_table base.storable base.room (ends_after table makes last tail ends) add in
+        omega (arith, took, makes.takes.one_less, opened-same (length (entry_bytes tail.entries)) name 0 table.0 columns)
+    go last tail ends (Err why) (inl refused) =
+        let full = make_law size pages (firsts_of is.store.found) (pages_in is.store.held) (Err why) is.store.heap refused in
+        omega (arith, full.1)
+    go last tail ends (Err why) (inr (table, make, add)) =
+        let makes = make_law size pages (firsts_of is.store.found) (pages_in is.store.held) (Ok table) is.store.heap make in
+        let base = ready size pages is.store name columns table.0 table.1 new_name.is_name are makes in
+        let full = rows-full size table.1 (firsts_of is.store.found ++ table.0 ∷ []) (pages_in is.store.held) CATALOG (record { next_number = length is.store.placed; rows = is.store.placed }) (map row_values (rows_of_table name table.0 columns)) why last tail makes.well (contains-left (firsts_of is.store.found) (table.0 ∷ []) CATALOG (has-catalog is.store.found)) base.is_table base.storable base.room (ends_after table makes last tail ends) add in
+        omega (arith, full, makes.takes.one_less, opened-same (length (entry_bytes tail.entries)) name 0 table.0 columns)
+
+pub edits_law : EditsLaw
+edits_law size pages after all table rows is has fit room some work =
+    let one = single size pages all table is has in
+    let end = ends-there size pages (firsts_of is.store.found) (pages_in is.store.held) one.stored.first is.store.heap (has-first is.store.found one.stored one.has) in
+    let edited = rows-edit size pages after (firsts_of is.store.found) (pages_in is.store.held) one.stored.first (record { next_number = table.next_number; rows = one.shows.placed }) rows end.0 end.1 is.store.heap (has-first is.store.found one.stored one.has) one.shows.is_table (storable-rows table rows fit) room end.2 some
+    (by-name size pages all table is one (λ stored. all_added size stored.first rows pages) (Ok (tt, after)) work) in
+    record { table = one.stored; named = named-here size pages all table is one; last = end.0; tail = end.1; ends = end.2; taken = edited.0; needed = edited.1; edits = edited.2 }

@@ -1,0 +1,5 @@
+use Rattle.relation_laws.proofs.Creating.{create_law}
+use Rattle.relation_laws.proofs.create_law.Goals as goal
+
+pub returns : goal.returns
+returns c = create_law

@@ -1,0 +1,169 @@
+-- What the calls on tables by name do to the tables of well-formed pages.
+use Rattle.std.specs.Prelude.{◌≡◌, ◌≢◌, ◌<◌, ◌≤◌, ◌+◌, ◌++◌, ◌^◌, ◌==◌, not, ℕ, List, [], ◌∷◌, length, map, true, Result, Ok, Err, if◌then◌else◌}
+use Rattle.std.specs.List.{AllByRecursion, Contains, filter, list_any}
+use Rattle.retro_base.specs.declared.refusal.Refusal.{Refusal}
+use Rattle.retro_base.specs.declared.refusal.Refusal.TheVariants.{PagesFull}
+use Rattle.values.specs.declared.value.Value.{Value}
+use Rattle.sql_tree.specs.Name.{IsName}
+use Rattle.sql_tree.specs.declared.schema.IndexSchema.{IndexSchema}
+use Rattle.sql_tree.specs.declared.schema.Schema.{Schema}
+use Rattle.sql_tree.specs.declared.schema.TableSchema.{TableSchema}
+use Rattle.sql_tree.specs.declared.statement.Column.{Column as TableColumn}
+use Rattle.pager.specs.Pages.{Pages}
+use Rattle.heap_file.specs.declared.chain.Placed.{Placed}
+use Rattle.heap_laws.specs.Laws.{Answers, all_zero}
+use Rattle.heap_laws.specs.Table.{IsStorable}
+use Rattle.relation.specs.Catalog.{same_name}
+use Rattle.relation.specs.Work.{created, deleted, fits, inserted, next_in, rows_in, schema_in, updated}
+use Rattle.relation_laws.specs.Needs.{CreateNeeds, InsertNeeds, TakesNeeded, UpdateNeeds}
+use Rattle.relation_laws.specs.Reach.{EditsEnds, Reaches, ReachesCatalog}
+use Rattle.relation_laws.specs.Tables.{AreDifferent, IsStore, PlainTable, PlainTables, TablesOf, numbered, numbered_row}
+
+-- well-formed pages that hold these tables
+pub record IsStoreOf (size : ℕ) (pages : Pages) (all : PlainTables) : Type 0 where
+  pub store : IsStore size pages
+  pub tables : TablesOf size pages all
+
+-- the tables with this one in place of the one of its name; all else as before
+abbrev pub with_table : PlainTable → PlainTables → PlainTables
+with_table changed all = record all { tables = map (λ (table : PlainTable). if same_name table.name changed.name then changed else table) all.tables }
+
+-- a call leaves this, and is refused only for want of pages
+abbrev pub Leaves : ℕ → (Pages → Type 0) → Result (Unit {0} × Pages) Refusal → Type 0
+Leaves size done (Ok answer) = done answer.1
+Leaves size done (Err why) = why ≡ PagesFull size
+
+-- what is read is never refused, and is this
+abbrev pub IsRead : {A : Type 0} → (A → Type 0) → Result A Refusal → Type 0
+IsRead is (Ok value) = is value
+IsRead is (Err why) = ⊥
+
+-- no tables, and no index
+abbrev pub no_tables : PlainTables
+no_tables = record { tables = []; indexes = [] }
+
+-- Pages hold one list of tables. A store that was never written holds none.
+pub record StoreLaw : Type 0 where
+  pub one : (size : ℕ) (pages : Pages) (all other : PlainTables) → IsStoreOf size pages all → TablesOf size pages other → other ≡ all
+  pub fresh : (size : ℕ) → 2 ≤ size → size < 2 ^ 32 → IsStoreOf size all_zero no_tables
+
+-- a table without what it holds
+abbrev pub without_contents : PlainTable → TableSchema
+without_contents table = record { name = table.name; columns = table.columns }
+
+-- what is read of the tables: the schema, and the rows and the next row number of each table
+pub record ReadLaw : Type 0 where
+  pub schema : (size : ℕ) (pages : Pages) (all : PlainTables) (answer : Result Schema Refusal)
+      → IsStoreOf size pages all → schema_in size pages answer
+      → IsRead (λ (schema : Schema). (schema.tables ≡ map without_contents all.tables) × (schema.indexes ≡ all.indexes)) answer
+  pub rows : (size : ℕ) (pages : Pages) (all : PlainTables) (table : PlainTable) (answer : Result (List Placed) Refusal)
+      → IsStoreOf size pages all → Contains all.tables table → rows_in size pages table.name answer
+      → IsRead (λ (rows : List Placed). map numbered_row rows ≡ table.rows) answer
+  pub next_number : (size : ℕ) (pages : Pages) (all : PlainTables) (table : PlainTable) (answer : Result ℕ Refusal)
+      → IsStoreOf size pages all → Contains all.tables table → next_in size pages table.name answer
+      → IsRead (λ (number : ℕ). number ≡ table.next_number) answer
+
+-- a row that the table can hold: it can be stored, and has one value of each column's kind
+abbrev pub IsRowFor : PlainTable → List Value → Type 0
+IsRowFor table row = IsStorable row × (fits table.columns row ≡ true)
+
+-- the table with more rows, which stand last, in order, under the next row numbers
+abbrev pub with_rows : List (List Value) → PlainTable → PlainTable
+with_rows rows table = record table {
+  next_number = table.next_number + length rows;
+  rows = table.rows ++ numbered table.next_number rows;
+}
+
+-- Rows are inserted into a table. That is refused only for want of pages.
+abbrev pub InsertLaw : Type 0
+InsertLaw = (size : ℕ) (pages : Pages) (all : PlainTables) (table : PlainTable) (rows : List (List Value)) (answer : Result (Unit {0} × Pages) Refusal)
+    → IsStoreOf size pages all → Contains all.tables table → AllByRecursion (IsRowFor table) rows → table.next_number + length rows < 2 ^ 64
+    → inserted size pages table.name rows answer
+    → Leaves size (λ after. IsStoreOf size after (with_table (with_rows rows table) all) × Reaches size pages table.name after) answer
+
+-- An insert edits the first page of its table, the last one, and where its rows open pages, those and the root page; and no other.
+abbrev pub EditsLaw : Type 0
+EditsLaw = (size : ℕ) (pages after : Pages) (all : PlainTables) (table : PlainTable) (rows : List (List Value))
+    → IsStoreOf size pages all → Contains all.tables table → AllByRecursion (IsRowFor table) rows → table.next_number + length rows < 2 ^ 64 → 1 ≤ length rows
+    → inserted size pages table.name rows (Ok (tt, after))
+    → EditsEnds size pages table.name rows after
+
+-- numbers of rows of the table, no two the same
+abbrev pub AreNumbersOf : PlainTable → List ℕ → Type 0
+AreNumbersOf table numbers =
+    AllByRecursion (λ (number : ℕ). Contains (map (λ (row : ℕ × List Value). row.0) table.rows) number) numbers × AreDifferent numbers
+
+-- the table without the rows of these numbers; the next row number stays
+abbrev pub without_rows : List ℕ → PlainTable → PlainTable
+without_rows numbers table = record table { rows = filter (λ (row : ℕ × List Value). not (list_any (λ number. row.0 == number) numbers)) table.rows }
+
+-- Rows of a table are deleted. That is never refused.
+abbrev pub DeleteLaw : Type 0
+DeleteLaw = (size : ℕ) (pages : Pages) (all : PlainTables) (table : PlainTable) (numbers : List ℕ) (answer : Result (Unit {0} × Pages) Refusal)
+    → IsStoreOf size pages all → Contains all.tables table → AreNumbersOf table numbers
+    → deleted size pages table.name numbers answer
+    → Answers size (λ u after. IsStoreOf size after (with_table (without_rows numbers table) all) × Reaches size pages table.name after) ⊥ answer
+
+-- a row after changes: the change of its number, where there is one
+abbrev pub changed_to : List (ℕ × List Value) → ℕ × List Value → ℕ × List Value
+changed_to [] row = row
+changed_to (change ∷ changes) row = if row.0 == change.0 then change else changed_to changes row
+
+-- the table after changes of its rows
+abbrev pub with_changes : List (ℕ × List Value) → PlainTable → PlainTable
+with_changes changes table = record table { rows = map (changed_to changes) table.rows }
+
+-- changes of rows of the table, no two of the same row
+abbrev pub AreChangesOf : PlainTable → List (ℕ × List Value) → Type 0
+AreChangesOf table changes =
+    AreNumbersOf table (map (λ (change : ℕ × List Value). change.0) changes) × AllByRecursion (λ (change : ℕ × List Value). IsRowFor table change.1) changes
+
+-- Rows of a table are changed, each under its number. That is refused only for want of pages.
+abbrev pub UpdateLaw : Type 0
+UpdateLaw = (size : ℕ) (pages : Pages) (all : PlainTables) (table : PlainTable) (changes : List (ℕ × List Value)) (answer : Result (Unit {0} × Pages) Refusal)
+    → IsStoreOf size pages all → Contains all.tables table → AreChangesOf table changes
+    → updated size pages table.name changes answer
+    → Leaves size (λ after. IsStoreOf size after (with_table (with_changes changes table) all) × Reaches size pages table.name after) answer
+
+-- a name that neither a table nor an index has
+pub record IsNewName (all : PlainTables) (name : List ℕ) : Type 0 where
+  pub is_name : IsName name
+  pub of_tables : AllByRecursion (λ (table : PlainTable). table.name ≢ name) all.tables
+  pub of_indexes : AllByRecursion (λ (index : IndexSchema). index.name ≢ name) all.indexes
+
+-- the columns of a table: one to sixteen, with different names
+pub record AreTableColumns (columns : List TableColumn) : Type 0 where
+  pub some : 1 ≤ length columns
+  pub few : length columns ≤ 16
+  pub are_names : AllByRecursion (λ (column : TableColumn). IsName column.name) columns
+  pub differ : AreDifferent (map (λ (column : TableColumn). column.name) columns)
+
+-- a table without rows
+abbrev pub empty_table : List ℕ → List TableColumn → PlainTable
+empty_table name columns = record { name = name; columns = columns; next_number = 0; rows = [] }
+
+-- the tables with this one as the last; all else as before
+abbrev pub with_new : PlainTable → PlainTables → PlainTables
+with_new table all = record all { tables = all.tables ++ table ∷ [] }
+
+-- A table is made without rows. That is refused only for want of pages.
+abbrev pub CreateLaw : Type 0
+CreateLaw = (size : ℕ) (pages : Pages) (all : PlainTables) (name : List ℕ) (columns : List TableColumn) (answer : Result (Unit {0} × Pages) Refusal)
+    → IsStoreOf size pages all → IsNewName all name → AreTableColumns columns
+    → created size pages name columns answer
+    → Leaves size (λ after. IsStoreOf size after (with_new (empty_table name columns) all) × ReachesCatalog size pages after) answer
+
+-- An insert, an update and a new table take the pages that they need, and are refused exactly where fewer are free.
+pub record NeedsLaw : Type 0 where
+  pub insert : (size : ℕ) (pages : Pages) (all : PlainTables) (table : PlainTable) (rows : List (List Value)) (answer : Result (Unit {0} × Pages) Refusal)
+      → IsStoreOf size pages all → Contains all.tables table → AllByRecursion (IsRowFor table) rows → table.next_number + length rows < 2 ^ 64
+      → inserted size pages table.name rows answer
+      → (needs : ℕ) × InsertNeeds size pages table.name rows needs × TakesNeeded size pages needs answer
+  pub update : (size : ℕ) (pages : Pages) (all : PlainTables) (table : PlainTable) (changes : List (ℕ × List Value)) (answer : Result (Unit {0} × Pages) Refusal)
+      → IsStoreOf size pages all → Contains all.tables table → AreChangesOf table changes
+      → updated size pages table.name changes answer
+      → (needs : ℕ) × UpdateNeeds size pages table.name changes needs × TakesNeeded size pages needs answer
+  pub create : (size : ℕ) (pages : Pages) (all : PlainTables) (name : List ℕ) (columns : List TableColumn) (answer : Result (Unit {0} × Pages) Refusal)
+      → IsStoreOf size pages all → IsNewName all name → AreTableColumns columns
+      → created size pages name columns answer
+      → (needs : ℕ) × CreateNeeds size pages name columns needs × TakesNeeded size pages needs answer

@@ -1,0 +1,4 @@
+pub mod Laws
+pub mod Needs
+pub mod Reach
+pub mod Tables

@@ -1,0 +1,84 @@
+-- The pages that a call takes.
+use Rattle.std.specs.Prelude.{◌≡◌, ◌≢◌, ◌<◌, ◌+◌, ◌==◌, not, ℕ, Bool, true, false, List, [], ◌∷◌, length, map, nat_le, Result, Ok, Err, if◌then◌else◌}
+use Rattle.std.specs.List.{AllByRecursion, filter, sum_by}
+use Rattle.retro_base.specs.declared.refusal.Refusal.{Refusal}
+use Rattle.values.specs.declared.value.Value.{Value}
+use Rattle.sql_tree.specs.declared.statement.Column.{Column as TableColumn}
+use Rattle.pager.specs.Pages.{Pages}
+use Rattle.heap_file.specs.declared.page.HeapPage.{HeapPage}
+use Rattle.heap_file.specs.declared.chain.Placed.{Placed}
+use Rattle.heap_file.specs.HeapPage.{entry_bytes, entry_code}
+use Rattle.heap_laws.specs.Store.{free_pages}
+use Rattle.heap_laws.specs.Table.{EndsAt}
+use Rattle.relation.specs.declared.catalog.StoredTable.{StoredTable}
+use Rattle.relation.specs.declared.catalog.TheConstants.{CATALOG}
+use Rattle.relation.specs.CatalogRow.{row_values}
+use Rattle.relation.specs.Work.{rows_at, rows_of_table, table_in}
+
+-- the bytes that a row takes on a page, whatever its number
+abbrev pub row_bytes : List Value → ℕ
+row_bytes row = length (entry_code (record { number = 0; row = row }))
+
+-- How many pages rows open at the end of a table whose last page has so many bytes of rows: each stands on the last page where it has room there, else on a new one.
+abbrev pub opened : ℕ → List (List Value) → ℕ
+opened taken [] = 0
+opened taken (row ∷ rows) =
+    if nat_le (taken + row_bytes row) 1004 then opened (taken + row_bytes row) rows else 1 + opened (row_bytes row) rows
+
+-- how many pages rows need that are added to the table that begins with that page
+abbrev pub RowsNeed : ℕ → Pages → ℕ → List (List Value) → ℕ → Type 0
+RowsNeed size pages first rows needs =
+    (last : ℕ) × (tail : HeapPage) × EndsAt size pages first last tail × (needs ≡ opened (length (entry_bytes tail.entries)) rows)
+
+-- how many pages an insert into the table of that name needs
+abbrev pub InsertNeeds : ℕ → Pages → List ℕ → List (List Value) → ℕ → Type 0
+InsertNeeds size pages name rows needs = (table : StoredTable) × table_in size pages name (Ok table) × RowsNeed size pages table.first rows needs
+
+-- how many pages a new table needs: its first page, and those that its rows open in the catalog, which are as long whatever that page is
+abbrev pub CreateNeeds : ℕ → Pages → List ℕ → List TableColumn → ℕ → Type 0
+CreateNeeds size pages name columns needs = (behind : ℕ) × RowsNeed size pages CATALOG (map row_values (rows_of_table name 0 columns)) behind × (needs ≡ 1 + behind)
+
+-- a call that needs so many pages takes them, and is refused exactly where fewer are free
+abbrev pub TakesNeeded : {A : Type 0} → ℕ → Pages → ℕ → Result (A × Pages) Refusal → Type 0
+TakesNeeded size pages needs (Ok answer) = needs + free_pages size answer.1 ≡ free_pages size pages
+TakesNeeded size pages needs (Err why) = free_pages size pages < needs
+
+-- the bytes that the rows on a page take
+abbrev pub bytes_on : ℕ → List Placed → ℕ
+bytes_on page rows = sum_by (λ (placed : Placed). if placed.page == page then row_bytes placed.row else 0) rows
+
+-- whether a page has room for a changed row, once its old row is taken out
+abbrev pub has_room_for : ℕ × List Value → ℕ → List Placed → Bool
+has_room_for change page rows =
+    nat_le (bytes_on page (filter (λ (placed : Placed). not (placed.number == change.0)) rows) + row_bytes change.1) 1004
+
+-- the page of the row of that number
+abbrev pub page_under : ℕ → List Placed → ℕ
+page_under number [] = 0
+page_under number (placed ∷ rows) = if placed.number == number then placed.page else page_under number rows
+
+-- the rows, of which that of the change's number is now this one, on that page
+abbrev pub moved_to : ℕ × List Value → ℕ → List Placed → List Placed
+moved_to change page rows =
+    map (λ (placed : Placed). if placed.number == change.0 then record { number = change.0; page = page; row = change.1 } else placed) rows
+
+-- Where a changed row goes: it stays on its page where that has room, else it goes to the last page where that has room, else to a new one, which is the last then.
+abbrev pub Goes : Bool → Bool → ℕ → ℕ → List Placed → ℕ → ℕ → ℕ → Type 0
+Goes true room page last rows to end opens = (to ≡ page) × (end ≡ last) × (opens ≡ 0)
+Goes false true page last rows to end opens = (to ≡ last) × (end ≡ last) × (opens ≡ 0)
+Goes false false page last rows to end opens =
+    (to ≢ last) × AllByRecursion (λ (placed : Placed). placed.page ≢ to) rows × (end ≡ to) × (opens ≡ 1)
+
+-- how many pages changes open, one after the other, in a table with these rows and that last page
+abbrev pub ChangesNeed : ℕ → List Placed → List (ℕ × List Value) → ℕ → Type 0
+ChangesNeed last rows [] needs = needs ≡ 0
+ChangesNeed last rows (change ∷ changes) needs =
+    (to : ℕ) × (end : ℕ) × (opens : ℕ) × (behind : ℕ)
+    × Goes (has_room_for change (page_under change.0 rows) rows) (has_room_for change last rows) (page_under change.0 rows) last rows to end opens
+    × ChangesNeed end (moved_to change to rows) changes behind × (needs ≡ opens + behind)
+
+-- how many pages an update of the table of that name needs
+abbrev pub UpdateNeeds : ℕ → Pages → List ℕ → List (ℕ × List Value) → ℕ → Type 0
+UpdateNeeds size pages name changes needs =
+    (table : StoredTable) × table_in size pages name (Ok table) × (rows : List Placed) × rows_at size pages table (Ok rows)
+    × (last : ℕ) × (tail : HeapPage) × EndsAt size pages table.first last tail × ChangesNeed last rows changes needs
