@@ -1,0 +1,5 @@
+pub mod Holding
+pub mod Listed
+pub mod OneWay
+pub mod PageParts
+pub mod Reading

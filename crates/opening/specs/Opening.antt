@@ -1,0 +1,116 @@
+-- What the bytes of the four devices of a store open to, and where they break.
+use Rattle.std.specs.Prelude.{◌≡◌, ◌⊎◌, ◌+◌, ◌*◌, ℕ, List, length, take, drop}
+use Rattle.disk_model.specs.Sizes.{pages_bytes, pagelog_bytes}
+use Rattle.disk_model.specs.declared.four.Four.{Four}
+use Rattle.retro_base.specs.declared.device.Device.{Device}
+use Rattle.retro_base.specs.declared.device.Device.TheVariants.{Log, Pages, Pagelog, Maplog, Cabinet}
+use Rattle.retro_base.specs.declared.limits.TheConstants.{LOG_REGION_BYTES, PAGE_BYTES}
+use Rattle.retro_base.specs.declared.refusal.Refusal.{Refusal}
+use Rattle.retro_base.specs.declared.refusal.Refusal.TheVariants.{OutOfMemory, NotAStore}
+use Rattle.gate_log.specs.Region.{gate_behind}
+use Rattle.area_log.specs.Regions.{DeviceBreaks, DeviceLists}
+use Rattle.replay.specs.declared.log.Log as declared
+use Rattle.replay.specs.declared.opened.Opened.{Opened}
+use Rattle.replay.specs.InTurn.{BreaksBehind}
+use Rattle.replay.specs.Joined.{AreJoined}
+use Rattle.replay.specs.Log.{IsLog}
+use Rattle.replay.specs.Maplog.{IsMaplog}
+use Rattle.replay.specs.Opened.{Contents, Opens}
+
+-- a device has other than so many bytes, and is told with as many as it has
+pub record WrongSize (size : ℕ) (bytes : List ℕ) (broken : ℕ) : Type 0 where
+  pub other : length bytes ≡ size → ⊥
+  pub told : broken ≡ length bytes
+
+-- a device of two halves of that size, whose list stands for the value
+pub record DeviceStandsFor {X : Type 0} (half : ℕ) (StandsFor : List (List ℕ) → X → Type 0) (bytes : List ℕ) (x : X) : Type 0 where
+  pub size : length bytes ≡ 2 * half
+  pub bodies : List (List ℕ)
+  pub lists : DeviceLists half bodies bytes
+  pub stands : StandsFor bodies x
+
+-- where the closed gate behind its list stands
+abbrev pub closed_gate : {X : Type 0} {half : ℕ} {StandsFor : List (List ℕ) → X → Type 0} {bytes : List ℕ} {x : X} → DeviceStandsFor half StandsFor bytes x → ℕ
+closed_gate device = device.lists.place + gate_behind device.bodies
+
+-- The list of the device breaks behind a front of it. It is told with the gate behind that front.
+pub record ListBreaks {X : Type 0} (half : ℕ) (StandsFor : List (List ℕ) → X → Type 0) (bytes : List ℕ) (broken : ℕ) : Type 0 where
+  pub bodies : List (List ℕ)
+  pub lists : DeviceLists half bodies bytes
+  pub front : List (List ℕ)
+  pub breaks : BreaksBehind StandsFor bodies front
+  pub told : broken ≡ lists.place + gate_behind front
+
+-- a device of two halves is refused: for its size, else for its headers or its framing, else for its bodies
+abbrev pub DeviceRefused : {X : Type 0} → ℕ → (List (List ℕ) → X → Type 0) → List ℕ → ℕ → Type 0
+DeviceRefused half StandsFor bytes broken = WrongSize (2 * half) bytes broken ⊎ ((length bytes ≡ 2 * half) × (DeviceBreaks half bytes broken ⊎ ListBreaks half StandsFor bytes broken))
+
+-- the bytes of each half of the Maplog's device
+abbrev pub maplog_half : ℕ → ℕ
+maplog_half capacity = 32 * capacity + 4096
+
+-- the page that stands at that place of a device of pages
+abbrev pub page_at : List ℕ → ℕ → List ℕ
+page_at bytes number = take PAGE_BYTES (drop (PAGE_BYTES * number) bytes)
+
+-- the log's device
+abbrev pub LogStandsFor : Four (List ℕ) → declared.Log → Type 0
+LogStandsFor devices log = DeviceStandsFor LOG_REGION_BYTES IsLog devices.log log
+
+-- the devices of pages have the sizes that the log's base says
+pub record AreSized (devices : Four (List ℕ)) (log : declared.Log) : Type 0 where
+  pub pages : length devices.pages ≡ pages_bytes log.base.page_count
+  pub pagelog : length devices.pagelog ≡ pagelog_bytes log.base.capacity
+
+-- the devices hold these contents
+pub record Hold (devices : Four (List ℕ)) (contents : Contents) : Type 0 where
+  pub log : LogStandsFor devices contents.log
+  pub sized : AreSized devices contents.log
+  pub pages : contents.pages ≡ page_at devices.pages
+  pub slots : contents.slots ≡ page_at devices.pagelog
+  pub maplog : DeviceStandsFor (maplog_half contents.log.base.capacity) (IsMaplog contents.log.base.page_count contents.log.base.capacity) devices.maplog contents.mappings
+
+-- the devices open to this store: they hold contents that belong together and open to it
+pub record DevicesOpen (devices : Four (List ℕ)) (store : Opened) : Type 0 where
+  pub contents : Contents
+  pub hold : Hold devices contents
+  pub joined : AreJoined contents
+  pub opens : Opens contents store
+
+-- The log is read first, then the sizes of the pages and the page images, then the Maplog, and then whether the Maplog belongs to the log; where it does not, it is told with its closed gate.
+pub record PagesRefused (devices : Four (List ℕ)) (broken : ℕ) : Type 0 where
+  pub log : declared.Log
+  pub stands : LogStandsFor devices log
+  pub size : WrongSize (pages_bytes log.base.page_count) devices.pages broken
+
+pub record PagelogRefused (devices : Four (List ℕ)) (broken : ℕ) : Type 0 where
+  pub log : declared.Log
+  pub stands : LogStandsFor devices log
+  pub pages : length devices.pages ≡ pages_bytes log.base.page_count
+  pub size : WrongSize (pagelog_bytes log.base.capacity) devices.pagelog broken
+
+pub record MaplogRefused (devices : Four (List ℕ)) (broken : ℕ) : Type 0 where
+  pub log : declared.Log
+  pub stands : LogStandsFor devices log
+  pub sized : AreSized devices log
+  pub refused : DeviceRefused (maplog_half log.base.capacity) (IsMaplog log.base.page_count log.base.capacity) devices.maplog broken
+
+pub record NotJoined (devices : Four (List ℕ)) (broken : ℕ) : Type 0 where
+  pub contents : Contents
+  pub hold : Hold devices contents
+  pub apart : AreJoined contents → ⊥
+  pub told : broken ≡ closed_gate hold.maplog
+
+-- the devices are those of no store: the first of them that breaks, and where
+abbrev pub DevicesBreak : Four (List ℕ) → Device → ℕ → Type 0
+DevicesBreak devices Log broken = DeviceRefused LOG_REGION_BYTES IsLog devices.log broken
+DevicesBreak devices Pages broken = PagesRefused devices broken
+DevicesBreak devices Pagelog broken = PagelogRefused devices broken
+DevicesBreak devices Maplog broken = MaplogRefused devices broken ⊎ NotJoined devices broken
+DevicesBreak devices Cabinet broken = ⊥
+
+-- a refused opening: memory ran out, or the devices break
+abbrev pub IsOpenRefusal : Four (List ℕ) → Refusal → Type 0
+IsOpenRefusal devices OutOfMemory = Unit {0}
+IsOpenRefusal devices (NotAStore device place) = DevicesBreak devices device place
+IsOpenRefusal devices _ = ⊥

@@ -1,0 +1,18 @@
+//! What follows from the definitions.
+
+ghost use Rattle.replay.specs.Laws.{LogIsReadOneWay, MaplogIsReadOneWay, OpenedIsConsistent, PastByFirstCapture};
+
+/// Lists of bodies are read in one way: each stands for one value at most, or breaks behind one front at most.
+pub fn lists_are_read_one_way()
+    ensures log { LogIsReadOneWay }
+    ensures maplog { MaplogIsReadOneWay }
+{}
+
+/// Of whatever the devices hold.
+pub fn laws_of_the_opened()
+    // The history that they open to is consistent: so what follows from that holds of it too.
+    ensures consistent { OpenedIsConsistent }
+    // As of a retained snapshot a page has the bytes of its first capture from the snapshot's start on, which the
+    // archive has in the capture's slot; where there is none, the page is as it is.
+    ensures past { PastByFirstCapture }
+{}

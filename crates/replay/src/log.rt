@@ -1,0 +1,162 @@
+//! The log, from the bodies of its records.
+
+ghost use Rattle.std.specs.Prelude.{◌≡◌, ◌∷◌, ℕ, List, Err, IfOk, IfErr};
+ghost use Rattle.history.specs.declared.decoding.DecodeError.TheVariants.{Malformed};
+ghost use Rattle.history.specs.declared.entry.Base.{Base};
+ghost use Rattle.history.specs.declared.entry.Change.{Change};
+ghost use Rattle.history.specs.declared.entry.Entry.TheVariants as entries;
+ghost use Rattle.history.specs.History.{base_after};
+ghost use Rattle.history.specs.Right.{IsBase, IsRight};
+ghost use Rattle.replay.specs.Finds.{Finds};
+ghost use Rattle.replay.specs.InTurn.{bodies_of, BreaksAs, InTurn, Reads};
+ghost use Rattle.replay.specs.Log.{AreRight, IsBaseBody, IsChangeBody, IsLog};
+
+use crate::unread::{Unread, stopped_at};
+use history::{
+    Base, Change, DecodeError, Entry, Mark, Version, base_after, decode, is_base, is_right,
+};
+use std::alloc::{AllocError, Global};
+use values::{Duplicate, Seq};
+
+/// What the log lists: a base, and the changes behind it.
+#[derive(Debug, Drop)]
+pub struct Log {
+    pub base: Base,
+    pub changes: Seq<Change>,
+}
+
+fn right_base(base: Base) -> Result<Base, DecodeError>
+    ensures { Finds (λ (found : Base). (found ≡ base) × IsBase found) result }
+{
+    if !is_base(&base) {
+        return Err(DecodeError::Malformed);
+    }
+    Ok(base)
+}
+
+fn no_base(_change: Change) -> Result<Base, DecodeError>
+    ensures { result ≡ Err Malformed }
+{
+    Err(DecodeError::Malformed)
+}
+
+// The right base that this entry is.
+fn base_in(entry: Entry) -> Result<Base, DecodeError>
+    ensures { Finds (λ (base : Base). (entry ≡ entries.Base base) × IsBase base) result }
+{
+    match entry {
+        Entry::Base(base) => right_base(base),
+        Entry::Change(change) => no_base(change),
+    }
+}
+
+// The right base that has this body.
+fn base_of(alloc: Global, body: &[u8]) -> Result<Base, DecodeError>
+    ensures { Finds (IsBaseBody body.now) result }
+{
+    match decode(alloc, Version::One, body) {
+        Ok(entry) => base_in(entry),
+        Err(error) => Err(error),
+    }
+}
+
+fn right_change(place: &Base, change: Change) -> Result<Change, DecodeError>
+    ensures { Finds (λ (found : Change). (found ≡ change) × IsRight place.now found) result }
+{
+    if !is_right(place, &change) {
+        return Err(DecodeError::Malformed);
+    }
+    Ok(change)
+}
+
+fn no_change(_base: Base) -> Result<Change, DecodeError>
+    ensures { result ≡ Err Malformed }
+{
+    Err(DecodeError::Malformed)
+}
+
+// The change that this entry is, if it is right there.
+fn change_in(place: &Base, entry: Entry) -> Result<Change, DecodeError>
+    ensures { Finds (λ (change : Change). (entry ≡ entries.Change change) × IsRight place.now change) result }
+{
+    match entry {
+        Entry::Base(base) => no_change(base),
+        Entry::Change(change) => right_change(place, change),
+    }
+}
+
+// The change that has this body and is right there.
+fn change_of(alloc: Global, place: &Base, body: &[u8]) -> Result<Change, DecodeError>
+    ensures { Finds (IsChangeBody place.now body.now) result }
+{
+    match decode(alloc, Version::One, body) {
+        Ok(entry) => change_in(place, entry),
+        Err(error) => Err(error),
+    }
+}
+
+fn copy_marks(alloc: Global, marks: &[Mark]) -> Result<Vec<Mark>, AllocError>
+    ensures { IfOk result (λ copy. copy.items ≡ marks.now) }
+{
+    let mut copy = Vec::new(alloc);
+    for mark in marks {
+        copy.push(Mark {
+            number: mark.number,
+            label: mark.label.copy(alloc)?,
+            start: mark.start,
+        })?;
+    }
+    Ok(copy)
+}
+
+fn copy_base(alloc: Global, base: &Base) -> Result<Base, AllocError>
+    ensures { IfOk result (λ copy. copy ≡ base.now) }
+{
+    Ok(Base {
+        page_count: base.page_count,
+        capacity: base.capacity,
+        changes: base.changes,
+        captures: base.captures,
+        marks: Seq::from(copy_marks(alloc, base.marks.as_slice())?),
+        captured: Seq::from(Vec::from_slice(alloc, base.captured.as_slice())?),
+    })
+}
+
+// The changes that have these bodies behind the body of the base, each right at its place.
+fn changes_of(alloc: Global, base: &Base, bodies: &[Vec<u8>]) -> Result<Seq<Change>, Unread>
+    ensures found { IfOk result (InTurn IsChangeBody base_after base.now (bodies_of bodies.now)) }
+    ensures broken { IfErr result (λ e. (first : List ℕ) → IsBaseBody first base.now → BreaksAs IsLog (first ∷ bodies_of bodies.now) e) }
+{
+    let mut place = copy_base(alloc, base)?;
+    let mut changes = Vec::new(alloc);
+    for body in bodies {
+        match change_of(alloc, &place, body) {
+            Err(error) => return Err(stopped_at(error, changes.len() + 1)),
+            Ok(change) => {
+                place = base_after(alloc, place, &change)?;
+                changes.push(change)?;
+            }
+        }
+    }
+    Ok(Seq::from(changes))
+}
+
+/// The log of these bodies: a right base, and changes that are right in turn. Refused for want of memory, and where
+/// the list breaks: it is empty, or the body behind those that are told is no right record there.
+#[tactic(auto, using(crate::proofs::Logs::in_turn_right))]
+pub fn read_log(alloc: Global, bodies: &[Vec<u8>]) -> Result<Log, Unread>
+    ensures reads { Reads IsLog (bodies_of bodies.now) result }
+    ensures base { IfOk result (λ log. IsBase log.base) }
+    ensures right { IfOk result (λ log. AreRight log.base log.changes) }
+{
+    let [first, others @ ..] = bodies else {
+        return Err(Unread::Broken { behind: 0 });
+    };
+    match base_of(alloc, first) {
+        Ok(base) => {
+            let changes = changes_of(alloc, &base, others)?;
+            Ok(Log { base, changes })
+        }
+        Err(error) => Err(stopped_at(error, 0)),
+    }
+}
