@@ -1,0 +1,10 @@
+/// How two numbers are combined.
+#[derive(Clone, Copy, Debug, PartialEq, Eq)]
+pub enum How {
+    /// The lesser of them.
+    Min,
+    /// The greater of them.
+    Max,
+    /// Their sum.
+    Add,
+}

@@ -1,0 +1,14 @@
+//! Numbers combined by closures that are handed in, each beside the fact that it answers as it should.
+#![tactic(auto)]
+
+mod combiner;
+mod fold_set;
+mod how;
+mod laws;
+#[cfg(test)]
+mod tests;
+
+pub use combiner::{Combiner, Operation};
+pub use fold_set::{FoldSet, Folds};
+pub use how::How;
+pub use laws::regroups;

@@ -1,0 +1,70 @@
+//! The answers one after the other.
+
+ghost use Rattle.std.specs.Prelude.{◌≡◌, IfErr, IfOk, IsTrue};
+ghost use Rattle.std.specs.List.{AllByRecursion};
+ghost use Rattle.retro_base.specs.declared.refusal.Refusal.TheVariants.{OutOfMemory};
+ghost use Rattle.sql_tree.specs.Statement.{IsSelect};
+ghost use Rattle.rql.specs.AsOf.{IsOfCall, OnlyAsks, Tells};
+ghost use Rattle.rql.specs.Collate.{all_rows, collate, joined};
+
+use crate::as_of::AsOf;
+use crate::columns::has_twins;
+use crate::gathering::{Takes, gather};
+use pager::Stop;
+use retro_base::Refusal;
+use sql_select::Answer;
+use sql_tree::{Column, Select};
+use std::alloc::{AllocError, Global};
+use values::{Row, Seq};
+
+/// Takes all rows of an answer, whose columns have names of their own.
+pub(crate) struct AllRows;
+
+impl Takes for AllRows {
+    type Part = Seq<Row>;
+
+    ghost take = { λ _. all_rows };
+
+    fn take(
+        &self,
+        _snapshot: u32,
+        columns: &[Column],
+        rows: Seq<Row>,
+    ) -> Result<Seq<Row>, Refusal> {
+        if has_twins(columns) {
+            return Err(Refusal::NameTaken);
+        }
+        Ok(rows)
+    }
+}
+
+/// The lists one behind the other.
+pub(crate) fn join(alloc: Global, lists: Vec<Seq<Row>>) -> Result<Seq<Row>, AllocError>
+    ensures { IfOk result (λ rows. rows ≡ joined lists.items) }
+{
+    let mut rows = Vec::new(alloc);
+    for list in lists {
+        let mut list = Vec::from(list);
+        rows.append(&mut list)?;
+    }
+    Ok(Seq::from(rows))
+}
+
+/// The answers of a query at the snapshots, one after the other, with the columns of the first. Refused by what the query
+/// is refused by, by NameTaken for two columns of one name, by WrongType for columns that are not those of the first
+/// answer, in this order at one snapshot, and the first snapshot's first.
+pub fn collate<A: AsOf>(
+    alloc: Global,
+    asof: &mut A,
+    snapshots: &[u32],
+    query: &Select,
+) -> Result<Answer, Stop<A::Fault>>
+    requires asked { AllByRecursion (λ snapshot. IsTrue (A.may_ask asof.old snapshot)) snapshots.now }
+    requires query { IsSelect query.now }
+    ensures told { Tells (λ answer. answer) (A.told asof.old) query.now (λ answers. collate answers snapshots.now) result }
+    ensures only_asks { OnlyAsks A.may_ask A.told A.faults (IsOfCall snapshots.now) asof.old asof.new result }
+{
+    let (columns, parts) = gather(alloc, asof, snapshots, query, &AllRows)?;
+    let rows = join(alloc, parts)?;
+    Ok(Answer { columns, rows })
+}

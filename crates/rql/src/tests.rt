@@ -1,0 +1,4 @@
+//! What no clause says: that calls succeed with memory at hand, and answers by hand.
+
+mod answers;
+mod support;

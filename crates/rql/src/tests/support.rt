@@ -1,0 +1,182 @@
+//! Answers in short over the columns k and v, and answers as text.
+
+ghost use Rattle.std.specs.Prelude.{IfErr, IfOk};
+ghost use Rattle.sql_tree.specs.Statement.{IsSelect};
+ghost use Rattle.rql.specs.AsOf.{IsOfQuery};
+
+use crate::as_of::AsOf;
+use pager::Stop;
+use retro_base::{Failed, Refusal};
+use sql_select::Answer;
+use sql_tree::{Column, Name, Select, SelectList};
+use std::alloc::{AllocError, Global};
+use values::{Kind, Row, Seq, Text, Value, field};
+
+/// The column k of texts, and the column v of integers.
+#[derive(Clone, Copy)]
+pub enum Named {
+    K,
+    V,
+}
+
+#[derive(Clone, Copy)]
+pub enum Cell {
+    Int(i64),
+    A,
+    B,
+}
+
+use Cell::{A, B, Int};
+use Named::{K, V};
+
+type Given = (&'static [Named], &'static [&'static [Cell]]);
+
+// What the query gives at each snapshot.
+fn given(snapshot: u32) -> Result<Given, Refusal>
+    ensures { IfErr result IsOfQuery }
+{
+    match snapshot {
+        1 => Ok((&[V], &[&[Int(9223372036854775807)]])),
+        2 => Ok((&[V], &[&[Int(1)]])),
+        3 => Ok((&[V], &[&[Int(-1)]])),
+        4 => Ok((&[V], &[&[Int(1)], &[Int(2)]])),
+        5 => Ok((&[K], &[&[A]])),
+        6 => Ok((&[K], &[&[B]])),
+        7 => Ok((&[K], &[&[A], &[B]])),
+        8 => Ok((&[K, V], &[&[A, Int(1)], &[B, Int(2)], &[A, Int(1)]])),
+        9 => Ok((&[K, V], &[&[B, Int(2)]])),
+        10 => Ok((&[K, V], &[])),
+        13 => Ok((&[V, V], &[&[Int(1), Int(2)]])),
+        11 => Err(Refusal::UnknownName),
+        _ => Err(Refusal::Overflow),
+    }
+}
+
+/// Answers any query by what is given. At snapshot 0 it fails.
+#[derive(Drop)]
+pub struct Shown {
+    alloc: Global,
+    faults: u64,
+}
+
+impl Shown {
+    pub fn new(alloc: Global) -> Shown {
+        Shown { alloc, faults: 0 }
+    }
+}
+
+impl AsOf for Shown {
+    ghost use Rattle.std.specs.Prelude.{None, true};
+
+    type Fault = Failed;
+
+    ghost may_ask = { λ _ _. true };
+
+    ghost told = { λ _. None };
+
+    ghost faults = { λ s. s.faults };
+
+    fn answer(&mut self, snapshot: u32, _query: &Select) -> Result<Answer, Stop<Failed>> {
+        if snapshot == 0 {
+            self.faults = self.faults.saturating_add(1);
+            return Err(Stop::Pager(Failed));
+        }
+        let (columns, rows) = given(snapshot)?;
+        let columns = columns_of(self.alloc, columns)?;
+        let rows = rows_of(self.alloc, rows)?;
+        Ok(Answer { columns, rows })
+    }
+
+    fn faults(&self) -> u64 {
+        self.faults
+    }
+}
+
+fn column(alloc: Global, column: Named) -> Result<Column, AllocError> {
+    match column {
+        K => Ok(Column {
+            name: Name::new(Seq::from(b"k".to_vec(alloc)?)),
+            kind: Kind::Text,
+        }),
+        V => Ok(Column {
+            name: Name::new(Seq::from(b"v".to_vec(alloc)?)),
+            kind: Kind::Int,
+        }),
+    }
+}
+
+fn columns_of(alloc: Global, columns: &[Named]) -> Result<Seq<Column>, AllocError> {
+    let mut found = Vec::with_capacity(alloc, columns.len())?;
+    for named in columns {
+        found.push(column(alloc, *named)?)?;
+    }
+    Ok(Seq::from(found))
+}
+
+fn value(alloc: Global, cell: Cell) -> Result<Value, AllocError> {
+    match cell {
+        Int(number) => Ok(Value::Int(number)),
+        A => Ok(Value::Text(Text::new(Seq::from(b"a".to_vec(alloc)?)))),
+        B => Ok(Value::Text(Text::new(Seq::from(b"b".to_vec(alloc)?)))),
+    }
+}
+
+fn row(alloc: Global, cells: &[Cell]) -> Result<Row, AllocError> {
+    let mut values = Vec::with_capacity(alloc, cells.len())?;
+    for cell in cells {
+        values.push(value(alloc, *cell)?)?;
+    }
+    Ok(Seq::from(values))
+}
+
+fn rows_of(alloc: Global, rows: &[&[Cell]]) -> Result<Seq<Row>, AllocError> {
+    let mut found = Vec::with_capacity(alloc, rows.len())?;
+    for cells in rows {
+        found.push(row(alloc, cells)?)?;
+    }
+    Ok(Seq::from(found))
+}
+
+/// `SELECT * FROM t`
+pub fn query(alloc: Global) -> Result<Select, AllocError>
+    ensures { IfOk result IsSelect }
+{
+    Ok(Select {
+        distinct: false,
+        list: SelectList::All,
+        table: Name::new(Seq::from(b"t".to_vec(alloc)?)),
+        second: None,
+        condition: None,
+        group_by: Seq::new(alloc),
+        order_by: Seq::new(alloc),
+        limit: None,
+    })
+}
+
+// A row with commas between its values.
+fn put_row(alloc: Global, row: &[Value], out: &mut Vec<u8>) -> Result<(), AllocError> {
+    for (i, value) in row.iter().enumerate() {
+        if 0 < i {
+            out.push(b',')?;
+        }
+        field(alloc, value, out)?;
+    }
+    Ok(())
+}
+
+/// The columns' names with their kinds, and the rows, each behind a blank.
+pub fn text_of(alloc: Global, answer: &Answer) -> Result<Vec<u8>, AllocError> {
+    let mut out = Vec::new(alloc);
+    for column in answer.columns.as_slice() {
+        out.extend_from_slice(column.name.bytes())?;
+        out.push(match column.kind {
+            Kind::Int => b'#',
+            Kind::Text => b'$',
+        })?;
+    }
+    for row in answer.rows.as_slice() {
+        out.push(b' ')?;
+        put_row(alloc, row.as_slice(), &mut out)?;
+    }
+    Ok(out)
+}

@@ -1,0 +1,130 @@
+//! The one value of each answer, all of them in one.
+
+ghost use Rattle.std.specs.Prelude.{◌≡◌, ◌∷◌, [], IfErr, IfOk, IsTrue, codes};
+ghost use Rattle.std.specs.List.{AllByRecursion};
+ghost use Rattle.retro_base.specs.Gives.{Gives};
+ghost use Rattle.retro_base.specs.declared.refusal.Refusal.TheVariants.{NotOneValue};
+ghost use Rattle.sql_tree.specs.Statement.{IsSelect};
+ghost use Rattle.rql.specs.AsOf.{IsOfCall, IsOfQuery, OnlyAsks, Tells};
+ghost use Rattle.rql.specs.Variable.{adds_texts, in_variable, kind_of_result, one_value, only, rows_of, value_of};
+
+use crate::aggregates::aggregate;
+use crate::as_of::AsOf;
+use crate::function::Function;
+use crate::gathering::{Takes, gather};
+use fold_kit::Folds;
+use pager::Stop;
+use retro_base::Refusal;
+use sql_select::Answer;
+use sql_tree::{Column, Name, Select};
+use std::alloc::{AllocError, Global};
+use values::{Kind, Row, Seq, Value};
+
+// The one item of a list of one.
+fn only<T: Drop>(mut items: Vec<T>) -> Option<T>
+    ensures { result ≡ only items.items }
+{
+    if items.len() == 1 { items.pop() } else { None }
+}
+
+fn value_of(snapshot: u32, rows: Seq<Row>) -> Result<Value, Refusal>
+    ensures exact { result ≡ value_of snapshot rows }
+    ensures named { IfErr result (λ why. why ≡ NotOneValue snapshot) }
+{
+    if let Some(row) = only(Vec::from(rows)) {
+        if let Some(value) = only(Vec::from(row)) {
+            return Ok(value);
+        }
+    }
+    Err(Refusal::NotOneValue { snapshot })
+}
+
+fn adds_texts(function: Function, kind: Kind) -> bool
+    ensures { result ≡ adds_texts function kind }
+{
+    matches!((function, kind), (Function::Sum, Kind::Text))
+}
+
+// Takes the one value of an answer.
+#[derive(Drop)]
+struct OneValue {
+    function: Function,
+}
+
+impl Takes for OneValue {
+    type Part = Value;
+
+    ghost take = { λ taking. one_value taking.function };
+
+    fn take(&self, snapshot: u32, columns: &[Column], rows: Seq<Row>) -> Result<Value, Refusal> {
+        let [column] = columns else {
+            return Err(Refusal::NotOneValue { snapshot });
+        };
+        if adds_texts(self.function, column.kind) {
+            return Err(Refusal::WrongType);
+        }
+        value_of(snapshot, rows)
+    }
+}
+
+fn kind_of_result(function: Function, columns: &[Column]) -> Kind
+    ensures { result ≡ kind_of_result function columns.now }
+{
+    match (function, columns) {
+        (Function::Min | Function::Max, [column]) => column.kind,
+        _ => Kind::Int,
+    }
+}
+
+fn rows_of<F: Folds>(
+    alloc: Global,
+    folds: &F,
+    function: Function,
+    values: Vec<Value>,
+) -> Result<Seq<Row>, Refusal>
+    ensures exact { Gives (λ rows. rows) result (rows_of function values.items) }
+    ensures named { IfErr result IsOfQuery }
+{
+    let mut rows = Seq::new(alloc);
+    if let Some(value) = aggregate(folds, function, values)? {
+        let mut row = Seq::new(alloc);
+        row.push(value)?;
+        rows.push(row)?;
+    }
+    Ok(rows)
+}
+
+// The column of the values in one.
+fn columns_of(alloc: Global, kind: Kind) -> Result<Seq<Column>, AllocError>
+    ensures { IfOk result (λ columns. columns ≡ record { name = codes "value"; kind = kind } ∷ []) }
+{
+    let name = Name::new(Seq::from(b"value".to_vec(alloc)?));
+    let mut columns = Seq::new(alloc);
+    columns.push(Column { name, kind })?;
+    Ok(columns)
+}
+
+/// The one values of a query's answers at the snapshots in one, as the one row of a column `value`. MIN and MAX over no
+/// snapshots give no row, COUNT and SUM give 0. Refused by what the query is refused by, by WrongType for a SUM of a
+/// column of texts, by NotOneValue for an answer that has not one row and one column, by WrongType for columns that are
+/// not those of the first answer, in this order at one snapshot, and the first snapshot's first; then by Overflow for a
+/// SUM whose end is outside i64.
+pub fn in_variable<A: AsOf, F: Folds>(
+    alloc: Global,
+    asof: &mut A,
+    snapshots: &[u32],
+    query: &Select,
+    folds: &F,
+    function: Function,
+) -> Result<Answer, Stop<A::Fault>>
+    requires asked { AllByRecursion (λ snapshot. IsTrue (A.may_ask asof.old snapshot)) snapshots.now }
+    requires query { IsSelect query.now }
+    ensures told { Tells (λ answer. answer) (A.told asof.old) query.now (λ answers. in_variable function answers snapshots.now) result }
+    ensures only_asks { OnlyAsks A.may_ask A.told A.faults (IsOfCall snapshots.now) asof.old asof.new result }
+{
+    let (columns, values) = gather(alloc, asof, snapshots, query, &OneValue { function })?;
+    let kind = kind_of_result(function, columns.as_slice());
+    let rows = rows_of(alloc, folds, function, values)?;
+    let columns = columns_of(alloc, kind)?;
+    Ok(Answer { columns, rows })
+}
