@@ -52,7 +52,8 @@ fn byte_of(bytes: &[u8]) -> Result<(u8, &[u8]), DecodeError>
     Ok((bytes[0], &bytes[1..]))
 }
 
-fn u16_of(bytes: &[u8]) -> Result<(u16, &[u8]), DecodeError>
+/// A number of 16 bits at the front of bytes, and the bytes behind it. Malformed where there are too few.
+pub fn u16_of(bytes: &[u8]) -> Result<(u16, &[u8]), DecodeError>
     ensures { Gives (λ x. (x.0, x.1.now)) result (take_number 2 bytes.now) }
 {
     if bytes.len() < 2 {
@@ -61,7 +62,8 @@ fn u16_of(bytes: &[u8]) -> Result<(u16, &[u8]), DecodeError>
     Ok((get_u16(bytes, 0), &bytes[2..]))
 }
 
-fn u32_of(bytes: &[u8]) -> Result<(u32, &[u8]), DecodeError>
+/// A number of 32 bits at the front of bytes, and the bytes behind it. Malformed where there are too few.
+pub fn u32_of(bytes: &[u8]) -> Result<(u32, &[u8]), DecodeError>
     ensures { Gives (λ x. (x.0, x.1.now)) result (take_number 4 bytes.now) }
 {
     if bytes.len() < 4 {
@@ -70,7 +72,8 @@ fn u32_of(bytes: &[u8]) -> Result<(u32, &[u8]), DecodeError>
     Ok((get_u32(bytes, 0), &bytes[4..]))
 }
 
-fn u64_of(bytes: &[u8]) -> Result<(u64, &[u8]), DecodeError>
+/// A number of 64 bits at the front of bytes, and the bytes behind it. Malformed where there are too few.
+pub fn u64_of(bytes: &[u8]) -> Result<(u64, &[u8]), DecodeError>
     ensures { Gives (λ x. (x.0, x.1.now)) result (take_number 8 bytes.now) }
 {
     if bytes.len() < 8 {

@@ -16,7 +16,7 @@ mod tests;
 mod writes;
 
 pub use base::base_after;
-pub use decoding::{DecodeError, decode};
+pub use decoding::{DecodeError, decode, u16_of, u32_of, u64_of};
 pub use encoding::encode;
 pub use entry::{Base, Change, Entry, Mark, Version, newest, oldest};
 pub use journal::{Journal, Line, What};

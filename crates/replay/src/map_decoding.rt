@@ -8,37 +8,9 @@ ghost use Rattle.replay.specs.Maplog.{map_entry_bytes, MapEntryFits};
 ghost use Rattle.replay.specs.Reading.{take_start, take_mapped, no_matter, take_run, take_low, take_map_entry, whole_map_entry};
 
 use crate::map_entry::{MapEntry, RUN_PAGES};
-use history::{DecodeError, Version};
-use retro_base::{get_u16, get_u32, get_u64};
+use history::{DecodeError, Version, u16_of, u32_of, u64_of};
 use std::alloc::Global;
 use values::Seq;
-
-fn u16_of(bytes: &[u8]) -> Result<(u16, &[u8]), DecodeError>
-    ensures { Gives (λ x. (x.0, x.1.now)) result (take_number 2 bytes.now) }
-{
-    if bytes.len() < 2 {
-        return Err(DecodeError::Malformed);
-    }
-    Ok((get_u16(bytes, 0), &bytes[2..]))
-}
-
-fn u32_of(bytes: &[u8]) -> Result<(u32, &[u8]), DecodeError>
-    ensures { Gives (λ x. (x.0, x.1.now)) result (take_number 4 bytes.now) }
-{
-    if bytes.len() < 4 {
-        return Err(DecodeError::Malformed);
-    }
-    Ok((get_u32(bytes, 0), &bytes[4..]))
-}
-
-fn u64_of(bytes: &[u8]) -> Result<(u64, &[u8]), DecodeError>
-    ensures { Gives (λ x. (x.0, x.1.now)) result (take_number 8 bytes.now) }
-{
-    if bytes.len() < 8 {
-        return Err(DecodeError::Malformed);
-    }
-    Ok((get_u64(bytes, 0), &bytes[8..]))
-}
 
 fn page_of(version: Version, bytes: &[u8]) -> Result<(u32, &[u8]), DecodeError>
     ensures { Gives (λ x. (x.0, x.1.now)) result (take_number (page_width version) bytes.now) }
