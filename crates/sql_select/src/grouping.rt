@@ -14,7 +14,7 @@ use retro_base::Refusal;
 use std::alloc::Global;
 use values::{Duplicate, Row, Seq};
 
-/// A row beside its values in the columns of GROUP BY.
+/// A row beside the values that say which group it is in.
 #[derive(Debug, Drop)]
 pub struct KeyedRow {
     pub key: Row,
@@ -37,8 +37,8 @@ pub(crate) fn distinct(alloc: Global, rows: Vec<OutputRow>) -> Result<Vec<Output
     Ok(found)
 }
 
-/// One group of rows for each key, in order of first appearance.
-pub(crate) fn groups(alloc: Global, rows: Vec<KeyedRow>) -> Result<Vec<Seq<Row>>, Refusal>
+/// One group of rows for each key, in order of first appearance. Refused for want of memory alone.
+pub fn groups(alloc: Global, rows: Vec<KeyedRow>) -> Result<Vec<Seq<Row>>, Refusal>
     ensures rows { IfOk result (λ found. found.items ≡ groups rows.items) }
     ensures memory { IfErr result (λ why. why ≡ OutOfMemory) }
 {

@@ -16,9 +16,11 @@ mod selecting;
 mod tests;
 
 pub use answer::Answer;
+pub use grouping::{KeyedRow, groups};
 pub use joining::HasRow;
 pub use laws::{
     checked_selects_answer, distinct_leaves_one, groups_are_not_empty, limit_gives_a_front,
     min_is_least, order_keeps_rows, star_gives_rows,
 };
+pub use row_key::RowKey;
 pub use selecting::select;

@@ -9,7 +9,7 @@ use values::{Row, Value};
 
 /// A row as a key: two are equal where they have the same values. Contracts see the values.
 #[derive(Debug, Drop)]
-pub(crate) struct RowKey {
+pub struct RowKey {
     row: Row,
 }
 
@@ -23,13 +23,15 @@ impl Model for RowKey {
 }
 
 impl RowKey {
-    pub(crate) fn new(row: Row) -> RowKey
+    /// The key of a row.
+    pub fn new(row: Row) -> RowKey
         ensures { result ≡ row }
     {
         RowKey { row }
     }
 
-    fn values(&self) -> &[Value]
+    /// The row's values.
+    pub fn values(&self) -> &[Value]
         ensures { result.now ≡ self.now }
     {
         self.row.as_slice()
