@@ -1,3 +1,9 @@
 pub mod Bests
 pub mod Gatherings
+pub mod GroupRows
 pub mod Parts
+pub mod RowSets
+pub mod RunLaws
+pub mod RunSteps
+pub mod TableRows
+pub mod Twins

@@ -3,4 +3,8 @@ pub mod AsOf
 pub mod Collate
 pub mod Columns
 pub mod Gathering
+pub mod Intervals
+pub mod Pairs
+pub mod Table
+pub mod TableLaws
 pub mod Variable

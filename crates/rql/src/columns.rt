@@ -4,7 +4,7 @@ ghost use Rattle.std.specs.Prelude.{◌≡◌};
 ghost use Rattle.sql_check.specs.Names.{has_name, has_twins};
 ghost use Rattle.rql.specs.Columns.{name_of, same_column, same_columns};
 
-use sql_tree::{Column, Name};
+use sql_tree::Column;
 
 fn same_column(a: &Column, b: &Column) -> bool
     ensures { result ≡ same_column a.now b.now }
@@ -28,10 +28,11 @@ pub(crate) fn same_columns(a: &[Column], b: &[Column]) -> bool
     left.is_empty() && right.is_empty()
 }
 
-fn has_name(name: &Name, columns: &[Column]) -> bool
+/// Whether one of the columns has the name.
+pub(crate) fn has_name(name: &[u8], columns: &[Column]) -> bool
     ensures { result ≡ has_name name_of name.now columns.now }
 {
-    columns.iter().any(|column| column.name == *name)
+    columns.iter().any(|column| column.name.bytes() == name)
 }
 
 /// Whether two of the columns have one name.
@@ -40,7 +41,7 @@ pub(crate) fn has_twins(columns: &[Column]) -> bool
 {
     let mut rest = columns;
     while let Some((column, others)) = rest.split_first() {
-        if has_name(&column.name, others) {
+        if has_name(column.name.bytes(), others) {
             return true;
         }
         rest = others;

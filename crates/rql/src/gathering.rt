@@ -1,7 +1,8 @@
 //! What is taken of the answers at snapshots.
 
-ghost use Rattle.std.specs.Prelude.{◌≡◌, ℕ, IfErr, IsTrue, List, Result};
+ghost use Rattle.std.specs.Prelude.{◌≡◌, ℕ, IfErr, IfOk, IsTrue, List, Result, length};
 ghost use Rattle.std.specs.List.{AllByRecursion};
+ghost use Rattle.retro_base.specs.Gives.{Gives};
 ghost use Rattle.retro_base.specs.declared.refusal.Refusal.{Refusal};
 ghost use Rattle.values.specs.declared.value.Value.{Value};
 ghost use Rattle.sql_tree.specs.Statement.{IsSelect};
@@ -25,7 +26,7 @@ pub(crate) trait Takes {
     ghost take: { Self → ℕ → List Column → List (List Value) → Result Self.Part Refusal };
 
     fn take(&self, snapshot: u32, columns: &[Column], rows: Seq<Row>) -> Result<Self::Part, Refusal>
-        ensures exact { result ≡ take self.now snapshot columns.now rows }
+        ensures exact { Gives (λ part. part) result (take self.now snapshot columns.now rows) }
         ensures named { IfErr result (IsOfSnapshot snapshot) };
 }
 
@@ -78,6 +79,7 @@ pub(crate) fn gather<A: AsOf, T: Takes>(
     requires asked { AllByRecursion (λ snapshot. IsTrue (A.may_ask asof.old snapshot)) snapshots.now }
     requires query { IsSelect query.now }
     ensures told { Tells (λ found. (found.0, found.1.items)) (A.told asof.old) query.now (λ answers. gathered (T.take takes.now) answers snapshots.now) result }
+    ensures as_many { IfOk result (λ found. length found.1.items ≡ length snapshots.now) }
     ensures only_asks { OnlyAsks A.may_ask A.told A.faults (IsOfCall snapshots.now) asof.old asof.new result }
 {
     let Some((first, later)) = snapshots.split_first() else {

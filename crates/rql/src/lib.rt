@@ -1,4 +1,5 @@
-//! A query over many snapshots: its answers one after the other, and their one values in one.
+//! A query over many snapshots: its answers one after the other, their one values in one, their groups in one table, and
+//! the intervals in which their rows stand.
 #![tactic(auto)]
 
 mod aggregates;
@@ -8,6 +9,10 @@ mod collating;
 mod columns;
 mod function;
 mod gathering;
+mod pair;
+mod row_set;
+mod runs;
+mod table;
 #[cfg(test)]
 mod tests;
 mod variable;
@@ -15,4 +20,7 @@ mod variable;
 pub use as_of::AsOf;
 pub use collating::collate;
 pub use function::Function;
+pub use pair::Pair;
+pub use runs::{intervals, runs_are_intervals};
+pub use table::{in_table, tables_fit};
 pub use variable::in_variable;

@@ -39,7 +39,7 @@ fn value_of(snapshot: u32, rows: Seq<Row>) -> Result<Value, Refusal>
     Err(Refusal::NotOneValue { snapshot })
 }
 
-fn adds_texts(function: Function, kind: Kind) -> bool
+pub(crate) fn adds_texts(function: Function, kind: Kind) -> bool
     ensures { result ≡ adds_texts function kind }
 {
     matches!((function, kind), (Function::Sum, Kind::Text))

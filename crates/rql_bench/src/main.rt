@@ -6,10 +6,10 @@ ghost use Rattle.sql_tree.specs.Statement.{IsSelect};
 
 mod shown;
 
-use fold_kit::{Combiner, FoldSet, How};
+use fold_kit::{Combiner, FoldSet, Folds, How};
 use pager::Stop;
 use retro_base::{Failed, Refusal};
-use rql::{Function, collate, in_variable};
+use rql::{Function, collate, in_table, in_variable, intervals};
 use shown::Shown;
 use sql_tree::{Name, Select, SelectList};
 use std::alloc::{AllocError, Global};
@@ -18,9 +18,11 @@ use values::{Seq, Value};
 
 const ROWS: u32 = 100;
 
-// The rows of all answers one after the other, and the sum of one value of each.
+// The rows of all answers one after the other, in groups, and in intervals, and the sum of one value of each.
 struct Told {
     rows: usize,
+    groups: usize,
+    intervals: usize,
     sum: i64,
 }
 
@@ -48,16 +50,51 @@ fn snapshots_to(alloc: Global, last: u32) -> Result<Vec<u32>, Stop<Failed>> {
     Ok(snapshots)
 }
 
-fn sum_of(alloc: Global, snapshots: &[u32], query: &Select) -> Result<i64, Stop<Failed>>
+#[inline(never)]
+fn rows_of(alloc: Global, snapshots: &[u32], query: &Select) -> Result<usize, Stop<Failed>>
     requires { IsSelect query.now }
 {
-    let folds = FoldSet::new(
-        Combiner::new(How::Min, |a: i128, b: i128| a.min(b)),
-        Combiner::new(How::Max, |a: i128, b: i128| a.max(b)),
-        Combiner::new(How::Add, |a: i128, b: i128| a.wrapping_add(b)),
-    );
+    let mut hundreds = Shown::new(alloc, ROWS);
+    Ok(collate(alloc, &mut hundreds, snapshots, query)?.rows.len())
+}
+
+#[inline(never)]
+fn groups_of<F: Folds>(
+    alloc: Global,
+    snapshots: &[u32],
+    query: &Select,
+    folds: &F,
+) -> Result<usize, Stop<Failed>>
+    requires { IsSelect query.now }
+{
+    let mut hundreds = Shown::new(alloc, ROWS);
+    let table = in_table(alloc, &mut hundreds, snapshots, query, folds, &[])?;
+    Ok(table.rows.len())
+}
+
+#[inline(never)]
+fn intervals_of(alloc: Global, snapshots: &[u32], query: &Select) -> Result<usize, Stop<Failed>>
+    requires { IsSelect query.now }
+{
+    let mut hundreds = Shown::new(alloc, ROWS);
+    Ok(
+        intervals(alloc, &mut hundreds, snapshots, query)?
+            .rows
+            .len(),
+    )
+}
+
+#[inline(never)]
+fn sum_of<F: Folds>(
+    alloc: Global,
+    snapshots: &[u32],
+    query: &Select,
+    folds: &F,
+) -> Result<i64, Stop<Failed>>
+    requires { IsSelect query.now }
+{
     let mut singles = Shown::new(alloc, 1);
-    let answer = in_variable(alloc, &mut singles, snapshots, query, &folds, Function::Sum)?;
+    let answer = in_variable(alloc, &mut singles, snapshots, query, folds, Function::Sum)?;
     let Some(row) = answer.rows.as_slice().first() else {
         return Err(Stop::Refused(Refusal::BadSizes));
     };
@@ -67,23 +104,36 @@ fn sum_of(alloc: Global, snapshots: &[u32], query: &Select) -> Result<i64, Stop<
     }
 }
 
-fn told_of(alloc: Global, last: u32) -> Result<Told, Stop<Failed>> {
+fn told_of<F: Folds>(alloc: Global, last: u32, folds: &F) -> Result<Told, Stop<Failed>> {
     let query = query_of(alloc)?;
     let snapshots = snapshots_to(alloc, last)?;
-    let mut hundreds = Shown::new(alloc, ROWS);
-    let rows = collate(alloc, &mut hundreds, &snapshots, &query)?
-        .rows
-        .len();
-    let sum = sum_of(alloc, &snapshots, &query)?;
-    Ok(Told { rows, sum })
+    Ok(Told {
+        rows: rows_of(alloc, &snapshots, &query)?,
+        groups: groups_of(alloc, &snapshots, &query, folds)?,
+        intervals: intervals_of(alloc, &snapshots, &query)?,
+        sum: sum_of(alloc, &snapshots, &query, folds)?,
+    })
 }
 
 fn main(rt: HostRuntime) -> ExitCode {
+    let folds = FoldSet::new(
+        Combiner::new(How::Min, |a: i128, b: i128| a.min(b)),
+        Combiner::new(How::Max, |a: i128, b: i128| a.max(b)),
+        Combiner::new(How::Add, |a: i128, b: i128| a.wrapping_add(b)),
+    );
     for snapshots in [1000, 10_000] {
-        let Ok(Told { rows, sum }) = told_of(rt.alloc(), snapshots) else {
+        let Ok(told) = told_of(rt.alloc(), snapshots, &folds) else {
             return ExitCode::FAILURE;
         };
-        let told = println!(rt; "{snapshots} snapshots: {rows} rows in all, sum {sum}");
+        let Told {
+            rows,
+            groups,
+            intervals,
+            sum,
+        } = told;
+        let told = println!(rt;
+            "{snapshots} snapshots: {rows} rows in all, {groups} groups, {intervals} intervals, sum {sum}"
+        );
         if told.is_err() {
             return ExitCode::FAILURE;
         }

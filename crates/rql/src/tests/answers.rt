@@ -1,6 +1,6 @@
 //! The answers of the calls, by hand.
 
-use super::support::{Shown, query, text_of};
+use super::support::{Answers, Shown, query, text_of};
 use crate::{AsOf, Function, collate, in_variable};
 use fold_kit::{Combiner, FoldSet, How};
 use pager::Stop;
@@ -26,7 +26,7 @@ const COLLATED: [(&[u32], Want); 11] = [
 #[test]
 fn answers_stand_one_after_the_other(rt: HostRuntime) -> Result<(), Fail> {
     let alloc = rt.alloc();
-    let mut shown = Shown::new(alloc);
+    let mut shown = Shown::new(alloc, Answers::Mixed);
     let query = query(alloc)?;
     for (snapshots, want) in COLLATED {
         match collate(alloc, &mut shown, snapshots, &query) {
@@ -89,7 +89,7 @@ const IN_ONE: [(Function, &[u32], Want); 22] = [
 #[test]
 fn values_are_one(rt: HostRuntime) -> Result<(), Fail> {
     let alloc = rt.alloc();
-    let mut shown = Shown::new(alloc);
+    let mut shown = Shown::new(alloc, Answers::Mixed);
     let query = query(alloc)?;
     let folds = FoldSet::new(
         Combiner::new(How::Min, |a: i128, b: i128| a.min(b)),

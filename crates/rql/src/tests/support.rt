@@ -12,11 +12,12 @@ use sql_tree::{Column, Name, Select, SelectList};
 use std::alloc::{AllocError, Global};
 use values::{Kind, Row, Seq, Text, Value, field};
 
-/// The column k of texts, and the column v of integers.
+/// The column k of texts, the column v of integers, and one whose name is that of a column of intervals.
 #[derive(Clone, Copy)]
 pub enum Named {
     K,
     V,
+    StartSnapshot,
 }
 
 #[derive(Clone, Copy)]
@@ -27,7 +28,7 @@ pub enum Cell {
 }
 
 use Cell::{A, B, Int};
-use Named::{K, V};
+use Named::{K, StartSnapshot, V};
 
 type Given = (&'static [Named], &'static [&'static [Cell]]);
 
@@ -47,21 +48,44 @@ fn given(snapshot: u32) -> Result<Given, Refusal>
         9 => Ok((&[K, V], &[&[B, Int(2)]])),
         10 => Ok((&[K, V], &[])),
         13 => Ok((&[V, V], &[&[Int(1), Int(2)]])),
+        14 => Ok((&[K, V], &[&[A, Int(1)], &[B, Int(5)]])),
+        15 => Ok((&[K, V], &[&[A, Int(11)], &[B, Int(5)]])),
+        16 => Ok((&[StartSnapshot], &[])),
         11 => Err(Refusal::UnknownName),
         _ => Err(Refusal::Overflow),
     }
+}
+
+// One row of 7 at each snapshot but 5, which has none.
+fn sevens(snapshot: u32) -> Given {
+    match snapshot {
+        5 => (&[V], &[]),
+        _ => (&[V], &[&[Int(7)]]),
+    }
+}
+
+/// What is answered.
+#[derive(Clone, Copy)]
+pub enum Answers {
+    Mixed,
+    Sevens,
 }
 
 /// Answers any query by what is given. At snapshot 0 it fails.
 #[derive(Drop)]
 pub struct Shown {
     alloc: Global,
+    answers: Answers,
     faults: u64,
 }
 
 impl Shown {
-    pub fn new(alloc: Global) -> Shown {
-        Shown { alloc, faults: 0 }
+    pub fn new(alloc: Global, answers: Answers) -> Shown {
+        Shown {
+            alloc,
+            answers,
+            faults: 0,
+        }
     }
 }
 
@@ -81,7 +105,10 @@ impl AsOf for Shown {
             self.faults = self.faults.saturating_add(1);
             return Err(Stop::Pager(Failed));
         }
-        let (columns, rows) = given(snapshot)?;
+        let (columns, rows) = match self.answers {
+            Answers::Mixed => given(snapshot)?,
+            Answers::Sevens => sevens(snapshot),
+        };
         let columns = columns_of(self.alloc, columns)?;
         let rows = rows_of(self.alloc, rows)?;
         Ok(Answer { columns, rows })
@@ -92,7 +119,7 @@ impl AsOf for Shown {
     }
 }
 
-fn column(alloc: Global, column: Named) -> Result<Column, AllocError> {
+pub fn column(alloc: Global, column: Named) -> Result<Column, AllocError> {
     match column {
         K => Ok(Column {
             name: Name::new(Seq::from(b"k".to_vec(alloc)?)),
@@ -100,6 +127,10 @@ fn column(alloc: Global, column: Named) -> Result<Column, AllocError> {
         }),
         V => Ok(Column {
             name: Name::new(Seq::from(b"v".to_vec(alloc)?)),
+            kind: Kind::Int,
+        }),
+        StartSnapshot => Ok(Column {
+            name: Name::new(Seq::from(b"start_snapshot".to_vec(alloc)?)),
             kind: Kind::Int,
         }),
     }

@@ -1,4 +1,5 @@
-use Rattle.std.proofs.Common.{◌≡◌, ◌∙◌, Some, Ok, Err, arith, get_or, rules}
+use Rattle.std.proofs.Common.{◌≡◌, ◌∙◌, ◌+◌, Ok, Err, ap, arith, get_or, length, rules}
+use Rattle.std.proofs.lemmas.List.{length_push}
 use Rattle.pager.specs.Stop.{AllowedStop}
 use Rattle.rql.specs.AsOf.{IsOfCall, IsOfSnapshot}
 use Rattle.rql.specs.Gathering.{gathered, taken_later}
@@ -27,6 +28,7 @@ loop-snapshot-preserved g c = record {
   may_ask = c.in_ok-take_later.ensures.only_asks.may_ask_stays ∙ c.loop-snapshot.invariant.may_ask;
   told = c.in_ok-take_later.ensures.only_asks.told_stays ∙ c.loop-snapshot.invariant.told;
   faults = c.in_ok-take_later.ensures.only_asks.cause ∙ c.loop-snapshot.invariant.faults;
+  as_many = ap length c.in_ok-push-2.ensures.items ∙ length_push c.loop-snapshot.parts.items c.in_ok-take_later.field-0 ∙ ap (λ n. n + 1) c.loop-snapshot.invariant.as_many;
   rest = λ answers e.
       let said : taken_later (g.T.Takes.take c.args.takes.now) (λ snapshot. answers snapshot c.args.query.now) c.in_ok-columns.columns (get_or c.in-Some.later.now c.loop-snapshot.snapshot-index 0) ≡ Ok c.in_ok-take_later.field-0 =
       c.in_ok-take_later.ensures.told answers (c.loop-snapshot.invariant.told ∙ e) in

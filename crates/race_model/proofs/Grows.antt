@@ -1,0 +1,89 @@
+-- What fits a history fits it with one change more.
+use Rattle.std.proofs.Common.{◌≡◌, ◌⊎◌, inl, inr, ◌≤◌, ◌∙◌, ℕ, zero, suc, List, [], ◌∷◌, ◌++◌, drop, sym, ap, subst, arith, append_assoc}
+use Rattle.std.specs.Prelude.{Contains}
+use Rattle.std.specs.List.{AllByRecursion}
+use Rattle.std.proofs.lemmas.List.{drop-append-le}
+use Rattle.history.specs.declared.entry.Change.{Change}
+use Rattle.history.specs.declared.writes.PageImage.{PageImage}
+use Rattle.history.specs.Writes.{pages_of}
+use Rattle.history.specs.History.{History, now, captures, captured_by, with_change}
+use Rattle.skippy.specs.Mappings.{Mappings}
+use Rattle.race_model.specs.Vault.{Vault, Batch}
+use Rattle.race_model.specs.Fits.{MayFollow, HistoryFits, MappingsFit, VaultFits, BatchFits, WasSent}
+use Rattle.race_model.specs.Images.{Holds}
+use Rattle.race_model.proofs.Lists.{pages_of-append, pages_of-length}
+use Rattle.race_model.proofs.Histories.{count, oldest_within, grown, count_with, start_with, captured_with, drop_with}
+use Rattle.race_model.proofs.Opening.{end_within}
+
+pub contains_cons : {X : Type 0} (x y : X) (xs : List X) → Contains (x ∷ xs) y → (y ≡ x) ⊎ Contains xs y
+contains_cons x y xs (zero, lt, e) = inl (sym e)
+contains_cons x y xs (suc k, lt, e) = inr (k, omega (arith, lt), e)
+
+pub contains_none : {X : Type 0} (y : X) → Contains [] y → ⊥
+contains_none y (k, lt, e) = absurd (omega (arith, lt))
+
+pub all_at : {X : Type 0} (P : X → Type 0) (xs : List X) (x : X) → AllByRecursion P xs → Contains xs x → P x
+all_at P [] x all is = absurd (contains_none x is)
+all_at P (y ∷ xs) x all is = elim (contains_cons y x xs is) [ inl e ↦ subst P (sym e) all.0 | inr later ↦ all_at P xs x all.1 later ]
+
+pub all_map : {X : Type 0} (P Q : X → Type 0) (xs : List X) → ((x : X) → P x → Q x) → AllByRecursion P xs → AllByRecursion Q xs
+all_map P Q [] leads all = tt
+all_map P Q (x ∷ xs) leads all = (leads x all.0, all_map P Q xs leads all.1)
+
+pub sent_with : (history : History) (change : Change) (past rest : List Change) (need page : ℕ) → WasSent history past rest need page → WasSent (with_change history change) past (rest ++ change ∷ []) need page
+sent_with history change past rest need page sent = record {
+  early = sent.early;
+  late = sent.late ++ change ∷ [];
+  split = sym (append_assoc sent.early sent.late (change ∷ [])) ∙ ap (λ (t : List Change). t ++ change ∷ []) sent.split;
+  written = sent.written;
+  below = sent.below;
+}
+
+pub sent_up : (history : History) (past rest : List Change) (need more page : ℕ) → need ≤ more → WasSent history past rest need page → WasSent history past rest more page
+sent_up history past rest need more page le sent = record { early = sent.early; late = sent.late; split = sent.split; written = sent.written; below = λ place lt e. omega (arith, sent.below place lt e, le) }
+
+module _ (history : History) (floor : ℕ) (fits : HistoryFits history floor) (change : Change) (may : MayFollow (now history).base change) where
+  pub mappings_with : (mappings : Mappings) → MappingsFit history floor mappings → MappingsFit (with_change history change) floor mappings
+  mappings_with mappings is = record {
+    above = is.above;
+    needed = omega (arith, is.needed, start_with history floor fits change may);
+    later = is.later ++ pages_of (captured_by (now history) change);
+    same = ap (λ (images : List PageImage). drop mappings.low (pages_of images)) (grown history floor fits change may)
+        ∙ ap (drop mappings.low) (pages_of-append (captures history) (captured_by (now history) change))
+        ∙ drop-append-le mappings.low (pages_of (captures history)) (pages_of (captured_by (now history) change)) (omega (arith, pages_of-length (captures history), count history floor fits, is.needed, oldest_within history floor fits))
+        ∙ ap (λ (ps : List ℕ). ps ++ pages_of (captured_by (now history) change)) is.same
+        ∙ append_assoc mappings.pages is.later (pages_of (captured_by (now history) change));
+    room = is.room;
+  }
+
+  pub holds_with : (n : ℕ) (mappings : Mappings) (slots : ℕ → List ℕ) → Holds history floor n mappings slots → Holds (with_change history change) floor n mappings slots
+  holds_with n mappings slots holds = record {
+    mapped = mappings_with mappings holds.mapped;
+    enough = holds.enough;
+    filled = λ number ge lt.
+        holds.filled number (omega (arith, ge, start_with history floor fits change may)) lt
+        ∙ ap (λ (i : PageImage). i.bytes) (sym (captured_with history floor fits change may number (omega (arith, lt, end_within history floor fits mappings holds.mapped))));
+  }
+
+  pub vault_with : (vault : Vault) → VaultFits history floor vault → VaultFits (with_change history change) floor vault
+  vault_with vault f = record {
+    mappings = mappings_with vault.mappings f.mappings;
+    others = λ other is. (mappings_with other (f.others other is).0, (f.others other is).1, (f.others other is).2, (f.others other is).3);
+    held = f.held;
+    laid = omega (arith, f.laid, count_with history floor fits change may);
+    room = f.room;
+    slots = λ number ge lt. (
+      (f.slots number (omega (arith, ge, start_with history floor fits change may)) lt).0,
+      (f.slots number (omega (arith, ge, start_with history floor fits change may)) lt).1 ∙ ap (λ (i : PageImage). i.bytes) (sym (captured_with history floor fits change may number (omega (arith, lt, f.laid)))),
+    );
+  }
+
+  pub batch_with : (batch : Batch) → BatchFits history batch → BatchFits (with_change history change) batch
+  batch_with batch f = record {
+    low = omega (arith, f.low, start_with history floor fits change may);
+    above = f.above;
+    later = f.later ++ captured_by (now history) change;
+    same = drop_with history floor fits change may batch.first (omega (arith, f.within)) ∙ ap (λ (t : List PageImage). t ++ captured_by (now history) change) f.same ∙ append_assoc batch.images f.later (captured_by (now history) change);
+    within = omega (arith, f.within, count_with history floor fits change may);
+    room = f.room;
+  }

@@ -1,0 +1,13 @@
+pub mod Alike
+pub mod Lists
+pub mod Histories
+pub mod LogKeeps
+pub mod Opening
+pub mod Grows
+pub mod DeskKeeps
+pub mod VaultKeeps
+pub mod Readings
+pub mod Keeps
+pub mod Reopens
+pub mod Covering
+pub mod Batches

@@ -1,0 +1,99 @@
+-- Opening makes a machine that fits, and so do whole lives.
+use Rattle.std.proofs.Common.{inl, inr, ◌≤◌, ◌-◌, ℕ, drop, refl, sym, ap, arith}
+use Rattle.retro_base.specs.declared.limits.TheConstants.{MIN_PAGES, MAX_PAGES, MIN_CAPACITY, MAX_CAPACITY}
+use Rattle.history.specs.declared.writes.PageImage.{PageImage}
+use Rattle.history.specs.Writes.{pages_of}
+use Rattle.history.specs.Right.{IsBase}
+use Rattle.history.specs.History.{captures_of, History}
+use Rattle.skippy.specs.Mappings.{end_of}
+use Rattle.replay.specs.Opened.{Contents, opened}
+use Rattle.replay.proofs.Belonging.{held_long}
+use Rattle.race_model.specs.Desk.{Doubt, Sure, OneMore, NewBase}
+use Rattle.race_model.specs.Fits.{AreOfStore}
+use Rattle.race_model.specs.Machine.{Machine}
+use Rattle.race_model.specs.Images.{OpenInDoubt, AreImagesOf}
+use Rattle.race_model.specs.Invariant.{Fits}
+use Rattle.race_model.specs.Reopened.{opened_machine, made, Life, Runs, Crashes}
+use Rattle.race_model.proofs.Alike.{run_unchanged}
+use Rattle.race_model.proofs.LogKeeps.{history_opened, log_opened, all_opened}
+use Rattle.race_model.proofs.Opening.{opened_held}
+use Rattle.race_model.proofs.Grows.{contains_none}
+use Rattle.race_model.proofs.Keeps.{run_keeps, images_open}
+
+pub opened_fits : (contents : Contents) → AreOfStore contents → Fits (opened_machine contents)
+opened_fits contents store =
+    let joined = store.right.joined in
+    record {
+      desk = record {
+        history = history_opened contents store;
+        log = log_opened contents store;
+        known = omega (arith, held_long contents);
+        based = joined.holds_base.counted;
+        pages = λ page. inl (refl, refl);
+        clean = λ page h. sym (run_unchanged contents.log.base contents.pages contents.log.changes page h);
+        soiled = λ page h. h;
+        needed = omega arith;
+        pending = joined.holds_changes.known;
+        doubt = tt;
+      };
+      vault = record {
+        mappings = record {
+          above = omega arith;
+          needed = joined.holds_changes.needed;
+          later = drop (end_of contents.mappings - contents.log.base.captures) (pages_of (captures_of (opened contents).origin contents.log.changes));
+          same = all_opened contents store;
+          room = joined.holds_base.room;
+        };
+        others = λ other never. absurd (contains_none other never);
+        held = omega arith;
+        laid = joined.holds_changes.known;
+        room = omega arith;
+        slots = λ number ge lt. (refl, sym (ap (λ (i : PageImage). i.bytes) (opened_held contents number (omega (arith, ge, joined.holds_changes.needed)) lt)));
+      };
+      order = omega arith;
+      batches = tt;
+      receipts = tt;
+      pins = λ pin never. absurd (contains_none pin never);
+      told = tt;
+    }
+
+made_base : (page_count capacity : ℕ) → MIN_PAGES ≤ page_count → page_count ≤ MAX_PAGES → MIN_CAPACITY ≤ capacity → capacity ≤ MAX_CAPACITY → IsBase (made page_count capacity).log.base
+made_base page_count capacity few many small large = record {
+  pages = (few, many);
+  capacity = (small, large);
+  limits = record { total = omega arith; room = omega arith; retained = omega arith; newest = omega arith };
+  marks = omega arith;
+  numbered = tt;
+  undeclared = λ none. refl;
+  rising = refl;
+  in_store = tt;
+  captured = omega arith;
+}
+
+pub made_fits : (page_count capacity : ℕ) → MIN_PAGES ≤ page_count → page_count ≤ MAX_PAGES → MIN_CAPACITY ≤ capacity → capacity ≤ MAX_CAPACITY → Fits (opened_machine (made page_count capacity))
+made_fits page_count capacity few many small large = opened_fits (made page_count capacity) (record {
+  right = record {
+    base = made_base page_count capacity few many small large;
+    right = tt;
+    joined = record {
+      holds_base = record { counted = omega arith; room = omega arith; different = refl; captured = refl };
+      holds_changes = record { known = omega arith; needed = omega arith; same = refl };
+    };
+  };
+  rises = tt;
+})
+
+of_store : (contents : Contents) (history : History) (doubt : Doubt) → OpenInDoubt contents history doubt → AreOfStore contents
+of_store contents history Sure o = o.store
+of_store contents history NewBase o = o.store
+of_store contents history (OneMore change) (inl o) = o.store
+of_store contents history (OneMore change) (inr o) = o.store
+
+pub lives_keep : (first last : Machine) → Life first last → Fits first → Fits last
+lives_keep first last (Runs run) f = run_keeps first last run f
+lives_keep first last (Crashes {next = next} contents life images run) f =
+    let fits : Fits next = lives_keep first next life f in
+    run_keeps (opened_machine contents) last run (opened_fits contents (of_store contents next.desk.history next.desk.doubt (images_open next contents fits images)))
+
+pub lives_open : (first last : Machine) (contents : Contents) → Life first last → Fits first → AreImagesOf last contents → OpenInDoubt contents last.desk.history last.desk.doubt
+lives_open first last contents life f images = images_open last contents (lives_keep first last life f) images

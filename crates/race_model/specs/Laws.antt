@@ -1,0 +1,87 @@
+-- What holds of every list of steps and every crash.
+use Rattle.std.specs.Prelude.{◌≡◌, ◌≤◌, true, false, ℕ, Bool, List, [], Contains}
+use Rattle.retro_base.specs.declared.limits.TheConstants.{MIN_PAGES, MAX_PAGES, MIN_CAPACITY, MAX_CAPACITY}
+use Rattle.history.specs.declared.entry.Change.{Change}
+use Rattle.history.specs.Marks.{is_retained}
+use Rattle.history.specs.History.{History, now, with_change, pages_as_of}
+use Rattle.skippy.specs.Mappings.{Mappings, end_of}
+use Rattle.replay.specs.Opened.{Contents}
+use Rattle.race_model.specs.Desk.{Sure, Desk, capacity_of, IsLogOf, ArePagesOf}
+use Rattle.race_model.specs.Vault.{Vault, Batch, AreMappingsOf, AreSlotsOf, IsSlotOf, LeavesOthers}
+use Rattle.race_model.specs.Fits.{MayFollow, HistoryFits, DeskFits, VaultFits, AreOfStore}
+use Rattle.race_model.specs.Images.{AreImagesOf, IsSameWorld, OpenInDoubt, Holds}
+use Rattle.race_model.specs.Invariant.{Fits}
+use Rattle.race_model.specs.Machine.{Machine, Step, changed, change_failed, written, write_failed, settled, stopped, cut, cut_failed, laid, lay_failed, entered, enter_failed, trimmed, trim_failed}
+use Rattle.race_model.specs.Reading.{Told, found}
+use Rattle.race_model.specs.Reopened.{opened_machine, made, Life}
+
+-- a store that was just made is one that fits
+abbrev pub MadeFits : Type 0
+MadeFits = (page_count capacity : ℕ) → MIN_PAGES ≤ page_count → page_count ≤ MAX_PAGES → MIN_CAPACITY ≤ capacity → capacity ≤ MAX_CAPACITY → Fits (opened_machine (made page_count capacity))
+
+-- whatever belongs together opens to a machine that fits
+abbrev pub OpenedFits : Type 0
+OpenedFits = (contents : Contents) → AreOfStore contents → Fits (opened_machine contents)
+
+-- every step keeps what holds
+abbrev pub StepsKeep : Type 0
+StepsKeep = (machine next : Machine) → Step machine next → Fits machine → Fits next
+
+-- every list of steps keeps it, and so does every crash between
+abbrev pub LivesKeep : Type 0
+LivesKeep = (first last : Machine) → Life first last → Fits first → Fits last
+
+-- whatever the four devices may hold opens to the history, or to it with the one change whose call failed
+abbrev pub ImagesOpen : Type 0
+ImagesOpen = (machine : Machine) (contents : Contents) → Fits machine → AreImagesOf machine contents → OpenInDoubt contents machine.desk.history machine.desk.doubt
+
+-- so it is whatever steps there were, and whatever crashes
+abbrev pub LivesOpen : Type 0
+LivesOpen = (first last : Machine) (contents : Contents) → Life first last → Fits first → AreImagesOf last contents → OpenInDoubt contents last.desk.history last.desk.doubt
+
+-- so it is of the desk alone, beside any image of an archive that holds what the desk needs
+abbrev pub DeskImagesOpen : Type 0
+DeskImagesOpen = (desk : Desk) (contents : Contents) → DeskFits desk → IsLogOf desk contents.log → ArePagesOf desk contents.pages → Holds desk.history desk.floor desk.need contents.mappings contents.slots →
+    OpenInDoubt contents desk.history desk.doubt
+
+-- and each image of a vault holds the captures up to its count
+abbrev pub VaultImagesHold : Type 0
+VaultImagesHold = (history : History) (floor : ℕ) (vault : Vault) (mappings : Mappings) (slots : ℕ → List ℕ) → VaultFits history floor vault → AreMappingsOf vault mappings → AreSlotsOf vault slots →
+    Holds history floor (end_of vault.mappings) mappings slots
+
+-- together, beside a vault that holds what the desk needs
+abbrev pub ApartOpen : Type 0
+ApartOpen = (desk : Desk) (vault : Vault) (contents : Contents) → DeskFits desk → VaultFits desk.history desk.floor vault → desk.need ≤ end_of vault.mappings → IsLogOf desk contents.log → ArePagesOf desk contents.pages →
+    AreMappingsOf vault contents.mappings → AreSlotsOf vault contents.slots → OpenInDoubt contents desk.history desk.doubt
+
+-- a vault that fits a history fits it with one change more
+abbrev pub VaultOutlives : Type 0
+VaultOutlives = (history : History) (floor : ℕ) (vault : Vault) (change : Change) → HistoryFits history floor → MayFollow (now history).base change → VaultFits history floor vault → VaultFits (with_change history change) floor vault
+
+-- in the same world each page as of a retained snapshot is the same
+abbrev pub SamePast : Type 0
+SamePast = (history other : History) (floor : ℕ) → HistoryFits other floor → IsSameWorld history other → (snapshot page : ℕ) → is_retained snapshot (now other).base.marks ≡ true → pages_as_of history snapshot page ≡ pages_as_of other snapshot page
+
+-- A reader was told something of a page as of a snapshot that is still pinned, whatever was done since: what the vault finds below the count that was told, or else what was told, is the page as of the snapshot.
+abbrev pub FindAfterPeek : Type 0
+FindAfterPeek = (machine : Machine) (told : Told) → Fits machine → Contains machine.told told → Contains machine.pins told.snapshot →
+    found machine.vault (capacity_of machine.desk.history) told ≡ pages_as_of machine.desk.history told.snapshot told.page
+
+-- each image of the one machine is one of the other
+abbrev pub Covers : Machine → Machine → Type 0
+Covers machine other = (contents : Contents) → AreImagesOf machine contents → AreImagesOf other contents
+
+-- the slots that may differ are loose
+abbrev pub LoosensBatch : ℕ → Vault → Batch → (ℕ → Bool) → Type 0
+LoosensBatch capacity vault batch loose = (slot : ℕ) → loose slot ≡ false → (IsSlotOf capacity batch slot → ⊥) × (vault.loose slot ≡ false)
+
+-- Wherever in a call a crash comes, it leaves what the failing of the call leaves, where none failed before: all that the devices might hold before the call, and all that they may hold behind it.
+pub record FailuresCover : Type 0 where
+  pub change : (m : Machine) (change : Change) → m.desk.doubt ≡ Sure → let failed : Machine = record m { desk = change_failed m.desk change } in Covers m failed × Covers (record m { desk = changed m.desk change }) failed
+  pub write : (m : Machine) (page need : ℕ) (left : List ℕ) → let failed : Machine = record m { desk = write_failed m.desk page need left } in Covers m failed × Covers (record m { desk = written m.desk page need }) failed
+  pub settle : (m : Machine) → let failed : Machine = record m { desk = stopped m.desk } in Covers m failed × Covers (record m { desk = settled m.desk }) failed
+  pub cut : (m : Machine) → m.desk.doubt ≡ Sure → let failed : Machine = record m { desk = cut_failed m.desk } in Covers m failed × Covers (record m { desk = cut m.desk }) failed
+  pub lay : (m : Machine) (batch : Batch) (slots left : ℕ → List ℕ) (loose sure : ℕ → Bool) → LoosensBatch (capacity_of m.desk.history) m.vault batch loose → LeavesOthers (capacity_of m.desk.history) m.vault batch left loose →
+      LeavesOthers (capacity_of m.desk.history) m.vault batch slots sure → let failed : Machine = record m { vault = lay_failed m.vault left loose } in Covers m failed × Covers (record m { vault = laid m.vault batch slots sure }) failed
+  pub enter : (m : Machine) (batch : Batch) → m.vault.others ≡ [] → let failed : Machine = record m { vault = enter_failed m.vault batch } in Covers m failed × Covers (record m { vault = entered m.vault batch }) failed
+  pub trim : (m : Machine) (low : ℕ) → m.vault.others ≡ [] → let failed : Machine = record m { vault = trim_failed m.vault low } in Covers m failed × Covers (record m { vault = trimmed m.vault low }) failed

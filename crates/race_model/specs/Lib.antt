@@ -1,0 +1,9 @@
+pub mod Desk
+pub mod Vault
+pub mod Fits
+pub mod Machine
+pub mod Images
+pub mod Invariant
+pub mod Reading
+pub mod Reopened
+pub mod Laws

@@ -1,0 +1,159 @@
+-- The steps of a desk and a vault, and of the readers between them. A call that fails is a step too; a crash within a call leaves what its failing leaves.
+use Rattle.std.specs.Prelude.{◌≡◌, ◌+◌, ◌==◌, ◌||◌, ◌<◌, ◌≤◌, ◌++◌, min, max, ℕ, Bool, true, false, List, [], ◌∷◌, map, take, drop, Contains, if◌then◌else◌}
+use Rattle.std.specs.List.{AllByRecursion}
+use Rattle.retro_base.specs.declared.limits.TheConstants.{BATCH}
+use Rattle.history.specs.declared.entry.Change.{Change}
+use Rattle.history.specs.declared.entry.Change.TheVariants.{Commit, Drop}
+use Rattle.history.specs.declared.entry.Mark.{Mark}
+use Rattle.history.specs.Marks.{is_retained, oldest_start}
+use Rattle.history.specs.History.{History, now, captures, with_change}
+use Rattle.skippy.specs.Mappings.{end_of}
+use Rattle.race_model.specs.Desk.{OneMore, NewBase, Desk, captured, capacity_of, writes_page}
+use Rattle.race_model.specs.Vault.{Vault, Batch, batch_end, trim_to, enter_into, LeavesOthers, HoldsBatch}
+use Rattle.race_model.specs.Fits.{MayFollow}
+use Rattle.race_model.specs.Reading.{Told, told_of}
+
+-- ---- the desk
+
+-- a commit or a drop, done
+abbrev pub changed : Desk → Change → Desk
+changed desk change = record desk { history = with_change desk.history change; rest = desk.rest ++ change ∷ []; dirty = λ page. desk.dirty page || writes_page page change }
+
+abbrev pub change_failed : Desk → Change → Desk
+change_failed desk change = record desk { doubt = OneMore change; stopped = true }
+
+-- so many of the captures that are not yet acknowledged
+abbrev pub batch_of : Desk → ℕ → Batch
+batch_of desk count = record { first = desk.acked; low = min (oldest_start (now desk.history).base.marks) desk.acked; images = take count (drop desk.acked (captures desk.history)) }
+
+abbrev pub acked_to : Desk → ℕ → Desk
+acked_to desk count = record desk { acked = max desk.acked count }
+
+-- a page may be written back where it is dirty and its captures are below the new need, all of them acknowledged
+pub record MayWrite (desk : Desk) (page need : ℕ) : Type 0 where
+  pub goes : desk.stopped ≡ false
+  pub soiled : desk.dirty page ≡ true
+  pub below : (number : ℕ) → number < (now desk.history).base.captures → (captured desk.history number).page ≡ page → number < need
+  pub up : desk.need ≤ need
+  pub acked : need ≤ desk.acked
+
+abbrev pub with_page : {X : Type 0} → (ℕ → X) → ℕ → X → ℕ → X
+with_page pages page x other = if other == page then x else pages other
+
+abbrev pub written : Desk → ℕ → ℕ → Desk
+written desk page need =
+    record desk { pages = with_page desk.pages page ((now desk.history).pages page); loose = with_page desk.loose page true; dirty = with_page desk.dirty page false; need = need }
+
+abbrev pub write_failed : Desk → ℕ → ℕ → List ℕ → Desk
+write_failed desk page need left = record desk { pages = with_page desk.pages page left; loose = with_page desk.loose page true; need = need; stopped = true }
+
+abbrev pub settled : Desk → Desk
+settled desk = record desk { loose = λ page. false }
+
+abbrev pub stopped : Desk → Desk
+stopped desk = record desk { stopped = true }
+
+-- the log may be cut where no page is dirty or loose and all captures are acknowledged
+pub record MayCut (desk : Desk) : Type 0 where
+  pub goes : desk.stopped ≡ false
+  pub clean : (page : ℕ) → (desk.dirty page ≡ false) × (desk.loose page ≡ false)
+  pub acked : desk.acked ≡ (now desk.history).base.captures
+
+abbrev pub cut : Desk → Desk
+cut desk = record desk { past = desk.history.changes; rest = []; need = (now desk.history).base.captures }
+
+abbrev pub cut_failed : Desk → Desk
+cut_failed desk = record desk { need = (now desk.history).base.captures; doubt = NewBase; stopped = true }
+
+-- ---- the vault
+
+-- a batch may be laid where it goes on behind the mappings
+pub record MayLay (vault : Vault) (batch : Batch) : Type 0 where
+  pub goes : vault.stopped ≡ false
+  pub first : batch.first ≡ end_of vault.mappings
+
+abbrev pub laid : Vault → Batch → (ℕ → List ℕ) → (ℕ → Bool) → Vault
+laid vault batch slots loose = record vault { slots = slots; loose = loose; laid = max vault.laid (batch_end batch) }
+
+abbrev pub lay_failed : Vault → (ℕ → List ℕ) → (ℕ → Bool) → Vault
+lay_failed vault slots loose = record vault { slots = slots; loose = loose; laid = end_of vault.mappings; stopped = true }
+
+-- a batch may be entered where it is laid
+pub record MayEnter (vault : Vault) (batch : Batch) : Type 0 where
+  pub goes : vault.stopped ≡ false
+  pub first : batch.first ≡ end_of vault.mappings
+  pub laid : batch_end batch ≤ vault.laid
+
+abbrev pub entered : Vault → Batch → Vault
+entered vault batch = record vault { mappings = enter_into vault.mappings batch }
+
+abbrev pub enter_failed : Vault → Batch → Vault
+enter_failed vault batch = record vault { others = trim_to vault.mappings batch.low ∷ enter_into vault.mappings batch ∷ []; stopped = true }
+
+-- mappings may be forgotten below a number that no retained snapshot is above
+pub record MayTrim (history : History) (vault : Vault) (low : ℕ) : Type 0 where
+  pub goes : vault.stopped ≡ false
+  pub held : low ≤ end_of vault.mappings
+  pub needed : low ≤ oldest_start (now history).base.marks
+
+abbrev pub trimmed : Vault → ℕ → Vault
+trimmed vault low = record vault { mappings = trim_to vault.mappings low }
+
+abbrev pub trim_failed : Vault → ℕ → Vault
+trim_failed vault low = record vault { others = trim_to vault.mappings low ∷ []; stopped = true }
+
+-- ---- both
+
+-- with the batches and the receipts that go between them, the snapshots that open looks pin, and what readers were told
+pub record Machine : Type 0 where
+  pub desk : Desk
+  pub vault : Vault
+  pub batches : List Batch
+  pub receipts : List ℕ
+  pub pins : List ℕ
+  pub told : List Told
+
+-- a drop leaves each pinned snapshot
+abbrev pub KeepsPins : List ℕ → Change → Type 0
+KeepsPins pins (Commit label writes) = Unit {0}
+KeepsPins pins (Drop below) = AllByRecursion (λ pin. below ≤ pin) pins
+
+pub record MayChange (machine : Machine) (change : Change) : Type 0 where
+  pub goes : machine.desk.stopped ≡ false
+  pub follows : MayFollow (now machine.desk.history).base change
+  pub pins : KeepsPins machine.pins change
+
+-- a batch has 1 to 64 captures, of those that are there
+pub record MayTake (desk : Desk) (count : ℕ) : Type 0 where
+  pub some : 1 ≤ count
+  pub few : count ≤ BATCH
+  pub there : desk.acked + count ≤ (now desk.history).base.captures
+
+pub data Step : Machine → Machine → Type 0 where
+  Quiet : (m : Machine) → Step m m
+  Changes : (m : Machine) (change : Change) → MayChange m change → Step m (record m { desk = changed m.desk change })
+  ChangeFails : (m : Machine) (change : Change) → MayChange m change → Step m (record m { desk = change_failed m.desk change })
+  TakesBatch : (m : Machine) (count : ℕ) → MayTake m.desk count → Step m (record m { batches = batch_of m.desk count ∷ m.batches })
+  Acknowledges : (m : Machine) (count : ℕ) → Contains m.receipts count → count ≤ (now m.desk.history).base.captures → Step m (record m { desk = acked_to m.desk count })
+  WritesBack : (m : Machine) (page need : ℕ) → MayWrite m.desk page need → Step m (record m { desk = written m.desk page need })
+  WriteFails : (m : Machine) (page need : ℕ) (left : List ℕ) → MayWrite m.desk page need → Step m (record m { desk = write_failed m.desk page need left })
+  Settles : (m : Machine) → m.desk.stopped ≡ false → Step m (record m { desk = settled m.desk })
+  Stops : (m : Machine) → Step m (record m { desk = stopped m.desk })
+  CutsLog : (m : Machine) → MayCut m.desk → Step m (record m { desk = cut m.desk })
+  CutFails : (m : Machine) → MayCut m.desk → Step m (record m { desk = cut_failed m.desk })
+  Lays : (m : Machine) (batch : Batch) (slots : ℕ → List ℕ) (loose : ℕ → Bool) → Contains m.batches batch → MayLay m.vault batch → LeavesOthers (capacity_of m.desk.history) m.vault batch slots loose →
+      HoldsBatch (capacity_of m.desk.history) batch slots loose → Step m (record m { vault = laid m.vault batch slots loose })
+  LayFails : (m : Machine) (batch : Batch) (slots : ℕ → List ℕ) (loose : ℕ → Bool) → Contains m.batches batch → MayLay m.vault batch → LeavesOthers (capacity_of m.desk.history) m.vault batch slots loose →
+      Step m (record m { vault = lay_failed m.vault slots loose })
+  Enters : (m : Machine) (batch : Batch) → Contains m.batches batch → MayEnter m.vault batch → Step m (record m { vault = entered m.vault batch; receipts = batch_end batch ∷ m.receipts })
+  EnterFails : (m : Machine) (batch : Batch) → Contains m.batches batch → MayEnter m.vault batch → Step m (record m { vault = enter_failed m.vault batch })
+  Trims : (m : Machine) (low : ℕ) → MayTrim m.desk.history m.vault low → Step m (record m { vault = trimmed m.vault low })
+  TrimFails : (m : Machine) (low : ℕ) → MayTrim m.desk.history m.vault low → Step m (record m { vault = trim_failed m.vault low })
+  Looks : (m : Machine) (snapshot : ℕ) → is_retained snapshot (now m.desk.history).base.marks ≡ true → Step m (record m { pins = snapshot ∷ m.pins })
+  LooksAtAll : (m : Machine) → Step m (record m { pins = map (λ (mark : Mark). mark.number) (now m.desk.history).base.marks ++ m.pins })
+  Unlooks : (m : Machine) (pins : List ℕ) → ((pin : ℕ) → Contains pins pin → Contains m.pins pin) → Step m (record m { pins = pins })
+  Peeks : (m : Machine) (snapshot page : ℕ) → Contains m.pins snapshot → Step m (record m { told = told_of m.desk snapshot page ∷ m.told })
+
+pub data Run : Machine → Machine → Type 0 where
+  Done : {m : Machine} → Run m m
+  More : {first next last : Machine} → Step first next → Run next last → Run first last

@@ -1,0 +1,44 @@
+-- The machine that an opening makes, and whole lives of a store.
+use Rattle.std.specs.Prelude.{ℕ, false, []}
+use Rattle.replay.specs.Opened.{Contents, opened}
+use Rattle.skippy.specs.Mappings.{end_of}
+use Rattle.race_model.specs.Desk.{Desk, Sure, is_written}
+use Rattle.race_model.specs.Vault.{Vault}
+use Rattle.race_model.specs.Machine.{Machine, Run}
+use Rattle.race_model.specs.Images.{AreImagesOf}
+
+abbrev pub opened_desk : Contents → Desk
+opened_desk contents = record {
+  history = opened contents;
+  floor = contents.mappings.low;
+  past = [];
+  rest = contents.log.changes;
+  need = end_of contents.mappings;
+  acked = end_of contents.mappings;
+  pages = contents.pages;
+  loose = λ page. false;
+  dirty = λ page. is_written page contents.log.changes;
+  doubt = Sure;
+  stopped = false;
+}
+
+abbrev pub opened_vault : Contents → Vault
+opened_vault contents = record { mappings = contents.mappings; others = []; laid = end_of contents.mappings; slots = contents.slots; loose = λ slot. false; stopped = false }
+
+-- nothing is loose or on its way; pages that the log writes are dirty
+abbrev pub opened_machine : Contents → Machine
+opened_machine contents = record { desk = opened_desk contents; vault = opened_vault contents; batches = []; receipts = []; pins = []; told = [] }
+
+-- the contents of a store that was just made
+abbrev pub made : ℕ → ℕ → Contents
+made page_count capacity = record {
+  log = record { base = record { page_count = page_count; capacity = capacity; changes = 0; captures = 0; marks = []; captured = [] }; changes = [] };
+  pages = λ page. [];
+  mappings = record { low = 0; pages = [] };
+  slots = λ slot. [];
+}
+
+-- runs, and crashes after which an image is opened
+pub data Life : Machine → Machine → Type 0 where
+  Runs : {first last : Machine} → Run first last → Life first last
+  Crashes : {first next last : Machine} (contents : Contents) → Life first next → AreImagesOf next contents → Run (opened_machine contents) last → Life first last

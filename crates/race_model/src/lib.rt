@@ -1,0 +1,17 @@
+//! The desk and the vault of a store as plain data: what their devices may hold, their steps, and what holds of them
+//! between steps, whatever order these come in and wherever a crash comes. Beside it the values that go between the two.
+#![tactic(auto)]
+
+mod batch;
+mod fault;
+mod laws;
+mod receipt;
+#[cfg(test)]
+mod tests;
+
+pub use batch::Batch;
+pub use fault::Fault;
+pub use laws::{
+    a_failing_covers_its_call, crashes_open, images_apart, readers_find_the_past, steps_keep,
+};
+pub use receipt::Receipt;

@@ -1,0 +1,185 @@
+//! The runs of answers in which a row stands.
+
+ghost use Rattle.std.specs.Prelude.{◌≡◌, ◌<◌, ◌≤◌, ◌++◌, ◌∷◌, [], IfOk, IsTrue, OnOk, length, map, pos};
+ghost use Rattle.std.specs.List.{AllByRecursion, prefix_len};
+ghost use Rattle.values.specs.declared.value.Kind.TheVariants as kind;
+ghost use Rattle.values.specs.declared.value.Value.TheVariants.{Int};
+ghost use Rattle.sql_check.specs.Names.{has_twins};
+ghost use Rattle.sql_tree.specs.Name.{IsName};
+ghost use Rattle.sql_tree.specs.Statement.{IsSelect};
+ghost use Rattle.rql.specs.AsOf.{IsOfCall, OnlyAsks, Tells};
+ghost use Rattle.rql.specs.Columns.{name_of};
+ghost use Rattle.rql.specs.Intervals.{RunsAreIntervals, answer_set, end_columns, has_row, interval_columns, intervals, row_of_run, run_end, runs, runs_at, stands_before};
+
+use crate::as_of::AsOf;
+use crate::columns::{has_name, has_twins};
+use crate::gathering::{Takes, gather};
+use crate::row_set::RowSet;
+use pager::Stop;
+use retro_base::Refusal;
+use sql_select::{Answer, RowKey};
+use sql_tree::{Column, Name, Select};
+use std::alloc::{AllocError, Global};
+use values::{Duplicate, Kind, Row, Seq, Value};
+
+const START_SNAPSHOT: &[u8] = b"start_snapshot";
+
+const END_SNAPSHOT: &[u8] = b"end_snapshot";
+
+// Whether a name stands twice among the columns and those of a run's two snapshots.
+#[tactic(auto, using(crate::proofs::Twins::twins_with_ends))]
+fn has_twins_with_ends(columns: &[Column]) -> bool
+    ensures { result ≡ has_twins name_of (columns.now ++ end_columns) }
+{
+    has_twins(columns) || has_name(START_SNAPSHOT, columns) || has_name(END_SNAPSHOT, columns)
+}
+
+// Takes the rows of an answer as a set.
+#[derive(Drop)]
+struct AnswerSet {
+    alloc: Global,
+}
+
+impl Takes for AnswerSet {
+    type Part = RowSet;
+
+    ghost take = { λ _. answer_set };
+
+    fn take(&self, _snapshot: u32, columns: &[Column], rows: Seq<Row>) -> Result<RowSet, Refusal> {
+        if has_twins_with_ends(columns) {
+            return Err(Refusal::NameTaken);
+        }
+        Ok(RowSet::new(self.alloc, rows)?)
+    }
+}
+
+// Whether the row stands in the set before the place.
+fn stands_before(sets: &[RowSet], place: usize, row: &RowKey) -> bool
+    requires { place < length sets.now }
+    ensures { result ≡ stands_before sets.now place row.now }
+{
+    match place.checked_sub(1) {
+        Some(before) => sets[before].contains(row),
+        None => false,
+    }
+}
+
+// How many of the sets, from the first on, have the row.
+fn run_length(sets: &[RowSet], row: &RowKey) -> usize
+    ensures length { result ≡ prefix_len (has_row row.now) sets.now }
+    ensures within { result ≤ length sets.now }
+{
+    sets.iter().take_while(|set| set.contains(row)).count()
+}
+
+// The last place of the row's run from the place on.
+fn run_end(sets: &[RowSet], start: usize, row: &RowKey) -> usize
+    requires { start < length sets.now }
+    ensures end { result ≡ run_end sets.now start row.now }
+    ensures within { result < length sets.now }
+{
+    start + run_length(&sets[start + 1..], row)
+}
+
+// A run as a row.
+fn row_of_run(alloc: Global, row: &RowKey, start: u32, end: u32) -> Result<Row, AllocError>
+    ensures { IfOk result (λ found. found ≡ row.now ++ Int (pos start) ∷ Int (pos end) ∷ []) }
+{
+    let mut found = Vec::new(alloc);
+    for value in row.values() {
+        found.push(value.copy(alloc)?)?;
+    }
+    found.push(Value::Int(i64::from(start)))?;
+    found.push(Value::Int(i64::from(end)))?;
+    Ok(Seq::from(found))
+}
+
+// Adds the runs that start at the place.
+fn add_runs_at(
+    alloc: Global,
+    snapshots: &[u32],
+    sets: &[RowSet],
+    start: usize,
+    rows: &mut Vec<Row>,
+) -> Result<(), AllocError>
+    requires as_many { length sets.now ≡ length snapshots.now }
+    requires place { start < length sets.now }
+    ensures { OnOk result (rows.new.items ≡ rows.old.items ++ map (row_of_run snapshots.now) (runs_at sets.now start)) }
+{
+    for row in sets[start].as_slice() {
+        if !stands_before(sets, start, row) {
+            let end = run_end(sets, start, row);
+            rows.push(row_of_run(alloc, row, snapshots[start], snapshots[end])?)?;
+        }
+    }
+    Ok(())
+}
+
+// The runs over the sets at the snapshots.
+fn rows_of_runs(alloc: Global, snapshots: &[u32], sets: &[RowSet]) -> Result<Seq<Row>, AllocError>
+    requires { length sets.now ≡ length snapshots.now }
+    ensures { IfOk result (λ rows. rows ≡ map (row_of_run snapshots.now) (runs sets.now)) }
+{
+    let mut rows = Vec::new(alloc);
+    for start in 0..sets.len() {
+        add_runs_at(alloc, snapshots, sets, start, &mut rows)?;
+    }
+    Ok(Seq::from(rows))
+}
+
+// A column of snapshots.
+fn snapshot_column(alloc: Global, name: &[u8]) -> Result<Column, AllocError>
+    requires { IsName name.now }
+    ensures { IfOk result (λ column. column ≡ record { name = name.now; kind = kind.Int }) }
+{
+    let name = Name::new(Seq::from(name.to_vec(alloc)?));
+    Ok(Column {
+        name,
+        kind: Kind::Int,
+    })
+}
+
+// The columns of the runs, from those of the query.
+fn interval_columns(
+    alloc: Global,
+    snapshots: &[u32],
+    columns: Seq<Column>,
+) -> Result<Seq<Column>, AllocError>
+    ensures { IfOk result (λ found. found ≡ interval_columns snapshots.now columns) }
+{
+    if snapshots.is_empty() {
+        return Ok(Seq::new(alloc));
+    }
+    let mut columns = columns;
+    columns.push(snapshot_column(alloc, START_SNAPSHOT)?)?;
+    columns.push(snapshot_column(alloc, END_SNAPSHOT)?)?;
+    Ok(columns)
+}
+
+/// The runs of consecutive snapshots of the list at which a row stands in the query's answer, where the answer is taken as a
+/// set of rows: one row of its values, and of the snapshots at the first and the last place of the run. The order is by the
+/// first place, and then by the row's first appearance in the answer there. The columns are the query's, and then
+/// `start_snapshot` and `end_snapshot`; over no snapshots there are none. Refused by what the query is refused by, by
+/// NameTaken where two of these columns have one name, by WrongType for columns that are not those of the first answer, in
+/// this order at one snapshot, and the first snapshot's first.
+pub fn intervals<A: AsOf>(
+    alloc: Global,
+    asof: &mut A,
+    snapshots: &[u32],
+    query: &Select,
+) -> Result<Answer, Stop<A::Fault>>
+    requires asked { AllByRecursion (λ snapshot. IsTrue (A.may_ask asof.old snapshot)) snapshots.now }
+    requires query { IsSelect query.now }
+    ensures told { Tells (λ answer. answer) (A.told asof.old) query.now (λ answers. intervals answers snapshots.now) result }
+    ensures only_asks { OnlyAsks A.may_ask A.told A.faults (IsOfCall snapshots.now) asof.old asof.new result }
+{
+    let (columns, sets) = gather(alloc, asof, snapshots, query, &AnswerSet { alloc })?;
+    let columns = interval_columns(alloc, snapshots, columns)?;
+    let rows = rows_of_runs(alloc, snapshots, &sets)?;
+    Ok(Answer { columns, rows })
+}
+
+/// The runs over answers are the intervals of their rows: each one, each once, by start, and by first appearance there.
+pub fn runs_are_intervals()
+    ensures { RunsAreIntervals }
+{}
