@@ -1,34 +1,71 @@
 use crate::{Call, MemDisk, RamDisk};
 use disk_model::{Disk, Failed};
-use std::process::Abort;
+use retro_base::Refusal;
+use std::alloc::Global;
 use std::test::Fail;
 
-// A write and a read that stop the test where they pass the end of the device.
-fn write<D: Disk>(rt: &impl Abort, disk: &mut D, place: u8, bytes: &[u8]) -> Result<(), Failed> {
-    assert!(rt; bytes.len() < 256);
-    assert!(rt; u64::from(place) + bytes.len() as u64 <= disk.size());
-    disk.write_at(u64::from(place), bytes)
+// Each call stands in a function without clauses, so that the tests stay cheap to prove. A write and a read fail where they
+// pass the end of the device.
+
+fn write<D: Disk>(disk: &mut D, place: u64, bytes: &[u8]) -> Result<(), Failed> {
+    let size = disk.size();
+    if place > size || size - place < bytes.len() as u64 {
+        return Err(Failed);
+    }
+    disk.write_at(place, bytes)
 }
 
-fn read<D: Disk>(rt: &impl Abort, disk: &mut D, place: u8, out: &mut [u8]) -> Result<(), Failed> {
-    assert!(rt; out.len() < 256);
-    assert!(rt; u64::from(place) + out.len() as u64 <= disk.size());
-    disk.read_at(u64::from(place), out)
+fn read<D: Disk>(disk: &mut D, place: u64, out: &mut [u8]) -> Result<(), Failed> {
+    let size = disk.size();
+    if place > size || size - place < out.len() as u64 {
+        return Err(Failed);
+    }
+    disk.read_at(place, out)
+}
+
+fn sync<D: Disk>(disk: &mut D) -> Result<(), Failed> {
+    disk.sync()
+}
+
+fn new(
+    alloc: Global,
+    size: u64,
+    failing: Vec<(Call, u64)>,
+    stop: Option<u64>,
+) -> Result<MemDisk, Refusal> {
+    MemDisk::new(alloc, size, failing, stop)
+}
+
+fn holds(disk: &MemDisk, bytes: &[u8]) -> bool {
+    disk.bytes() == bytes
+}
+
+// Whether a crash with that fill leaves these bytes.
+fn leaves(alloc: Global, disk: &MemDisk, fill: u8, bytes: &[u8]) -> Result<bool, Refusal> {
+    Ok(disk.crash(alloc, fill)?.bytes() == bytes)
+}
+
+// How many reads, writes and syncs there were, and how many calls have failed.
+fn counts(disk: &MemDisk) -> [u64; 4] {
+    let calls = [Call::Read, Call::Write, Call::Sync].map(|call| disk.calls(call));
+    [calls[0], calls[1], calls[2], disk.faults()]
 }
 
 #[test]
 fn a_crash_fills_what_no_sync_stands_behind(rt: HostRuntime) -> Result<(), Fail> {
     let alloc = rt.alloc();
-    let mut disk = MemDisk::new(alloc, 8, Vec::new(alloc), None)?;
-    write(&rt, &mut disk, 1, &[1, 2, 3])?;
-    disk.sync()?;
-    write(&rt, &mut disk, 3, &[4, 5])?;
-    assert_eq!(rt; disk.bytes(), [0, 1, 2, 4, 5, 0, 0, 0].as_slice());
-    let left = disk.crash(alloc, 0xa5)?;
-    assert_eq!(rt; left.bytes(), [0, 1, 2, 0xa5, 0xa5, 0, 0, 0].as_slice());
-    disk.sync()?;
-    let left = disk.crash(alloc, 0xa5)?;
-    assert_eq!(rt; left.bytes(), [0, 1, 2, 4, 5, 0, 0, 0].as_slice());
+    let mut disk = new(alloc, 8, Vec::new(alloc), None)?;
+    let first = [
+        write(&mut disk, 1, &[1, 2, 3]),
+        sync(&mut disk),
+        write(&mut disk, 3, &[4, 5]),
+    ];
+    let seen = holds(&disk, &[0, 1, 2, 4, 5, 0, 0, 0]);
+    let loose = leaves(alloc, &disk, 0xa5, &[0, 1, 2, 0xa5, 0xa5, 0, 0, 0])?;
+    let last = sync(&mut disk);
+    let settled = leaves(alloc, &disk, 0xa5, &[0, 1, 2, 4, 5, 0, 0, 0])?;
+    assert!(rt; (first, last) == ([Ok(()); 3], Ok(())));
+    assert!(rt; seen && loose && settled);
     Ok(())
 }
 
@@ -36,36 +73,36 @@ fn a_crash_fills_what_no_sync_stands_behind(rt: HostRuntime) -> Result<(), Fail>
 fn listed_calls_fail(rt: HostRuntime) -> Result<(), Fail> {
     let alloc = rt.alloc();
     let failing = vec![in alloc; (Call::Write, 2), (Call::Sync, 1), (Call::Read, 2)]?;
-    let mut disk = MemDisk::new(alloc, 4, failing, None)?;
+    let mut disk = new(alloc, 4, failing, None)?;
     let mut out = [9; 2];
-    write(&rt, &mut disk, 0, &[1, 2])?;
-    assert_eq!(rt; write(&rt, &mut disk, 1, &[3, 4]), Err(Failed));
-    assert_eq!(rt; disk.sync(), Err(Failed));
-    read(&rt, &mut disk, 1, &mut out)?;
-    assert_eq!(rt; out, [2, 0]);
-    assert_eq!(rt; read(&rt, &mut disk, 1, &mut out), Err(Failed));
-    assert_eq!(rt; disk.faults(), 3);
-    assert_eq!(rt; disk.calls(Call::Read), 2);
-    assert_eq!(rt; disk.calls(Call::Write), 2);
-    assert_eq!(rt; disk.calls(Call::Sync), 1);
-    let left = disk.crash(alloc, 0xff)?;
-    assert_eq!(rt; left.bytes(), [0xff, 0xff, 0xff, 0].as_slice());
+    let outcomes = [
+        write(&mut disk, 0, &[1, 2]),
+        write(&mut disk, 1, &[3, 4]),
+        sync(&mut disk),
+        read(&mut disk, 1, &mut out),
+        read(&mut disk, 0, &mut out),
+    ];
+    let left = leaves(alloc, &disk, 0xff, &[0xff, 0xff, 0xff, 0])?;
+    assert!(rt; outcomes == [Ok(()), Err(Failed), Err(Failed), Ok(()), Err(Failed)]);
+    assert!(rt; (out, counts(&disk), left) == ([2, 0], [2, 2, 1, 3], true));
     Ok(())
 }
 
 #[test]
 fn a_call_behind_the_stop_changes_nothing(rt: HostRuntime) -> Result<(), Fail> {
     let alloc = rt.alloc();
-    let mut disk = MemDisk::new(alloc, 4, Vec::new(alloc), Some(2))?;
-    write(&rt, &mut disk, 0, &[1, 2])?;
-    disk.sync()?;
-    assert_eq!(rt; write(&rt, &mut disk, 0, &[3]), Err(Failed));
-    assert_eq!(rt; disk.sync(), Err(Failed));
-    let left = disk.crash(alloc, 0xff)?;
-    assert_eq!(rt; left.bytes(), [1, 2, 0, 0].as_slice());
+    let mut disk = new(alloc, 4, Vec::new(alloc), Some(2))?;
+    let outcomes = [
+        write(&mut disk, 0, &[1, 2]),
+        sync(&mut disk),
+        write(&mut disk, 0, &[3]),
+        sync(&mut disk),
+    ];
+    let left = leaves(alloc, &disk, 0xff, &[1, 2, 0, 0])?;
     let mut again = disk.again(alloc, Vec::new(alloc), None)?;
-    write(&rt, &mut again, 0, &[3])?;
-    assert_eq!(rt; again.bytes(), [3, 2, 0, 0].as_slice());
+    let goes_on = write(&mut again, 0, &[3]);
+    assert!(rt; outcomes == [Ok(()), Ok(()), Err(Failed), Err(Failed)]);
+    assert!(rt; left && goes_on.is_ok() && holds(&again, &[3, 2, 0, 0]));
     Ok(())
 }
 
@@ -73,11 +110,12 @@ fn a_call_behind_the_stop_changes_nothing(rt: HostRuntime) -> Result<(), Fail> {
 fn a_ram_disk_reads_what_was_written(rt: HostRuntime) -> Result<(), Fail> {
     let mut disk = RamDisk::new(rt.alloc(), 4)?;
     let mut out = [9; 4];
-    write(&rt, &mut disk, 1, &[1, 2])?;
-    disk.sync()?;
-    read(&rt, &mut disk, 0, &mut out)?;
-    assert_eq!(rt; out, [0, 1, 2, 0]);
-    assert_eq!(rt; disk.size(), 4);
-    assert_eq!(rt; disk.faults(), 0);
+    let outcomes = [
+        write(&mut disk, 1, &[1, 2]),
+        sync(&mut disk),
+        read(&mut disk, 0, &mut out),
+    ];
+    assert!(rt; (outcomes, out) == ([Ok(()); 3], [0, 1, 2, 0]));
+    assert!(rt; (disk.size(), disk.faults()) == (4, 0));
     Ok(())
 }

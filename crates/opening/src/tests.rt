@@ -17,7 +17,7 @@ const LOG: [u8; 60] = [
     1, 0, 1, 0, 0, 0, 0x10, 0, 0, 0, 0x40, 0, 0, 0, 0, 0, 0, 0, 0, 0, 0, 0, 0, 0, 0, 0, 0, 0, 0, 0,
     1, 0, 0, 0, 0, 0, 0, 0, 0,
 ];
-// The same with a drop in the base's place.
+// The same region with a drop in the base's place.
 const LOG_OF_A_DROP: [u8; 26] = [
     0xA5, 0, 0, 0, 0, 0, 0, 0, 0, 0, 0, 0, 0, 0, 0, 1, 0xA5, 0, 0, 0, 5, //
     3, 0, 0, 0, 2,
@@ -34,37 +34,15 @@ const MAPLOG_OF_PAGE_7: [u8; 56] = [
     2, 0, 0, 0, 0, 0, 0, 0, 0, 0, 0, 0, 1, 0, 7,
 ];
 
-// Devices by the bytes at their fronts and by their sizes; the other bytes are 0.
+// Devices by the bytes at their fronts and by their sizes, and bytes that are written over the log's or the Maplog's; all
+// others are 0.
 #[derive(Clone, Copy)]
 struct Case {
     log: (&'static [u8], usize),
     pages: usize,
     slots: usize,
     maplog: (&'static [u8], usize),
-}
-
-fn device(alloc: Global, front: &[u8], size: usize) -> Result<Seq<u8>, AllocError> {
-    let mut bytes = front.to_vec(alloc)?;
-    bytes.resize(size, 0)?;
-    Ok(Seq::from(bytes))
-}
-
-// How many pages and captures the store has, or the device that breaks and where.
-fn opened(alloc: Global, case: &Case) -> Result<Result<(usize, usize), Refusal>, AllocError> {
-    let devices = Four {
-        log: device(alloc, case.log.0, case.log.1)?,
-        pages: device(alloc, &[], case.pages)?,
-        pagelog: device(alloc, &[], case.slots)?,
-        maplog: device(alloc, case.maplog.0, case.maplog.1)?,
-    };
-    match open_devices(alloc, &devices) {
-        Ok(store) => Ok(Ok((store.pages.len(), store.captures.len()))),
-        Err(refusal) => Ok(Err(refusal)),
-    }
-}
-
-fn broken(device: Device, place: u64) -> Result<(usize, usize), Refusal> {
-    Err(Refusal::NotAStore { device, place })
+    damage: &'static [(Device, usize, u8)],
 }
 
 const GOOD: Case = Case {
@@ -72,7 +50,42 @@ const GOOD: Case = Case {
     pages: 16_384,
     slots: 65_536,
     maplog: (&MAPLOG, MAPLOG_BYTES),
+    damage: &[],
 };
+
+fn device(
+    alloc: Global,
+    which: Device,
+    (front, size): (&[u8], usize),
+    damage: &[(Device, usize, u8)],
+) -> Result<Seq<u8>, AllocError> {
+    let mut bytes = front.to_vec(alloc)?;
+    bytes.resize(size, 0)?;
+    for (device, place, byte) in damage {
+        if *device == which && *place < bytes.len() {
+            bytes[*place] = *byte;
+        }
+    }
+    Ok(Seq::from(bytes))
+}
+
+// How many pages and captures the store has, or the device that breaks and where.
+fn opened(alloc: Global, case: &Case) -> Result<Result<(usize, usize), Refusal>, AllocError> {
+    let devices = Four {
+        log: device(alloc, Device::Log, case.log, case.damage)?,
+        pages: device(alloc, Device::Pages, (&[], case.pages), case.damage)?,
+        pagelog: device(alloc, Device::Pagelog, (&[], case.slots), case.damage)?,
+        maplog: device(alloc, Device::Maplog, case.maplog, case.damage)?,
+    };
+    match open_devices(alloc, &devices) {
+        Ok(store) => Ok(Ok((store.pages.len(), store.captures.len()))),
+        Err(refusal) => Ok(Err(refusal)),
+    }
+}
+
+fn damaged(damage: &'static [(Device, usize, u8)]) -> Case {
+    Case { damage, ..GOOD }
+}
 
 #[test]
 fn a_made_store_opens(rt: HostRuntime) -> Result<(), Fail> {
@@ -82,38 +95,55 @@ fn a_made_store_opens(rt: HostRuntime) -> Result<(), Fail> {
 
 #[test]
 fn a_damaged_device_is_told_with_its_place(rt: HostRuntime) -> Result<(), Fail> {
+    let short_log = Case {
+        log: (&LOG, 1024),
+        ..GOOD
+    };
+    let no_base = Case {
+        log: (&LOG_OF_A_DROP, LOG_BYTES),
+        ..GOOD
+    };
+    let short_pages = Case {
+        pages: 16_383,
+        ..GOOD
+    };
+    let not_captured = Case {
+        maplog: (&MAPLOG_OF_PAGE_7, MAPLOG_BYTES),
+        ..GOOD
+    };
     let table = [
+        (short_log, Device::Log, 1024),
+        (no_base, Device::Log, 16),
+        // No header is open.
+        (damaged(&[(Device::Log, 0, 0)]), Device::Log, 0),
+        // Two headers are open, both of generation 1.
         (
-            Case {
-                log: (&LOG, 1024),
-                ..GOOD
-            },
-            broken(Device::Log, 1024),
+            damaged(&[
+                (Device::Log, 16_777_216, 0xA5),
+                (Device::Log, 16_777_231, 1),
+            ]),
+            Device::Log,
+            0,
         ),
-        (
-            Case {
-                log: (&LOG_OF_A_DROP, LOG_BYTES),
-                ..GOOD
-            },
-            broken(Device::Log, 16),
-        ),
-        (
-            Case {
-                pages: 15_360,
-                ..GOOD
-            },
-            broken(Device::Pages, 15_360),
-        ),
-        (
-            Case {
-                maplog: (&MAPLOG_OF_PAGE_7, MAPLOG_BYTES),
-                ..GOOD
-            },
-            broken(Device::Maplog, 56),
-        ),
+        // The base's length passes the region.
+        (damaged(&[(Device::Log, 17, 0xFF)]), Device::Log, 16),
+        // It is a byte too long.
+        (damaged(&[(Device::Log, 20, 0x28)]), Device::Log, 16),
+        // Its version is 3; it has 15 pages.
+        (damaged(&[(Device::Log, 23, 3)]), Device::Log, 16),
+        (damaged(&[(Device::Log, 27, 0x0F)]), Device::Log, 16),
+        (short_pages, Device::Pages, 16_383),
+        // The Maplog's header is closed; its capacity is 65; its mappings begin, and end, at 1.
+        (damaged(&[(Device::Maplog, 0, 0)]), Device::Maplog, 0),
+        (damaged(&[(Device::Maplog, 35, 0x41)]), Device::Maplog, 16),
+        (damaged(&[(Device::Maplog, 31, 1)]), Device::Maplog, 36),
+        (not_captured, Device::Maplog, 56),
     ];
-    for (case, want) in table {
-        assert_eq!(rt; opened(rt.alloc(), &case)?, want);
+    for (case, device, place) in table {
+        assert_eq!(rt;
+            opened(rt.alloc(), &case)?,
+            Err(Refusal::NotAStore { device, place })
+        );
     }
     Ok(())
 }
