@@ -1,54 +1,89 @@
-ghost use Rattle.std.specs.Prelude.{◌≡◌};
+ghost use Rattle.std.specs.Prelude.{◌≡◌, ◌<◌, IfOk};
 
-use crate::support::{page, zeros};
+use crate::support::{crash, failing, page, zeros};
 use disk_mem::{Call, MemDisk};
 use disk_model::Disk;
 use page_file::PageFile;
-use retro_base::{Device, Page, Refusal};
-use std::process::Abort;
+use retro_base::{Device, Refusal};
+use std::alloc::Global;
 use std::test::Fail;
 
-// The pages of a device of that many.
-fn pages_on<D: Disk>(rt: &impl Abort, disk: D, pages: u32) -> PageFile<D>
-    ensures { result.pages ≡ pages }
+// The three pages of a device.
+fn pages_on<D: Disk + Drop>(disk: D) -> Result<PageFile<D>, Refusal>
+    ensures { IfOk result (λ file. file.pages ≡ 3) }
 {
-    assert!(rt; disk.size() == 1024 * u64::from(pages));
-    PageFile::new(disk, pages)
+    if disk.size() != 3072 {
+        return Err(Refusal::BadSizes);
+    }
+    Ok(PageFile::new(disk, 3))
+}
+
+// The pages that a crash leaves.
+fn left_by(alloc: Global, file: PageFile<MemDisk>, fill: u8) -> Result<PageFile<MemDisk>, Refusal>
+    ensures { IfOk result (λ file. file.pages ≡ 3) }
+{
+    pages_on(crash(alloc, &file.into_disk(), fill)?)
+}
+
+// Writes a page of this byte alone.
+fn write<D: Disk>(file: &mut PageFile<D>, number: u32, byte: u8) -> Result<(), Refusal>
+    requires { number < file.old.pages }
+    ensures { file.new.pages ≡ file.old.pages }
+{
+    file.write(number, &page(byte))
+}
+
+fn settle<D: Disk>(file: &mut PageFile<D>) -> Result<(), Refusal>
+    ensures { file.new.pages ≡ file.old.pages }
+{
+    file.settle()
+}
+
+// Whether a page is of this byte alone.
+fn holds<D: Disk>(file: &mut PageFile<D>, number: u32, byte: u8) -> Result<bool, Refusal>
+    requires { number < file.old.pages }
+    ensures { file.new.pages ≡ file.old.pages }
+{
+    let mut out = page(!byte);
+    file.read(number, &mut out)?;
+    Ok(out == page(byte))
 }
 
 #[test]
 fn pages_are_read_as_they_were_written(rt: HostRuntime) -> Result<(), Fail> {
-    let mut file = pages_on(&rt, zeros(rt.alloc(), 3072)?, 3);
-    let mut out = Page::zero();
-    file.write(0, &page(0x11))?;
-    file.write(2, &page(0x22))?;
-    file.settle()?;
-    file.read(0, &mut out)?;
-    assert_eq!(rt; out, page(0x11));
-    file.read(1, &mut out)?;
-    assert_eq!(rt; out, page(0));
-    file.read(2, &mut out)?;
-    assert_eq!(rt; out, page(0x22));
+    let mut file = pages_on(zeros(rt.alloc(), 3072)?)?;
+    let written = [
+        write(&mut file, 0, 0x11),
+        write(&mut file, 2, 0x22),
+        settle(&mut file),
+    ];
+    let read = [
+        holds(&mut file, 0, 0x11),
+        holds(&mut file, 1, 0),
+        holds(&mut file, 2, 0x22),
+    ];
+    assert!(rt; (written, read) == ([Ok(()); 3], [Ok(true); 3]));
     Ok(())
 }
 
 #[test]
 fn a_failed_write_leaves_its_page_alone_loose(rt: HostRuntime) -> Result<(), Fail> {
     let alloc = rt.alloc();
-    let failing = vec![in alloc; (Call::Write, 2)]?;
-    let mut file = pages_on(&rt, MemDisk::new(alloc, 3072, failing, None)?, 3);
-    let mut out = Page::zero();
-    file.write(0, &page(0x11))?;
-    file.settle()?;
+    let calls = vec![in alloc; (Call::Write, 2)]?;
+    let mut file = pages_on(failing(alloc, 3072, calls)?)?;
+    let written = [
+        write(&mut file, 0, 0x11),
+        settle(&mut file),
+        write(&mut file, 1, 0x22),
+    ];
+    let mut left = left_by(alloc, file, 0xa5)?;
+    let read = [
+        holds(&mut left, 0, 0x11),
+        holds(&mut left, 1, 0xa5),
+        holds(&mut left, 2, 0),
+    ];
     let (device, count) = (Device::Pages, 1);
-    let fault = Refusal::DiskFault { device, count };
-    assert_eq!(rt; file.write(1, &page(0x22)), Err(fault));
-    let mut left = pages_on(&rt, file.into_disk().crash(alloc, 0xa5)?, 3);
-    left.read(0, &mut out)?;
-    assert_eq!(rt; out, page(0x11));
-    left.read(1, &mut out)?;
-    assert_eq!(rt; out, page(0xa5));
-    left.read(2, &mut out)?;
-    assert_eq!(rt; out, page(0));
+    let fault = Err(Refusal::DiskFault { device, count });
+    assert!(rt; (written, read) == ([Ok(()), Ok(()), fault], [Ok(true); 3]));
     Ok(())
 }

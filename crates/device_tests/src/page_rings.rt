@@ -1,55 +1,79 @@
-use crate::support::{page, zeros};
+use crate::support::{crash, failing, page, zeros};
 use disk_mem::{Call, MemDisk};
 use disk_model::Disk;
 use pagelog::Pagelog;
-use retro_base::{Device, Page, Refusal};
-use std::process::Abort;
+use retro_base::{Device, Refusal};
+use std::alloc::Global;
 use std::test::Fail;
 
 // The slots of a device of three.
-fn ring_on<D: Disk>(rt: &impl Abort, disk: D) -> Pagelog<D> {
-    assert!(rt; disk.size() == 3072);
-    Pagelog::new(disk, 3)
+fn ring_on<D: Disk + Drop>(disk: D) -> Result<Pagelog<D>, Refusal> {
+    if disk.size() != 3072 {
+        return Err(Refusal::BadSizes);
+    }
+    Ok(Pagelog::new(disk, 3))
+}
+
+// The slots that a crash leaves.
+fn left_by(alloc: Global, ring: Pagelog<MemDisk>, fill: u8) -> Result<Pagelog<MemDisk>, Refusal> {
+    ring_on(crash(alloc, &ring.into_disk(), fill)?)
+}
+
+// Lays a page of this byte alone.
+fn lay<D: Disk>(ring: &mut Pagelog<D>, number: u64, byte: u8) -> Result<(), Refusal> {
+    ring.lay(number, &page(byte))
+}
+
+fn settle<D: Disk>(ring: &mut Pagelog<D>) -> Result<(), Refusal> {
+    ring.settle()
+}
+
+// Whether the page under that number is of this byte alone.
+fn holds<D: Disk>(ring: &mut Pagelog<D>, number: u64, byte: u8) -> Result<bool, Refusal> {
+    let mut out = page(!byte);
+    ring.fetch(number, &mut out)?;
+    Ok(out == page(byte))
 }
 
 #[test]
 fn a_number_stands_in_its_slot_of_the_ring(rt: HostRuntime) -> Result<(), Fail> {
-    let mut ring = ring_on(&rt, zeros(rt.alloc(), 3072)?);
-    let mut out = Page::zero();
-    ring.lay(0, &page(0x10))?;
-    ring.lay(2, &page(0x12))?;
-    ring.lay(4, &page(0x14))?;
-    ring.settle()?;
-    ring.fetch(1, &mut out)?;
-    assert_eq!(rt; out, page(0x14));
-    ring.fetch(2, &mut out)?;
-    assert_eq!(rt; out, page(0x12));
-    ring.lay(u64::MAX, &page(0xff))?;
-    ring.fetch(0, &mut out)?;
-    assert_eq!(rt; out, page(0xff));
+    let mut ring = ring_on(zeros(rt.alloc(), 3072)?)?;
+    let laid = [
+        lay(&mut ring, 0, 0x10),
+        lay(&mut ring, 2, 0x12),
+        lay(&mut ring, 4, 0x14),
+        settle(&mut ring),
+    ];
+    let fetched = [holds(&mut ring, 1, 0x14), holds(&mut ring, 2, 0x12)];
+    let last = (lay(&mut ring, u64::MAX, 0xff), holds(&mut ring, 0, 0xff));
+    assert!(rt; (laid, fetched) == ([Ok(()); 4], [Ok(true); 2]));
+    assert!(rt; last == (Ok(()), Ok(true)));
     Ok(())
+}
+
+fn fault(count: u64) -> Result<(), Refusal> {
+    let device = Device::Pagelog;
+    Err(Refusal::DiskFault { device, count })
 }
 
 #[test]
 fn a_failed_lay_leaves_its_slot_alone_loose(rt: HostRuntime) -> Result<(), Fail> {
     let alloc = rt.alloc();
-    let failing = vec![in alloc; (Call::Write, 2), (Call::Sync, 2)]?;
-    let mut ring = ring_on(&rt, MemDisk::new(alloc, 3072, failing, None)?);
-    let mut out = Page::zero();
-    ring.lay(0, &page(0x10))?;
-    ring.settle()?;
-    let (device, count) = (Device::Pagelog, 1);
-    let fault = Refusal::DiskFault { device, count };
-    assert_eq!(rt; ring.lay(4, &page(0x14)), Err(fault));
-    let count = 2;
-    let fault = Refusal::DiskFault { device, count };
-    assert_eq!(rt; ring.settle(), Err(fault));
-    let mut left = ring_on(&rt, ring.into_disk().crash(alloc, 0xff)?);
-    left.fetch(0, &mut out)?;
-    assert_eq!(rt; out, page(0x10));
-    left.fetch(1, &mut out)?;
-    assert_eq!(rt; out, page(0xff));
-    left.fetch(2, &mut out)?;
-    assert_eq!(rt; out, page(0));
+    let calls = vec![in alloc; (Call::Write, 2), (Call::Sync, 2)]?;
+    let mut ring = ring_on(failing(alloc, 3072, calls)?)?;
+    let laid = [
+        lay(&mut ring, 0, 0x10),
+        settle(&mut ring),
+        lay(&mut ring, 4, 0x14),
+        settle(&mut ring),
+    ];
+    let mut left = left_by(alloc, ring, 0xff)?;
+    let fetched = [
+        holds(&mut left, 0, 0x10),
+        holds(&mut left, 1, 0xff),
+        holds(&mut left, 2, 0),
+    ];
+    let want = [Ok(()), Ok(()), fault(1), fault(2)];
+    assert!(rt; (laid, fetched) == (want, [Ok(true); 3]));
     Ok(())
 }

@@ -1,15 +1,34 @@
-// Calls that stop the test where a condition of theirs does not hold.
+// Calls of the logs and of the devices. Each stands in a function with no clause but one that a caller needs, so that the tests
+// stay cheap to prove, and fails where a condition of the call does not hold.
+ghost use Rattle.std.specs.Prelude.{◌≡◌, ◌*◌, IfOk};
+ghost use Rattle.gate_log.specs.Bodies.{bodies_of};
+ghost use Rattle.retro_base.specs.Framing.{AreBodies};
+
 use area_log::AreaLog;
 use disk_mem::{Call, MemDisk};
-use disk_model::{Disk, Failed};
-use gate_log::Framed;
+use disk_model::Disk;
+use gate_log::{Framed, GateLog, put_durably};
 use retro_base::{Device, PAGE_BYTES, Page, Refusal};
 use std::alloc::Global;
-use std::process::Abort;
+
+/// A device of that many zeros of which the listed calls fail.
+pub fn failing(alloc: Global, size: u64, calls: Vec<(Call, u64)>) -> Result<MemDisk, Refusal> {
+    MemDisk::new(alloc, size, calls, None)
+}
 
 /// A device of that many zeros of which no call fails.
 pub fn zeros(alloc: Global, size: u64) -> Result<MemDisk, Refusal> {
-    MemDisk::new(alloc, size, Vec::new(alloc), None)
+    failing(alloc, size, Vec::new(alloc))
+}
+
+/// The same bytes on a device of which no call fails, or that stops after so many calls.
+pub fn again(alloc: Global, disk: &MemDisk, stop: Option<u64>) -> Result<MemDisk, Refusal> {
+    disk.again(alloc, Vec::new(alloc), stop)
+}
+
+/// What a crash leaves of a device.
+pub fn crash(alloc: Global, disk: &MemDisk, fill: u8) -> Result<MemDisk, Refusal> {
+    disk.crash(alloc, fill)
 }
 
 /// How many calls of the device there were.
@@ -20,58 +39,88 @@ pub fn calls_of(disk: &MemDisk) -> u64 {
 }
 
 /// Writes one byte, and syncs.
-pub fn put_byte<D: Disk>(rt: &impl Abort, disk: &mut D, place: u8, byte: u8) -> Result<(), Failed> {
-    assert!(rt; u64::from(place) < disk.size());
-    disk.write_at(u64::from(place), &[byte])?;
-    disk.sync()
+pub fn put_byte<D: Disk>(disk: &mut D, place: u8, byte: u8) -> Result<(), Refusal> {
+    if u64::from(place) >= disk.size() {
+        return Err(Refusal::BadSizes);
+    }
+    put_durably(disk, Device::Log, u64::from(place), &[byte])
+}
+
+// A list of this body alone.
+fn list_of(alloc: Global, body: &[u8]) -> Result<Vec<Vec<u8>>, Refusal>
+    ensures { IfOk result (λ bodies. AreBodies (bodies_of bodies.items)) }
+{
+    if body.len() >= 100 {
+        return Err(Refusal::BadSizes);
+    }
+    Ok(vec![in alloc; body.to_vec(alloc)?]?)
+}
+
+/// A body as an append takes it.
+pub fn framed(alloc: Global, body: &[u8]) -> Result<Framed, Refusal> {
+    if body.len() >= 100 {
+        return Err(Refusal::BadSizes);
+    }
+    Framed::new(alloc, body)
+}
+
+/// Fills the first 64 bytes of a device as a region with one body.
+pub fn fill<D: Disk>(alloc: Global, disk: &mut D, body: &[u8]) -> Result<(), Refusal> {
+    if disk.size() < 64 {
+        return Err(Refusal::BadSizes);
+    }
+    let bodies = list_of(alloc, body)?;
+    let _log = GateLog::new_region(alloc, disk, Device::Log, 0, 64, 1, bodies.as_slice())?;
+    Ok(())
 }
 
 /// Makes the log of one body on an all-zero device.
-pub fn make<D: Disk>(
-    rt: &impl Abort,
-    alloc: Global,
-    disk: &mut D,
-    body: &[u8],
-) -> Result<(), Refusal> {
-    assert!(rt; disk.size() % 2 == 0 && disk.size() >= 34 && body.len() < 100);
-    let bodies = vec![in alloc; body.to_vec(alloc)?]?;
+pub fn make<D: Disk>(alloc: Global, disk: &mut D, body: &[u8]) -> Result<(), Refusal> {
+    let size = disk.size();
+    if size % 2 != 0 || size < 34 {
+        return Err(Refusal::BadSizes);
+    }
+    let bodies = list_of(alloc, body)?;
     AreaLog::make(alloc, disk, Device::Log, bodies.as_slice())
 }
 
+/// The log and its bodies.
+pub fn fetch<D: Disk>(alloc: Global, disk: &mut D) -> Result<(AreaLog, Vec<Vec<u8>>), Refusal>
+    ensures { IfOk result (λ p. D.extent disk.new ≡ 2 * p.0.log.size) }
+{
+    let size = disk.size();
+    if size % 2 != 0 || size < 34 {
+        return Err(Refusal::BadSizes);
+    }
+    AreaLog::fetch(alloc, disk, Device::Log)
+}
+
 /// The bodies of the log.
-pub fn open<D: Disk>(
-    rt: &impl Abort,
-    alloc: Global,
-    disk: &mut D,
-) -> Result<Vec<Vec<u8>>, Refusal> {
-    assert!(rt; disk.size() % 2 == 0 && disk.size() >= 34);
-    let (_log, bodies) = AreaLog::fetch(alloc, disk, Device::Log)?;
+pub fn open<D: Disk>(alloc: Global, disk: &mut D) -> Result<Vec<Vec<u8>>, Refusal> {
+    let (_log, bodies) = fetch(alloc, disk)?;
     Ok(bodies)
 }
 
+/// Whether the bodies are these.
+pub fn are_these(bodies: &[Vec<u8>], want: &[&[u8]]) -> bool {
+    bodies.len() == want.len()
+        && bodies
+            .iter()
+            .zip(want)
+            .all(|(body, text)| body.as_slice() == *text)
+}
+
 /// Opens the log, and appends a body.
-pub fn append<D: Disk>(
-    rt: &impl Abort,
-    alloc: Global,
-    disk: &mut D,
-    body: &[u8],
-) -> Result<(), Refusal> {
-    assert!(rt; disk.size() % 2 == 0 && disk.size() >= 34 && body.len() < 100);
-    let framed = Framed::new(alloc, body)?;
-    let (mut log, _bodies) = AreaLog::fetch(alloc, disk, Device::Log)?;
+pub fn append<D: Disk>(alloc: Global, disk: &mut D, body: &[u8]) -> Result<(), Refusal> {
+    let framed = framed(alloc, body)?;
+    let (mut log, _bodies) = fetch(alloc, disk)?;
     log.append(disk, &framed)
 }
 
 /// Opens the log, and puts one body in the place of all.
-pub fn replace<D: Disk>(
-    rt: &impl Abort,
-    alloc: Global,
-    disk: &mut D,
-    body: &[u8],
-) -> Result<(), Refusal> {
-    assert!(rt; disk.size() % 2 == 0 && disk.size() >= 34 && body.len() < 100);
-    let bodies = vec![in alloc; body.to_vec(alloc)?]?;
-    let (mut log, _bodies) = AreaLog::fetch(alloc, disk, Device::Log)?;
+pub fn replace<D: Disk>(alloc: Global, disk: &mut D, body: &[u8]) -> Result<(), Refusal> {
+    let bodies = list_of(alloc, body)?;
+    let (mut log, _bodies) = fetch(alloc, disk)?;
     log.replace(alloc, disk, bodies.as_slice())
 }
 
