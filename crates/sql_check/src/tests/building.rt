@@ -13,7 +13,7 @@ use sql_tree::{
     Operator, OrderKey, Output, OutputValue, Schema, Select, SelectList, Statement, TableSchema,
     Update,
 };
-use std::alloc::{AllocError, Global};
+use std::alloc::Global;
 use std::process::Abort;
 use values::{Kind, Row, Seq, Text, Value};
 
@@ -40,9 +40,16 @@ fn is_name(bytes: &[u8]) -> bool
     }
 }
 
-fn name(rt: &impl Abort, alloc: Global, bytes: &[u8]) -> Result<Name, AllocError> {
-    assert!(rt; is_name(bytes));
-    Ok(Name::new(Seq::from(Vec::from_slice(alloc, bytes)?)))
+fn push<T: Drop>(rt: &impl Abort, list: &mut Seq<T>, item: T) {
+    if list.push(item).is_err() {
+        panic!(rt; "memory");
+    }
+}
+
+fn name(rt: &impl Abort, alloc: Global, of: &str) -> Name {
+    let bytes = Vec::from_slice(alloc, of.as_bytes()).expect(rt, "memory");
+    assert!(rt; is_name(&bytes));
+    Name::new(Seq::from(bytes))
 }
 
 fn are_printable(bytes: &[u8]) -> bool
@@ -51,329 +58,318 @@ fn are_printable(bytes: &[u8]) -> bool
     bytes.iter().all(|byte| 32 <= *byte && *byte <= 126)
 }
 
-fn text(rt: &impl Abort, alloc: Global, bytes: &[u8]) -> Result<Value, AllocError> {
-    let bytes = Vec::from_slice(alloc, bytes)?;
+fn text(rt: &impl Abort, alloc: Global, of: &str) -> Text {
+    let bytes = Vec::from_slice(alloc, of.as_bytes()).expect(rt, "memory");
     assert!(rt; bytes.len() <= 200);
     assert!(rt; are_printable(&bytes));
-    Ok(Value::Text(Text::new(Seq::from(bytes))))
+    Text::new(Seq::from(bytes))
 }
 
-/// A part of an expression, or a side of a comparison.
-#[derive(Clone, Copy)]
-pub enum Part {
-    Int(i64),
-    Text(&'static [u8]),
-    Column(&'static [u8]),
-    Of(&'static [u8], &'static [u8]),
-    Snapshot,
-    Plus,
+// What stands before the mark and what stands behind it; nothing where the mark is not there.
+fn cut<'a>(text: &'a str, mark: &str) -> (&'a str, &'a str) {
+    match text.split_once(mark) {
+        Some(sides) => sides,
+        None => (text, ""),
+    }
 }
 
-fn column_name(
-    rt: &impl Abort,
-    alloc: Global,
-    table: Option<&[u8]>,
-    column: &[u8],
-) -> Result<ColumnName, AllocError> {
-    let table = match table {
-        Some(table) => Some(name(rt, alloc, table)?),
-        None => None,
+// What stands between the marks; no pieces of nothing.
+fn pieces<'a>(rt: &impl Abort, alloc: Global, text: &'a str, mark: &str) -> Vec<&'a str> {
+    let mut pieces = Vec::new(alloc);
+    if text.is_empty() {
+        return pieces;
+    }
+    for piece in text.split(mark) {
+        pieces.push(piece).expect(rt, "memory");
+    }
+    pieces
+}
+
+// A column's name, or its table's, a dot and its own.
+fn column_name(rt: &impl Abort, alloc: Global, of: &str) -> ColumnName {
+    let (table, column) = match cut(of, ".") {
+        (column, "") => (None, column),
+        (table, column) => (Some(name(rt, alloc, table)), column),
     };
-    let column = name(rt, alloc, column)?;
-    Ok(ColumnName { table, column })
+    let column = name(rt, alloc, column);
+    ColumnName { table, column }
 }
 
-fn step(rt: &impl Abort, alloc: Global, part: Part) -> Result<ExpressionStep, AllocError> {
-    match part {
-        Part::Int(number) => Ok(ExpressionStep::Literal(Value::Int(number))),
-        Part::Text(bytes) => Ok(ExpressionStep::Literal(text(rt, alloc, bytes)?)),
-        Part::Column(column) => Ok(ExpressionStep::Column(column_name(rt, alloc, None, column)?)),
-        Part::Of(table, column) => Ok(ExpressionStep::Column(column_name(
-            rt,
-            alloc,
-            Some(table),
-            column,
-        )?)),
-        Part::Snapshot => Ok(ExpressionStep::CurrentSnapshot),
-        Part::Plus => Ok(ExpressionStep::Apply(Operator::Add)),
+fn quoted(word: &str) -> Option<&str> {
+    word.strip_prefix("'")?.strip_suffix("'")
+}
+
+fn integer(word: &str) -> Option<i64> {
+    word.parse().ok()
+}
+
+// The text in quotes or the number that the word is.
+fn literal(rt: &impl Abort, alloc: Global, word: &str) -> Option<Value> {
+    match quoted(word) {
+        Some(of) => Some(Value::Text(text(rt, alloc, of))),
+        None => Some(Value::Int(integer(word)?)),
     }
 }
 
-fn expression(rt: &impl Abort, alloc: Global, parts: &[Part]) -> Result<Expression, AllocError> {
+// A literal, an operator, `now` for the number of the snapshot, or a column.
+fn step(rt: &impl Abort, alloc: Global, word: &str) -> ExpressionStep {
+    if let Some(value) = literal(rt, alloc, word) {
+        return ExpressionStep::Literal(value);
+    }
+    match word {
+        "+" => ExpressionStep::Apply(Operator::Add),
+        "now" => ExpressionStep::CurrentSnapshot,
+        _ => ExpressionStep::Column(column_name(rt, alloc, word)),
+    }
+}
+
+// An expression in postfix order.
+fn expression(rt: &impl Abort, alloc: Global, of: &str) -> Expression {
     let mut steps = Seq::new(alloc);
-    for part in parts {
-        steps.push(step(rt, alloc, *part)?)?;
+    for word in &pieces(rt, alloc, of, " ") {
+        push(rt, &mut steps, step(rt, alloc, word));
     }
-    Ok(Expression::new(steps).expect(rt, "the parts of one expression"))
+    Expression::new(steps).expect(rt, "the steps of one expression")
 }
 
-fn operand(rt: &impl Abort, alloc: Global, part: Part) -> Result<Operand, AllocError> {
-    match step(rt, alloc, part)? {
-        ExpressionStep::Literal(value) => Ok(Operand::Literal(value)),
-        ExpressionStep::Column(name) => Ok(Operand::Column(name)),
-        ExpressionStep::CurrentSnapshot => Ok(Operand::CurrentSnapshot),
-        ExpressionStep::Apply(_) => Ok(Operand::CurrentSnapshot),
+fn operand(rt: &impl Abort, alloc: Global, word: &str) -> Operand {
+    match step(rt, alloc, word) {
+        ExpressionStep::Literal(value) => Operand::Literal(value),
+        ExpressionStep::Column(name) => Operand::Column(name),
+        _ => Operand::CurrentSnapshot,
     }
 }
 
 // The comparison of each pair for less, all of them joined by OR; none for no pairs.
-fn condition(
-    rt: &impl Abort,
-    alloc: Global,
-    pairs: &[(Part, Part)],
-) -> Result<Option<Condition>, AllocError> {
+fn condition(rt: &impl Abort, alloc: Global, pairs: &str) -> Option<Condition> {
     let mut steps = Seq::new(alloc);
-    for (left, right) in pairs {
+    for pair in &pieces(rt, alloc, pairs, ", ") {
         let joins = !steps.is_empty();
-        steps.push(ConditionStep::Compare {
-            left: operand(rt, alloc, *left)?,
-            comparison: Comparison::Less,
-            right: operand(rt, alloc, *right)?,
-        })?;
+        push(rt, &mut steps, less(rt, alloc, pair));
         if joins {
-            steps.push(ConditionStep::Or)?;
+            push(rt, &mut steps, ConditionStep::Or);
         }
     }
-    Ok(Condition::new(steps))
+    Condition::new(steps)
 }
 
-/// An output.
-#[derive(Clone, Copy)]
-pub enum Out {
-    Value(&'static [Part]),
-    Named(&'static [Part], &'static [u8]),
-    Rows,
-    Count(&'static [Part]),
-    Sum(&'static [Part]),
-    Min(&'static [Part]),
+fn less(rt: &impl Abort, alloc: Global, pair: &str) -> ConditionStep {
+    let (left, right) = cut(pair, " < ");
+    ConditionStep::Compare {
+        left: operand(rt, alloc, left),
+        comparison: Comparison::Less,
+        right: operand(rt, alloc, right),
+    }
 }
 
-fn output(rt: &impl Abort, alloc: Global, out: Out) -> Result<Output, AllocError> {
-    let (value, name) = match out {
-        Out::Value(of) => (OutputValue::Expression(expression(rt, alloc, of)?), None),
-        Out::Named(of, bytes) => {
-            let name = name(rt, alloc, bytes)?;
-            (
-                OutputValue::Expression(expression(rt, alloc, of)?),
-                Some(name),
-            )
-        }
-        Out::Rows => (OutputValue::Aggregate(Aggregate::CountRows), None),
-        Out::Count(of) => {
-            let of = expression(rt, alloc, of)?;
-            (OutputValue::Aggregate(Aggregate::Count(of)), None)
-        }
-        Out::Sum(of) => {
-            let of = expression(rt, alloc, of)?;
-            (OutputValue::Aggregate(Aggregate::Sum(of)), None)
-        }
-        Out::Min(of) => {
-            let of = expression(rt, alloc, of)?;
-            (OutputValue::Aggregate(Aggregate::Min(of)), None)
-        }
-    };
-    Ok(Output { value, name })
+fn value(rt: &impl Abort, alloc: Global, of: &str) -> OutputValue {
+    let (kind, rest) = cut(of, " ");
+    OutputValue::Aggregate(match kind {
+        "rows" => Aggregate::CountRows,
+        "count" => Aggregate::Count(expression(rt, alloc, rest)),
+        "sum" => Aggregate::Sum(expression(rt, alloc, rest)),
+        "min" => Aggregate::Min(expression(rt, alloc, rest)),
+        _ => return OutputValue::Expression(expression(rt, alloc, of)),
+    })
 }
 
-/// The list of the outputs; `*` for none.
-pub fn list(rt: &impl Abort, alloc: Global, outs: &[Out]) -> Result<SelectList, AllocError> {
-    if outs.is_empty() {
-        return Ok(SelectList::All);
+fn optional_name(rt: &impl Abort, alloc: Global, of: &str) -> Option<Name> {
+    match of {
+        "" => None,
+        of => Some(name(rt, alloc, of)),
+    }
+}
+
+fn output(rt: &impl Abort, alloc: Global, of: &str) -> Output {
+    let (of, name) = cut(of, " as ");
+    Output {
+        value: value(rt, alloc, of),
+        name: optional_name(rt, alloc, name),
+    }
+}
+
+/// The list of the outputs, or `*`.
+pub fn list(rt: &impl Abort, alloc: Global, of: &str) -> SelectList {
+    if of == "*" {
+        return SelectList::All;
     }
     let mut outputs = Seq::new(alloc);
-    for out in outs {
-        outputs.push(output(rt, alloc, *out)?)?;
+    for of in &pieces(rt, alloc, of, ", ") {
+        push(rt, &mut outputs, output(rt, alloc, of));
     }
-    Ok(SelectList::Outputs(outputs))
+    SelectList::Outputs(outputs)
 }
 
-/// A select of the outputs from a table, and from a second one unless its name is empty.
-#[derive(Clone, Copy)]
-pub struct Query {
-    pub list: &'static [Out],
-    pub table: &'static [u8],
-    pub second: &'static [u8],
-    pub pairs: &'static [(Part, Part)],
-    pub groups: &'static [Part],
-    pub keys: &'static [Part],
-    pub distinct: bool,
-}
-
-fn named(rt: &impl Abort, alloc: Global, part: Part) -> Result<ColumnName, AllocError> {
-    match part {
-        Part::Of(table, column) => column_name(rt, alloc, Some(table), column),
-        Part::Column(column) => column_name(rt, alloc, None, column),
-        _ => column_name(rt, alloc, None, b"none"),
-    }
-}
-
-fn groups(rt: &impl Abort, alloc: Global, parts: &[Part]) -> Result<Seq<ColumnName>, AllocError> {
+fn groups(rt: &impl Abort, alloc: Global, of: &str) -> Seq<ColumnName> {
     let mut names = Seq::new(alloc);
-    for part in parts {
-        names.push(named(rt, alloc, *part)?)?;
+    for of in &pieces(rt, alloc, of, ", ") {
+        push(rt, &mut names, column_name(rt, alloc, of));
     }
-    Ok(names)
+    names
 }
 
-fn keys(rt: &impl Abort, alloc: Global, parts: &[Part]) -> Result<Seq<OrderKey>, AllocError> {
+fn keys(rt: &impl Abort, alloc: Global, of: &str) -> Seq<OrderKey> {
     let mut keys = Seq::new(alloc);
-    for part in parts {
-        keys.push(OrderKey {
-            column: named(rt, alloc, *part)?,
-            direction: Direction::Ascending,
-        })?;
+    for of in &pieces(rt, alloc, of, ", ") {
+        let column = column_name(rt, alloc, of);
+        let direction = Direction::Ascending;
+        push(rt, &mut keys, OrderKey { column, direction });
     }
-    Ok(keys)
+    keys
 }
 
-fn select(rt: &impl Abort, alloc: Global, query: &Query) -> Result<Select, AllocError> {
-    let second = match query.second {
-        [] => None,
-        bytes => Some(name(rt, alloc, bytes)?),
-    };
-    Ok(Select {
-        distinct: query.distinct,
-        list: list(rt, alloc, query.list)?,
-        table: name(rt, alloc, query.table)?,
-        second,
-        condition: condition(rt, alloc, query.pairs)?,
-        group_by: groups(rt, alloc, query.groups)?,
-        order_by: keys(rt, alloc, query.keys)?,
+fn is_distinct(of: &str) -> (bool, &str) {
+    match of.strip_prefix("distinct ") {
+        Some(rest) => (true, rest),
+        None => (false, of),
+    }
+}
+
+// `select [distinct] list from table[, second] [where pairs] [group columns] [order columns]`
+fn select(rt: &impl Abort, alloc: Global, of: &str) -> Select {
+    let (of, order) = cut(of, " order ");
+    let (of, group) = cut(of, " group ");
+    let (of, pairs) = cut(of, " where ");
+    let (of, tables) = cut(of, " from ");
+    let (distinct, of) = is_distinct(of);
+    let (table, second) = cut(tables, ", ");
+    Select {
+        distinct,
+        list: list(rt, alloc, of),
+        table: name(rt, alloc, table),
+        second: optional_name(rt, alloc, second),
+        condition: condition(rt, alloc, pairs),
+        group_by: groups(rt, alloc, group),
+        order_by: keys(rt, alloc, order),
         limit: None,
-    })
+    }
 }
 
-fn columns(
-    rt: &impl Abort,
-    alloc: Global,
-    named: &[(&[u8], Kind)],
-) -> Result<Seq<Column>, AllocError> {
+fn column(rt: &impl Abort, alloc: Global, of: &str) -> Column {
+    let (of, kind) = cut(of, " ");
+    let name = name(rt, alloc, of);
+    let kind = if kind == "INT" { Kind::Int } else { Kind::Text };
+    Column { name, kind }
+}
+
+fn columns(rt: &impl Abort, alloc: Global, of: &str) -> Seq<Column> {
     let mut columns = Seq::new(alloc);
-    for (bytes, kind) in named {
-        columns.push(Column {
-            name: name(rt, alloc, bytes)?,
-            kind: *kind,
-        })?;
+    for of in &pieces(rt, alloc, of, ", ") {
+        push(rt, &mut columns, column(rt, alloc, of));
     }
-    Ok(columns)
+    columns
 }
 
-fn table(
-    rt: &impl Abort,
-    alloc: Global,
-    bytes: &[u8],
-    named: &[(&[u8], Kind)],
-) -> Result<TableSchema, AllocError> {
-    Ok(TableSchema {
-        name: name(rt, alloc, bytes)?,
-        columns: columns(rt, alloc, named)?,
-    })
+/// The table of that name and those columns, each with its type behind its name.
+pub fn table(rt: &impl Abort, alloc: Global, of: &str, listed: &str) -> TableSchema {
+    TableSchema {
+        name: name(rt, alloc, of),
+        columns: columns(rt, alloc, listed),
+    }
 }
 
-/// t(a INT, b TEXT).
-pub fn first(rt: &impl Abort, alloc: Global) -> Result<TableSchema, AllocError> {
-    table(
-        rt,
-        alloc,
-        b"t",
-        &[(b"a".as_slice(), Kind::Int), (b"b", Kind::Text)],
-    )
-}
-
-/// u(a INT, c TEXT).
-pub fn second(rt: &impl Abort, alloc: Global) -> Result<TableSchema, AllocError> {
-    table(
-        rt,
-        alloc,
-        b"u",
-        &[(b"a".as_slice(), Kind::Int), (b"c", Kind::Text)],
-    )
-}
-
-fn schema(rt: &impl Abort, alloc: Global) -> Result<Schema, AllocError> {
+fn schema(rt: &impl Abort, alloc: Global) -> Schema {
     let mut tables = Seq::new(alloc);
-    tables.push(first(rt, alloc)?)?;
-    tables.push(second(rt, alloc)?)?;
+    push(rt, &mut tables, table(rt, alloc, "t", "a INT, b TEXT"));
+    push(rt, &mut tables, table(rt, alloc, "u", "a INT, c TEXT"));
     let mut indexes = Seq::new(alloc);
-    indexes.push(IndexSchema {
-        name: name(rt, alloc, b"i")?,
-        table: name(rt, alloc, b"t")?,
-        column: name(rt, alloc, b"a")?,
-    })?;
-    Ok(Schema { tables, indexes })
+    let index = IndexSchema {
+        name: name(rt, alloc, "i"),
+        table: name(rt, alloc, "t"),
+        column: name(rt, alloc, "a"),
+    };
+    push(rt, &mut indexes, index);
+    Schema { tables, indexes }
 }
 
-/// A statement.
-#[derive(Clone, Copy)]
-pub enum Act {
-    Table(&'static [u8], &'static [(&'static [u8], Kind)]),
-    // the index, its table and its column
-    Index(&'static [u8], &'static [u8], &'static [u8]),
-    Insert(&'static [u8], &'static [&'static [Part]]),
-    // the table, what SET assigns, and WHERE
-    Update(&'static [u8], &'static [(&'static [u8], &'static [Part])], &'static [(Part, Part)]),
-    Delete(&'static [u8], &'static [(Part, Part)]),
-    Select(Query),
-}
-
-fn row(rt: &impl Abort, alloc: Global, parts: &[Part]) -> Result<Row, AllocError> {
+fn row(rt: &impl Abort, alloc: Global, of: &str) -> Row {
     let mut row = Seq::new(alloc);
-    for part in parts {
-        if let ExpressionStep::Literal(value) = step(rt, alloc, *part)? {
-            row.push(value)?;
-        }
+    for word in &pieces(rt, alloc, of, " ") {
+        let value = literal(rt, alloc, word).expect(rt, "a literal");
+        push(rt, &mut row, value);
     }
-    Ok(row)
+    row
 }
 
-fn rows(rt: &impl Abort, alloc: Global, tuples: &[&[Part]]) -> Result<Seq<Row>, AllocError> {
+fn rows(rt: &impl Abort, alloc: Global, of: &str) -> Seq<Row> {
     let mut rows = Seq::new(alloc);
-    for parts in tuples {
-        rows.push(row(rt, alloc, parts)?)?;
+    for of in &pieces(rt, alloc, of, "; ") {
+        push(rt, &mut rows, row(rt, alloc, of));
     }
-    Ok(rows)
+    rows
 }
 
-fn assignments(
-    rt: &impl Abort,
-    alloc: Global,
-    set: &[(&[u8], &[Part])],
-) -> Result<Seq<Assignment>, AllocError> {
+fn assignment(rt: &impl Abort, alloc: Global, of: &str) -> Assignment {
+    let (column, value) = cut(of, " = ");
+    Assignment {
+        column: name(rt, alloc, column),
+        value: expression(rt, alloc, value),
+    }
+}
+
+fn assignments(rt: &impl Abort, alloc: Global, of: &str) -> Seq<Assignment> {
     let mut assignments = Seq::new(alloc);
-    for (column, value) in set {
-        assignments.push(Assignment {
-            column: name(rt, alloc, column)?,
-            value: expression(rt, alloc, value)?,
-        })?;
+    for of in &pieces(rt, alloc, of, ", ") {
+        push(rt, &mut assignments, assignment(rt, alloc, of));
     }
-    Ok(assignments)
+    assignments
 }
 
-fn statement(rt: &impl Abort, alloc: Global, act: &Act) -> Result<Statement, AllocError> {
-    match act {
-        Act::Table(bytes, named) => Ok(Statement::CreateTable(CreateTable {
-            table: name(rt, alloc, bytes)?,
-            columns: columns(rt, alloc, named)?,
-        })),
-        Act::Index(index, table, column) => Ok(Statement::CreateIndex(CreateIndex {
-            index: name(rt, alloc, index)?,
-            table: name(rt, alloc, table)?,
-            column: name(rt, alloc, column)?,
-        })),
-        Act::Insert(table, tuples) => Ok(Statement::Insert(Insert {
-            table: name(rt, alloc, table)?,
-            tuples: rows(rt, alloc, tuples)?,
-        })),
-        Act::Update(table, set, pairs) => Ok(Statement::Update(Update {
-            table: name(rt, alloc, table)?,
-            assignments: assignments(rt, alloc, set)?,
-            condition: condition(rt, alloc, pairs)?,
-        })),
-        Act::Delete(table, pairs) => Ok(Statement::Delete(Delete {
-            table: name(rt, alloc, table)?,
-            condition: condition(rt, alloc, pairs)?,
-        })),
-        Act::Select(query) => Ok(Statement::Select(select(rt, alloc, query)?)),
+fn create_table(rt: &impl Abort, alloc: Global, of: &str) -> CreateTable {
+    let (table, listed) = cut(of, " ");
+    CreateTable {
+        table: name(rt, alloc, table),
+        columns: columns(rt, alloc, listed),
+    }
+}
+
+fn create_index(rt: &impl Abort, alloc: Global, of: &str) -> CreateIndex {
+    let (index, of) = cut(of, " ");
+    let (table, column) = cut(of, " ");
+    CreateIndex {
+        index: name(rt, alloc, index),
+        table: name(rt, alloc, table),
+        column: name(rt, alloc, column),
+    }
+}
+
+fn insert(rt: &impl Abort, alloc: Global, of: &str) -> Insert {
+    let (table, tuples) = cut(of, " ");
+    Insert {
+        table: name(rt, alloc, table),
+        tuples: rows(rt, alloc, tuples),
+    }
+}
+
+fn update(rt: &impl Abort, alloc: Global, of: &str) -> Update {
+    let (of, pairs) = cut(of, " where ");
+    let (table, set) = cut(of, " ");
+    Update {
+        table: name(rt, alloc, table),
+        assignments: assignments(rt, alloc, set),
+        condition: condition(rt, alloc, pairs),
+    }
+}
+
+fn delete(rt: &impl Abort, alloc: Global, of: &str) -> Delete {
+    let (table, pairs) = cut(of, " where ");
+    Delete {
+        table: name(rt, alloc, table),
+        condition: condition(rt, alloc, pairs),
+    }
+}
+
+// `table name columns`, `index name table column`, `insert table tuples`, `update table assignments [where pairs]`,
+// `delete table [where pairs]` or a select.
+fn statement(rt: &impl Abort, alloc: Global, of: &str) -> Statement {
+    let (kind, rest) = cut(of, " ");
+    match kind {
+        "table" => Statement::CreateTable(create_table(rt, alloc, rest)),
+        "index" => Statement::CreateIndex(create_index(rt, alloc, rest)),
+        "insert" => Statement::Insert(insert(rt, alloc, rest)),
+        "update" => Statement::Update(update(rt, alloc, rest)),
+        "delete" => Statement::Delete(delete(rt, alloc, rest)),
+        _ => Statement::Select(select(rt, alloc, rest)),
     }
 }
 
@@ -384,18 +380,23 @@ fn number(answer: Result<(), Refusal>) -> u8 {
     }
 }
 
-/// Checks each statement; it is refused by the number, or by none where the number is 0.
-pub fn refuses(
+fn refusal(
     rt: &impl Abort,
     alloc: Global,
+    of: &str,
     snapshot: Option<u32>,
-    acts: &[(Act, u8)],
-) -> Result<(), AllocError> {
-    let schema = schema(rt, alloc)?;
-    for (i, (act, want)) in acts.iter().enumerate() {
-        let statement = statement(rt, alloc, act)?;
-        let answer = number(check(alloc, &statement, snapshot, &schema));
-        assert_eq!(rt; answer, *want, "statement {i}");
+    schema: &Schema,
+) -> i64 {
+    let statement = statement(rt, alloc, of);
+    i64::from(number(check(alloc, &statement, snapshot, schema)))
+}
+
+/// Checks the statement of each line; it is refused by the number behind the arrow, or by none where the number is 0.
+pub fn refuses(rt: &impl Abort, alloc: Global, snapshot: Option<u32>, lines: &str) {
+    let schema = schema(rt, alloc);
+    for line in &pieces(rt, alloc, lines, "\n    ") {
+        let (of, want) = cut(line, " => ");
+        let number = refusal(rt, alloc, of, snapshot, &schema);
+        assert_eq!(rt; Some(number), integer(want), "{line}");
     }
-    Ok(())
 }

@@ -1,226 +1,79 @@
 //! Aggregates and groups.
 
-use super::support::Key::{Down, Up};
-use super::support::Out::{Count, Max, Min, Of, Rows, Sum};
-use super::support::Part::{Int, Minus, Plain, Plus, Snapshot, Text};
-use super::support::{Pair, Query, answers, plain};
-use sql_tree::Comparison::{Equal, Greater};
-use std::test::Fail;
+use super::support::{Pair, answers};
 
 const GREATEST: i64 = 9_223_372_036_854_775_807;
 
 const LEAST: i64 = -9_223_372_036_854_775_808;
 
-fn three_rows() -> [(Query, &'static [u8]); 4] {
-    [
-        (
-            plain(&[Of(&[Plain(b"a")]), Rows], &[b"a", b"n"]).grouped(&[Plain(b"a")]),
-            b"3,2;1,1;",
-        ),
-        (
-            plain(&[Of(&[Plain(b"b")])], &[b"b"])
-                .ordered(&[Down(b"a")])
-                .limited(2),
-            b"x;z;",
-        ),
-        (
-            plain(&[Sum(&[Plain(b"a")])], &[b"col1"]).kept(Plain(b"a"), Greater, Int(9)),
-            b"0;",
-        ),
-        (
-            plain(&[Min(&[Plain(b"a")])], &[b"col1"]).kept(Plain(b"a"), Greater, Int(9)),
-            b"",
-        ),
-    ]
-}
+const THREE_ROWS: &str = "a, rows group a | a n | 3,2;1,1;
+    b order a desc limit 2 | b | x;z;
+    sum a where a > 9 | col1 | 0;
+    min a where a > 9 | col1 |";
 
 #[test]
-fn groups_order_and_sums_of_three_rows(rt: HostRuntime) -> Result<(), Fail> {
-    let rows: &[Pair] = &[(3, b"x"), (1, b"y"), (3, b"z")];
-    answers(&rt, rt.alloc(), rows, &three_rows())?;
-    Ok(())
+fn groups_order_and_sums_of_three_rows(rt: HostRuntime) {
+    let rows: &[Pair] = &[(3, "x"), (1, "y"), (3, "z")];
+    answers(&rt, rt.alloc(), rows, THREE_ROWS);
 }
 
-fn no_rows() -> [(Query, &'static [u8]); 8] {
-    [
-        (plain(&[], &[b"a", b"b"]), b""),
-        (plain(&[Rows], &[b"col1"]), b"0;"),
-        (
-            plain(
-                &[Of(&[Int(7)]), Count(&[Plain(b"a")]), Sum(&[Plain(b"a")])],
-                &[b"col1", b"col2", b"col3"],
-            ),
-            b"7,0,0;",
-        ),
-        (
-            plain(&[Of(&[Snapshot]), Rows], &[b"col1", b"col2"]),
-            b"7,0;",
-        ),
-        (plain(&[Max(&[Plain(b"b")])], &[b"col1"]), b""),
-        (
-            plain(&[Rows, Min(&[Plain(b"a")])], &[b"col1", b"col2"]),
-            b"",
-        ),
-        (plain(&[Rows], &[b"col1"]).grouped(&[Plain(b"a")]), b""),
-        (plain(&[Rows], &[b"col1"]).limited(0), b""),
-    ]
-}
+const NO_ROWS: &str = "* | a b |
+    rows | col1 | 0;
+    7, count a, sum a | col1 col2 col3 | 7,0,0;
+    now, rows | col1 col2 | 7,0;
+    max b | col1 |
+    rows, min a | col1 col2 |
+    rows group a | col1 |
+    rows limit 0 | col1 |";
 
 #[test]
-fn aggregates_over_no_rows(rt: HostRuntime) -> Result<(), Fail> {
-    answers(&rt, rt.alloc(), &[], &no_rows())?;
-    Ok(())
+fn aggregates_over_no_rows(rt: HostRuntime) {
+    answers(&rt, rt.alloc(), &[], NO_ROWS);
 }
 
-fn least_and_greatest() -> [(Query, &'static [u8]); 4] {
-    [
-        (
-            plain(
-                &[
-                    Min(&[Plain(b"a")]),
-                    Max(&[Plain(b"a")]),
-                    Sum(&[Plain(b"a")]),
-                ],
-                &[b"col1", b"col2", b"col3"],
-            ),
-            b"-7,4,-6;",
-        ),
-        (
-            plain(
-                &[Min(&[Plain(b"b")]), Max(&[Plain(b"b")])],
-                &[b"col1", b"col2"],
-            ),
-            b"B,ab;",
-        ),
-        (
-            plain(
-                &[Max(&[Int(0), Plain(b"a"), Minus]), Rows],
-                &[b"col1", b"col2"],
-            ),
-            b"7,4;",
-        ),
-        (plain(&[Sum(&[Plain(b"b")])], &[b"col1"]), b"WrongType"),
-    ]
-}
+const LEAST_AND_GREATEST: &str = "min a, max a, sum a | col1 col2 col3 | -7,4,-6;
+    min b, max b | col1 col2 | B,ab;
+    max 0 a -, rows | col1 col2 | 7,4;
+    sum b | col1 | WrongType";
 
 #[test]
-fn the_least_and_the_greatest(rt: HostRuntime) -> Result<(), Fail> {
-    let rows: &[Pair] = &[(-3, b"a"), (-7, b"ab"), (4, b"B"), (0, b"Ba")];
-    answers(&rt, rt.alloc(), rows, &least_and_greatest())?;
-    Ok(())
+fn the_least_and_the_greatest(rt: HostRuntime) {
+    let rows: &[Pair] = &[(-3, "a"), (-7, "ab"), (4, "B"), (0, "Ba")];
+    answers(&rt, rt.alloc(), rows, LEAST_AND_GREATEST);
 }
 
-fn sums() -> [(Query, &'static [u8]); 6] {
-    [
-        (plain(&[Sum(&[Plain(b"a")])], &[b"col1"]), b"-2;"),
-        (
-            plain(&[Of(&[Plain(b"b")]), Rows], &[b"b", b"col2"]).grouped(&[Plain(b"b")]),
-            b"x,2;y,2;",
-        ),
-        (
-            plain(&[Sum(&[Plain(b"a")])], &[b"col1"]).grouped(&[Plain(b"b")]),
-            b"Overflow",
-        ),
-        (
-            plain(&[Count(&[Plain(b"a"), Int(1), Plus])], &[b"col1"]).limited(0),
-            b"Overflow",
-        ),
-        (
-            plain(&[Count(&[Plain(b"a"), Int(1), Plus])], &[b"col1"]).kept(
-                Plain(b"b"),
-                Equal,
-                Text(b"y"),
-            ),
-            b"2;",
-        ),
-        (
-            plain(&[Sum(&[Plain(b"a")])], &[b"col1"]).grouped(&[Plain(b"a")]),
-            b"Overflow",
-        ),
-    ]
-}
+const SUMS: &str = "sum a | col1 | -2;
+    b, rows group b | b col2 | x,2;y,2;
+    sum a group b | col1 | Overflow
+    count a 1 + limit 0 | col1 | Overflow
+    count a 1 + where b = 'y' | col1 | 2;
+    sum a group a | col1 | Overflow";
 
 #[test]
-fn sums_past_64_bits_that_come_back(rt: HostRuntime) -> Result<(), Fail> {
-    let rows: &[Pair] = &[
-        (GREATEST, b"x"),
-        (GREATEST, b"x"),
-        (LEAST, b"y"),
-        (LEAST, b"y"),
-    ];
-    answers(&rt, rt.alloc(), rows, &sums())?;
-    Ok(())
+fn sums_past_64_bits_that_come_back(rt: HostRuntime) {
+    let rows: &[Pair] = &[(GREATEST, "x"), (GREATEST, "x"), (LEAST, "y"), (LEAST, "y")];
+    answers(&rt, rt.alloc(), rows, SUMS);
 }
 
-fn ends_of_sums() -> [(Query, &'static [u8]); 3] {
-    [
-        (
-            plain(&[Sum(&[Plain(b"a")])], &[b"col1"]).grouped(&[Plain(b"b")]),
-            b"9223372036854775807;-9223372036854775808;",
-        ),
-        (plain(&[Sum(&[Plain(b"a")])], &[b"col1"]), b"-1;"),
-        (
-            plain(&[Sum(&[Plain(b"a"), Plain(b"a"), Plus])], &[b"col1"]),
-            b"Overflow",
-        ),
-    ]
-}
+const ENDS_OF_SUMS: &str = "sum a group b | col1 | 9223372036854775807;-9223372036854775808;
+    sum a | col1 | -1;
+    sum a a + | col1 | Overflow";
 
 #[test]
-fn sums_that_end_at_the_ends_of_64_bits(rt: HostRuntime) -> Result<(), Fail> {
-    let rows: &[Pair] = &[(GREATEST, b"x"), (1, b"y"), (LEAST, b"y"), (-1, b"y")];
-    answers(&rt, rt.alloc(), rows, &ends_of_sums())?;
-    Ok(())
+fn sums_that_end_at_the_ends_of_64_bits(rt: HostRuntime) {
+    let rows: &[Pair] = &[(GREATEST, "x"), (1, "y"), (LEAST, "y"), (-1, "y")];
+    answers(&rt, rt.alloc(), rows, ENDS_OF_SUMS);
 }
 
-fn groups_by_two() -> [(Query, &'static [u8]); 6] {
-    [
-        (
-            plain(
-                &[Of(&[Plain(b"a")]), Of(&[Plain(b"b")]), Rows],
-                &[b"a", b"b", b"n"],
-            )
-            .grouped(&[Plain(b"b"), Plain(b"a")]),
-            b"2,y,2;1,y,1;2,x,1;",
-        ),
-        (
-            plain(
-                &[Of(&[Plain(b"b")]), Sum(&[Plain(b"a")]), Of(&[Int(9)])],
-                &[b"b", b"n", b"col3"],
-            )
-            .grouped(&[Plain(b"b")])
-            .ordered(&[Down(b"n")]),
-            b"y,5,9;x,2,9;",
-        ),
-        (
-            plain(&[Max(&[Plain(b"a")]), Of(&[Snapshot])], &[b"n", b"s"])
-                .grouped(&[Plain(b"b")])
-                .ordered(&[Up(b"n")])
-                .limited(1),
-            b"2,7;",
-        ),
-        (
-            plain(&[Max(&[Plain(b"a")])], &[b"col1"])
-                .grouped(&[Plain(b"b")])
-                .different(),
-            b"2;",
-        ),
-        (
-            plain(&[Of(&[Plain(b"b")])], &[b"b"])
-                .grouped(&[Plain(b"b")])
-                .ordered(&[Up(b"a")]),
-            b"UnknownName",
-        ),
-        (
-            plain(&[], &[b"a", b"b"]).grouped(&[Plain(b"b")]),
-            b"WrongType",
-        ),
-    ]
-}
+const GROUPS_BY_TWO: &str = "a, b, rows group b, a | a b n | 2,y,2;1,y,1;2,x,1;
+    b, sum a, 9 group b order n desc | b n col3 | y,5,9;x,2,9;
+    max a, now group b order n limit 1 | n s | 2,7;
+    distinct max a group b | col1 | 2;
+    b group b order a | b | UnknownName
+    * group b | a b | WrongType";
 
 #[test]
-fn groups_by_two_columns_and_their_order(rt: HostRuntime) -> Result<(), Fail> {
-    let rows: &[Pair] = &[(2, b"y"), (1, b"y"), (2, b"x"), (2, b"y")];
-    answers(&rt, rt.alloc(), rows, &groups_by_two())?;
-    Ok(())
+fn groups_by_two_columns_and_their_order(rt: HostRuntime) {
+    let rows: &[Pair] = &[(2, "y"), (1, "y"), (2, "x"), (2, "y")];
+    answers(&rt, rt.alloc(), rows, GROUPS_BY_TWO);
 }

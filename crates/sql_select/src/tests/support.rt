@@ -12,7 +12,7 @@ use sql_tree::{
     ExpressionStep, Name, Operand, Operator, OrderKey, Output, OutputValue, Scope, Select,
     SelectList, TableSchema,
 };
-use std::alloc::{AllocError, Global};
+use std::alloc::Global;
 use std::process::Abort;
 use values::{Kind, Row, Seq, Text, Value, field};
 
@@ -39,9 +39,16 @@ fn is_name(bytes: &[u8]) -> bool
     }
 }
 
-fn name(rt: &impl Abort, alloc: Global, bytes: &[u8]) -> Result<Name, AllocError> {
-    assert!(rt; is_name(bytes));
-    Ok(Name::new(Seq::from(Vec::from_slice(alloc, bytes)?)))
+fn push<T: Drop>(rt: &impl Abort, list: &mut Seq<T>, item: T) {
+    if list.push(item).is_err() {
+        panic!(rt; "memory");
+    }
+}
+
+fn name(rt: &impl Abort, alloc: Global, of: &str) -> Name {
+    let bytes = Vec::from_slice(alloc, of.as_bytes()).expect(rt, "memory");
+    assert!(rt; is_name(&bytes));
+    Name::new(Seq::from(bytes))
 }
 
 fn are_printable(bytes: &[u8]) -> bool
@@ -50,328 +57,329 @@ fn are_printable(bytes: &[u8]) -> bool
     bytes.iter().all(|byte| 32 <= *byte && *byte <= 126)
 }
 
-fn text(rt: &impl Abort, alloc: Global, bytes: &[u8]) -> Result<Value, AllocError> {
-    let bytes = Vec::from_slice(alloc, bytes)?;
+fn text(rt: &impl Abort, alloc: Global, of: &str) -> Text {
+    let bytes = Vec::from_slice(alloc, of.as_bytes()).expect(rt, "memory");
     assert!(rt; bytes.len() <= 200);
     assert!(rt; are_printable(&bytes));
-    Ok(Value::Text(Text::new(Seq::from(bytes))))
+    Text::new(Seq::from(bytes))
 }
 
-/// A part of an expression, in postfix order, or a side of a comparison.
-#[derive(Clone, Copy)]
-pub enum Part {
-    Int(i64),
-    Text(&'static [u8]),
-    /// A plain name.
-    Plain(&'static [u8]),
-    /// A table's name and a column's.
-    Of(&'static [u8], &'static [u8]),
-    Snapshot,
-    Plus,
-    Minus,
-}
-
-fn column_name(rt: &impl Abort, alloc: Global, part: Part) -> Result<ColumnName, AllocError> {
-    let (table, column) = match part {
-        Part::Plain(column) => (None, column),
-        Part::Of(table, column) => (Some(name(rt, alloc, table)?), column),
-        _ => (None, b"none".as_slice()),
-    };
-    let column = name(rt, alloc, column)?;
-    Ok(ColumnName { table, column })
-}
-
-fn step(rt: &impl Abort, alloc: Global, part: Part) -> Result<ExpressionStep, AllocError> {
-    match part {
-        Part::Int(number) => Ok(ExpressionStep::Literal(Value::Int(number))),
-        Part::Text(bytes) => Ok(ExpressionStep::Literal(text(rt, alloc, bytes)?)),
-        Part::Snapshot => Ok(ExpressionStep::CurrentSnapshot),
-        Part::Plus => Ok(ExpressionStep::Apply(Operator::Add)),
-        Part::Minus => Ok(ExpressionStep::Apply(Operator::Subtract)),
-        named => Ok(ExpressionStep::Column(column_name(rt, alloc, named)?)),
+// What stands before the mark and what stands behind it; nothing where the mark is not there.
+fn cut<'a>(text: &'a str, mark: &str) -> (&'a str, &'a str) {
+    match text.split_once(mark) {
+        Some(sides) => sides,
+        None => (text, ""),
     }
 }
 
-fn expression(rt: &impl Abort, alloc: Global, parts: &[Part]) -> Result<Expression, AllocError> {
+// What stands between the marks; no pieces of nothing.
+fn pieces<'a>(rt: &impl Abort, alloc: Global, text: &'a str, mark: &str) -> Vec<&'a str> {
+    let mut pieces = Vec::new(alloc);
+    if text.is_empty() {
+        return pieces;
+    }
+    for piece in text.split(mark) {
+        pieces.push(piece).expect(rt, "memory");
+    }
+    pieces
+}
+
+// A column's name, or its table's, a dot and its own.
+fn column_name(rt: &impl Abort, alloc: Global, of: &str) -> ColumnName {
+    let (table, column) = match cut(of, ".") {
+        (column, "") => (None, column),
+        (table, column) => (Some(name(rt, alloc, table)), column),
+    };
+    let column = name(rt, alloc, column);
+    ColumnName { table, column }
+}
+
+fn quoted(word: &str) -> Option<&str> {
+    word.strip_prefix("'")?.strip_suffix("'")
+}
+
+fn integer(word: &str) -> Option<i64> {
+    word.parse().ok()
+}
+
+// The text in quotes or the number that the word is.
+fn literal(rt: &impl Abort, alloc: Global, word: &str) -> Option<Value> {
+    match quoted(word) {
+        Some(of) => Some(Value::Text(text(rt, alloc, of))),
+        None => Some(Value::Int(integer(word)?)),
+    }
+}
+
+// A literal, an operator, `now` for the number of the snapshot, or a column.
+fn step(rt: &impl Abort, alloc: Global, word: &str) -> ExpressionStep {
+    if let Some(value) = literal(rt, alloc, word) {
+        return ExpressionStep::Literal(value);
+    }
+    match word {
+        "+" => ExpressionStep::Apply(Operator::Add),
+        "-" => ExpressionStep::Apply(Operator::Subtract),
+        "now" => ExpressionStep::CurrentSnapshot,
+        _ => ExpressionStep::Column(column_name(rt, alloc, word)),
+    }
+}
+
+// An expression in postfix order.
+fn expression(rt: &impl Abort, alloc: Global, of: &str) -> Expression {
     let mut steps = Seq::new(alloc);
-    for part in parts {
-        steps.push(step(rt, alloc, *part)?)?;
+    for word in &pieces(rt, alloc, of, " ") {
+        push(rt, &mut steps, step(rt, alloc, word));
     }
-    Ok(Expression::new(steps).expect(rt, "the parts of one expression"))
+    Expression::new(steps).expect(rt, "the steps of one expression")
 }
 
-fn operand(rt: &impl Abort, alloc: Global, part: Part) -> Result<Operand, AllocError> {
-    match step(rt, alloc, part)? {
-        ExpressionStep::Literal(value) => Ok(Operand::Literal(value)),
-        ExpressionStep::Column(name) => Ok(Operand::Column(name)),
-        ExpressionStep::CurrentSnapshot => Ok(Operand::CurrentSnapshot),
-        ExpressionStep::Apply(_) => Ok(Operand::CurrentSnapshot),
+fn operand(rt: &impl Abort, alloc: Global, word: &str) -> Operand {
+    match step(rt, alloc, word) {
+        ExpressionStep::Literal(value) => Operand::Literal(value),
+        ExpressionStep::Column(name) => Operand::Column(name),
+        _ => Operand::CurrentSnapshot,
     }
 }
 
-fn condition(
-    rt: &impl Abort,
-    alloc: Global,
-    sides: Option<(Part, Comparison, Part)>,
-) -> Result<Option<Condition>, AllocError> {
-    let Some((left, comparison, right)) = sides else {
-        return Ok(None);
-    };
+fn comparison(word: &str) -> Comparison {
+    match word {
+        "=" => Comparison::Equal,
+        "!=" => Comparison::NotEqual,
+        _ => Comparison::Greater,
+    }
+}
+
+fn compare(rt: &impl Abort, alloc: Global, left: &str, by: &str, right: &str) -> ConditionStep {
+    ConditionStep::Compare {
+        left: operand(rt, alloc, left),
+        comparison: comparison(by),
+        right: operand(rt, alloc, right),
+    }
+}
+
+// One comparison, by `=`, `!=` or `>`; none for no words.
+fn condition(rt: &impl Abort, alloc: Global, of: &str) -> Option<Condition> {
     let mut steps = Seq::new(alloc);
-    let left = operand(rt, alloc, left)?;
-    let right = operand(rt, alloc, right)?;
-    steps.push(ConditionStep::Compare {
-        left,
-        comparison,
-        right,
-    })?;
-    Ok(Condition::new(steps))
+    if let [left, by, right] = pieces(rt, alloc, of, " ").as_slice() {
+        push(rt, &mut steps, compare(rt, alloc, left, by, right));
+    }
+    Condition::new(steps)
 }
 
-/// An output.
-#[derive(Clone, Copy)]
-pub enum Out {
-    Of(&'static [Part]),
-    /// `COUNT(*)`
-    Rows,
-    Count(&'static [Part]),
-    Sum(&'static [Part]),
-    Min(&'static [Part]),
-    Max(&'static [Part]),
+fn value(rt: &impl Abort, alloc: Global, of: &str) -> OutputValue {
+    let (kind, rest) = cut(of, " ");
+    OutputValue::Aggregate(match kind {
+        "rows" => Aggregate::CountRows,
+        "count" => Aggregate::Count(expression(rt, alloc, rest)),
+        "sum" => Aggregate::Sum(expression(rt, alloc, rest)),
+        "min" => Aggregate::Min(expression(rt, alloc, rest)),
+        "max" => Aggregate::Max(expression(rt, alloc, rest)),
+        _ => return OutputValue::Expression(expression(rt, alloc, of)),
+    })
 }
 
-fn value(rt: &impl Abort, alloc: Global, out: Out) -> Result<OutputValue, AllocError> {
-    let aggregate = match out {
-        Out::Of(parts) => return Ok(OutputValue::Expression(expression(rt, alloc, parts)?)),
-        Out::Rows => Aggregate::CountRows,
-        Out::Count(parts) => Aggregate::Count(expression(rt, alloc, parts)?),
-        Out::Sum(parts) => Aggregate::Sum(expression(rt, alloc, parts)?),
-        Out::Min(parts) => Aggregate::Min(expression(rt, alloc, parts)?),
-        Out::Max(parts) => Aggregate::Max(expression(rt, alloc, parts)?),
-    };
-    Ok(OutputValue::Aggregate(aggregate))
-}
-
-fn list(rt: &impl Abort, alloc: Global, outs: &[Out]) -> Result<SelectList, AllocError> {
-    if outs.is_empty() {
-        return Ok(SelectList::All);
+fn list(rt: &impl Abort, alloc: Global, of: &str) -> SelectList {
+    if of == "*" {
+        return SelectList::All;
     }
     let mut outputs = Seq::new(alloc);
-    for out in outs {
-        let value = value(rt, alloc, *out)?;
-        outputs.push(Output { value, name: None })?;
+    for of in &pieces(rt, alloc, of, ", ") {
+        let value = value(rt, alloc, of);
+        push(rt, &mut outputs, Output { value, name: None });
     }
-    Ok(SelectList::Outputs(outputs))
+    SelectList::Outputs(outputs)
 }
 
-/// A key of ORDER BY.
-#[derive(Clone, Copy)]
-pub enum Key {
-    Up(&'static [u8]),
-    Down(&'static [u8]),
-    /// A table's name and a column's.
-    UpOf(&'static [u8], &'static [u8]),
-}
-
-/// A select of outputs, or of `*` where there are none.
-#[derive(Clone, Copy)]
-pub struct Query {
-    outs: &'static [Out],
-    // The names of the answer's columns.
-    names: &'static [&'static [u8]],
-    filter: Option<(Part, Comparison, Part)>,
-    groups: &'static [Part],
-    keys: &'static [Key],
-    distinct: bool,
-    limit: Option<u64>,
-}
-
-/// The select of the outputs, whose columns have these names, and of nothing more.
-pub fn plain(outs: &'static [Out], names: &'static [&'static [u8]]) -> Query {
-    Query {
-        outs,
-        names,
-        filter: None,
-        groups: &[],
-        keys: &[],
-        distinct: false,
-        limit: None,
-    }
-}
-
-impl Query {
-    pub fn kept(self, left: Part, comparison: Comparison, right: Part) -> Query {
-        Query {
-            filter: Some((left, comparison, right)),
-            ..self
-        }
-    }
-
-    pub fn grouped(self, groups: &'static [Part]) -> Query {
-        Query { groups, ..self }
-    }
-
-    pub fn ordered(self, keys: &'static [Key]) -> Query {
-        Query { keys, ..self }
-    }
-
-    pub fn different(self) -> Query {
-        Query {
-            distinct: true,
-            ..self
-        }
-    }
-
-    pub fn limited(self, limit: u64) -> Query {
-        Query {
-            limit: Some(limit),
-            ..self
-        }
-    }
-}
-
-fn groups(rt: &impl Abort, alloc: Global, parts: &[Part]) -> Result<Seq<ColumnName>, AllocError> {
+fn groups(rt: &impl Abort, alloc: Global, of: &str) -> Seq<ColumnName> {
     let mut names = Seq::new(alloc);
-    for part in parts {
-        names.push(column_name(rt, alloc, *part)?)?;
+    for of in &pieces(rt, alloc, of, ", ") {
+        push(rt, &mut names, column_name(rt, alloc, of));
     }
-    Ok(names)
+    names
 }
 
-fn keys(rt: &impl Abort, alloc: Global, asked: &[Key]) -> Result<Seq<OrderKey>, AllocError> {
+fn direction(of: &str) -> (&str, Direction) {
+    match of.strip_suffix(" desc") {
+        Some(of) => (of, Direction::Descending),
+        None => (of, Direction::Ascending),
+    }
+}
+
+fn keys(rt: &impl Abort, alloc: Global, of: &str) -> Seq<OrderKey> {
     let mut keys = Seq::new(alloc);
-    for key in asked {
-        let (part, direction) = match *key {
-            Key::Up(column) => (Part::Plain(column), Direction::Ascending),
-            Key::Down(column) => (Part::Plain(column), Direction::Descending),
-            Key::UpOf(table, column) => (Part::Of(table, column), Direction::Ascending),
-        };
-        let column = column_name(rt, alloc, part)?;
-        keys.push(OrderKey { column, direction })?;
+    for of in &pieces(rt, alloc, of, ", ") {
+        let (of, direction) = direction(of);
+        let column = column_name(rt, alloc, of);
+        push(rt, &mut keys, OrderKey { column, direction });
     }
-    Ok(keys)
+    keys
 }
 
-fn tree(rt: &impl Abort, alloc: Global, query: &Query) -> Result<Select, AllocError> {
-    Ok(Select {
-        distinct: query.distinct,
-        list: list(rt, alloc, query.outs)?,
-        table: name(rt, alloc, b"t")?,
+fn is_distinct(of: &str) -> (bool, &str) {
+    match of.strip_prefix("distinct ") {
+        Some(rest) => (true, rest),
+        None => (false, of),
+    }
+}
+
+fn limit(of: &str) -> Option<u64> {
+    of.parse().ok()
+}
+
+// `[distinct] list [where comparison] [group columns] [order keys] [limit count]`
+fn tree(rt: &impl Abort, alloc: Global, of: &str) -> Select {
+    let (of, count) = cut(of, " limit ");
+    let (of, order) = cut(of, " order ");
+    let (of, group) = cut(of, " group ");
+    let (of, comparison) = cut(of, " where ");
+    let (distinct, of) = is_distinct(of);
+    Select {
+        distinct,
+        list: list(rt, alloc, of),
+        table: name(rt, alloc, "t"),
         second: None,
-        condition: condition(rt, alloc, query.filter)?,
-        group_by: groups(rt, alloc, query.groups)?,
-        order_by: keys(rt, alloc, query.keys)?,
-        limit: query.limit,
-    })
-}
-
-fn columns(rt: &impl Abort, alloc: Global, names: &[&[u8]]) -> Result<Seq<Column>, AllocError> {
-    let mut columns = Seq::new(alloc);
-    for bytes in names {
-        columns.push(Column {
-            name: name(rt, alloc, bytes)?,
-            kind: Kind::Int,
-        })?;
+        condition: condition(rt, alloc, comparison),
+        group_by: groups(rt, alloc, group),
+        order_by: keys(rt, alloc, order),
+        limit: limit(count),
     }
-    Ok(columns)
 }
 
-fn table(
-    rt: &impl Abort,
-    alloc: Global,
-    bytes: &[u8],
-    names: &[&[u8]],
-) -> Result<TableSchema, AllocError> {
-    Ok(TableSchema {
-        name: name(rt, alloc, bytes)?,
-        columns: columns(rt, alloc, names)?,
-    })
+fn columns(rt: &impl Abort, alloc: Global, names: &str) -> Seq<Column> {
+    let mut columns = Seq::new(alloc);
+    for of in &pieces(rt, alloc, names, " ") {
+        let name = name(rt, alloc, of);
+        let kind = Kind::Int;
+        push(rt, &mut columns, Column { name, kind });
+    }
+    columns
+}
+
+fn table(rt: &impl Abort, alloc: Global, of: &str, names: &str) -> TableSchema {
+    TableSchema {
+        name: name(rt, alloc, of),
+        columns: columns(rt, alloc, names),
+    }
 }
 
 /// A row of a table: an integer and a text.
-pub type Pair = (i64, &'static [u8]);
+pub type Pair = (i64, &'static str);
 
-fn rows(rt: &impl Abort, alloc: Global, pairs: &[Pair]) -> Result<Vec<Row>, AllocError> {
-    let mut rows = Vec::new(alloc);
-    for (number, bytes) in pairs {
-        let mut row = Seq::new(alloc);
-        row.push(Value::Int(*number))?;
-        row.push(text(rt, alloc, bytes)?)?;
-        rows.push(row)?;
-    }
-    Ok(rows)
+fn row(rt: &impl Abort, alloc: Global, pair: Pair) -> Row {
+    let mut row = Seq::new(alloc);
+    push(rt, &mut row, Value::Int(pair.0));
+    push(rt, &mut row, Value::Text(text(rt, alloc, pair.1)));
+    row
 }
 
-fn row_text(alloc: Global, row: &Row, out: &mut Vec<u8>) -> Result<(), AllocError> {
+fn rows(rt: &impl Abort, alloc: Global, pairs: &[Pair]) -> Seq<Row> {
+    let mut rows = Seq::new(alloc);
+    for pair in pairs {
+        push(rt, &mut rows, row(rt, alloc, *pair));
+    }
+    rows
+}
+
+fn write(rt: &impl Abort, out: &mut Vec<u8>, bytes: &[u8]) {
+    out.extend_from_slice(bytes).expect(rt, "memory");
+}
+
+// The values of a row with commas between them, and a semicolon at the end.
+fn write_row(rt: &impl Abort, alloc: Global, row: &Row, out: &mut Vec<u8>) {
     for (i, value) in row.as_slice().iter().enumerate() {
         if i > 0 {
-            out.push(b',')?;
+            write(rt, out, b",");
         }
-        field(alloc, value, out)?;
+        field(alloc, value, out).expect(rt, "memory");
     }
-    out.push(b';')?;
-    Ok(())
+    write(rt, out, b";");
 }
 
-// The rows of an answer, each ended by a semicolon, or the name of the refusal.
-fn answer_text(alloc: Global, answer: Result<Answer, Refusal>) -> Result<Vec<u8>, AllocError> {
+fn write_rows(rt: &impl Abort, alloc: Global, answer: &Answer, out: &mut Vec<u8>) {
+    for row in answer.rows.as_slice() {
+        write_row(rt, alloc, row, out);
+    }
+}
+
+fn refusal_name(refusal: Refusal) -> &'static str {
+    refusal.name()
+}
+
+// The rows of an answer, or the name of the refusal.
+fn answer_text(rt: &impl Abort, alloc: Global, answer: Result<Answer, Refusal>) -> Vec<u8> {
     let mut out = Vec::new(alloc);
-    match answer {
-        Ok(answer) => {
-            for row in answer.rows.as_slice() {
-                row_text(alloc, row, &mut out)?;
-            }
-        }
-        Err(refusal) => out.extend_from_slice(refusal.name().as_bytes())?,
+    match &answer {
+        Ok(answer) => write_rows(rt, alloc, answer, &mut out),
+        Err(refusal) => write(rt, &mut out, refusal_name(*refusal).as_bytes()),
     }
-    Ok(out)
+    out
 }
 
-/// Answers each query over the rows of t, at snapshot 7.
-pub fn answers(
+// A select over the rows of one table is answered at snapshot 7, and one over those of two tables with no snapshot.
+fn answer(
     rt: &impl Abort,
     alloc: Global,
-    pairs: &[Pair],
-    cases: &[(Query, &[u8])],
-) -> Result<(), AllocError> {
-    let t = table(rt, alloc, b"t", &[b"a".as_slice(), b"b"])?;
-    let rows = rows(rt, alloc, pairs)?;
-    for (i, (query, want)) in cases.iter().enumerate() {
-        let tree = tree(rt, alloc, query)?;
-        let names = columns(rt, alloc, query.names)?;
-        let answer = select(
-            alloc,
-            &tree,
-            &Scope::of_one(&t),
-            names,
-            Some(7),
-            &rows,
-            None,
-        );
-        assert_eq!(rt; answer_text(alloc, answer)?.as_slice(), *want, "query {i}");
-    }
-    Ok(())
+    scope: &Scope<'_>,
+    firsts: &[Row],
+    seconds: Option<&[Row]>,
+    query: &str,
+    names: &str,
+) -> Vec<u8> {
+    let tree = tree(rt, alloc, query);
+    let names = columns(rt, alloc, names);
+    let snapshot = if seconds.is_none() { Some(7) } else { None };
+    let answer = select(alloc, &tree, scope, names, snapshot, firsts, seconds);
+    answer_text(rt, alloc, answer)
 }
 
-/// Answers each query over the pairs of rows of t and u, with no snapshot.
+// Each line is a select, the names of its answer's columns, and the answer: its rows, each ended by a semicolon, or the name
+// of the refusal.
+fn answer_all(
+    rt: &impl Abort,
+    alloc: Global,
+    scope: &Scope<'_>,
+    firsts: &[Row],
+    seconds: Option<&[Row]>,
+    lines: &str,
+) {
+    for line in &pieces(rt, alloc, lines, "\n    ") {
+        let (query, rest) = cut(line, " | ");
+        let (names, want) = cut(rest, " |");
+        let found = answer(rt, alloc, scope, firsts, seconds, query, names);
+        assert_eq!(rt; found.as_slice(), want.trim_start().as_bytes(), "{line}");
+    }
+}
+
+/// Answers the select of each line over the rows of t, at snapshot 7.
+pub fn answers(rt: &impl Abort, alloc: Global, pairs: &[Pair], lines: &str) {
+    let t = table(rt, alloc, "t", "a b");
+    let rows = rows(rt, alloc, pairs);
+    answer_all(rt, alloc, &Scope::of_one(&t), rows.as_slice(), None, lines);
+}
+
+fn beside<'a>(rt: &impl Abort, first: &'a TableSchema, second: &'a TableSchema) -> Scope<'a> {
+    assert!(rt; first.columns.len() <= 16 && second.columns.len() <= 16);
+    Scope::of_two(first, second)
+}
+
+/// Answers the select of each line over the pairs of rows of t and u, with no snapshot.
 pub fn join_answers(
     rt: &impl Abort,
     alloc: Global,
     firsts: &[Pair],
     seconds: &[Pair],
-    cases: &[(Query, &[u8])],
-) -> Result<(), AllocError> {
-    let t = table(rt, alloc, b"t", &[b"a".as_slice(), b"b"])?;
-    let u = table(rt, alloc, b"u", &[b"a".as_slice(), b"c"])?;
-    assert!(rt; t.columns.len() <= 16 && u.columns.len() <= 16);
-    let scope = Scope::of_two(&t, &u);
-    let firsts = rows(rt, alloc, firsts)?;
-    let seconds = rows(rt, alloc, seconds)?;
-    for (i, (query, want)) in cases.iter().enumerate() {
-        let tree = tree(rt, alloc, query)?;
-        let names = columns(rt, alloc, query.names)?;
-        let answer = select(alloc, &tree, &scope, names, None, &firsts, Some(&seconds));
-        assert_eq!(rt; answer_text(alloc, answer)?.as_slice(), *want, "query {i}");
-    }
-    Ok(())
+    lines: &str,
+) {
+    let t = table(rt, alloc, "t", "a b");
+    let u = table(rt, alloc, "u", "a c");
+    let scope = beside(rt, &t, &u);
+    let firsts = rows(rt, alloc, firsts);
+    let seconds = rows(rt, alloc, seconds);
+    answer_all(
+        rt,
+        alloc,
+        &scope,
+        firsts.as_slice(),
+        Some(seconds.as_slice()),
+        lines,
+    );
 }
