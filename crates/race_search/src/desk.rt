@@ -22,6 +22,7 @@ impl Fate {
     }
 }
 
+/// What a failed call may have left of the log beside its list: nothing; one change more; a new base alone.
 #[derive(Clone, Copy)]
 pub enum Doubt {
     Sure,
@@ -29,10 +30,12 @@ pub enum Doubt {
     NewBase,
 }
 
+/// The log has its base where the history stood at `past`, and lists `rest`. The devices open beside an archive that
+/// holds `need` captures; `acked` are known to stand in it. Pages are `loose` from their write until the device is
+/// settled, and `dirty` from their change until they are written.
 #[derive(Clone, Drop)]
 pub struct Desk {
     pub history: World,
-    /// Where the history stood at the log's base.
     pub past: World,
     pub rest: Vec<Change>,
     pub need: usize,
@@ -44,6 +47,7 @@ pub struct Desk {
     pub stopped: bool,
 }
 
+/// Captures on their way to the vault, numbered from `first` on; mappings below `low` may be forgotten.
 #[derive(Clone, Drop)]
 pub struct Batch {
     pub first: usize,
@@ -57,6 +61,8 @@ impl Batch {
     }
 }
 
+/// What a reader of a page as of a snapshot was told: the byte to take where the vault finds nothing from `start` up
+/// to `upto`.
 #[derive(Clone, Copy)]
 pub struct Told {
     pub snapshot: usize,
@@ -91,6 +97,7 @@ impl Desk {
         Ok(true)
     }
 
+    /// So many of the captures that are not yet acknowledged; fewer where there are fewer.
     pub fn batch_of(&self, alloc: Global, count: usize) -> Result<Batch, AllocError> {
         let captures = self.history.captures.iter().copied();
         Ok(Batch {
@@ -143,6 +150,7 @@ impl Desk {
         Ok(may)
     }
 
+    /// The page's first capture from the start on that is not yet acknowledged, else the page as it is.
     pub fn told_of(&self, snapshot: usize, page: usize) -> Told {
         let start = self.history.snapshot(snapshot).start;
         let mut behind = self.history.captures.iter().skip(start.max(self.acked));

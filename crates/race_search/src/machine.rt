@@ -5,7 +5,7 @@ use crate::vault::{Mappings, Vault};
 use crate::world::{Change, WRITTEN, World, at};
 use std::alloc::{AllocError, Global};
 
-/// A batch and a receipt are told by their places, the newest at 0.
+/// A step of the machine. A batch and a receipt are told by their places, the newest at 0.
 #[derive(Clone, Copy, Debug)]
 pub enum Step {
     Make(Change),
@@ -24,7 +24,7 @@ pub enum Step {
 }
 
 impl Step {
-    /// How a call may end.
+    /// How the step's call may end.
     pub fn fates(self) -> &'static [Fate] {
         match self {
             Step::Write(_) | Step::Lay(_) => &[Fate::Done, Fate::Old, Fate::New, Fate::Other],
@@ -45,7 +45,7 @@ pub struct Machine {
 }
 
 impl Machine {
-    /// The machine of a store that was just made.
+    /// The machine of a store that was just made, its slots filled with a byte that no page has.
     pub fn made(alloc: Global) -> Result<Machine, AllocError> {
         let world = World {
             changes: 0,
@@ -71,7 +71,7 @@ impl Machine {
                 mappings: Mappings { low: 0, pages },
                 others: Vec::new(alloc),
                 laid: 0,
-                slots: [0; 64],
+                slots: [0xFE; 64],
                 loose: [false; 64],
                 stopped: false,
             },

@@ -4,6 +4,7 @@ use crate::desk::{Batch, Fate, Told};
 use crate::world::{at, put};
 use std::alloc::{AllocError, Global};
 
+/// Mappings from a lowest number on, each told by its page.
 #[derive(Clone, Drop)]
 pub struct Mappings {
     pub low: usize,
@@ -24,6 +25,8 @@ impl Mappings {
     }
 }
 
+/// The Maplog lists `mappings`, or one of `others` since a call failed. Below `laid` the slots hold their captures;
+/// `loose` ones were written since the Pagelog was settled.
 #[derive(Clone, Drop)]
 pub struct Vault {
     pub mappings: Mappings,
@@ -39,6 +42,7 @@ impl Vault {
         !self.stopped && batch.first == self.mappings.end()
     }
 
+    /// Writes the batch's captures into their slots.
     pub fn lay(&mut self, batch: &Batch, fate: Fate) -> bool {
         let may = self.goes_on(batch);
         for (place, image) in batch.images.iter().enumerate() {
@@ -56,6 +60,7 @@ impl Vault {
         may
     }
 
+    /// Trims the mappings, and maps the batch behind them.
     pub fn enter(&mut self, alloc: Global, batch: &Batch, fate: Fate) -> Result<bool, AllocError> {
         let may = self.goes_on(batch) && batch.end() <= self.laid;
         let trimmed = self.mappings.trim_to(alloc, batch.low)?;
@@ -72,6 +77,7 @@ impl Vault {
         Ok(may)
     }
 
+    /// The byte in the slot of the page's first mapping below the count that was told, else the byte that was told.
     pub fn found(&self, told: &Told) -> u8 {
         let mappings = &self.mappings;
         let low = mappings.low;
