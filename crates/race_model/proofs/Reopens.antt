@@ -13,12 +13,13 @@ use Rattle.race_model.specs.Fits.{AreOfStore}
 use Rattle.race_model.specs.Machine.{Machine}
 use Rattle.race_model.specs.Images.{OpenInDoubt, AreImagesOf}
 use Rattle.race_model.specs.Invariant.{Fits}
+use Rattle.race_model.specs.Laws.{BothAtOnce}
 use Rattle.race_model.specs.Reopened.{opened_machine, made, Life, Runs, Crashes}
 use Rattle.race_model.proofs.Alike.{run_unchanged}
 use Rattle.race_model.proofs.LogKeeps.{history_opened, log_opened, all_opened}
 use Rattle.race_model.proofs.Opening.{opened_held}
 use Rattle.race_model.proofs.Grows.{contains_none}
-use Rattle.race_model.proofs.Keeps.{run_keeps, images_open}
+use Rattle.race_model.proofs.Keeps.{step_keeps, run_keeps, images_open}
 
 pub opened_fits : (contents : Contents) → AreOfStore contents → Fits (opened_machine contents)
 opened_fits contents store =
@@ -97,3 +98,6 @@ lives_keep first last (Crashes {next = next} contents life images run) f =
 
 pub lives_open : (first last : Machine) (contents : Contents) → Life first last → Fits first → AreImagesOf last contents → OpenInDoubt contents last.desk.history last.desk.doubt
 lives_open first last contents life f images = images_open last contents (lives_keep first last life f) images
+
+pub both_at_once : BothAtOnce
+both_at_once machine first both contents f one other images = images_open both contents (step_keeps first both other (step_keeps machine first one f)) images

@@ -39,6 +39,10 @@ ImagesOpen = (machine : Machine) (contents : Contents) → Fits machine → AreI
 abbrev pub LivesOpen : Type 0
 LivesOpen = (first last : Machine) (contents : Contents) → Life first last → Fits first → AreImagesOf last contents → OpenInDoubt contents last.desk.history last.desk.doubt
 
+-- a crash in a call of the desk and in one of the vault at once leaves what the failings of both leave, one behind the other
+abbrev pub BothAtOnce : Type 0
+BothAtOnce = (machine first both : Machine) (contents : Contents) → Fits machine → Step machine first → Step first both → AreImagesOf both contents → OpenInDoubt contents both.desk.history both.desk.doubt
+
 -- so it is of the desk alone, beside any image of an archive that holds what the desk needs
 abbrev pub DeskImagesOpen : Type 0
 DeskImagesOpen = (desk : Desk) (contents : Contents) → DeskFits desk → IsLogOf desk contents.log → ArePagesOf desk contents.pages → Holds desk.history desk.floor desk.need contents.mappings contents.slots →

@@ -1,6 +1,6 @@
 //! What holds of every list of steps and every crash.
 
-ghost use Rattle.race_model.specs.Laws.{ApartOpen, DeskImagesOpen, FailuresCover, FindAfterPeek, ImagesOpen, LivesKeep, LivesOpen, MadeFits, OpenedFits, SamePast, StepsKeep, VaultImagesHold, VaultOutlives};
+ghost use Rattle.race_model.specs.Laws.{ApartOpen, BothAtOnce, DeskImagesOpen, FailuresCover, FindAfterPeek, ImagesOpen, LivesKeep, LivesOpen, MadeFits, OpenedFits, SamePast, StepsKeep, VaultImagesHold, VaultOutlives};
 
 /// Of the machine's invariant.
 pub fn steps_keep()
@@ -20,6 +20,8 @@ pub fn crashes_open()
     ensures images { ImagesOpen }
     // So it is behind every list of steps and crashes.
     ensures lives { LivesOpen }
+    // So it is where the calls of two sides fail at once.
+    ensures at_once { BothAtOnce }
     // What opens to the same world has the same pages as of each retained snapshot.
     ensures past { SamePast }
 {}
