@@ -53,6 +53,34 @@ const GOOD: Case = Case {
     damage: &[],
 };
 
+// Bytes that are written over a made store, and the device and the place that are then told.
+type Damage = (&'static [(Device, usize, u8)], Device, u64);
+
+const DAMAGES: [Damage; 9] = [
+    // No header is open.
+    (&[(Device::Log, 0, 0)], Device::Log, 0),
+    // Two headers are open, both of generation 1.
+    (
+        &[
+            (Device::Log, 16_777_216, 0xA5),
+            (Device::Log, 16_777_231, 1),
+        ],
+        Device::Log,
+        0,
+    ),
+    // The base's length passes the region.
+    (&[(Device::Log, 17, 0xFF)], Device::Log, 16),
+    // It is a byte too long.
+    (&[(Device::Log, 20, 0x28)], Device::Log, 16),
+    // Its version is 3; it has 15 pages.
+    (&[(Device::Log, 23, 3)], Device::Log, 16),
+    (&[(Device::Log, 27, 0x0F)], Device::Log, 16),
+    // The Maplog's header is closed; its capacity is 65; its mappings begin, and end, at 1.
+    (&[(Device::Maplog, 0, 0)], Device::Maplog, 0),
+    (&[(Device::Maplog, 35, 0x41)], Device::Maplog, 16),
+    (&[(Device::Maplog, 31, 1)], Device::Maplog, 36),
+];
+
 fn device(
     alloc: Global,
     which: Device,
@@ -83,18 +111,28 @@ fn opened(alloc: Global, case: &Case) -> Result<Result<(usize, usize), Refusal>,
     }
 }
 
-fn damaged(damage: &'static [(Device, usize, u8)]) -> Case {
-    Case { damage, ..GOOD }
-}
-
 #[test]
 fn a_made_store_opens(rt: HostRuntime) -> Result<(), Fail> {
     assert_eq!(rt; opened(rt.alloc(), &GOOD)?, Ok((16, 0)));
     Ok(())
 }
 
+// Whether the devices break first in this one, at this place.
+fn break_at(alloc: Global, case: &Case, device: Device, place: u64) -> Result<bool, AllocError> {
+    Ok(opened(alloc, case)? == Err(Refusal::NotAStore { device, place }))
+}
+
 #[test]
 fn a_damaged_device_is_told_with_its_place(rt: HostRuntime) -> Result<(), Fail> {
+    for (damage, device, place) in DAMAGES {
+        let case = Case { damage, ..GOOD };
+        assert!(rt; break_at(rt.alloc(), &case, device, place)?);
+    }
+    Ok(())
+}
+
+#[test]
+fn a_device_of_another_size_or_list_is_told(rt: HostRuntime) -> Result<(), Fail> {
     let short_log = Case {
         log: (&LOG, 1024),
         ..GOOD
@@ -114,36 +152,11 @@ fn a_damaged_device_is_told_with_its_place(rt: HostRuntime) -> Result<(), Fail> 
     let table = [
         (short_log, Device::Log, 1024),
         (no_base, Device::Log, 16),
-        // No header is open.
-        (damaged(&[(Device::Log, 0, 0)]), Device::Log, 0),
-        // Two headers are open, both of generation 1.
-        (
-            damaged(&[
-                (Device::Log, 16_777_216, 0xA5),
-                (Device::Log, 16_777_231, 1),
-            ]),
-            Device::Log,
-            0,
-        ),
-        // The base's length passes the region.
-        (damaged(&[(Device::Log, 17, 0xFF)]), Device::Log, 16),
-        // It is a byte too long.
-        (damaged(&[(Device::Log, 20, 0x28)]), Device::Log, 16),
-        // Its version is 3; it has 15 pages.
-        (damaged(&[(Device::Log, 23, 3)]), Device::Log, 16),
-        (damaged(&[(Device::Log, 27, 0x0F)]), Device::Log, 16),
         (short_pages, Device::Pages, 16_383),
-        // The Maplog's header is closed; its capacity is 65; its mappings begin, and end, at 1.
-        (damaged(&[(Device::Maplog, 0, 0)]), Device::Maplog, 0),
-        (damaged(&[(Device::Maplog, 35, 0x41)]), Device::Maplog, 16),
-        (damaged(&[(Device::Maplog, 31, 1)]), Device::Maplog, 36),
         (not_captured, Device::Maplog, 56),
     ];
     for (case, device, place) in table {
-        assert_eq!(rt;
-            opened(rt.alloc(), &case)?,
-            Err(Refusal::NotAStore { device, place })
-        );
+        assert!(rt; break_at(rt.alloc(), &case, device, place)?);
     }
     Ok(())
 }
