@@ -1,2 +1,3 @@
-pub mod Fills
+pub mod Room
 pub mod Steps
+pub mod Taken

@@ -2,7 +2,7 @@
 use Rattle.std.specs.Prelude.{◌≡◌, ◌⊎◌, ℕ, List, [], ◌∷◌, Option}
 use Rattle.retro_base.specs.Cause.{raised}
 use Rattle.disk_mem.specs.History.{Past}
-use Rattle.disk_mem.specs.Plan.{Plan, counted, made, IsListed, IsStopped}
+use Rattle.disk_mem.specs.Plan.{Plan, counted, IsListed, IsStopped}
 use Rattle.disk_mem.specs.declared.recording.Step.{Step}
 use Rattle.disk_mem.specs.declared.recording.Step.TheVariants.{Lost}
 use Rattle.disk_mem.specs.declared.schedule.Call.{Call}
@@ -40,10 +40,10 @@ failed device call = record device { plan = counted device.plan call; faults = r
 
 -- the next call of that kind fails as planned
 abbrev pub MustFail : Device → Call → Type 0
-MustFail device call = IsStopped device.plan ⊎ IsListed device.plan call (raised (made device.plan call))
+MustFail device call = IsStopped device.plan ⊎ IsListed device.plan call
 
--- a listed write of that many bytes failed, and its range is loose
-pub record LosesRange (old new : Device) (place count : ℕ) : Type 0 where
-  pub runs : IsStopped old.plan → ⊥
-  pub listed : IsListed old.plan Write (raised (made old.plan Write))
-  pub lost : new ≡ with_step (failed old Write) (Lost place count)
+-- A write of that many bytes failed. A listed one loses its range; any other leaves the bytes as they were.
+pub record WriteFailed (old new : Device) (place count : ℕ) : Type 0 where
+  pub listed : (IsStopped old.plan → ⊥) → IsListed old.plan Write → new ≡ with_step (failed old Write) (Lost place count)
+  pub stopped : IsStopped old.plan → new ≡ failed old Write
+  pub unlisted : (IsListed old.plan Write → ⊥) → new ≡ failed old Write

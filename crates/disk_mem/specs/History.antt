@@ -1,5 +1,6 @@
 -- What changed a device in memory, the newest step first, and what a crash may have left of it.
-use Rattle.std.specs.Prelude.{◌≡◌, ◌⊎◌, ℕ, ◌≤◌, ◌<◌, List, [], ◌∷◌, ◌++◌, length, slice_index}
+use Rattle.std.specs.Prelude.{◌≡◌, ◌⊎◌, ℕ, ◌+◌, ◌≤◌, List, [], ◌∷◌, length, replicate, slice_index}
+use Rattle.std.specs.List.{AllByRecursion}
 use Rattle.disk_model.specs.Disk.{State, InRange, written, IsImage}
 use Rattle.disk_model.specs.Moments.{Clock}
 use Rattle.disk_mem.specs.declared.recording.Step.{Step}
@@ -9,6 +10,11 @@ use Rattle.disk_mem.specs.declared.recording.Step.TheVariants.{Wrote, Lost, Sync
 pub record Past : Type 0 where
   pub first : List ℕ
   pub steps : List Step
+
+-- a past with room for that many lost writes more
+pub record RoomyPast : Type 0 where
+  pub past : Past
+  pub room : ℕ
 
 -- what a device reads that began with these bytes
 abbrev pub seen_after : List ℕ → List Step → List ℕ
@@ -27,18 +33,34 @@ IsLoose (Synced ∷ before) i = ⊥
 abbrev pub state_of : Past → State
 state_of past = record { seen = seen_after past.first past.steps; is_loose = IsLoose past.steps }
 
--- A crash might have left this after some first part of the steps, of which there were `since` or more.
-pub record LeftSince (past : Past) (since : ℕ) (image : List ℕ) : Type 0 where
-  pub later : List Step
-  pub before : List Step
-  pub split : past.steps ≡ later ++ before
-  pub enough : since ≤ length before
-  pub is_image : IsImage (state_of (record { first = past.first; steps = before })) image
+-- a crash might have left this now, or earlier, after `since` of these steps or more
+abbrev pub LeftAfter : List ℕ → List Step → ℕ → List ℕ → Type 0
+LeftAfter first [] since image = IsImage (state_of (record { first = first; steps = [] })) image
+LeftAfter first (step ∷ before) since image =
+    IsImage (state_of (record { first = first; steps = step ∷ before })) image ⊎ ((since ≤ length before) × LeftAfter first before since image)
+
+abbrev pub LeftSince : Past → ℕ → List ℕ → Type 0
+LeftSince past since image = LeftAfter past.first past.steps since image
 
 abbrev pub clock_of : Past → Clock
 clock_of past = record { moment = length past.steps; left_since = LeftSince past }
 
--- what a crash leaves where each loose byte becomes `fill`
-pub record Filled (fill : ℕ) (state : State) (image : List ℕ) : Type 0 where
+-- what a crash leaves where each loose byte is the one in that place of `bytes`
+pub record TakenFrom (bytes : List ℕ) (state : State) (image : List ℕ) : Type 0 where
   pub is_image : IsImage state image
-  pub filled : (i : ℕ) → i < length image → state.is_loose i → slice_index image i ≡ fill
+  pub taken : (i : ℕ) → state.is_loose i → slice_index image i ≡ slice_index bytes i
+
+-- what a crash leaves where each loose byte is `fill`
+abbrev pub Filled : ℕ → State → List ℕ → Type 0
+Filled fill state image = TakenFrom (replicate (length state.seen) fill) state image
+
+-- the range of a step lies on a device of that size
+abbrev pub FitsIn : ℕ → Step → Type 0
+FitsIn size (Wrote place bytes) = place + length bytes ≤ size
+FitsIn size (Lost place count) = place + count ≤ size
+FitsIn size Synced = Unit {0}
+
+-- the bytes are those that these steps made of the first ones, and each step fits in them
+pub record Recorded (first : List ℕ) (steps : List Step) (bytes : List ℕ) : Type 0 where
+  pub seen : bytes ≡ seen_after first steps
+  pub within : AllByRecursion (FitsIn (length bytes)) steps

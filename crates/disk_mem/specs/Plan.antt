@@ -1,5 +1,5 @@
 -- Which calls of a device in memory fail.
-use Rattle.std.specs.Prelude.{ℕ, ◌+◌, ◌≤◌, List, Contains, Option, IsSomeAnd}
+use Rattle.std.specs.Prelude.{ℕ, ◌+◌, ◌-◌, ◌^◌, ◌<◌, ◌≤◌, List, [], ◌∷◌, min, Contains, Option, IsSomeAnd}
 use Rattle.retro_base.specs.Cause.{raised}
 use Rattle.disk_mem.specs.declared.schedule.Call.{Call}
 use Rattle.disk_mem.specs.declared.schedule.Call.TheVariants.{Read, Write, Sync}
@@ -30,12 +30,18 @@ counted plan Sync = record plan { syncs = raised plan.syncs }
 abbrev pub IsStopped : Plan → Type 0
 IsStopped plan = IsSomeAnd plan.stop (λ last. last ≤ plan.reads + plan.writes + plan.syncs)
 
--- the call of that kind with this number is listed
-abbrev pub IsListed : Plan → Call → ℕ → Type 0
-IsListed plan call number = Contains plan.failing (call, number)
+-- the next call of that kind is listed; once the count of calls stands at its last value, none is
+abbrev pub IsListed : Plan → Call → Type 0
+IsListed plan call = (made plan call < 2 ^ 64 - 1) × Contains plan.failing (call, made plan call + 1)
 
 -- how the next call of that kind ends
 abbrev pub IsFate : Plan → Call → Fate → Type 0
 IsFate plan call Stopped = IsStopped plan
-IsFate plan call Fails = (IsStopped plan → ⊥) × IsListed plan call (raised (made plan call))
-IsFate plan call Goes = (IsStopped plan → ⊥) × (IsListed plan call (raised (made plan call)) → ⊥)
+IsFate plan call Fails = (IsStopped plan → ⊥) × IsListed plan call
+IsFate plan call Goes = (IsStopped plan → ⊥) × (IsListed plan call → ⊥)
+
+-- how many of the listed writes have a number over this one
+abbrev pub writes_over : ℕ → List (Call × ℕ) → ℕ
+writes_over number [] = 0
+writes_over number ((Write , listed) ∷ rest) = min 1 (listed - number) + writes_over number rest
+writes_over number (_ ∷ rest) = writes_over number rest

@@ -1,33 +1,35 @@
 // What a crash leaves.
-ghost use Rattle.std.specs.Prelude.{◌≡◌, ◌<◌, ℕ, length, slice_index};
-ghost use Rattle.disk_mem.specs.History.{Filled, IsLoose};
-ghost use Rattle.disk_model.specs.Disk.{InRange};
+ghost use Rattle.std.specs.Prelude.{◌≡◌, ◌+◌, ◌≤◌, length, take, drop};
+ghost use Rattle.std.specs.List.{AllByRecursion};
+ghost use Rattle.disk_mem.specs.History.{FitsIn, IsLoose, TakenFrom};
+ghost use Rattle.disk_model.specs.Disk.{written};
 
 use crate::recording::Step;
 use std::collections::VecDeque;
 
-/// Sets each byte to `fill` that is loose after these steps, the newest first.
-pub fn fill_loose(bytes: &mut [u8], steps: &VecDeque<Step>, fill: u8)
-    ensures { Filled fill (record { seen = bytes.old; is_loose = IsLoose steps.now.items }) bytes.new }
+/// Takes each byte that is loose after these steps, the newest first, from `left`.
+pub fn take_loose(bytes: &mut [u8], steps: &VecDeque<Step>, left: &[u8])
+    requires same_size { length left.now ≡ length bytes.old }
+    requires within { AllByRecursion (FitsIn (length bytes.old)) steps.now.items }
+    ensures { TakenFrom left.now (record { seen = bytes.old; is_loose = IsLoose steps.now.items }) bytes.new }
 {
     for step in steps {
         match step {
             Step::Wrote { place, bytes: copy } => {
-                fill_range(bytes, *place, copy.len() as u64, fill);
+                take_range(bytes, *place, copy.len() as u64, left);
             }
-            Step::Lost { place, count } => fill_range(bytes, *place, *count, fill),
+            Step::Lost { place, count } => take_range(bytes, *place, *count, left),
             Step::Synced => return,
         }
     }
 }
 
-fn fill_range(bytes: &mut [u8], place: u64, count: u64, fill: u8)
-    ensures inside { (i : ℕ) → i < length bytes.new → InRange place count i → slice_index bytes.new i ≡ fill }
-    ensures outside { (i : ℕ) → (InRange place count i → ⊥) → slice_index bytes.new i ≡ slice_index bytes.old i }
+// Takes that many bytes from that place on from `left`.
+fn take_range(bytes: &mut [u8], place: u64, count: u64, left: &[u8])
+    requires same_size { length left.now ≡ length bytes.old }
+    requires within { place + count ≤ length bytes.old }
+    ensures { bytes.new ≡ written place (take count (drop place left.now)) bytes.old }
 {
-    for (i, byte) in bytes.iter_mut().enumerate() {
-        if place <= i as u64 && i as u64 - place < count {
-            *byte = fill;
-        }
-    }
+    let (start, end) = (place as usize, (place + count) as usize);
+    bytes[start..end].copy_from_slice(&left[start..end]);
 }

@@ -1,6 +1,6 @@
-ghost use Rattle.std.specs.Prelude.{◌≡◌, ◌⊎◌, ◌≤◌, ◌↔◌, [], ◌+◌, length, take, drop, replicate, refl, None, IfOk, IfErr, IsErr, OnOk, OnErr};
-ghost use Rattle.disk_mem.specs.Disks.{called, failed, fresh, LosesRange, MustFail, with_step};
-ghost use Rattle.disk_mem.specs.History.{clock_of, Filled, state_of};
+ghost use Rattle.std.specs.Prelude.{◌≡◌, ◌≤◌, ◌↔◌, [], ◌+◌, length, take, drop, replicate, refl, None, IfOk, IfErr, IsErr, OnOk, OnErr};
+ghost use Rattle.disk_mem.specs.Disks.{called, failed, fresh, MustFail, with_step, WriteFailed};
+ghost use Rattle.disk_mem.specs.History.{clock_of, Filled, state_of, TakenFrom};
 ghost use Rattle.disk_mem.specs.Plan.{made};
 ghost use Rattle.disk_mem.specs.Moments.{now_counts, only_now};
 ghost use Rattle.disk_mem.specs.declared.recording.Step.TheVariants.{Wrote, Synced};
@@ -28,11 +28,15 @@ pub struct MemDisk {
 }
 
 impl Model for MemDisk {
+    ghost use Rattle.std.specs.Prelude.{◌≤◌};
     ghost use Rattle.disk_mem.specs.Disks.{Device};
+    ghost use Rattle.disk_mem.specs.Plan.{writes_over};
 
     ghost Value = { Device };
 
-    ghost view = { λ disk. record { past = disk.recording; plan = disk.schedule; faults = disk.faults } };
+    ghost view = { λ disk. record { past = disk.recording.past; plan = disk.schedule; faults = disk.faults } };
+
+    ghost invariant = { λ disk. writes_over disk.schedule.writes disk.schedule.failing ≤ disk.recording.room };
 }
 
 impl MemDisk {
@@ -72,7 +76,19 @@ impl MemDisk {
         ensures fresh { IfOk result (λ disk. disk ≡ fresh disk.past.first [] None) }
         ensures err { IfErr result (λ e. e ≡ OutOfMemory) }
     {
-        let bytes = self.recording.crash(alloc, fill)?;
+        let left = vec![in alloc; fill; self.bytes().len()]?;
+        self.crash_as(alloc, &left)
+    }
+
+    /// What a crash leaves now, where each loose byte is the one in that place of `left`: a device of which no
+    /// call fails.
+    pub fn crash_as(&self, alloc: Global, left: &[u8]) -> Result<MemDisk, Refusal>
+        requires { length left.now ≡ length (state_of self.now.past).seen }
+        ensures image { IfOk result (λ disk. TakenFrom left.now (state_of self.now.past) disk.past.first) }
+        ensures fresh { IfOk result (λ disk. disk ≡ fresh disk.past.first [] None) }
+        ensures err { IfErr result (λ e. e ≡ OutOfMemory) }
+    {
+        let bytes = self.recording.crash_as(alloc, left)?;
         MemDisk::holding(alloc, bytes, Vec::new(alloc), None)
     }
 
@@ -86,7 +102,7 @@ impl MemDisk {
         ensures err { IfErr result (λ e. e ≡ OutOfMemory) }
     {
         Ok(MemDisk {
-            recording: Recording::new(alloc, bytes)?,
+            recording: Recording::new(alloc, bytes, failing.len())?,
             schedule: Schedule::new(failing, stop),
             faults: 0,
         })
@@ -131,7 +147,7 @@ impl Disk for MemDisk {
 
     ghost sized = { λ _ _. refl };
 
-    ghost counts_now = { λ disk t image _ le is. now_counts disk.past t image le is };
+    ghost counts_now = { λ disk t image _ _ is. now_counts disk.past t image is };
 
     ghost only_now = { λ disk image _ left. only_now disk.past image left };
 
@@ -158,8 +174,7 @@ impl Disk for MemDisk {
                 out.copy_from_slice(&self.bytes()[start..start + out.len()]);
                 Ok(())
             }
-            Fate::Fails => Err(self.fault()),
-            Fate::Stopped => Err(self.fault()),
+            Fate::Fails | Fate::Stopped => Err(self.fault()),
         }
     }
 
@@ -168,22 +183,21 @@ impl Disk for MemDisk {
         ensures extent { length (state_of self.new.past).seen ≡ length (state_of self.old.past).seen }
         ensures planned { MustFail self.old Write → IsErr result }
         ensures ok { OnOk result (self.new ≡ with_step (called self.old Write) (Wrote place bytes.now)) }
-        ensures err { OnErr result ((self.new ≡ failed self.old Write) ⊎ LosesRange self.old self.new place (length bytes.now)) }
+        ensures err { OnErr result (WriteFailed self.old self.new place (length bytes.now)) }
         ensures cause { HasCause self.old.faults self.new.faults result }
         ensures written { Writes place bytes.now (state_of self.old.past) (state_of self.new.past) result }
         ensures time { Elapses (Unit {0}) (clock_of self.old.past) (clock_of self.new.past) (IsImage (state_of self.new.past)) }
     {
         match self.schedule.turn(Call::Write) {
             Fate::Goes => match self.recording.write(place, bytes) {
-                Ok(()) => return Ok(()),
-                Err(_) => return Err(self.fault()),
+                Ok(()) => Ok(()),
+                Err(_) => Err(self.fault()),
             },
-            // Where there is no memory to say so, nothing was lost.
-            Fate::Fails => match self.recording.lose(place, bytes.len() as u64) {
-                Ok(()) => return Err(self.fault()),
-                Err(_) => return Err(self.fault()),
-            },
-            Fate::Stopped => return Err(self.fault()),
+            Fate::Fails => {
+                self.recording.lose(place, bytes.len() as u64);
+                Err(self.fault())
+            }
+            Fate::Stopped => Err(self.fault()),
         }
     }
 
@@ -197,11 +211,10 @@ impl Disk for MemDisk {
     {
         match self.schedule.turn(Call::Sync) {
             Fate::Goes => match self.recording.settle() {
-                Ok(()) => return Ok(()),
-                Err(_) => return Err(self.fault()),
+                Ok(()) => Ok(()),
+                Err(_) => Err(self.fault()),
             },
-            Fate::Fails => return Err(self.fault()),
-            Fate::Stopped => return Err(self.fault()),
+            Fate::Fails | Fate::Stopped => Err(self.fault()),
         }
     }
 }

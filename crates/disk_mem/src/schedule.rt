@@ -1,5 +1,5 @@
 // Which calls of a device fail.
-ghost use Rattle.std.specs.Prelude.{◌≡◌, ◌↔◌, IsTrue};
+ghost use Rattle.std.specs.Prelude.{◌≡◌, ◌≤◌, ◌↔◌, IsTrue};
 ghost use Rattle.disk_mem.specs.Plan.{counted, IsFate, IsListed, IsStopped, made};
 
 use std::marker::Model;
@@ -67,11 +67,19 @@ impl Schedule {
     /// Counts a call, and says how it is to end.
     pub fn turn(&mut self, call: Call) -> Fate
         ensures counted { self.new ≡ counted self.old call }
+        ensures later { self.old.writes ≤ self.new.writes }
         ensures fate { IsFate self.old call result }
     {
-        let stopped = self.is_stopped();
+        let fate = self.fate(call);
         self.count(call);
-        if stopped {
+        fate
+    }
+
+    // How the next call of that kind is to end.
+    fn fate(&self, call: Call) -> Fate
+        ensures { IsFate self.now call result }
+    {
+        if self.is_stopped() {
             return Fate::Stopped;
         }
         if self.is_listed(call) {
@@ -94,15 +102,19 @@ impl Schedule {
         }
     }
 
-    // The latest call of that kind is listed.
+    // The next call of that kind is listed.
     fn is_listed(&self, call: Call) -> bool
-        ensures { IsTrue result ↔ IsListed self.now call (made self.now call) }
+        ensures { IsTrue result ↔ IsListed self.now call }
     {
-        self.failing.contains(&(call, self.made(call)))
+        match self.made(call).checked_add(1) {
+            Some(number) => self.failing.contains(&(call, number)),
+            None => false,
+        }
     }
 
     fn count(&mut self, call: Call)
-        ensures { self.new ≡ counted self.old call }
+        ensures counted { self.new ≡ counted self.old call }
+        ensures later { self.old.writes ≤ self.new.writes }
     {
         match call {
             Call::Read => self.reads = self.reads.saturating_add(1),

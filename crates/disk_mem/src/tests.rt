@@ -4,8 +4,8 @@ use retro_base::Refusal;
 use std::alloc::Global;
 use std::test::Fail;
 
-// Each call stands in a function without clauses, so that the tests stay cheap to prove. A write and a read fail where they
-// pass the end of the device.
+// Each call stands in a function without clauses, so that the tests stay cheap to prove. A call fails where it passes the end of
+// the device.
 
 fn write<D: Disk>(disk: &mut D, place: u64, bytes: &[u8]) -> Result<(), Failed> {
     let size = disk.size();
@@ -45,6 +45,19 @@ fn leaves(alloc: Global, disk: &MemDisk, fill: u8, bytes: &[u8]) -> Result<bool,
     Ok(disk.crash(alloc, fill)?.bytes() == bytes)
 }
 
+// Whether a crash that takes the loose bytes from `left` leaves these bytes.
+fn leaves_as(
+    alloc: Global,
+    disk: &MemDisk,
+    left: &[u8],
+    bytes: &[u8],
+) -> Result<bool, Refusal> {
+    if left.len() != disk.bytes().len() {
+        return Err(Refusal::BadSizes);
+    }
+    Ok(disk.crash_as(alloc, left)?.bytes() == bytes)
+}
+
 // How many reads, writes and syncs there were, and how many calls have failed.
 fn counts(disk: &MemDisk) -> [u64; 4] {
     let calls = [Call::Read, Call::Write, Call::Sync].map(|call| disk.calls(call));
@@ -66,6 +79,32 @@ fn a_crash_fills_what_no_sync_stands_behind(rt: HostRuntime) -> Result<(), Fail>
     let settled = leaves(alloc, &disk, 0xa5, &[0, 1, 2, 4, 5, 0, 0, 0])?;
     assert!(rt; (first, last) == ([Ok(()); 3], Ok(())));
     assert!(rt; seen && loose && settled);
+    Ok(())
+}
+
+#[test]
+fn a_crash_leaves_half_a_write(rt: HostRuntime) -> Result<(), Fail> {
+    let alloc = rt.alloc();
+    let mut disk = new(alloc, 6, Vec::new(alloc), None)?;
+    let calls = [
+        write(&mut disk, 0, &[1, 1]),
+        sync(&mut disk),
+        write(&mut disk, 1, &[2, 2, 2, 2]),
+    ];
+    let left = leaves_as(alloc, &disk, &[9, 2, 2, 7, 7, 9], &[1, 2, 2, 7, 7, 0])?;
+    assert!(rt; (calls, left) == ([Ok(()); 3], true));
+    Ok(())
+}
+
+#[test]
+fn a_device_of_32_mib_takes_half_of_it_at_once(rt: HostRuntime) -> Result<(), Fail> {
+    let alloc = rt.alloc();
+    let mut disk = new(alloc, 33_554_432, Vec::new(alloc), None)?;
+    let half = vec![in alloc; 0xa5; 16_777_216]?;
+    let calls = [write(&mut disk, 16_777_216, &half), sync(&mut disk)];
+    let left = disk.crash(alloc, 0)?;
+    let halves = left.bytes().split_at(16_777_216);
+    assert!(rt; (calls, halves.1 == half.as_slice()) == ([Ok(()); 2], true));
     Ok(())
 }
 

@@ -1,0 +1,6 @@
+use Rattle.disk_mem.proofs.Taken.{Taking}
+use Rattle.std.specs.VecDeque.Iter.{deque_iter_rest}
+use Rattle.disk_mem.proofs.crash.take_loose.Given as goal
+
+abbrev pub invariant-loop-step : goal.invariant-loop-step
+invariant-loop-step l = Taking l.left l.steps.items (deque_iter_rest l.step-iterator) l.initial.bytes l.bytes
