@@ -1,5 +1,5 @@
 -- One step more of a device in memory.
-use Rattle.std.proofs.Common.{◌≡◌, refl, inl, inr, ℕ, ◌+◌, ◌≤◌, List, ◌∷◌, length, subst, sym, Ok, arith}
+use Rattle.std.proofs.Common.{◌≡◌, refl, inl, inr, ℕ, ◌+◌, ◌≤◌, List, length, subst, sym, Ok, arith}
 use Rattle.disk_model.specs.Disk.{IsImage, Writes}
 use Rattle.disk_model.proofs.Written.{same_outside}
 use Rattle.disk_model.specs.Moments.{Elapses}

@@ -1,5 +1,5 @@
 -- The present moment among those of a past.
-use Rattle.std.specs.Prelude.{ℕ, ◌≤◌, List, [], ◌∷◌, length}
+use Rattle.std.specs.Prelude.{ℕ, List, [], ◌∷◌, length}
 use mathlib.Core.Logic.{inl, inr}
 use Rattle.std.specs.Cmp.{below_irrefl}
 use Rattle.disk_model.specs.Disk.{IsImage}

@@ -1,4 +1,4 @@
-use Rattle.std.proofs.Common.{◌≡◌, ◌∙◌, List, ◌∷◌, length, ap, subst}
+use Rattle.std.proofs.Common.{◌∙◌, List, ◌∷◌, length, ap, subst}
 use Rattle.std.specs.List.{AllByRecursion}
 use Rattle.std.specs.VecDeque.Iter.{deque_iter_rest}
 use Rattle.disk_mem.specs.History.{FitsIn, IsLoose}
