@@ -1,14 +1,14 @@
-ghost use Rattle.std.specs.Prelude.{◌≡◌, ◌↔◌, ◌*◌, OnOk, OnErr};
-ghost use Rattle.block_file.specs.Blocks.{block_at, ChangesOnly, HasBlock, KeepsSettled};
-ghost use Rattle.retro_base.specs.Cause.{FaultsAlone};
-ghost use Rattle.disk_model.specs.Disk.{IsDurable, IsImage, Unchanged};
-ghost use Rattle.disk_model.specs.Moments.{LeavesOnly};
+ghost use Rattle.std.specs.Prelude.{◌≡◌, ◌*◌, OnOk, OnErr};
+ghost use Rattle.block_file.specs.Blocks.{block_at, HasBlock, WritesOnly};
+ghost use Rattle.disk_model.specs.Disk.{IsDurable};
+ghost use Rattle.disk_model.specs.Runs.{OnlyReads, SameDevice, WritesNothing};
 ghost use Rattle.retro_base.specs.declared.refusal.Refusal.TheVariants.{DiskFault};
+ghost use Rattle.retro_base.specs.Cause.{FaultsAlone};
 
 use disk_model::{Disk, Failed};
 use retro_base::{Device, PAGE_BYTES, Page, Refusal};
 
-/// Reads the block of that number. After a fault `out` is as before.
+// Reads the block of that number. After a fault `out` is as before.
 pub fn read_block<D: Disk>(
     disk: &mut D,
     device: Device,
@@ -16,13 +16,11 @@ pub fn read_block<D: Disk>(
     out: &mut Page,
 ) -> Result<(), Refusal>
     requires { HasBlock (D.extent disk.old) number }
-    ensures extent { D.extent disk.new ≡ D.extent disk.old }
-    ensures honest { D.is_honest disk.old ↔ D.is_honest disk.new }
+    ensures same { SameDevice D.extent D.is_honest disk.old disk.new }
     ensures cause { FaultsAlone device (D.faults disk.old) (D.faults disk.new) result }
     ensures read { D.is_honest disk.old → OnOk result (out.new ≡ block_at number (D.state disk.old).seen) }
     ensures err { OnErr result (out.new ≡ out.old) }
-    ensures unchanged { D.is_honest disk.old → Unchanged (D.state disk.old) (D.state disk.new) }
-    ensures any_moment { D.is_honest disk.old → LeavesOnly (D.clock disk.old) (D.clock disk.new) (IsImage (D.state disk.old)) }
+    ensures quiet { D.is_honest disk.old → OnlyReads D.remembers D.state D.clock disk.old disk.new }
 {
     let mut bytes = [0; PAGE_BYTES];
     match disk.read_at(place_of(number), &mut bytes) {
@@ -34,8 +32,8 @@ pub fn read_block<D: Disk>(
     }
 }
 
-/// Writes the block of that number. Until the next settle a crash may leave any bytes in it, and after a fault
-/// so may a read.
+// Writes the block of that number. Until the next settle a crash may leave any bytes in it, and after a fault
+// so may a read.
 pub fn write_block<D: Disk>(
     disk: &mut D,
     device: Device,
@@ -43,13 +41,11 @@ pub fn write_block<D: Disk>(
     bytes: &Page,
 ) -> Result<(), Refusal>
     requires { HasBlock (D.extent disk.old) number }
-    ensures extent { D.extent disk.new ≡ D.extent disk.old }
-    ensures honest { D.is_honest disk.old ↔ D.is_honest disk.new }
+    ensures same { SameDevice D.extent D.is_honest disk.old disk.new }
     ensures cause { FaultsAlone device (D.faults disk.old) (D.faults disk.new) result }
     ensures written { D.is_honest disk.old → OnOk result (block_at number (D.state disk.new).seen ≡ bytes.now) }
-    ensures others { D.is_honest disk.old → ChangesOnly (λ other. other ≡ number) (D.state disk.old) (D.state disk.new) }
-    ensures any_moment { D.is_honest disk.old → LeavesOnly (D.clock disk.old) (D.clock disk.new)
-        (KeepsSettled (λ other. other ≡ number) (D.state disk.old)) }
+    ensures alone { D.is_honest disk.old
+        → WritesOnly (λ other. other ≡ number) D.remembers D.state D.clock disk.old disk.new }
 {
     match disk.write_at(place_of(number), bytes.bytes()) {
         Ok(()) => Ok(()),
@@ -57,15 +53,19 @@ pub fn write_block<D: Disk>(
     }
 }
 
+// Where the block of that number stands.
+fn place_of(number: u32) -> u64
+    ensures { result ≡ PAGE_BYTES * number }
+{
+    PAGE_BYTES as u64 * u64::from(number)
+}
+
 /// Makes all that was written durable. A fault leaves what was loose as loose as before.
 pub fn settle<D: Disk>(disk: &mut D, device: Device) -> Result<(), Refusal>
-    ensures extent { D.extent disk.new ≡ D.extent disk.old }
-    ensures honest { D.is_honest disk.old ↔ D.is_honest disk.new }
+    ensures same { SameDevice D.extent D.is_honest disk.old disk.new }
     ensures cause { FaultsAlone device (D.faults disk.old) (D.faults disk.new) result }
-    ensures same { D.is_honest disk.old → (D.state disk.new).seen ≡ (D.state disk.old).seen }
-    ensures durable { D.is_honest disk.old → OnOk result (IsDurable (D.state disk.new)) }
-    ensures others { D.is_honest disk.old → ChangesOnly (λ _. ⊥) (D.state disk.old) (D.state disk.new) }
-    ensures any_moment { D.is_honest disk.old → LeavesOnly (D.clock disk.old) (D.clock disk.new) (IsImage (D.state disk.old)) }
+    ensures settled { D.is_honest disk.old → OnOk result (IsDurable (D.state disk.new)) }
+    ensures quiet { D.is_honest disk.old → WritesNothing D.remembers D.state D.clock disk.old disk.new }
 {
     match disk.sync() {
         Ok(()) => Ok(()),
@@ -73,15 +73,8 @@ pub fn settle<D: Disk>(disk: &mut D, device: Device) -> Result<(), Refusal>
     }
 }
 
-// Where the block of that number stands.
-fn place_of(number: u32) -> u64
-    ensures { result ≡ 1024 * number }
-{
-    PAGE_BYTES as u64 * u64::from(number)
-}
-
-// The refusal that tells the device's last fault.
-fn fault_of<D: Disk>(disk: &D, device: Device) -> Refusal
+/// The refusal that tells the device's last fault.
+pub fn fault_of<D: Disk>(disk: &D, device: Device) -> Refusal
     ensures { result ≡ DiskFault device (D.faults disk.now) }
 {
     Refusal::DiskFault {
