@@ -1,7 +1,7 @@
 -- A device in memory that fails as planned.
 use Rattle.std.specs.Prelude.{◌≡◌, ◌⊎◌, ℕ, List, [], ◌∷◌, Option}
 use Rattle.retro_base.specs.Cause.{raised}
-use Rattle.disk_mem.specs.History.{Past}
+use Rattle.disk_mem.specs.History.{Past, synced}
 use Rattle.disk_mem.specs.Plan.{Plan, counted, IsListed, IsStopped}
 use Rattle.disk_mem.specs.declared.recording.Step.{Step}
 use Rattle.disk_mem.specs.declared.recording.Step.TheVariants.{Lost}
@@ -25,6 +25,10 @@ fresh bytes failing stop = record {
 -- the past with this step more
 abbrev pub stepped : Past → Step → Past
 stepped past step = record { first = past.first; steps = step ∷ past.steps }
+
+-- the past with a sync more
+abbrev pub settled : Past → Past
+settled past = record { first = past.first; steps = synced past.steps }
 
 -- the device after a step more
 abbrev pub with_step : Device → Step → Device

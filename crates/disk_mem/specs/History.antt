@@ -30,6 +30,20 @@ IsLoose (Wrote place bytes ∷ before) i = IsLoose before i ⊎ InRange place (l
 IsLoose (Lost place count ∷ before) i = IsLoose before i ⊎ InRange place count i
 IsLoose (Synced ∷ before) i = ⊥
 
+-- how many steps the next sync adds: none where no write stands behind the last
+abbrev pub owed : List Step → ℕ
+owed [] = 0
+owed (Wrote place bytes ∷ before) = 1
+owed (Lost place count ∷ before) = 1
+owed (Synced ∷ before) = 0
+
+-- the steps after a sync
+abbrev pub synced : List Step → List Step
+synced [] = []
+synced (Wrote place bytes ∷ before) = Synced ∷ Wrote place bytes ∷ before
+synced (Lost place count ∷ before) = Synced ∷ Lost place count ∷ before
+synced (Synced ∷ before) = Synced ∷ before
+
 abbrev pub state_of : Past → State
 state_of past = record { seen = seen_after past.first past.steps; is_loose = IsLoose past.steps }
 

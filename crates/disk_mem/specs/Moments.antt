@@ -19,7 +19,7 @@ only_now_after : (first : List ℕ) (steps : List Step) (image : List ℕ)
     → LeftAfter first steps (length steps) image → IsImage (state_of (record { first = first; steps = steps })) image
 only_now_after first [] image left = left
 only_now_after first (step ∷ before) image (inl is) = is
-only_now_after first (step ∷ before) image (inr (enough , _)) = absurd (below_irrefl (length before) enough)
+only_now_after first (step ∷ before) image (inr (enough, _)) = absurd (below_irrefl (length before) enough)
 
 -- since the present moment there is no other
 pub only_now : (past : Past) (image : List ℕ) → LeftSince past (length past.steps) image → IsImage (state_of past) image

@@ -43,5 +43,5 @@ IsFate plan call Goes = (IsStopped plan → ⊥) × (IsListed plan call → ⊥)
 -- how many of the listed writes have a number over this one
 abbrev pub writes_over : ℕ → List (Call × ℕ) → ℕ
 writes_over number [] = 0
-writes_over number ((Write , listed) ∷ rest) = min 1 (listed - number) + writes_over number rest
+writes_over number ((Write, listed) ∷ rest) = min 1 (listed - number) + writes_over number rest
 writes_over number (_ ∷ rest) = writes_over number rest

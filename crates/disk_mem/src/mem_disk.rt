@@ -1,9 +1,9 @@
 ghost use Rattle.std.specs.Prelude.{◌≡◌, ◌≤◌, ◌↔◌, [], ◌+◌, length, take, drop, replicate, refl, None, IfOk, IfErr, IsErr, OnOk, OnErr};
-ghost use Rattle.disk_mem.specs.Disks.{called, failed, fresh, MustFail, with_step, WriteFailed};
+ghost use Rattle.disk_mem.specs.Disks.{called, failed, fresh, MustFail, settled, with_step, WriteFailed};
 ghost use Rattle.disk_mem.specs.History.{clock_of, Filled, state_of, TakenFrom};
 ghost use Rattle.disk_mem.specs.Plan.{made};
 ghost use Rattle.disk_mem.specs.Moments.{now_counts, only_now};
-ghost use Rattle.disk_mem.specs.declared.recording.Step.TheVariants.{Wrote, Synced};
+ghost use Rattle.disk_mem.specs.declared.recording.Step.TheVariants.{Wrote};
 ghost use Rattle.disk_mem.specs.declared.schedule.Call.TheVariants.{Read, Write, Sync};
 ghost use Rattle.disk_model.specs.Cause.{HasCause};
 ghost use Rattle.disk_model.specs.Moments.{Elapses};
@@ -18,8 +18,8 @@ use retro_base::Refusal;
 use std::alloc::Global;
 use std::marker::Model;
 
-/// A device in memory that fails as planned. It records each write and each sync since it was made, from which
-/// follows what a crash might have left at each moment.
+/// A device in memory that fails as planned. It records what has changed it since it was made, from which
+/// follows what a crash might have left at each moment. Apart from the plan, only a write fails, for want of memory.
 #[derive(Drop)]
 pub struct MemDisk {
     recording: Recording,
@@ -203,17 +203,17 @@ impl Disk for MemDisk {
 
     fn sync(&mut self) -> Result<(), Failed>
         ensures extent { length (state_of self.new.past).seen ≡ length (state_of self.old.past).seen }
-        ensures planned { MustFail self.old Sync → IsErr result }
-        ensures ok { OnOk result (self.new ≡ with_step (called self.old Sync) Synced) }
+        ensures planned { IsErr result ↔ MustFail self.old Sync }
+        ensures ok { OnOk result (self.new ≡ record (called self.old Sync) { past = settled self.old.past }) }
         ensures err { OnErr result (self.new ≡ failed self.old Sync) }
         ensures cause { HasCause self.old.faults self.new.faults result }
         ensures time { Elapses (Unit {0}) (clock_of self.old.past) (clock_of self.new.past) (IsImage (state_of self.new.past)) }
     {
         match self.schedule.turn(Call::Sync) {
-            Fate::Goes => match self.recording.settle() {
-                Ok(()) => Ok(()),
-                Err(_) => Err(self.fault()),
-            },
+            Fate::Goes => {
+                self.recording.settle();
+                Ok(())
+            }
             Fate::Fails | Fate::Stopped => Err(self.fault()),
         }
     }

@@ -1,9 +1,9 @@
 // The bytes of a device in memory, and what made them so.
-ghost use Rattle.std.specs.Prelude.{◌≡◌, ◌+◌, ◌-◌, ◌≤◌, ◌∷◌, [], length, OnOk, OnErr, IfOk};
+ghost use Rattle.std.specs.Prelude.{◌≡◌, ◌+◌, ◌-◌, ◌^◌, ◌<◌, ◌≤◌, [], length, OnOk, OnErr, IfOk};
 ghost use Rattle.std.specs.VecDeque.{deque_capacity, deque_len};
-ghost use Rattle.disk_mem.specs.declared.recording.Step.TheVariants.{Wrote, Lost, Synced};
-ghost use Rattle.disk_mem.specs.Disks.{stepped};
-ghost use Rattle.disk_mem.specs.History.{seen_after, state_of, TakenFrom};
+ghost use Rattle.disk_mem.specs.declared.recording.Step.TheVariants.{Wrote, Lost};
+ghost use Rattle.disk_mem.specs.Disks.{settled, stepped};
+ghost use Rattle.disk_mem.specs.History.{owed, state_of, synced, TakenFrom};
 ghost use Rattle.disk_model.specs.Disk.{written};
 
 use crate::crash::take_loose;
@@ -35,28 +35,29 @@ pub struct Recording {
 }
 
 impl Model for Recording {
-    ghost use Rattle.std.specs.Prelude.{◌+◌, ◌≤◌};
+    ghost use Rattle.std.specs.Prelude.{◌+◌, ◌*◌, ◌≤◌};
     ghost use Rattle.std.specs.VecDeque.{deque_capacity, deque_len};
-    ghost use Rattle.disk_mem.specs.History.{Recorded, RoomyPast};
+    ghost use Rattle.disk_mem.specs.History.{owed, Recorded, RoomyPast};
 
     ghost Value = { RoomyPast };
 
     ghost view = { λ r. record { past = record { first = r.first.items; steps = r.steps.items }; room = r.room } };
 
     ghost invariant = { λ r. Recorded r.first.items r.steps.items r.bytes.items
-        × (deque_len r.steps + r.room ≤ deque_capacity r.steps) };
+        × (deque_len r.steps + owed r.steps.items + 2 * r.room ≤ deque_capacity r.steps) };
 }
 
 impl Recording {
-    /// Begins with these bytes, and takes room for that many lost writes.
+    /// Begins with these bytes, and takes room for that many lost writes, each with a sync behind it.
     pub fn new(alloc: Global, bytes: Vec<u8>, room: usize) -> Result<Recording, AllocError>
+        requires { room < 2 ^ 63 }
         ensures { IfOk result (λ r. r ≡ record { past = record { first = bytes.items; steps = [] }; room = room }) }
     {
         Ok(Recording {
             alloc,
             first: bytes.to_vec(alloc)?,
             bytes,
-            steps: VecDeque::with_capacity(alloc, room)?,
+            steps: VecDeque::with_capacity(alloc, 2 * room)?,
             room,
         })
     }
@@ -78,7 +79,7 @@ impl Recording {
         Ok(bytes)
     }
 
-    /// Writes these bytes from that place on.
+    /// Writes these bytes from that place on, and takes room for the next sync.
     pub fn write(&mut self, place: u64, bytes: &[u8]) -> Result<(), AllocError>
         requires { place + length bytes.now ≤ length (state_of self.old.past).seen }
         ensures room { self.new.room ≡ self.old.room }
@@ -86,11 +87,11 @@ impl Recording {
         ensures err { OnErr result (self.new.past ≡ self.old.past) }
     {
         let copy = bytes.to_vec(self.alloc)?;
-        let step = Step::Wrote {
+        self.steps.reserve(2 * self.room + 2)?;
+        self.steps.push_front_reserved(Step::Wrote {
             place,
             bytes: Seq::from(copy),
-        };
-        add(&mut self.steps, step, self.room)?;
+        });
         overwrite(&mut self.bytes, place as usize, bytes);
         Ok(())
     }
@@ -106,26 +107,26 @@ impl Recording {
         self.room -= 1;
     }
 
-    /// Makes all bytes durable.
-    pub fn settle(&mut self) -> Result<(), AllocError>
+    /// Makes all bytes durable. Its room was taken before.
+    pub fn settle(&mut self)
+        ensures past { self.new.past ≡ settled self.old.past }
         ensures room { self.new.room ≡ self.old.room }
-        ensures ok { OnOk result (self.new.past ≡ stepped self.old.past Synced) }
-        ensures err { OnErr result (self.new.past ≡ self.old.past) }
     {
-        add(&mut self.steps, Step::Synced, self.room)
+        add_sync(&mut self.steps);
     }
 }
 
-// Adds a step, and keeps room for so many more.
-fn add(steps: &mut VecDeque<Step>, step: Step, room: usize) -> Result<(), AllocError>
-    requires { deque_len steps.old + room ≤ deque_capacity steps.old }
-    ensures room { deque_len steps.new + room ≤ deque_capacity steps.new }
-    ensures ok { OnOk result (steps.new.items ≡ step ∷ steps.old.items) }
-    ensures err { OnErr result (steps.new.items ≡ steps.old.items) }
+// Adds a sync, if a write stands behind the last.
+fn add_sync(steps: &mut VecDeque<Step>)
+    requires { deque_len steps.old + owed steps.old.items ≤ deque_capacity steps.old }
+    ensures items { steps.new.items ≡ synced steps.old.items }
+    ensures len { deque_len steps.new ≡ deque_len steps.old + owed steps.old.items }
+    ensures capacity { deque_capacity steps.new ≡ deque_capacity steps.old }
 {
-    steps.reserve(room + 1)?;
-    steps.push_front_reserved(step);
-    Ok(())
+    match steps.front() {
+        None | Some(Step::Synced) => {}
+        Some(_) => steps.push_front_reserved(Step::Synced),
+    }
 }
 
 fn overwrite(bytes: &mut Vec<u8>, place: usize, with: &[u8])

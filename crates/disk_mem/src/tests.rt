@@ -46,12 +46,7 @@ fn leaves(alloc: Global, disk: &MemDisk, fill: u8, bytes: &[u8]) -> Result<bool,
 }
 
 // Whether a crash that takes the loose bytes from `left` leaves these bytes.
-fn leaves_as(
-    alloc: Global,
-    disk: &MemDisk,
-    left: &[u8],
-    bytes: &[u8],
-) -> Result<bool, Refusal> {
+fn leaves_as(alloc: Global, disk: &MemDisk, left: &[u8], bytes: &[u8]) -> Result<bool, Refusal> {
     if left.len() != disk.bytes().len() {
         return Err(Refusal::BadSizes);
     }
@@ -96,15 +91,24 @@ fn a_crash_leaves_half_a_write(rt: HostRuntime) -> Result<(), Fail> {
     Ok(())
 }
 
+// Whether a device takes its second half in one write, which a sync makes durable.
+fn takes_half(alloc: Global, count: usize) -> Result<bool, Refusal> {
+    let half = vec![in alloc; 0xa5; count]?;
+    let mut disk = new(
+        alloc,
+        (count as u64).saturating_mul(2),
+        Vec::new(alloc),
+        None,
+    )?;
+    let calls = [write(&mut disk, count as u64, &half), sync(&mut disk)];
+    let left = disk.crash(alloc, 0)?;
+    Ok(calls == [Ok(()); 2] && left.bytes().ends_with(&half))
+}
+
 #[test]
 fn a_device_of_32_mib_takes_half_of_it_at_once(rt: HostRuntime) -> Result<(), Fail> {
-    let alloc = rt.alloc();
-    let mut disk = new(alloc, 33_554_432, Vec::new(alloc), None)?;
-    let half = vec![in alloc; 0xa5; 16_777_216]?;
-    let calls = [write(&mut disk, 16_777_216, &half), sync(&mut disk)];
-    let left = disk.crash(alloc, 0)?;
-    let halves = left.bytes().split_at(16_777_216);
-    assert!(rt; (calls, halves.1 == half.as_slice()) == ([Ok(()); 2], true));
+    let taken = takes_half(rt.alloc(), 16_777_216)?;
+    assert!(rt; taken);
     Ok(())
 }
 
