@@ -1,20 +1,12 @@
+use crate::faults::{Act, FAULT, FOUR_CALLS, SIX_CALLS, Trial, first_wrong};
 use crate::support::{
-    again, append, are_these, calls_of, crash, fetch, fill, framed, make, open, put_byte, replace,
-    zeros,
+    again, append, are_these, crash, fetch, fill, framed, make, open, put, replace, zeros,
 };
-use disk_mem::MemDisk;
+use disk_mem::{Call, MemDisk};
 use disk_model::Disk;
 use retro_base::{Device, Refusal};
 use std::alloc::Global;
 use std::test::Fail;
-
-const FILLS: [u8; 3] = [0x00, 0xa5, 0xff];
-
-// The first fault of a log's device.
-const FAULT: Result<(), Refusal> = Err(Refusal::DiskFault {
-    device: Device::Log,
-    count: 1,
-});
 
 // A log of 128 bytes with this body.
 fn log_of(alloc: Global, body: &[u8]) -> Result<MemDisk, Refusal> {
@@ -30,102 +22,125 @@ fn replaced_log(alloc: Global) -> Result<MemDisk, Refusal> {
     Ok(disk)
 }
 
-// How many calls it takes to open the log.
-fn calls_to_open(alloc: Global, disk: &MemDisk) -> Result<u64, Refusal> {
-    let mut trial = again(alloc, disk, None)?;
-    let _bodies = open(alloc, &mut trial)?;
-    Ok(calls_of(&trial))
-}
-
-// The same bytes on a device that stops that many calls after its log was opened.
-fn stopping(alloc: Global, disk: &MemDisk, calls: u64) -> Result<MemDisk, Refusal> {
-    let stop = calls_to_open(alloc, disk)?.saturating_add(calls);
-    again(alloc, disk, Some(stop))
-}
-
 // Whether the log is of these bodies.
 fn lists<D: Disk>(alloc: Global, disk: &mut D, want: &[&[u8]]) -> Result<bool, Refusal> {
     let bodies = open(alloc, disk)?;
     Ok(are_these(bodies.as_slice(), want))
 }
 
-// Whether the log on what a crash leaves is of these bodies.
-fn crash_leaves(alloc: Global, disk: &MemDisk, fill: u8, want: &[&[u8]]) -> Result<bool, Refusal> {
-    let mut left = crash(alloc, disk, fill)?;
-    lists(alloc, &mut left, want)
+#[test]
+fn a_make_takes_four_calls_and_leaves_its_list_or_none(rt: HostRuntime) -> Result<(), Fail> {
+    let alloc = rt.alloc();
+    let trial = Trial {
+        act: Act::Make,
+        old: None,
+        new: &[&[2, 3]],
+    };
+    let wrong = first_wrong(alloc, &zeros(alloc, 128)?, &trial, &FOUR_CALLS)?;
+    assert!(rt; wrong == None);
+    Ok(())
 }
 
-// Whether the log on what a crash leaves is of the bodies in `opened` where the loose bytes open a gate, and else of those in
-// `closed`.
-fn crashes_leave<'a>(
+#[test]
+fn an_append_takes_four_calls_and_leaves_its_body_or_not(rt: HostRuntime) -> Result<(), Fail> {
+    let alloc = rt.alloc();
+    let trial = Trial {
+        act: Act::Append,
+        old: Some(&[&[1]]),
+        new: &[&[1], &[2, 3]],
+    };
+    let wrong = first_wrong(alloc, &log_of(alloc, &[1])?, &trial, &FOUR_CALLS)?;
+    assert!(rt; wrong == None);
+    Ok(())
+}
+
+#[test]
+fn a_replace_takes_four_calls_and_leaves_the_old_list_or_the_new(
+    rt: HostRuntime,
+) -> Result<(), Fail> {
+    let alloc = rt.alloc();
+    let trial = Trial {
+        act: Act::Replace,
+        old: Some(&[&[1]]),
+        new: &[&[3, 4]],
+    };
+    let wrong = first_wrong(alloc, &log_of(alloc, &[1])?, &trial, &FOUR_CALLS)?;
+    assert!(rt; wrong == None);
+    Ok(())
+}
+
+#[test]
+fn a_replace_behind_an_open_gate_takes_two_calls_more(rt: HostRuntime) -> Result<(), Fail> {
+    let alloc = rt.alloc();
+    let trial = Trial {
+        act: Act::Replace,
+        old: Some(&[&[2]]),
+        new: &[&[3, 4]],
+    };
+    let wrong = first_wrong(alloc, &replaced_log(alloc)?, &trial, &SIX_CALLS)?;
+    assert!(rt; wrong == None);
+    Ok(())
+}
+
+// What an opening gives while that call fails, and whether the next one lists the body 1.
+fn opened_twice(
     alloc: Global,
     disk: &MemDisk,
-    opened: &'a [&'a [u8]],
-    closed: &'a [&'a [u8]],
-) -> Result<bool, Refusal> {
-    for fill in FILLS {
-        let want = if fill == 0xa5 { opened } else { closed };
-        if !crash_leaves(alloc, disk, fill, want)? {
-            return Ok(false);
-        }
-    }
-    Ok(true)
+    call: Call,
+    number: u64,
+) -> Result<(Option<Refusal>, bool), Refusal> {
+    let failing = vec![in alloc; (call, number)]?;
+    let mut faulty = disk.again(alloc, failing, None)?;
+    let first = open(alloc, &mut faulty).err();
+    Ok((first, lists(alloc, &mut faulty, &[&[1]])?))
 }
 
 #[test]
-fn an_append_that_stops_leaves_the_body_or_not(rt: HostRuntime) -> Result<(), Fail> {
+fn a_fault_of_an_opening_changes_nothing(rt: HostRuntime) -> Result<(), Fail> {
     let alloc = rt.alloc();
     let disk = log_of(alloc, &[1])?;
-    let (old, new): (&[&[u8]], &[&[u8]]) = (&[&[1]], &[&[1], &[2, 3]]);
-    for calls in 0..5 {
-        let mut stopped = stopping(alloc, &disk, calls)?;
-        let done = append(alloc, &mut stopped, &[2, 3]);
-        let opened = if calls >= 3 { new } else { old };
-        let closed = if calls == 4 { new } else { old };
-        let left = crashes_leave(alloc, &stopped, opened, closed)?;
-        let want = if calls == 4 { Ok(()) } else { FAULT };
-        assert!(rt; (done, left) == (want, true), "{calls}");
-    }
+    let opened = [
+        opened_twice(alloc, &disk, Call::Sync, 1),
+        opened_twice(alloc, &disk, Call::Read, 1),
+        opened_twice(alloc, &disk, Call::Read, 2),
+        opened_twice(alloc, &disk, Call::Read, 3),
+    ];
+    assert!(rt; opened == [Ok((FAULT.err(), true)); 4]);
     Ok(())
 }
 
-#[test]
-fn a_replace_that_stops_leaves_the_old_list_or_the_new(rt: HostRuntime) -> Result<(), Fail> {
-    let alloc = rt.alloc();
-    let disk = replaced_log(alloc)?;
-    let (old, new): (&[&[u8]], &[&[u8]]) = (&[&[2]], &[&[3, 4]]);
-    for calls in 0..7 {
-        let mut stopped = stopping(alloc, &disk, calls)?;
-        let done = replace(alloc, &mut stopped, &[3, 4]);
-        let opened = if calls >= 5 { new } else { old };
-        let closed = if calls == 6 { new } else { old };
-        let left = crashes_leave(alloc, &stopped, opened, closed)?;
-        let want = if calls == 6 { Ok(()) } else { FAULT };
-        assert!(rt; (done, left) == (want, true), "{calls}");
-    }
-    Ok(())
-}
-
-// What a replace gives that stops after so many calls, and what a crash then leaves.
+// What a replace gives that stops after so many calls of its own, and what a crash then leaves.
 fn stopped_replace(
     alloc: Global,
     disk: &MemDisk,
     calls: u64,
     body: &[u8],
 ) -> Result<(Result<(), Refusal>, MemDisk), Refusal> {
-    let mut stopped = stopping(alloc, disk, calls)?;
+    let mut stopped = again(alloc, disk, Some(calls.saturating_add(4)))?;
     let done = replace(alloc, &mut stopped, body);
     Ok((done, crash(alloc, &stopped, 0xa5)?))
 }
 
 #[test]
-fn a_half_that_was_left_open_is_closed_first(rt: HostRuntime) -> Result<(), Fail> {
+fn a_closed_gate_is_not_written_again(rt: HostRuntime) -> Result<(), Fail> {
     let alloc = rt.alloc();
     let disk = replaced_log(alloc)?;
     let (first, left) = stopped_replace(alloc, &disk, 3, &[3])?;
     let (second, mut left) = stopped_replace(alloc, &left, 1, &[4])?;
     let same = lists(alloc, &mut left, &[&[2]])?;
     assert!(rt; (first, second, same) == (FAULT, FAULT, true));
+    Ok(())
+}
+
+#[test]
+fn the_generation_after_the_last_is_the_first(rt: HostRuntime) -> Result<(), Fail> {
+    let alloc = rt.alloc();
+    let mut disk = log_of(alloc, &[1])?;
+    let last = put(&mut disk, 8, &[0xff; 8]);
+    let first = replace(alloc, &mut disk, &[2]);
+    let one = disk.bytes()[64..80] == [0xa5, 0, 0, 0, 0, 0, 0, 0, 0, 0, 0, 0, 0, 0, 0, 1];
+    let lists = lists(alloc, &mut disk, &[&[2]])?;
+    assert!(rt; (last, first, one, lists) == (Ok(()), Ok(()), true, true));
     Ok(())
 }
 
@@ -155,8 +170,7 @@ fn append_twice<D: Disk>(alloc: Global, disk: &mut D) -> Result<[Result<(), Refu
 #[test]
 fn a_fault_stops_a_log(rt: HostRuntime) -> Result<(), Fail> {
     let alloc = rt.alloc();
-    let disk = log_of(alloc, &[1])?;
-    let mut stopped = stopping(alloc, &disk, 1)?;
+    let mut stopped = again(alloc, &log_of(alloc, &[1])?, Some(5))?;
     let outcomes = append_twice(alloc, &mut stopped)?;
     let (device, count) = (Device::Log, 1);
     let want = [FAULT, Err(Refusal::Stopped { device, count })];
@@ -170,8 +184,8 @@ fn a_region_is_opened_appended_to_and_replaced(rt: HostRuntime) -> Result<(), Fa
     let mut disk = zeros(alloc, 128)?;
     let filled = fill(alloc, &mut disk, &[1]);
     let closed = open(alloc, &mut disk).err();
-    let gate = put_byte(&mut disk, 0, 0xa5);
-    let appended = [
+    let writes = [
+        put(&mut disk, 0, &[0xa5]),
         append(alloc, &mut disk, &[2]),
         append(alloc, &mut disk, &[3, 3]),
     ];
@@ -180,7 +194,24 @@ fn a_region_is_opened_appended_to_and_replaced(rt: HostRuntime) -> Result<(), Fa
     let one = lists(alloc, &mut disk, &[&[4]])?;
     let (device, place) = (Device::Log, 0);
     assert!(rt; (filled, closed) == (Ok(()), Some(Refusal::NotAStore { device, place })));
-    assert!(rt; (gate, appended, replaced) == (Ok(()), [Ok(()); 2], Ok(())));
-    assert!(rt; three && one);
+    assert!(rt; (writes, replaced, three, one) == ([Ok(()); 3], Ok(()), true, true));
+    Ok(())
+}
+
+// Whether a log of that many bytes holds a body of so many beside the one that it was made with, and alone.
+fn holds_much(alloc: Global, size: u64, count: usize) -> Result<bool, Refusal> {
+    let body = vec![in alloc; 0xa5; count]?;
+    let mut disk = zeros(alloc, size)?;
+    make(alloc, &mut disk, &[1])?;
+    append(alloc, &mut disk, &body)?;
+    let two = lists(alloc, &mut disk, &[&[1], &body])?;
+    replace(alloc, &mut disk, &body)?;
+    Ok(two && lists(alloc, &mut disk, &[&body])?)
+}
+
+#[test]
+fn a_log_of_4_mib_holds_a_body_of_1_mib(rt: HostRuntime) -> Result<(), Fail> {
+    let held = holds_much(rt.alloc(), 4_194_304, 1_048_576);
+    assert!(rt; held == Ok(true));
     Ok(())
 }

@@ -1,4 +1,4 @@
-use crate::support::{are_these, fill, framed, put_byte, zeros};
+use crate::support::{are_these, fill, framed, put, zeros};
 use disk_mem::MemDisk;
 use disk_model::Disk;
 use gate_log::GateLog;
@@ -45,7 +45,7 @@ fn a_region_counts_once_its_gate_is_open(rt: HostRuntime) -> Result<(), Fail> {
     let mut disk = zeros(alloc, 64)?;
     let filled = fill(alloc, &mut disk, &[1, 2]);
     let closed = listed(alloc, &mut disk, &[&[1, 2]]);
-    let gate = put_byte(&mut disk, 0, 0xa5);
+    let gate = put(&mut disk, 0, &[0xa5]);
     let open = listed(alloc, &mut disk, &[&[1, 2]]);
     assert!(rt; (filled, gate) == (Ok(()), Ok(())));
     assert!(rt; (closed, open) == (Ok(None), Ok(Some((23, true)))));
@@ -56,7 +56,7 @@ fn a_region_counts_once_its_gate_is_open(rt: HostRuntime) -> Result<(), Fail> {
 fn open_region(alloc: Global) -> Result<MemDisk, Refusal> {
     let mut disk = zeros(alloc, 64)?;
     fill(alloc, &mut disk, &[1, 2])?;
-    put_byte(&mut disk, 0, 0xa5)?;
+    put(&mut disk, 0, &[0xa5])?;
     Ok(disk)
 }
 

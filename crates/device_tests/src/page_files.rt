@@ -1,16 +1,16 @@
 ghost use Rattle.std.specs.Prelude.{◌≡◌, ◌<◌, IfOk};
 
-use crate::support::{crash, failing, page, zeros};
+use crate::support::{calls_of, crash, failing, page, zeros};
+use block_file::PageFile;
 use disk_mem::{Call, MemDisk};
 use disk_model::Disk;
-use page_file::PageFile;
 use retro_base::{Device, Refusal};
 use std::alloc::Global;
 use std::test::Fail;
 
 // The three pages of a device.
 fn pages_on<D: Disk + Drop>(disk: D) -> Result<PageFile<D>, Refusal>
-    ensures { IfOk result (λ file. file.pages ≡ 3) }
+    ensures { IfOk result (λ file. file.blocks ≡ 3) }
 {
     if disk.size() != 3072 {
         return Err(Refusal::BadSizes);
@@ -20,29 +20,29 @@ fn pages_on<D: Disk + Drop>(disk: D) -> Result<PageFile<D>, Refusal>
 
 // The pages that a crash leaves.
 fn left_by(alloc: Global, file: PageFile<MemDisk>, fill: u8) -> Result<PageFile<MemDisk>, Refusal>
-    ensures { IfOk result (λ file. file.pages ≡ 3) }
+    ensures { IfOk result (λ file. file.blocks ≡ 3) }
 {
     pages_on(crash(alloc, &file.into_disk(), fill)?)
 }
 
 // Writes a page of this byte alone.
 fn write<D: Disk>(file: &mut PageFile<D>, number: u32, byte: u8) -> Result<(), Refusal>
-    requires { number < file.old.pages }
-    ensures { file.new.pages ≡ file.old.pages }
+    requires { number < file.old.blocks }
+    ensures { file.new.blocks ≡ file.old.blocks }
 {
     file.write(number, &page(byte))
 }
 
 fn settle<D: Disk>(file: &mut PageFile<D>) -> Result<(), Refusal>
-    ensures { file.new.pages ≡ file.old.pages }
+    ensures { file.new.blocks ≡ file.old.blocks }
 {
     file.settle()
 }
 
 // Whether a page is of this byte alone.
 fn holds<D: Disk>(file: &mut PageFile<D>, number: u32, byte: u8) -> Result<bool, Refusal>
-    requires { number < file.old.pages }
-    ensures { file.new.pages ≡ file.old.pages }
+    requires { number < file.old.blocks }
+    ensures { file.new.blocks ≡ file.old.blocks }
 {
     let mut out = page(!byte);
     file.read(number, &mut out)?;
@@ -63,6 +63,17 @@ fn pages_are_read_as_they_were_written(rt: HostRuntime) -> Result<(), Fail> {
         holds(&mut file, 2, 0x22),
     ];
     assert!(rt; (written, read) == ([Ok(()); 3], [Ok(true); 3]));
+    Ok(())
+}
+
+#[test]
+fn a_settle_alone_syncs(rt: HostRuntime) -> Result<(), Fail> {
+    let mut file = pages_on(zeros(rt.alloc(), 3072)?)?;
+    let written = [write(&mut file, 0, 0x11), write(&mut file, 2, 0x22)];
+    let (settled, read) = (settle(&mut file), holds(&mut file, 0, 0x11));
+    let calls = calls_of(&file.into_disk());
+    assert!(rt; (written, settled, read) == ([Ok(()); 2], Ok(()), Ok(true)));
+    assert!(rt; calls == [1, 2, 1]);
     Ok(())
 }
 

@@ -1,7 +1,7 @@
-use crate::support::{crash, failing, page, zeros};
+use crate::support::{calls_of, crash, failing, page, zeros};
+use block_file::Pagelog;
 use disk_mem::{Call, MemDisk};
 use disk_model::Disk;
-use pagelog::Pagelog;
 use retro_base::{Device, Refusal};
 use std::alloc::Global;
 use std::test::Fail;
@@ -46,8 +46,9 @@ fn a_number_stands_in_its_slot_of_the_ring(rt: HostRuntime) -> Result<(), Fail> 
     ];
     let fetched = [holds(&mut ring, 1, 0x14), holds(&mut ring, 2, 0x12)];
     let last = (lay(&mut ring, u64::MAX, 0xff), holds(&mut ring, 0, 0xff));
+    let calls = calls_of(&ring.into_disk());
     assert!(rt; (laid, fetched) == ([Ok(()); 4], [Ok(true); 2]));
-    assert!(rt; last == (Ok(()), Ok(true)));
+    assert!(rt; (last, calls) == ((Ok(()), Ok(true)), [3, 4, 1]));
     Ok(())
 }
 

@@ -31,26 +31,36 @@ pub fn crash(alloc: Global, disk: &MemDisk, fill: u8) -> Result<MemDisk, Refusal
     disk.crash(alloc, fill)
 }
 
-/// How many calls of the device there were.
-pub fn calls_of(disk: &MemDisk) -> u64 {
-    disk.calls(Call::Read)
-        .saturating_add(disk.calls(Call::Write))
-        .saturating_add(disk.calls(Call::Sync))
+/// What a crash leaves of a device where every second of the loose bytes is as it was written.
+pub fn crash_half(alloc: Global, disk: &MemDisk) -> Result<MemDisk, Refusal> {
+    let mut left = disk.bytes().to_vec(alloc)?;
+    for (i, byte) in left.iter_mut().enumerate() {
+        if i % 2 == 1 {
+            *byte = !*byte;
+        }
+    }
+    disk.crash_as(alloc, &left)
 }
 
-/// Writes one byte, and syncs.
-pub fn put_byte<D: Disk>(disk: &mut D, place: u8, byte: u8) -> Result<(), Refusal> {
-    if u64::from(place) >= disk.size() {
+/// How many reads, writes and syncs of the device there were.
+pub fn calls_of(disk: &MemDisk) -> [u64; 3] {
+    [Call::Read, Call::Write, Call::Sync].map(|call| disk.calls(call))
+}
+
+/// Writes these bytes, and syncs.
+pub fn put<D: Disk>(disk: &mut D, place: u64, bytes: &[u8]) -> Result<(), Refusal> {
+    let size = disk.size();
+    if place > size || size - place < bytes.len() as u64 {
         return Err(Refusal::BadSizes);
     }
-    put_durably(disk, Device::Log, u64::from(place), &[byte])
+    put_durably(disk, Device::Log, place, bytes)
 }
 
 // A list of this body alone.
 fn list_of(alloc: Global, body: &[u8]) -> Result<Vec<Vec<u8>>, Refusal>
     ensures { IfOk result (λ bodies. AreBodies (bodies_of bodies.items)) }
 {
-    if body.len() >= 100 {
+    if body.len() as u64 > u64::from(u32::MAX) {
         return Err(Refusal::BadSizes);
     }
     Ok(vec![in alloc; body.to_vec(alloc)?]?)
@@ -58,7 +68,7 @@ fn list_of(alloc: Global, body: &[u8]) -> Result<Vec<Vec<u8>>, Refusal>
 
 /// A body as an append takes it.
 pub fn framed(alloc: Global, body: &[u8]) -> Result<Framed, Refusal> {
-    if body.len() >= 100 {
+    if body.len() as u64 > u64::from(u32::MAX) {
         return Err(Refusal::BadSizes);
     }
     Framed::new(alloc, body)

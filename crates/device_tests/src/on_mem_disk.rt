@@ -1,0 +1,47 @@
+ghost use Rattle.std.specs.Prelude.{◌≡◌, ◌*◌, ◌<◌, ◌++◌, [], ◌∷◌, ℕ, List, length};
+ghost use Rattle.area_log.specs.Area.{Holds, ListsEither};
+ghost use Rattle.block_file.specs.Blocks.{KeepsSettled};
+ghost use Rattle.device_tests.specs.Left.{EachLeft};
+ghost use Rattle.disk_mem.specs.History.{state_of};
+ghost use Rattle.gate_log.specs.Bodies.{bodies_of};
+ghost use Rattle.retro_base.specs.Framing.{AreBodies};
+
+use area_log::AreaLog;
+use block_file::PageFile;
+use disk_mem::MemDisk;
+use gate_log::Framed;
+use retro_base::{Page, Refusal};
+use std::alloc::Global;
+
+/// Adds a body. Each crash within it leaves the list with the body or without.
+pub fn append_on(log: &mut AreaLog, disk: &mut MemDisk, framed: &Framed) -> Result<(), Refusal>
+    requires { length (state_of disk.old.past).seen ≡ 2 * log.old.log.size }
+    ensures { (bodies : List (List ℕ)) → Holds log.old bodies (state_of disk.old.past)
+        → EachLeft disk.old disk.new (ListsEither log.old.log.size bodies (bodies ++ framed.now ∷ [])) }
+{
+    log.append(disk, framed)
+}
+
+/// Puts these bodies in the place of all that are there. Each crash within it leaves the old list or the new one.
+pub fn replace_on(
+    alloc: Global,
+    log: &mut AreaLog,
+    disk: &mut MemDisk,
+    bodies: &[Vec<u8>],
+) -> Result<(), Refusal>
+    requires whole { length (state_of disk.old.past).seen ≡ 2 * log.old.log.size }
+    requires short { AreBodies (bodies_of bodies.now) }
+    ensures { (old : List (List ℕ)) → Holds log.old old (state_of disk.old.past)
+        → EachLeft disk.old disk.new (ListsEither log.old.log.size old (bodies_of bodies.now)) }
+{
+    log.replace(alloc, disk, bodies)
+}
+
+/// Writes a page. Each crash within it leaves every other settled page as it was.
+pub fn write_on(file: &mut PageFile<MemDisk>, page: u32, bytes: &Page) -> Result<(), Refusal>
+    requires { page < file.old.blocks }
+    ensures { EachLeft file.old.disk file.new.disk
+        (KeepsSettled (λ other. other ≡ page) (state_of file.old.disk.past)) }
+{
+    file.write(page, bytes)
+}
