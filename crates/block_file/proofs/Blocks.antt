@@ -11,22 +11,22 @@ use Rattle.retro_base.specs.declared.limits.TheConstants.{PAGE_BYTES}
 use Rattle.block_file.specs.Blocks.{block_at, IsSettled, ChangesOnly, KeepsSettled, WritesOnly}
 
 -- the length of a block follows from that of the bytes
-length_block : (number : ℕ) (bytes : List ℕ) → length (block_at number bytes) ≡ min PAGE_BYTES (length bytes - PAGE_BYTES * number)
+length_block : (number : ℕ) (bytes : List ℕ) → length (block_at bytes number) ≡ min PAGE_BYTES (length bytes - PAGE_BYTES * number)
 length_block number bytes = length-take PAGE_BYTES (drop (PAGE_BYTES * number) bytes) ∙ ap (λ (n : ℕ). min PAGE_BYTES n) (length-drop (PAGE_BYTES * number) bytes)
 
-get_or_block : (number i : ℕ) (bytes : List ℕ) → i < PAGE_BYTES → get_or (block_at number bytes) i 0 ≡ get_or bytes (PAGE_BYTES * number + i) 0
+get_or_block : (number i : ℕ) (bytes : List ℕ) → i < PAGE_BYTES → get_or (block_at bytes number) i 0 ≡ get_or bytes (PAGE_BYTES * number + i) 0
 get_or_block number i bytes lt = get_or-take PAGE_BYTES (drop (PAGE_BYTES * number) bytes) i 0 lt ∙ get_or-drop (PAGE_BYTES * number) bytes i 0
 
 -- bytes that are the same in a block's range
-pub block_same : (number : ℕ) (old new : List ℕ) → length new ≡ length old → ((place : ℕ) → InRange (PAGE_BYTES * number) PAGE_BYTES place → get_or new place 0 ≡ get_or old place 0) → block_at number new ≡ block_at number old
-block_same number old new size same = same_number_lists (block_at number new) (block_at number old)
+pub block_same : (number : ℕ) (old new : List ℕ) → length new ≡ length old → ((place : ℕ) → InRange (PAGE_BYTES * number) PAGE_BYTES place → get_or new place 0 ≡ get_or old place 0) → block_at new number ≡ block_at old number
+block_same number old new size same = same_number_lists (block_at new number) (block_at old number)
     (length_block number new ∙ ap (λ (n : ℕ). min PAGE_BYTES (n - PAGE_BYTES * number)) size ∙ sym (length_block number old))
     (λ i lt.
     let small : i < PAGE_BYTES = omega (arith, lt, length_block number new, length_block number old) in
     get_or_block number i new small ∙ same (PAGE_BYTES * number + i) (omega arith, omega (arith, small)) ∙ sym (get_or_block number i old small))
 
 -- a settled block is in each image as it is read
-pub image_settled : (state : State) (image : List ℕ) (number : ℕ) → IsImage state image → IsSettled state number → block_at number image ≡ block_at number state.seen
+pub image_settled : (state : State) (image : List ℕ) (number : ℕ) → IsImage state image → IsSettled state number → block_at image number ≡ block_at state.seen number
 image_settled state image number is settled = block_same number state.seen image is.size (λ place within. is.kept place (settled place within))
 
 -- an image of what has changed since in these blocks alone
@@ -88,7 +88,7 @@ module _ {D : Type 0} (changed : ℕ → Type 0) (remembers : Type 0) (state : D
   writes_none old new run = record {
     others = record {
       size = ap length run.same;
-      same = λ number other. ap (block_at number) run.same;
+      same = λ number other. ap (λ (seen : List ℕ). block_at seen number) run.same;
       settled = λ number other was place within loose. was place within (run.loose place loose);
     };
     any_moment = weaker remembers (clock old) (clock new) (IsImage (state old)) (KeepsSettled changed (state old)) (λ image. image_keeps changed (state old) (state old) image (changes_none changed (state old))) run.any_moment;
@@ -109,7 +109,7 @@ write_changes number from bytes old new result at whole writes = record {
     in_block place there = (omega (arith, at, there.0), omega (arith, at, there.1, whole))
 
 -- the block that was written
-pub block_written : (number from : ℕ) (bytes old : List ℕ) → from ≡ PAGE_BYTES * number → length bytes ≡ PAGE_BYTES → PAGE_BYTES * number + PAGE_BYTES ≤ length old → block_at number (written from bytes old) ≡ bytes
+pub block_written : (number from : ℕ) (bytes old : List ℕ) → from ≡ PAGE_BYTES * number → length bytes ≡ PAGE_BYTES → PAGE_BYTES * number + PAGE_BYTES ≤ length old → block_at (written from bytes old) number ≡ bytes
 block_written number from bytes old at whole fits =
     let rest = drop (from + length bytes) old in
     let front : length (take from old) ≡ from = length-take-le from old (omega (arith, at, fits)) in

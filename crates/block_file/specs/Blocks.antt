@@ -19,8 +19,8 @@ abbrev pub HasBlock : ℕ → ℕ → Type 0
 HasBlock extent number = PAGE_BYTES * number + PAGE_BYTES ≤ extent
 
 -- the block of that number of these bytes
-abbrev pub block_at : ℕ → List ℕ → List ℕ
-block_at number bytes = take PAGE_BYTES (drop (PAGE_BYTES * number) bytes)
+abbrev pub block_at : List ℕ → ℕ → List ℕ
+block_at bytes number = take PAGE_BYTES (drop (PAGE_BYTES * number) bytes)
 
 -- nothing in the block is loose: a crash leaves of it what a read returns
 abbrev pub IsSettled : State → ℕ → Type 0
@@ -29,13 +29,13 @@ IsSettled state number = (place : ℕ) → InRange (PAGE_BYTES * number) PAGE_BY
 -- each block but those of `changed` reads the same, and is settled if it was
 pub record ChangesOnly (changed : ℕ → Type 0) (old new : State) : Type 0 where
   pub size : length new.seen ≡ length old.seen
-  pub same : (number : ℕ) → (changed number → ⊥) → block_at number new.seen ≡ block_at number old.seen
+  pub same : (number : ℕ) → (changed number → ⊥) → block_at new.seen number ≡ block_at old.seen number
   pub settled : (number : ℕ) → (changed number → ⊥) → IsSettled old number → IsSettled new number
 
 -- the image has each block that was settled as it was, but those of `changed`
 pub record KeepsSettled (changed : ℕ → Type 0) (old : State) (image : List ℕ) : Type 0 where
   pub size : length image ≡ length old.seen
-  pub kept : (number : ℕ) → (changed number → ⊥) → IsSettled old number → block_at number image ≡ block_at number old.seen
+  pub kept : (number : ℕ) → (changed number → ⊥) → IsSettled old number → block_at image number ≡ block_at old.seen number
 
 -- A run that writes these blocks alone: each other block stays as it was, and a crash at any moment of it leaves each other settled block.
 pub record WritesOnly {D : Type 0} (changed : ℕ → Type 0) (remembers : Type 0) (state : D → State) (clock : D → Clock) (old new : D) : Type 0 where

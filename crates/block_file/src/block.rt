@@ -18,7 +18,7 @@ pub fn read_block<D: Disk>(
     requires { HasBlock (D.extent disk.old) number }
     ensures same { SameDevice D.extent D.is_honest disk.old disk.new }
     ensures cause { FaultsAlone device (D.faults disk.old) (D.faults disk.new) result }
-    ensures read { D.is_honest disk.old → OnOk result (out.new ≡ block_at number (D.state disk.old).seen) }
+    ensures read { D.is_honest disk.old → OnOk result (out.new ≡ block_at (D.state disk.old).seen number) }
     ensures err { OnErr result (out.new ≡ out.old) }
     ensures quiet { D.is_honest disk.old → OnlyReads D.remembers D.state D.clock disk.old disk.new }
 {
@@ -43,7 +43,7 @@ pub fn write_block<D: Disk>(
     requires { HasBlock (D.extent disk.old) number }
     ensures same { SameDevice D.extent D.is_honest disk.old disk.new }
     ensures cause { FaultsAlone device (D.faults disk.old) (D.faults disk.new) result }
-    ensures written { D.is_honest disk.old → OnOk result (block_at number (D.state disk.new).seen ≡ bytes.now) }
+    ensures written { D.is_honest disk.old → OnOk result (block_at (D.state disk.new).seen number ≡ bytes.now) }
     ensures alone { D.is_honest disk.old
         → WritesOnly (λ other. other ≡ number) D.remembers D.state D.clock disk.old disk.new }
 {

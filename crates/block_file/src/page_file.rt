@@ -61,7 +61,7 @@ impl<D: Disk> PageFile<D> {
         ensures same { SameFile D.is_honest self.old self.new }
         ensures cause { FaultsAlone Pages (D.faults self.old.disk) (D.faults self.new.disk) result }
         ensures read { D.is_honest self.old.disk
-            → OnOk result (out.new ≡ block_at page (D.state self.old.disk).seen) }
+            → OnOk result (out.new ≡ block_at (D.state self.old.disk).seen page) }
         ensures err { OnErr result (out.new ≡ out.old) }
         ensures quiet { D.is_honest self.old.disk
             → OnlyReads D.remembers D.state D.clock self.old.disk self.new.disk }
@@ -76,7 +76,7 @@ impl<D: Disk> PageFile<D> {
         ensures same { SameFile D.is_honest self.old self.new }
         ensures cause { FaultsAlone Pages (D.faults self.old.disk) (D.faults self.new.disk) result }
         ensures written { D.is_honest self.old.disk
-            → OnOk result (block_at page (D.state self.new.disk).seen ≡ bytes.now) }
+            → OnOk result (block_at (D.state self.new.disk).seen page ≡ bytes.now) }
         ensures alone { D.is_honest self.old.disk
             → WritesOnly (λ other. other ≡ page) D.remembers D.state D.clock self.old.disk self.new.disk }
     {

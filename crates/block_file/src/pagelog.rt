@@ -55,7 +55,7 @@ impl<D: Disk> Pagelog<D> {
         ensures same { SameFile D.is_honest self.old self.new }
         ensures cause { FaultsAlone OfPagelog (D.faults self.old.disk) (D.faults self.new.disk) result }
         ensures fetched { D.is_honest self.old.disk
-            → OnOk result (out.new ≡ block_at (slot_of self.old.blocks number) (D.state self.old.disk).seen) }
+            → OnOk result (out.new ≡ block_at (D.state self.old.disk).seen (slot_of self.old.blocks number)) }
         ensures err { OnErr result (out.new ≡ out.old) }
         ensures quiet { D.is_honest self.old.disk
             → OnlyReads D.remembers D.state D.clock self.old.disk self.new.disk }
@@ -70,7 +70,7 @@ impl<D: Disk> Pagelog<D> {
         ensures same { SameFile D.is_honest self.old self.new }
         ensures cause { FaultsAlone OfPagelog (D.faults self.old.disk) (D.faults self.new.disk) result }
         ensures laid { D.is_honest self.old.disk
-            → OnOk result (block_at (slot_of self.old.blocks number) (D.state self.new.disk).seen ≡ bytes.now) }
+            → OnOk result (block_at (D.state self.new.disk).seen (slot_of self.old.blocks number) ≡ bytes.now) }
         ensures alone { D.is_honest self.old.disk → WritesOnly (λ slot. slot ≡ slot_of self.old.blocks number)
             D.remembers D.state D.clock self.old.disk self.new.disk }
     {
