@@ -109,11 +109,12 @@ write_changes number from bytes old new result at whole writes = record {
     in_block place there = (omega (arith, at, there.0), omega (arith, at, there.1, whole))
 
 -- the block that was written
-pub block_written : (number from : ℕ) (bytes old : List ℕ) → from ≡ PAGE_BYTES * number → length bytes ≡ PAGE_BYTES → PAGE_BYTES * number + PAGE_BYTES ≤ length old → block_at (written from bytes old) number ≡ bytes
-block_written number from bytes old at whole fits =
+pub block_written : (number from : ℕ) (bytes old new : List ℕ) → from ≡ PAGE_BYTES * number → length bytes ≡ PAGE_BYTES → PAGE_BYTES * number + PAGE_BYTES ≤ length old → new ≡ written from bytes old → block_at new number ≡ bytes
+block_written number from bytes old new at whole fits done =
     let rest = drop (from + length bytes) old in
     let front : length (take from old) ≡ from = length-take-le from old (omega (arith, at, fits)) in
-    ap (λ (n : ℕ). take PAGE_BYTES (drop n (take from old ++ (bytes ++ rest)))) (sym (front ∙ at))
+    ap (λ (seen : List ℕ). block_at seen number) done
+    ∙ ap (λ (n : ℕ). take PAGE_BYTES (drop n (take from old ++ (bytes ++ rest)))) (sym (front ∙ at))
     ∙ ap (take PAGE_BYTES) (drop-append_seam (take from old) (bytes ++ rest))
     ∙ ap (λ (n : ℕ). take n (bytes ++ rest)) (sym whole)
     ∙ take-append_seam bytes rest

@@ -1,11 +1,10 @@
 ghost use Rattle.std.specs.Prelude.{◌≡◌, ◌*◌, OnOk, OnErr};
 ghost use Rattle.block_file.specs.Blocks.{block_at, HasBlock, WritesOnly};
-ghost use Rattle.disk_model.specs.Disk.{IsDurable};
-ghost use Rattle.disk_model.specs.Runs.{OnlyReads, SameDevice, WritesNothing};
-ghost use Rattle.retro_base.specs.declared.refusal.Refusal.TheVariants.{DiskFault};
+ghost use Rattle.disk_model.specs.Runs.{OnlyReads, SameDevice};
 ghost use Rattle.retro_base.specs.Cause.{FaultsAlone};
 
 use disk_model::{Disk, Failed};
+use gate_log::fault_of;
 use retro_base::{Device, PAGE_BYTES, Page, Refusal};
 
 // Reads the block of that number. After a fault `out` is as before.
@@ -58,27 +57,4 @@ fn place_of(number: u32) -> u64
     ensures { result ≡ PAGE_BYTES * number }
 {
     PAGE_BYTES as u64 * u64::from(number)
-}
-
-/// Makes all that was written durable. A fault leaves what was loose as loose as before.
-pub fn settle<D: Disk>(disk: &mut D, device: Device) -> Result<(), Refusal>
-    ensures same { SameDevice D.extent D.is_honest disk.old disk.new }
-    ensures cause { FaultsAlone device (D.faults disk.old) (D.faults disk.new) result }
-    ensures settled { D.is_honest disk.old → OnOk result (IsDurable (D.state disk.new)) }
-    ensures quiet { D.is_honest disk.old → WritesNothing D.remembers D.state D.clock disk.old disk.new }
-{
-    match disk.sync() {
-        Ok(()) => Ok(()),
-        Err(Failed) => Err(fault_of(disk, device)),
-    }
-}
-
-/// The refusal that tells the device's last fault.
-pub fn fault_of<D: Disk>(disk: &D, device: Device) -> Refusal
-    ensures { result ≡ DiskFault device (D.faults disk.now) }
-{
-    Refusal::DiskFault {
-        device,
-        count: disk.faults(),
-    }
 }

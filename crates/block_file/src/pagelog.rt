@@ -6,8 +6,9 @@ ghost use Rattle.retro_base.specs.Cause.{FaultsAlone};
 ghost use Rattle.retro_base.specs.declared.device.Device.TheVariants.{Pagelog as OfPagelog};
 ghost use Rattle.retro_base.specs.declared.limits.TheConstants.{PAGE_BYTES};
 
-use crate::block::{read_block, settle, write_block};
+use crate::block::{read_block, write_block};
 use disk_model::Disk;
+use gate_log::settle;
 use retro_base::{Device, Page, Refusal};
 use std::marker::Model;
 

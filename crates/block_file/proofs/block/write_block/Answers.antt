@@ -1,14 +1,13 @@
-use Rattle.std.proofs.Common.{◌∙◌, ◌+◌, ◌*◌, ◌≤◌, ℕ, List, length, ap, arith}
+use Rattle.std.proofs.Common.{◌∙◌, ◌+◌, ◌*◌, ◌≤◌, length, arith}
 use Rattle.retro_base.specs.declared.limits.TheConstants.{PAGE_BYTES}
-use Rattle.block_file.specs.Blocks.{block_at}
 use Rattle.block_file.proofs.Blocks.{block_written, keeps_over, write_changes}
 use Rattle.block_file.proofs.block.write_block.Goals as goal
 
 pub returns-in-Ok-clause-written : goal.returns-in-Ok-clause-written
 returns-in-Ok-clause-written g c = λ honest.
     let fits : PAGE_BYTES * c.args.number + PAGE_BYTES ≤ length (g.D.Disk.state c.args.disk.now).seen = omega (arith, c.requires, g.met.D.Disk.sized c.args.disk.now honest) in
-    ap (λ (seen : List ℕ). block_at seen c.args.number) (c.in-Ok.ensures.written honest).done
-    ∙ block_written c.args.number c.place_of.result c.bytes.result.now (g.D.Disk.state c.args.disk.now).seen c.place_of.ensures c.bytes.ensures.whole fits
+    block_written c.args.number c.place_of.result c.bytes.result.now (g.D.Disk.state c.args.disk.now).seen (g.D.Disk.state c.write_at.new.self).seen
+    c.place_of.ensures c.bytes.ensures.whole fits (c.in-Ok.ensures.written honest).done
     ∙ c.bytes.ensures.same
 
 pub returns-in-Ok-clause-alone : goal.returns-in-Ok-clause-alone
