@@ -2,11 +2,12 @@
 use Rattle.std.specs.Prelude.{◌≡◌, ◌⊎◌, ℕ, List, [], ◌∷◌, Option}
 use Rattle.retro_base.specs.Cause.{raised}
 use Rattle.disk_mem.specs.History.{Past, synced}
-use Rattle.disk_mem.specs.Plan.{Plan, counted, IsListed, IsStopped}
+use Rattle.disk_mem.specs.Plan.{Plan, counted, IsFate, IsListed, IsStopped}
 use Rattle.disk_mem.specs.declared.recording.Step.{Step}
 use Rattle.disk_mem.specs.declared.recording.Step.TheVariants.{Lost}
 use Rattle.disk_mem.specs.declared.schedule.Call.{Call}
 use Rattle.disk_mem.specs.declared.schedule.Call.TheVariants.{Write}
+use Rattle.disk_mem.specs.declared.schedule.Fate.TheVariants.{Fails}
 
 -- its past, which calls fail, and how many calls have failed
 pub record Device : Type 0 where
@@ -46,8 +47,7 @@ failed device call = record device { plan = counted device.plan call; faults = r
 abbrev pub MustFail : Device → Call → Type 0
 MustFail device call = IsStopped device.plan ⊎ IsListed device.plan call
 
--- A write of that many bytes failed. A listed one loses its range; any other leaves the bytes as they were.
+-- A write of that many bytes failed. One that is listed loses its range; any other leaves the bytes as they were.
 pub record WriteFailed (old new : Device) (place count : ℕ) : Type 0 where
-  pub listed : (IsStopped old.plan → ⊥) → IsListed old.plan Write → new ≡ with_step (failed old Write) (Lost place count)
-  pub stopped : IsStopped old.plan → new ≡ failed old Write
-  pub unlisted : (IsListed old.plan Write → ⊥) → new ≡ failed old Write
+  pub listed : IsFate old.plan Write Fails → new ≡ with_step (failed old Write) (Lost place count)
+  pub other : (IsFate old.plan Write Fails → ⊥) → new ≡ failed old Write

@@ -186,7 +186,8 @@ impl Disk for MemDisk {
         ensures err { OnErr result (WriteFailed self.old self.new place (length bytes.now)) }
         ensures cause { HasCause self.old.faults self.new.faults result }
         ensures written { Writes place bytes.now (state_of self.old.past) (state_of self.new.past) result }
-        ensures time { Elapses (Unit {0}) (clock_of self.old.past) (clock_of self.new.past) (IsImage (state_of self.new.past)) }
+        ensures time { Elapses (Unit {0}) (clock_of self.old.past) (clock_of self.new.past)
+            (IsImage (state_of self.new.past)) }
     {
         match self.schedule.turn(Call::Write) {
             Fate::Goes => match self.recording.write(place, bytes) {
@@ -207,7 +208,8 @@ impl Disk for MemDisk {
         ensures ok { OnOk result (self.new ≡ record (called self.old Sync) { past = settled self.old.past }) }
         ensures err { OnErr result (self.new ≡ failed self.old Sync) }
         ensures cause { HasCause self.old.faults self.new.faults result }
-        ensures time { Elapses (Unit {0}) (clock_of self.old.past) (clock_of self.new.past) (IsImage (state_of self.new.past)) }
+        ensures time { Elapses (Unit {0}) (clock_of self.old.past) (clock_of self.new.past)
+            (IsImage (state_of self.new.past)) }
     {
         match self.schedule.turn(Call::Sync) {
             Fate::Goes => {

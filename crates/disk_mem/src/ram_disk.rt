@@ -43,7 +43,10 @@ impl Disk for RamDisk {
 
     ghost state = { λ disk. record { seen = disk; is_loose = λ _. ⊥ } };
 
-    ghost clock = { λ disk. record { moment = 0; left_since = λ _. IsImage (record { seen = disk; is_loose = λ _. ⊥ }) } };
+    ghost clock = { λ disk. record {
+      moment = 0;
+      left_since = λ _. IsImage (record { seen = disk; is_loose = λ _. ⊥ });
+    } };
 
     ghost sized = { λ _ _. refl };
 

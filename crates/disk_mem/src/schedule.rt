@@ -36,7 +36,13 @@ impl Model for Schedule {
 
     ghost Value = { Plan };
 
-    ghost view = { λ s. record { failing = s.failing.items; stop = s.stop; reads = s.reads; writes = s.writes; syncs = s.syncs } };
+    ghost view = { λ s. record {
+      failing = s.failing.items;
+      stop = s.stop;
+      reads = s.reads;
+      writes = s.writes;
+      syncs = s.syncs;
+    } };
 }
 
 impl Schedule {

@@ -4,8 +4,8 @@ use retro_base::Refusal;
 use std::alloc::Global;
 use std::test::Fail;
 
-// Each call stands in a function without clauses, so that the tests stay cheap to prove. A call fails where it passes the end of
-// the device.
+// Each call stands in a function without clauses, so that the tests stay cheap to prove. A call fails where it
+// passes the end of the device.
 
 fn write<D: Disk>(disk: &mut D, place: u64, bytes: &[u8]) -> Result<(), Failed> {
     let size = disk.size();
