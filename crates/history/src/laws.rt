@@ -1,6 +1,6 @@
 //! What follows from the definitions.
 
-ghost use Rattle.history.specs.Laws.{AsOfStays, AsOfTheDeclaration, CapturedByTheRule, CapturesAreCounted, CapturesGrow, FrontIsSound, HorizonRises, JournalCapturesGrow, JournalPages, MadeIsConsistent, NothingTwice, OneEntry, OneMoreLine, PinnedAreRetained, RetainedBetween, StartsCount, StaysConsistent, StaysRight};
+ghost use Rattle.history.specs.Laws.{AsOfStays, AsOfTheDeclaration, CapturedByTheRule, CapturesAreCounted, CapturesGrow, FrontIsSound, HorizonRises, JournalCapturesGrow, JournalPages, MadeIsConsistent, NothingTwice, OneMoreLine, PinnedAreRetained, StartsCount, StaysConsistent, StaysRight};
 
 /// Of the captures of a consistent history.
 pub fn laws_of_captures()
@@ -45,12 +45,8 @@ pub fn laws_of_journals()
     ensures horizon { HorizonRises }
 {}
 
-/// Of the log's records.
-pub fn laws_of_entries()
-    // Bytes are those of one entry.
-    ensures one_entry { OneEntry }
+/// Of bases.
+pub fn right_bases_stay()
     // The base behind a right change is right.
-    ensures stays_right { StaysRight }
-    // Behind a right base the retained snapshots are those from the oldest to the newest.
-    ensures retained { RetainedBetween }
+    ensures { StaysRight }
 {}
