@@ -3,6 +3,7 @@ pub mod BaseStays
 pub mod Captures
 pub mod Consistent
 pub mod Journals
+pub mod Lines
 pub mod MarkLaws
 pub mod PageLists
 pub mod RightLaws

@@ -2,6 +2,8 @@ pub mod History
 pub mod Journal
 pub mod Label
 pub mod Laws
+pub mod LineLaws
+pub mod Lines
 pub mod Log
 pub mod Marks
 pub mod Replayed

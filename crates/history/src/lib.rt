@@ -18,7 +18,9 @@ pub use base::base_after;
 pub use entry::{Base, Change, Mark, newest, newest_start, oldest, oldest_start};
 pub use journal::{Journal, Line, What};
 pub use label::{Label, is_label};
-pub use laws::{laws_of_captures, laws_of_journals, laws_of_the_past, right_bases_stay};
+pub use laws::{
+    laws_of_captures, laws_of_journals, laws_of_lines, laws_of_the_past, right_bases_stay,
+};
 pub use log::{Log, Version};
 pub use replaying::Replayed;
 pub use right::{captures_page, is_base, is_right};
