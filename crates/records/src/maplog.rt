@@ -140,8 +140,8 @@ fn mappings_of(
 }
 
 /// The mappings of these bodies, in records of that version and beside a log of that many pages and that capacity: a
-/// start of that capacity, and records that are right in turn. Refused for want of memory, and where the list breaks: it is empty, or the body
-/// behind those that are told is no right record there.
+/// start of that capacity, and records that are right in turn. Refused for want of memory, and where the list breaks:
+/// it is empty, or the body behind those that are told is no right record there.
 pub fn read_maplog(
     alloc: Global,
     version: Version,
