@@ -1,13 +1,15 @@
 -- What the device of a log lists, and what it lists in each image of a write.
-use Rattle.std.proofs.Common.{◌≡◌, inl, inr, ◌∙◌, ◌+◌, ◌*◌, ◌≤◌, ◌<◌, ℕ, List, [], ◌∷◌, ◌++◌, length, get_or, true, Option, None, refl, sym, ap, subst, arith}
-use Rattle.std.proofs.lemmas.Bool.{cases_eq}
+use Rattle.std.proofs.Common.{◌≡◌, inl, inr, ◌∙◌, ◌+◌, ◌-◌, ◌*◌, ◌≤◌, ◌<◌, ℕ, List, [], ◌∷◌, ◌++◌, length, get_or, true, false, Option, Some, None, is_some, refl, sym, ap, subst, arith}
+use Rattle.std.proofs.lemmas.Bool.{cases_eq, false≢true}
 use Rattle.disk_model.specs.Disk.{State, InRange, IsDurable, IsImage, SameOutside}
 use Rattle.disk_model.proofs.Images.{image-durable}
 use Rattle.retro_base.specs.declared.device.Device.{Device}
 use Rattle.retro_base.specs.Framing.{next_generation}
 use Rattle.retro_base.specs.declared.limits.TheConstants.{OPEN_GATE}
 use Rattle.gate_log.specs.Appending.{after_append, Appending}
-use Rattle.gate_log.specs.Cause.{HasRoom}
+use Rattle.gate_log.specs.Cause.{HasRoom, IsAppendRefusal, IsDiskFault}
+use Rattle.retro_base.specs.declared.refusal.Refusal.{Refusal}
+use Rattle.retro_base.specs.declared.refusal.Refusal.TheVariants.{DiskFault}
 use Rattle.gate_log.specs.Log as log
 use Rattle.gate_log.specs.Region.{generation_at, gate_behind, IsOpen, Lists}
 use Rattle.gate_log.proofs.Ranges.{outside_alone}
@@ -16,6 +18,15 @@ use Rattle.area_log.specs.Area.{appended, Area, Holds, ListsEither, other_place,
 use Rattle.area_log.specs.Regions.{IsHalf, other_half, DeviceLists}
 use Rattle.area_log.specs.Rewrite.{Rewriting, Rewritten}
 use Rattle.area_log.proofs.Headers.{SameHeader, same_header}
+
+-- a log that goes on has no fault
+pub no_fault : (fault : Option ℕ) (count : ℕ) → fault ≡ None → fault ≡ Some count → ⊥
+no_fault fault count none some = let x : false ≡ true = ap (λ (o : Option ℕ). is_some o) (sym none ∙ some) in false≢true x
+
+-- an append for which there is no room is refused without a fault
+pub full_alone : (log : log.Region) (count before now : ℕ) (e : Refusal) → IsAppendRefusal log count before now e → log.size - log.gate < count + 6 → IsDiskFault e → ⊥
+full_alone log count before now (DiskFault which fault) is full told = absurd (omega (arith, is.0, full))
+full_alone log count before now _ is full told = absurd told
 
 -- the other half of the other half
 pub other_other : (size place : ℕ) → IsHalf size place → other_half size (other_half size place) ≡ place
@@ -151,8 +162,8 @@ module _ (area : Area) (bodies : List (List ℕ)) (state : State) (holds : Holds
     ]
   ]
 
-  pub holds_replaced : (new : List (List ℕ)) (next : State) → Rewritten other size (next_generation area.generation) new state.seen next.seen → IsDurable next → Holds (replaced area new) new next
-  holds_replaced new next is durable =
+  pub holds_replaced : (new : List (List ℕ)) (next : State) → Rewritten other size (next_generation area.generation) new state next → Holds (replaced area new) new next
+  holds_replaced new next is =
       let kept = kept_header next.seen is.same in
       let back = other_other size place holds.half in
       let was_open : IsOpen (other_half size other) next.seen = ap (λ (p : ℕ). get_or next.seen p 0) back ∙ kept.gate ∙ holds.is_open in
@@ -164,7 +175,7 @@ module _ (area : Area) (bodies : List (List ℕ)) (state : State) (holds : Holds
         generation = is.filled.under;
         other = (λ _. was_open, λ _. refl);
         newer = λ _. ap next_generation (sym (ap (λ (p : ℕ). generation_at p next.seen) back ∙ kept.generation ∙ holds.generation));
-        durable = durable;
+        durable = is.durable;
       }
 
 -- the log that a rewrite leaves, field by field
@@ -187,8 +198,8 @@ rewriting_of area bodies state holds fits new other size generation is_other is_
     (subst (λ (s : ℕ). Rewriting other s (next_generation area.generation) new state.seen image) is_size (subst (λ (n : ℕ). Rewriting other size n new state.seen image) is_next step)))
 
 pub holds_replaced_of : (area : Area) (bodies : List (List ℕ)) (state : State) → Holds area bodies state → 2 * area.log.size ≤ length state.seen → (new : List (List ℕ)) (other size generation : ℕ) → other ≡ other_place area → size ≡ area.log.size → generation ≡ next_generation area.generation
-    → (next : State) → Rewritten other size generation new state.seen next.seen → IsDurable next → Holds (replaced area new) new next
-holds_replaced_of area bodies state holds fits new other size generation is_other is_size is_next next step durable =
+    → (next : State) → Rewritten other size generation new state next → Holds (replaced area new) new next
+holds_replaced_of area bodies state holds fits new other size generation is_other is_size is_next next step =
     holds_replaced area bodies state holds fits new next
-    (subst (λ (o : ℕ). Rewritten o area.log.size (next_generation area.generation) new state.seen next.seen) is_other
-    (subst (λ (s : ℕ). Rewritten other s (next_generation area.generation) new state.seen next.seen) is_size (subst (λ (n : ℕ). Rewritten other size n new state.seen next.seen) is_next step))) durable
+    (subst (λ (o : ℕ). Rewritten o area.log.size (next_generation area.generation) new state next) is_other
+    (subst (λ (s : ℕ). Rewritten other s (next_generation area.generation) new state next) is_size (subst (λ (n : ℕ). Rewritten other size n new state next) is_next step)))

@@ -2,7 +2,7 @@
 use Rattle.std.proofs.Common.{◌≡◌, ◌⊎◌, inl, inr, ◌∙◌, ◌-◌, ◌≤◌, ◌<◌, ℕ, List, get_or, replicate, refl, sym, ap, arith}
 use Rattle.std.proofs.lemmas.Bool.{cases_eq, cases_lt}
 use Rattle.std.proofs.lemmas.List.{get_or-replicate, get_or_past, length-replicate}
-use Rattle.disk_model.specs.Disk.{InRange, SameOutside}
+use Rattle.disk_model.specs.Disk.{State, InRange, SameOutside}
 use Rattle.retro_base.specs.declared.limits.TheConstants.{OPEN_GATE}
 use Rattle.gate_log.specs.Region.{IsOpen, Lists}
 use Rattle.area_log.specs.Regions.{DeviceLists, NoneCounts}
@@ -45,5 +45,10 @@ module _ (size count : ℕ) (bodies : List (List ℕ)) (old image : List ℕ) (z
     })
   ]
 
-  pub made : Rewritten 0 size 1 bodies old image → DeviceLists size bodies image
-  made is = first_lists is.same is.is_open is.filled.lists
+-- at the end the device lists the bodies, and its second half is closed
+module _ (size count : ℕ) (bodies : List (List ℕ)) (old new : State) (zeros : old.seen ≡ replicate count 0) (some : 0 < size) (is : Rewritten 0 size 1 bodies old new) where
+  pub made : DeviceLists size bodies new.seen
+  made = first_lists size count bodies old.seen new.seen zeros some is.same is.is_open is.filled.lists
+
+  pub second_closed : IsOpen size new.seen → ⊥
+  second_closed opens = second_shut size count bodies old.seen new.seen zeros some is.same size (omega arith) opens

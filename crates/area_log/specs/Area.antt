@@ -1,9 +1,11 @@
 -- What a log over the two halves of a device knows, and what the device holds.
-use Rattle.std.specs.Prelude.{◌≡◌, ◌⊎◌, ◌↔◌, ℕ, Bool, true, IsTrue, Option, Some, List, Result, Ok, Err}
+use Rattle.std.specs.Prelude.{◌≡◌, ◌⊎◌, ◌↔◌, ◌*◌, ℕ, Bool, true, IsTrue, Option, Some, None, List, Result, Ok, Err, OnOk}
 use Rattle.disk_model.specs.Disk.{State, IsDurable}
+use Rattle.disk_model.specs.Moments.{Clock, LeavesOnly}
 use Rattle.retro_base.specs.Framing.{next_generation}
 use Rattle.retro_base.specs.declared.refusal.Refusal.{Refusal}
-use Rattle.retro_base.specs.declared.refusal.Refusal.TheVariants.{DiskFault}
+use Rattle.retro_base.specs.declared.device.Device.{Device}
+use Rattle.retro_base.specs.declared.refusal.Refusal.TheVariants.{DiskFault, Stopped}
 use Rattle.gate_log.specs.Appending.{after_append}
 use Rattle.gate_log.specs.Log.{Region}
 use Rattle.gate_log.specs.Region.{gate_behind, generation_at, IsOpen, Lists}
@@ -57,3 +59,27 @@ after_refusal area _ = area
 abbrev pub after_write : Area → Area → Result (Unit {0}) Refusal → Area
 after_write area done (Ok _) = done
 after_write area done (Err refusal) = after_refusal area refusal
+
+-- The log behind a write, which has made it `done` where it succeeded. After a fault of an earlier write it is refused, with the first.
+pub record AfterWrite (old done : Area) (result : Result (Unit {0}) Refusal) (new : Area) : Type 0 where
+  pub is : new ≡ after_write old done result
+  pub device : new.log.device ≡ old.log.device
+  pub size : new.log.size ≡ old.log.size
+  pub stopped : (count : ℕ) → old.fault ≡ Some count → result ≡ Err (Stopped old.log.device count)
+
+-- A write that makes a list of another. After a success the log holds the new list, durably. A crash at any moment leaves the old list or the new one.
+pub record Writes {Disk : Type 0} (area after : Area) (list : List (List ℕ) → List (List ℕ)) (remembers : Type 0) (state : Disk → State) (clock : Disk → Clock) (old new : Disk) (result : Result (Unit {0}) Refusal) : Type 0 where
+  pub holds : (bodies : List (List ℕ)) → Holds area bodies (state old) → OnOk result (Holds after (list bodies) (state new))
+  pub any_moment : (bodies : List (List ℕ)) → Holds area bodies (state old) → LeavesOnly remembers (clock old) (clock new) (ListsEither area.log.size bodies (list bodies))
+
+-- a log that was read of a device of so many bytes, whatever it tells
+pub record IsRead (which : Device) (extent : ℕ) (bodies : List (List ℕ)) (area : Area) : Type 0 where
+  pub device : area.log.device ≡ which
+  pub size : extent ≡ 2 * area.log.size
+  pub gate : area.log.gate ≡ gate_behind bodies
+  pub going : area.fault ≡ None
+
+-- the device lists these bodies, and the log that was read holds them
+pub record Fetched (size : ℕ) (area : Area) (bodies : List (List ℕ)) (old new : State) : Type 0 where
+  pub lists : DeviceLists size bodies old.seen
+  pub holds : Holds area bodies new

@@ -1,7 +1,8 @@
 -- A device in two halves, each of them a region. The half that counts holds the list of the device.
 use Rattle.std.specs.Prelude.{◌≡◌, ◌⊎◌, ◌-◌, ℕ, List}
 use Rattle.retro_base.specs.Framing.{next_generation}
-use Rattle.gate_log.specs.Region.{Breaks, generation_at, IsOpen, Lists}
+use Rattle.disk_model.specs.Disk.{State, IsDurable}
+use Rattle.gate_log.specs.Region.{Breaks, generation_at, InRecords, IsOpen, Lists}
 
 -- one of the two halves of a device, of that size, begins there
 abbrev pub IsHalf : ℕ → ℕ → Type 0
@@ -37,6 +38,15 @@ pub record RecordBreaks (size : ℕ) (bytes : List ℕ) (broken : ℕ) : Type 0 
 -- the device lists nothing, and it is refused with that place
 abbrev pub DeviceBreaks : ℕ → List ℕ → ℕ → Type 0
 DeviceBreaks size bytes broken = NoneCounts size bytes broken ⊎ RecordBreaks size bytes broken
+
+-- it is refused so once nothing on it is loose
+pub record BreaksSettled (size : ℕ) (old new : State) (broken : ℕ) : Type 0 where
+  pub breaks : DeviceBreaks size old.seen broken
+  pub durable : IsDurable new
+
+-- a place with which a device may be refused: its first, or one where a record of a half may stand
+abbrev pub IsPlaceOfRefusal : ℕ → ℕ → Type 0
+IsPlaceOfRefusal size broken = (broken ≡ 0) ⊎ (InRecords 0 size broken ⊎ InRecords size size broken)
 
 -- a device lists one list at most, or is refused with one place at most, and not both
 pub record DeviceReadOneWay : Type 0 where

@@ -1,6 +1,5 @@
 ghost use Rattle.std.specs.Prelude.{◌≡◌, ◌≤◌, ◌<◌, ◌+◌, ◌*◌, ◌↔◌, ℕ, List, IsTrue, IfOk, IfSome, MatchOption, MatchResult};
-ghost use Rattle.disk_model.specs.Disk.{IsImage, Unchanged};
-ghost use Rattle.disk_model.specs.Moments.{LeavesOnly};
+ghost use Rattle.disk_model.specs.Runs.{OnlyReads, SameDevice};
 ghost use Rattle.retro_base.specs.Framing.{next_generation};
 ghost use Rattle.retro_base.specs.Cause.{FaultsAlone};
 ghost use Rattle.gate_log.specs.Cause.{IsReadRefusal};
@@ -30,16 +29,15 @@ pub struct Counting {
 pub fn find_counting<D: Disk>(disk: &mut D, device: Device, size: u64) -> Result<Counting, Refusal>
     requires inside { 2 * size ≤ D.extent disk.old }
     requires least { 17 ≤ size }
-    ensures extent { D.extent disk.new ≡ D.extent disk.old }
-    ensures honest { D.is_honest disk.old ↔ D.is_honest disk.new }
+    ensures same { SameDevice D.extent D.is_honest disk.old disk.new }
     ensures cause { MatchResult result
         (λ _. D.faults disk.new ≡ D.faults disk.old)
-        (IsReadRefusal (λ broken. D.is_honest disk.old → NoneCounts size (D.state disk.old).seen broken)
+        (IsReadRefusal
+        (λ broken. (broken ≡ 0) × (D.is_honest disk.old → NoneCounts size (D.state disk.old).seen broken))
         device (D.faults disk.old) (D.faults disk.new)) }
     ensures half { IfOk result (λ counting. IsHalf size counting.place) }
     ensures counting { D.is_honest disk.old → IfOk result (IsCounting size (D.state disk.old).seen) }
-    ensures unchanged { D.is_honest disk.old → Unchanged (D.state disk.old) (D.state disk.new) }
-    ensures any_moment { D.is_honest disk.old → LeavesOnly (D.clock disk.old) (D.clock disk.new) (IsImage (D.state disk.old)) }
+    ensures reads { D.is_honest disk.old → OnlyReads D.remembers D.state D.clock disk.old disk.new }
 {
     let first = read_header(disk, device, 0)?;
     let second = read_header(disk, device, size)?;
@@ -51,12 +49,10 @@ pub fn find_counting<D: Disk>(disk: &mut D, device: Device, size: u64) -> Result
 
 fn read_header<D: Disk>(disk: &mut D, device: Device, place: u64) -> Result<Header, Refusal>
     requires { place + 16 ≤ D.extent disk.old }
-    ensures extent { D.extent disk.new ≡ D.extent disk.old }
-    ensures honest { D.is_honest disk.old ↔ D.is_honest disk.new }
+    ensures same { SameDevice D.extent D.is_honest disk.old disk.new }
     ensures cause { FaultsAlone device (D.faults disk.old) (D.faults disk.new) result }
     ensures header { D.is_honest disk.old → IfOk result (IsHeader place (D.state disk.old).seen) }
-    ensures unchanged { D.is_honest disk.old → Unchanged (D.state disk.old) (D.state disk.new) }
-    ensures any_moment { D.is_honest disk.old → LeavesOnly (D.clock disk.old) (D.clock disk.new) (IsImage (D.state disk.old)) }
+    ensures reads { D.is_honest disk.old → OnlyReads D.remembers D.state D.clock disk.old disk.new }
 {
     let mut bytes = [0; 16];
     match disk.read_at(place, &mut bytes) {

@@ -4,8 +4,10 @@
 
 mod header;
 mod laws;
+mod listing;
 mod log;
 mod rewrite;
 
 pub use laws::device_is_read_one_way;
+pub use listing::listed;
 pub use log::AreaLog;

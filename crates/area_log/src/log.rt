@@ -1,20 +1,18 @@
-ghost use Rattle.std.specs.Prelude.{◌≡◌, ◌⊎◌, ◌≤◌, ◌+◌, ◌-◌, ◌*◌, ◌/◌, ◌%◌, ◌↔◌, ◌∷◌, [], ◌++◌, ℕ, List, None, length, replicate, OnOk, IfOk, IfErr, MatchResult};
-ghost use Rattle.disk_model.specs.Disk.{IsDurable, IsImage};
-ghost use Rattle.disk_model.specs.Moments.{LeavesOnly};
+ghost use Rattle.std.specs.Prelude.{◌≡◌, ◌≤◌, ◌+◌, ◌-◌, ◌*◌, ◌/◌, ◌%◌, ◌∷◌, [], ◌++◌, None, length, Ok, Err, IfOk, IfErr, MatchOption, MatchResult};
+ghost use Rattle.disk_model.specs.Runs.{SameDevice, WritesNothing};
 ghost use Rattle.retro_base.specs.Framing.{AreBodies};
+ghost use Rattle.retro_base.specs.declared.refusal.Refusal.TheVariants.{NotAStore};
 ghost use Rattle.gate_log.specs.Bodies.{bodies_of};
-ghost use Rattle.retro_base.specs.Cause.{FaultsAlone};
 ghost use Rattle.gate_log.specs.Cause.{Fit, HasRoom, IsAppendRefusal, IsDiskFault, IsFillRefusal, IsReadRefusal};
-ghost use Rattle.gate_log.specs.Region.{generation_at};
-ghost use Rattle.retro_base.specs.declared.refusal.Refusal.TheVariants.{Stopped};
-ghost use Rattle.area_log.specs.Area.{after_refusal, after_write, appended, Holds, ListsEither, replaced};
+ghost use Rattle.area_log.specs.Area.{after_refusal, AfterWrite, appended, Fetched, IsRead, replaced, Writes};
 ghost use Rattle.area_log.specs.Cause.{IsWriteRefusal};
-ghost use Rattle.area_log.specs.Regions.{DeviceBreaks, DeviceLists, NoneCounts};
+ghost use Rattle.area_log.specs.Making.{Makes};
+ghost use Rattle.area_log.specs.Regions.{BreaksSettled, IsPlaceOfRefusal};
 
 use crate::header::{find_counting, next_after};
 use crate::rewrite::rewrite;
-use disk_model::{Disk, Failed};
-use gate_log::{Framed, GateLog, Prepared, fault_of};
+use disk_model::Disk;
+use gate_log::{Framed, GateLog, Prepared, settle};
 use retro_base::{Device, Refusal};
 use std::alloc::Global;
 use std::marker::Model;
@@ -51,19 +49,14 @@ impl AreaLog {
         requires even { D.extent disk.old % 2 ≡ 0 }
         requires least { 34 ≤ D.extent disk.old }
         requires short { AreBodies (bodies_of bodies.now) }
-        ensures extent { D.extent disk.new ≡ D.extent disk.old }
-        ensures honest { D.is_honest disk.old ↔ D.is_honest disk.new }
+        ensures same { SameDevice D.extent D.is_honest disk.old disk.new }
         ensures cause { MatchResult result
             (λ _. Fit (D.extent disk.old / 2) (bodies_of bodies.now) × (D.faults disk.new ≡ D.faults disk.old))
-            (IsFillRefusal (D.extent disk.old / 2) (bodies_of bodies.now) device (D.faults disk.old) (D.faults disk.new)) }
+            (IsFillRefusal (D.extent disk.old / 2) (bodies_of bodies.now) device
+            (D.faults disk.old) (D.faults disk.new)) }
         ensures untouched { IfErr result (λ refusal. (IsDiskFault refusal → ⊥) → disk.new ≡ disk.old) }
-        ensures made { D.is_honest disk.old → (D.state disk.old).seen ≡ replicate (D.extent disk.old) 0
-            → OnOk result (DeviceLists (D.extent disk.old / 2) (bodies_of bodies.now) (D.state disk.new).seen) }
-        ensures first { D.is_honest disk.old → OnOk result (generation_at 0 (D.state disk.new).seen ≡ 1) }
-        ensures durable { D.is_honest disk.old → OnOk result (IsDurable (D.state disk.new)) }
-        ensures any_moment { D.is_honest disk.old → (D.state disk.old).seen ≡ replicate (D.extent disk.old) 0
-            → IsDurable (D.state disk.old) → LeavesOnly (D.clock disk.old) (D.clock disk.new) (λ image.
-            NoneCounts (D.extent disk.old / 2) image 0 ⊎ DeviceLists (D.extent disk.old / 2) (bodies_of bodies.now) image) }
+        ensures makes { D.is_honest disk.old
+            → Makes (D.extent disk.old) (bodies_of bodies.now) D.remembers D.state D.clock disk.old disk.new result }
     {
         let size = disk.size() / 2;
         let prepared = Prepared::new(alloc, size, 1, bodies)?;
@@ -71,9 +64,9 @@ impl AreaLog {
         Ok(())
     }
 
-    /// Syncs a device, and reads its log and its bodies. It is refused for want of memory, exactly where a call
+    /// Syncs a device, and then reads its log and its bodies. It is refused for want of memory, exactly where a call
     /// of the device failed, and where the device lists nothing: with the place 0 where neither half counts, else
-    /// with the place of the record that breaks.
+    /// with the place of the record that breaks. What is answered is of a device with nothing loose.
     pub fn fetch<D: Disk>(
         alloc: Global,
         disk: &mut D,
@@ -81,28 +74,22 @@ impl AreaLog {
     ) -> Result<(AreaLog, Vec<Vec<u8>>), Refusal>
         requires even { D.extent disk.old % 2 ≡ 0 }
         requires least { 34 ≤ D.extent disk.old }
-        ensures extent { D.extent disk.new ≡ D.extent disk.old }
-        ensures honest { D.is_honest disk.old ↔ D.is_honest disk.new }
+        ensures same { SameDevice D.extent D.is_honest disk.old disk.new }
         ensures cause { MatchResult result
             (λ _. D.faults disk.new ≡ D.faults disk.old)
-            (IsReadRefusal (λ broken. D.is_honest disk.old → DeviceBreaks (D.extent disk.old / 2) (D.state disk.old).seen broken)
+            (IsReadRefusal (λ broken. IsPlaceOfRefusal (D.extent disk.old / 2) broken × (D.is_honest disk.old
+            → BreaksSettled (D.extent disk.old / 2) (D.state disk.old) (D.state disk.new) broken))
             device (D.faults disk.old) (D.faults disk.new)) }
-        ensures device { IfOk result (λ p. p.0.log.device ≡ device) }
-        ensures size { IfOk result (λ p. D.extent disk.old ≡ 2 * p.0.log.size) }
-        ensures going { IfOk result (λ p. p.0.fault ≡ None) }
-        ensures lists { D.is_honest disk.old
-            → IfOk result (λ p. DeviceLists (D.extent disk.old / 2) (bodies_of p.1.items) (D.state disk.old).seen) }
-        ensures holds { D.is_honest disk.old → IfOk result (λ p. Holds p.0 (bodies_of p.1.items) (D.state disk.new)) }
-        ensures seen { D.is_honest disk.old → (D.state disk.new).seen ≡ (D.state disk.old).seen }
-        ensures any_moment { D.is_honest disk.old → LeavesOnly (D.clock disk.old) (D.clock disk.new) (IsImage (D.state disk.old)) }
+        ensures log { IfOk result (λ p. IsRead device (D.extent disk.old) (bodies_of p.1.items) p.0) }
+        ensures fetched { D.is_honest disk.old → IfOk result (λ p.
+            Fetched (D.extent disk.old / 2) p.0 (bodies_of p.1.items) (D.state disk.old) (D.state disk.new)) }
+        ensures quiet { D.is_honest disk.old → WritesNothing D.remembers D.state D.clock disk.old disk.new }
     {
         settle(disk, device)?;
         let size = disk.size() / 2;
         let counting = find_counting(disk, device, size)?;
         let read = GateLog::read_region(alloc, disk, device, counting.place, size)?;
-        let Some((log, bodies)) = read else {
-            return Err(Refusal::NotAStore { device, place: 0 });
-        };
+        let (log, bodies) = read_open(device, read)?;
         let area = AreaLog {
             log,
             generation: counting.generation,
@@ -110,6 +97,13 @@ impl AreaLog {
             fault: None,
         };
         Ok((area, bodies))
+    }
+
+    // The device of the log.
+    pub(crate) fn device(&self) -> Device
+        ensures { result ≡ self.now.log.device }
+    {
+        self.log.device()
     }
 
     /// Where on the device the closed gate behind the list stands.
@@ -126,30 +120,30 @@ impl AreaLog {
         self.log.free()
     }
 
+    /// The first fault of a write, after which every further write is refused.
+    pub fn fault(&self) -> Option<u64>
+        ensures { result ≡ self.now.fault }
+    {
+        self.fault
+    }
+
     /// Adds a body: four calls of the device, and no memory. A crash at any moment of it leaves the list with the
     /// body or without; after a success nothing is loose and each crash leaves it with the body. It is refused,
     /// in this order, after a fault of an earlier write, with the first; where the record and the gate behind it
     /// do not fit; and exactly where a call of the device failed. The first two leave the device as it was.
     pub fn append<D: Disk>(&mut self, disk: &mut D, framed: &Framed) -> Result<(), Refusal>
         requires { D.extent disk.old ≡ 2 * self.old.log.size }
-        ensures extent { D.extent disk.new ≡ D.extent disk.old }
-        ensures honest { D.is_honest disk.old ↔ D.is_honest disk.new }
-        ensures log { self.new ≡ after_write self.old (appended self.old framed.now) result }
-        ensures same_device { self.new.log.device ≡ self.old.log.device }
-        ensures same_size { self.new.log.size ≡ self.old.log.size }
-
+        ensures same { SameDevice D.extent D.is_honest disk.old disk.new }
+        ensures log { AfterWrite self.old (appended self.old framed.now) result self.new }
         ensures cause { MatchResult result
-            (λ _. (self.old.fault ≡ None) × HasRoom self.old.log (length framed.now) × (D.faults disk.new ≡ D.faults disk.old))
+            (λ _. (self.old.fault ≡ None) × HasRoom self.old.log (length framed.now)
+            × (D.faults disk.new ≡ D.faults disk.old))
             (IsWriteRefusal self.old
             (IsAppendRefusal self.old.log (length framed.now) (D.faults disk.old) (D.faults disk.new))
             (D.faults disk.old) (D.faults disk.new)) }
-        ensures stopped { (count : ℕ) → self.old.fault ≡ Some count → result ≡ Err (Stopped self.old.log.device count) }
         ensures untouched { IfErr result (λ refusal. (IsDiskFault refusal → ⊥) → disk.new ≡ disk.old) }
-
-        ensures holds { (bodies : List (List ℕ)) → D.is_honest disk.old → Holds self.old bodies (D.state disk.old)
-            → OnOk result (Holds self.new (bodies ++ framed.now ∷ []) (D.state disk.new)) }
-        ensures any_moment { (bodies : List (List ℕ)) → D.is_honest disk.old → Holds self.old bodies (D.state disk.old)
-            → LeavesOnly (D.clock disk.old) (D.clock disk.new) (ListsEither self.old.log.size bodies (bodies ++ framed.now ∷ [])) }
+        ensures writes { D.is_honest disk.old → Writes self.old self.new (λ bodies. bodies ++ framed.now ∷ [])
+            D.remembers D.state D.clock disk.old disk.new result }
     {
         if let Some(count) = self.fault {
             let device = self.log.device();
@@ -175,24 +169,18 @@ impl AreaLog {
     ) -> Result<(), Refusal>
         requires whole { D.extent disk.old ≡ 2 * self.old.log.size }
         requires short { AreBodies (bodies_of bodies.now) }
-        ensures extent { D.extent disk.new ≡ D.extent disk.old }
-        ensures honest { D.is_honest disk.old ↔ D.is_honest disk.new }
-        ensures log { self.new ≡ after_write self.old (replaced self.old (bodies_of bodies.now)) result }
-        ensures same_device { self.new.log.device ≡ self.old.log.device }
-        ensures same_size { self.new.log.size ≡ self.old.log.size }
-
+        ensures same { SameDevice D.extent D.is_honest disk.old disk.new }
+        ensures log { AfterWrite self.old (replaced self.old (bodies_of bodies.now)) result self.new }
         ensures cause { MatchResult result
-            (λ _. (self.old.fault ≡ None) × Fit self.old.log.size (bodies_of bodies.now) × (D.faults disk.new ≡ D.faults disk.old))
+            (λ _. (self.old.fault ≡ None) × Fit self.old.log.size (bodies_of bodies.now)
+            × (D.faults disk.new ≡ D.faults disk.old))
             (IsWriteRefusal self.old
-            (IsFillRefusal self.old.log.size (bodies_of bodies.now) self.old.log.device (D.faults disk.old) (D.faults disk.new))
+            (IsFillRefusal self.old.log.size (bodies_of bodies.now) self.old.log.device
+            (D.faults disk.old) (D.faults disk.new))
             (D.faults disk.old) (D.faults disk.new)) }
-        ensures stopped { (count : ℕ) → self.old.fault ≡ Some count → result ≡ Err (Stopped self.old.log.device count) }
         ensures untouched { IfErr result (λ refusal. (IsDiskFault refusal → ⊥) → disk.new ≡ disk.old) }
-
-        ensures holds { (old : List (List ℕ)) → D.is_honest disk.old → Holds self.old old (D.state disk.old)
-            → OnOk result (Holds self.new (bodies_of bodies.now) (D.state disk.new)) }
-        ensures any_moment { (old : List (List ℕ)) → D.is_honest disk.old → Holds self.old old (D.state disk.old)
-            → LeavesOnly (D.clock disk.old) (D.clock disk.new) (ListsEither self.old.log.size old (bodies_of bodies.now)) }
+        ensures writes { D.is_honest disk.old → Writes self.old self.new (λ _. bodies_of bodies.now)
+            D.remembers D.state D.clock disk.old disk.new result }
     {
         let device = self.log.device();
         if let Some(count) = self.fault {
@@ -228,17 +216,16 @@ impl AreaLog {
     }
 }
 
-// Syncs the device.
-fn settle<D: Disk>(disk: &mut D, device: Device) -> Result<(), Refusal>
-    ensures extent { D.extent disk.new ≡ D.extent disk.old }
-    ensures honest { D.is_honest disk.old ↔ D.is_honest disk.new }
-    ensures cause { FaultsAlone device (D.faults disk.old) (D.faults disk.new) result }
-    ensures seen { D.is_honest disk.old → (D.state disk.new).seen ≡ (D.state disk.old).seen }
-    ensures durable { D.is_honest disk.old → OnOk result (IsDurable (D.state disk.new)) }
-    ensures any_moment { D.is_honest disk.old → LeavesOnly (D.clock disk.old) (D.clock disk.new) (IsImage (D.state disk.old)) }
+// What was read of the half that counts. Where its gate is closed now, the device did not tell the same twice, and is
+// refused at its first place.
+fn read_open(
+    device: Device,
+    read: Option<(GateLog, Vec<Vec<u8>>)>,
+) -> Result<(GateLog, Vec<Vec<u8>>), Refusal>
+    ensures { MatchOption read (result ≡ Err (NotAStore device 0)) (λ p. result ≡ Ok p) }
 {
-    match disk.sync() {
-        Ok(()) => Ok(()),
-        Err(Failed) => Err(fault_of(disk, device)),
+    match read {
+        Some(found) => Ok(found),
+        None => Err(Refusal::NotAStore { device, place: 0 }),
     }
 }
