@@ -26,17 +26,17 @@ pub struct Trial<'a> {
     pub new: &'a [&'a [u8]],
 }
 
-/// What goes wrong, by the device calls of the write itself: all calls after so many, or the call of that kind
-/// with that number, which loses its range.
+// What goes wrong, by the device calls of the write itself: all calls after so many, or the call of that kind
+// with that number, which loses its range.
 #[derive(Clone, Copy)]
-pub enum Fault {
+enum Fault {
     Stop(u64),
     Fails(Call, u64),
 }
 
-/// What the log on an image is.
+// What the log on an image is.
 #[derive(Clone, Copy, PartialEq, Eq)]
-pub enum Found {
+enum Found {
     Old,
     New,
     Neither,
@@ -44,12 +44,12 @@ pub enum Found {
 
 use Found::{New, Old};
 
-/// A fault, and what is found then where the loose bytes become 0x00, 0xa5 and 0xff, and where every second is
-/// as it was written.
-pub type Row = (Fault, [Found; 4]);
+// A fault, and what is found then where the loose bytes become 0x00, 0xa5 and 0xff, and where every second is
+// as it was written.
+type Row = (Fault, [Found; 4]);
 
-/// The body and the closed gate behind it are written and synced, and then the gate before it.
-pub const FOUR_CALLS: [Row; 9] = [
+// The body and the closed gate behind it are written and synced, and then the gate before it.
+const FOUR_CALLS: [Row; 9] = [
     (Fault::Stop(0), [Old, Old, Old, Old]),
     (Fault::Stop(1), [Old, Old, Old, Old]),
     (Fault::Stop(2), [Old, Old, Old, Old]),
@@ -61,8 +61,8 @@ pub const FOUR_CALLS: [Row; 9] = [
     (Fault::Fails(Call::Sync, 2), [Old, New, Old, New]),
 ];
 
-/// The same behind a gate that was open, and is closed first.
-pub const SIX_CALLS: [Row; 13] = [
+// The same behind a gate that was open, and is closed first.
+const SIX_CALLS: [Row; 13] = [
     (Fault::Stop(0), [Old, Old, Old, Old]),
     (Fault::Stop(1), [Old, Old, Old, Old]),
     (Fault::Stop(2), [Old, Old, Old, Old]),
@@ -78,8 +78,26 @@ pub const SIX_CALLS: [Row; 13] = [
     (Fault::Fails(Call::Sync, 3), [Old, New, Old, New]),
 ];
 
-/// The first row that is not as it happens. A write succeeds exactly where each image is the new one.
-pub fn first_wrong(
+/// The first row of the table of four calls that is not as it happens.
+pub fn wrong_in_four(
+    alloc: Global,
+    disk: &MemDisk,
+    trial: &Trial,
+) -> Result<Option<usize>, Refusal> {
+    first_wrong(alloc, disk, trial, &FOUR_CALLS)
+}
+
+/// The first row of the table of six calls that is not as it happens.
+pub fn wrong_in_six(
+    alloc: Global,
+    disk: &MemDisk,
+    trial: &Trial,
+) -> Result<Option<usize>, Refusal> {
+    first_wrong(alloc, disk, trial, &SIX_CALLS)
+}
+
+// The first row that is not as it happens. A write succeeds exactly where each image is the new one.
+fn first_wrong(
     alloc: Global,
     disk: &MemDisk,
     trial: &Trial,
