@@ -5,5 +5,6 @@ pub mod Logs
 pub mod Maps
 pub mod MapSpelling
 pub mod Numbering
+pub mod Short
 pub mod Spelling
 pub mod Turns

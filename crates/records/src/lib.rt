@@ -17,7 +17,7 @@ mod unread;
 pub use decoding::{DecodeError, decode};
 pub use encoding::encode;
 pub use entry::Entry;
-pub use laws::{laws_of_bases, lists_are_read_one_way, records_are_read_one_way};
+pub use laws::{laws_of_bases, laws_of_records, lists_are_read_one_way};
 pub use log::read_log;
 pub use map_decoding::decode_mapping;
 pub use map_entry::{MapEntry, RUN_PAGES};

@@ -37,8 +37,11 @@ const PAGE_16: [u8; 15] = [2, 0, 0, 0, 0, 0, 0, 0, 0, 0, 0, 0, 1, 0, 16];
 #[test]
 fn a_drop_has_these_bytes(rt: HostRuntime) -> Result<(), Fail> {
     let below = Entry::Change(Change::Drop { below: 3 });
-    let bytes = encode(rt.alloc(), Version::One, &below)?;
-    assert_eq!(rt; bytes.as_slice(), [3, 0, 0, 0, 3].as_slice());
+    let framed = encode(rt.alloc(), Version::One, &below)?;
+    assert_eq!(rt;
+        framed.as_bytes(),
+        [0, 0, 0, 5, 3, 0, 0, 0, 3, 0].as_slice()
+    );
     Ok(())
 }
 
@@ -53,8 +56,8 @@ fn a_base_has_these_bytes(rt: HostRuntime) -> Result<(), Fail> {
         marks: Seq::new(alloc),
         captured: Seq::new(alloc),
     });
-    let bytes = encode(alloc, Version::One, &base)?;
-    assert_eq!(rt; bytes.as_slice(), BASE.as_slice());
+    let framed = encode(alloc, Version::One, &base)?;
+    assert_eq!(rt; framed.as_bytes().get(4..43), Some(BASE.as_slice()));
     Ok(())
 }
 
