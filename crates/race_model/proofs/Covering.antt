@@ -72,6 +72,7 @@ failures_cover = record {
   );
   enter = λ m batch none. (
     λ contents i. record { log = i.log; pages = i.pages; mappings = inl (only contents.mappings m.vault.mappings m.vault.others none i.mappings); slots = i.slots },
+    λ contents i. record { log = i.log; pages = i.pages; mappings = inr (0, omega arith, sym (only contents.mappings (trim_to m.vault.mappings batch.low) m.vault.others none i.mappings)); slots = i.slots },
     λ contents i. record { log = i.log; pages = i.pages; mappings = inr (1, omega arith, sym (only contents.mappings (enter_into m.vault.mappings batch) m.vault.others none i.mappings)); slots = i.slots },
   );
   trim = λ m low none. (

@@ -13,7 +13,7 @@ use Rattle.race_model.specs.Fits.{MayFollow, WasSent, DoubtFits, DeskFits}
 use Rattle.race_model.specs.Machine.{changed, change_failed, acked_to, MayWrite, with_page, written, write_failed, settled, stopped, MayCut, cut, cut_failed}
 use Rattle.race_model.specs.Images.{Holds, OpenTo, OpenInDoubt}
 use Rattle.race_model.proofs.Alike.{unchanged, is_written-append, is_written-last}
-use Rattle.race_model.proofs.Histories.{count_with, fits_with}
+use Rattle.race_model.proofs.Histories.{keeps_newest, count_with, fits_with}
 use Rattle.race_model.proofs.LogKeeps.{counts, log_with, log_cut}
 use Rattle.race_model.proofs.Opening.{ImageFits, captured_behind, opens}
 use Rattle.race_model.proofs.Grows.{sent_with, sent_up, holds_with}
@@ -41,7 +41,7 @@ module _ (desk : Desk) (f : DeskFits desk) where
       | inr here ↦ is_written-last page desk.rest change here
     ];
     needed = f.needed;
-    pending = omega (arith, f.pending, count_with desk.history desk.floor f.history change may);
+    pending = omega (arith, f.pending, count_with desk.history f.history.consistent change (keeps_newest (now desk.history).base change may.right));
     doubt = calm desk (changed desk change) desk.doubt goes f.doubt;
   }
 

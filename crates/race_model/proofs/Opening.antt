@@ -102,11 +102,11 @@ module _ (history : History) (floor : ℕ) (fits : HistoryFits history floor) (m
   window = drop-to floor (mappings.low - floor) mappings.low (pages_of (captures history)) (omega (arith, is.above)) ∙ is.same
 
   low_within : mappings.low ≤ (now history).base.captures
-  low_within = omega (arith, is.needed, oldest_within history floor fits)
+  low_within = omega (arith, is.needed, oldest_within history fits.consistent)
 
   pub end_within : end_of mappings ≤ (now history).base.captures
   end_within =
-      omega (arith, low_within, length-drop mappings.low (pages_of (captures history)), pages_count history floor fits, ap (λ (ps : List ℕ). length ps) is.same, length-append mappings.pages is.later)
+      omega (arith, low_within, length-drop mappings.low (pages_of (captures history)), pages_count history fits.consistent, ap (λ (ps : List ℕ). length ps) is.same, length-append mappings.pages is.later)
 
   -- the page of a capture that is mapped
   pub page_mapped : (number : ℕ) → mappings.low ≤ number → number < end_of mappings → get_or mappings.pages (number - mappings.low) 0 ≡ (captured history number).page
@@ -261,7 +261,7 @@ module _ (history : History) (floor : ℕ) (past rest : List Change) (need : ℕ
       captures =
           let start : ℕ = oldest_start (now history).base.marks in
           let consistent : IsConsistent (opened contents) = opened_is_consistent contents of_store.right in
-          let total : length (captures (opened contents)) ≡ length (captures history) = captures_are_counted (opened contents) consistent ∙ ap (λ (b : Base). b.captures) same_base ∙ sym (count history floor fits) in
+          let total : length (captures (opened contents)) ≡ length (captures history) = captures_are_counted (opened contents) consistent ∙ ap (λ (b : Base). b.captures) same_base ∙ sym (count history fits.consistent) in
           same_at (drop start (captures (opened contents))) (drop start (captures history)) (omega (arith, total, length-drop start (captures (opened contents)), length-drop start (captures history)))
           (λ place. get_or-drop start (captures (opened contents)) place forgotten ∙ same_capture (start + place) (omega arith) ∙ sym (get_or-drop start (captures history) place forgotten));
     };

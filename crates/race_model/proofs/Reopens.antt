@@ -1,5 +1,5 @@
 -- Opening makes a machine that fits, and so do whole lives.
-use Rattle.std.proofs.Common.{inl, inr, ◌≤◌, ◌-◌, ℕ, drop, refl, sym, ap, arith}
+use Rattle.std.proofs.Common.{inl, inr, ◌≤◌, ◌-◌, ℕ, List, drop, refl, sym, ap, arith}
 use Rattle.retro_base.specs.declared.limits.TheConstants.{MIN_PAGES, MAX_PAGES, MIN_CAPACITY, MAX_CAPACITY}
 use Rattle.history.specs.declared.writes.PageImage.{PageImage}
 use Rattle.history.specs.Writes.{pages_of}
@@ -13,7 +13,7 @@ use Rattle.race_model.specs.Fits.{AreOfStore}
 use Rattle.race_model.specs.Machine.{Machine}
 use Rattle.race_model.specs.Images.{OpenInDoubt, AreImagesOf}
 use Rattle.race_model.specs.Invariant.{Fits}
-use Rattle.race_model.specs.Laws.{BothAtOnce}
+use Rattle.race_model.specs.Laws.{MadeFits, BothAtOnce}
 use Rattle.race_model.specs.Reopened.{opened_machine, made, Life, Runs, Crashes}
 use Rattle.race_model.proofs.Alike.{run_unchanged}
 use Rattle.race_model.proofs.LogKeeps.{history_opened, log_opened, all_opened}
@@ -58,8 +58,8 @@ opened_fits contents store =
       told = tt;
     }
 
-made_base : (page_count capacity : ℕ) → MIN_PAGES ≤ page_count → page_count ≤ MAX_PAGES → MIN_CAPACITY ≤ capacity → capacity ≤ MAX_CAPACITY → IsBase (made page_count capacity).log.base
-made_base page_count capacity few many small large = record {
+first_base : (page_count capacity : ℕ) (pages slots : ℕ → List ℕ) → MIN_PAGES ≤ page_count → page_count ≤ MAX_PAGES → MIN_CAPACITY ≤ capacity → capacity ≤ MAX_CAPACITY → IsBase (made page_count capacity pages slots).log.base
+first_base page_count capacity pages slots few many small large = record {
   pages = (few, many);
   capacity = (small, large);
   limits = record { total = omega arith; room = omega arith; retained = omega arith; newest = omega arith };
@@ -71,10 +71,10 @@ made_base page_count capacity few many small large = record {
   captured = omega arith;
 }
 
-pub made_fits : (page_count capacity : ℕ) → MIN_PAGES ≤ page_count → page_count ≤ MAX_PAGES → MIN_CAPACITY ≤ capacity → capacity ≤ MAX_CAPACITY → Fits (opened_machine (made page_count capacity))
-made_fits page_count capacity few many small large = opened_fits (made page_count capacity) (record {
+pub made_fits : MadeFits
+made_fits page_count capacity pages slots few many small large = opened_fits (made page_count capacity pages slots) (record {
   right = record {
-    base = made_base page_count capacity few many small large;
+    base = first_base page_count capacity pages slots few many small large;
     right = tt;
     joined = record {
       holds_base = record { counted = omega arith; room = omega arith; different = refl; captured = refl };

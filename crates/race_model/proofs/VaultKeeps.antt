@@ -80,12 +80,12 @@ module _ (history : History) (floor : ℕ) where
     quiet : {X : Type 0} (other : Mappings) → vault.stopped ≡ false → Contains vault.others other → X
     quiet other goes is = absurd (both_ways vault.stopped goes (f.others other is).3)
 
-    pub trim_keeps : (low : ℕ) → MayTrim history vault low → VaultFits history floor (trimmed vault low)
-    trim_keeps low can =
+    pub trim_keeps : (low : ℕ) → vault.stopped ≡ false → MayTrim history vault low → VaultFits history floor (trimmed vault low)
+    trim_keeps low goes can =
         let ends : end_of (trim_to vault.mappings low) ≡ end_of vault.mappings = trim_end vault.mappings low can.held in
         record {
           mappings = trim_fits vault.mappings low f.mappings can.held can.needed;
-          others = λ other is. quiet other can.goes is;
+          others = λ other is. quiet other goes is;
           held = omega (arith, f.held, ends);
           laid = f.laid;
           room = omega (arith, f.room, ends);
@@ -110,12 +110,12 @@ module _ (history : History) (floor : ℕ) where
         }
 
     module _ (batch : Batch) (fits : BatchFits history batch) where
-      pub enter_keeps : MayEnter vault batch → VaultFits history floor (entered vault batch)
-      enter_keeps can =
+      pub enter_keeps : vault.stopped ≡ false → MayEnter vault batch → VaultFits history floor (entered vault batch)
+      enter_keeps goes can =
           let ends : end_of (enter_into vault.mappings batch) ≡ batch_end batch = enter_end vault.mappings batch fits can.first in
           record {
             mappings = enter_fits vault.mappings batch f.mappings fits can.first;
-            others = λ other is. quiet other can.goes is;
+            others = λ other is. quiet other goes is;
             held = omega (arith, ends, can.laid);
             laid = f.laid;
             room = omega (arith, f.room, ends, can.first);
@@ -158,10 +158,10 @@ module _ (history : History) (floor : ℕ) where
       batch_at place lt =
           sym (get_or_append_left batch.images fits.later forgotten place lt) ∙ ap (λ (t : List PageImage). get_or t place forgotten) (sym fits.same) ∙ get_or-drop batch.first (captures history) place forgotten
 
-      pub lay_keeps : (slots : ℕ → List ℕ) (loose : ℕ → Bool) → MayLay vault batch → LeavesOthers capacity vault batch slots loose → HoldsBatch capacity batch slots loose → VaultFits history floor (laid vault batch slots loose)
-      lay_keeps slots loose can outside put = record {
+      pub lay_keeps : (slots : ℕ → List ℕ) (loose : ℕ → Bool) → vault.stopped ≡ false → MayLay vault batch → LeavesOthers capacity vault batch slots loose → HoldsBatch capacity batch slots loose → VaultFits history floor (laid vault batch slots loose)
+      lay_keeps slots loose goes can outside put = record {
         mappings = f.mappings;
-        others = λ other is. quiet other can.goes is;
+        others = λ other is. quiet other goes is;
         held = omega (arith, f.held);
         laid = omega (arith, f.laid, fits.within);
         room = omega (arith, f.room, fits.room, fits.above, can.first);
@@ -180,10 +180,10 @@ module _ (history : History) (floor : ℕ) where
         );
       }
 
-      pub lay_failed_keeps : (slots : ℕ → List ℕ) (loose : ℕ → Bool) → MayLay vault batch → LeavesOthers capacity vault batch slots loose → VaultFits history floor (lay_failed vault slots loose)
-      lay_failed_keeps slots loose can outside = record {
+      pub lay_failed_keeps : (slots : ℕ → List ℕ) (loose : ℕ → Bool) → vault.stopped ≡ false → MayLay vault batch → LeavesOthers capacity vault batch slots loose → VaultFits history floor (lay_failed vault slots loose)
+      lay_failed_keeps slots loose goes can outside = record {
         mappings = f.mappings;
-        others = λ other is. quiet other can.goes is;
+        others = λ other is. quiet other goes is;
         held = omega arith;
         laid = omega (arith, f.laid, f.held);
         room = omega arith;

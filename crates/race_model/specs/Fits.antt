@@ -91,7 +91,7 @@ pub record VaultFits (history : History) (floor : ℕ) (vault : Vault) : Type 0 
   pub slots : (number : ℕ) → oldest_start (now history).base.marks ≤ number → number < vault.laid →
       (vault.loose (number % capacity_of history) ≡ false) × (vault.slots (number % capacity_of history) ≡ (captured history number).bytes)
 
--- a batch is a part of the captures
+-- a batch is a part of the captures, of pages of the store
 pub record BatchFits (history : History) (batch : Batch) : Type 0 where
   pub low : batch.low ≤ oldest_start (now history).base.marks
   pub above : batch.low ≤ batch.first
@@ -99,6 +99,7 @@ pub record BatchFits (history : History) (batch : Batch) : Type 0 where
   pub same : drop batch.first (captures history) ≡ batch.images ++ later
   pub within : batch_end batch ≤ (now history).base.captures
   pub room : batch_end batch ≤ batch.low + capacity_of history
+  pub pages : AllByRecursion (λ page. page < (now history).base.page_count) (pages_of batch.images)
 
 -- what opens to a store: a right log, whose commits write in rising page, and mappings that belong to it
 pub record AreOfStore (contents : Contents) : Type 0 where

@@ -1,5 +1,5 @@
 -- The machine that an opening makes, and whole lives of a store.
-use Rattle.std.specs.Prelude.{ℕ, false, []}
+use Rattle.std.specs.Prelude.{ℕ, false, List, []}
 use Rattle.replay.specs.Opened.{Contents, opened}
 use Rattle.skippy.specs.Mappings.{end_of}
 use Rattle.race_model.specs.Desk.{Desk, Sure, is_written}
@@ -29,13 +29,13 @@ opened_vault contents = record { mappings = contents.mappings; others = []; laid
 abbrev pub opened_machine : Contents → Machine
 opened_machine contents = record { desk = opened_desk contents; vault = opened_vault contents; batches = []; receipts = []; pins = []; told = [] }
 
--- the contents of a store that was just made
-abbrev pub made : ℕ → ℕ → Contents
-made page_count capacity = record {
+-- the contents of a store that was just made, of these pages and slots
+abbrev pub made : ℕ → ℕ → (ℕ → List ℕ) → (ℕ → List ℕ) → Contents
+made page_count capacity pages slots = record {
   log = record { base = record { page_count = page_count; capacity = capacity; changes = 0; captures = 0; marks = []; captured = [] }; changes = [] };
-  pages = λ page. [];
+  pages = pages;
   mappings = record { low = 0; pages = [] };
-  slots = λ slot. [];
+  slots = slots;
 }
 
 -- runs, and crashes after which an image is opened
