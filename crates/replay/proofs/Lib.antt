@@ -1,6 +1,7 @@
 pub mod MapSpelling
 pub mod Turns
 pub mod Different
+pub mod Tables
 pub mod Belonging
 pub mod Logs
 pub mod Maps

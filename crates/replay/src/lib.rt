@@ -14,6 +14,7 @@ mod opened;
 mod tests;
 mod unread;
 
+pub use joining::{holds_base, holds_changes};
 pub use laws::{laws_of_the_opened, lists_are_read_one_way};
 pub use log::{Log, read_log};
 pub use map_decoding::decode_mapping;
