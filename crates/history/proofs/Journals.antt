@@ -25,11 +25,11 @@ use Rattle.history.proofs.Captures.{run-append, run-base, with_changes-step, wit
 use Rattle.history.proofs.Consistent.{step_consistent, stays_consistent, next_keeps, marks_after}
 use Rattle.history.proofs.AsOf.{newest_rises, base_behind_all}
 
-bases-append : (base : Base) (xs ys : List Change) → bases_after base (xs ++ ys) ≡ bases_after (bases_after base xs) ys
+pub bases-append : (base : Base) (xs ys : List Change) → bases_after base (xs ++ ys) ≡ bases_after (bases_after base xs) ys
 bases-append base [] ys = refl
 bases-append base (x ∷ xs) ys = bases-append (base_after base x) xs ys
 
-changes-append : (base : Base) (lines more : List Line) → changes_of base (lines ++ more) ≡ changes_of base lines ++ changes_of (bases_after base (changes_of base lines)) more
+pub changes-append : (base : Base) (lines more : List Line) → changes_of base (lines ++ more) ≡ changes_of base lines ++ changes_of (bases_after base (changes_of base lines)) more
 changes-append base [] more = refl
 changes-append base (line ∷ lines) more =
     let first : List Change = option_to_list (change_of base line.what) in
@@ -108,7 +108,7 @@ journal_keeps base pins [] all = tt
 journal_keeps base pins (line ∷ lines) all =
     newest-append base (option_to_list (change_of base line.what)) (changes_of (base_behind base line) lines) (line_keeps base pins line.what all.0) (journal_keeps (base_behind base line) (pins_behind base pins line.who line.what) lines all.1)
 
-newest-split : (base : Base) (xs ys : List Change) → AllKeepNewest base (xs ++ ys) → AllKeepNewest base xs × AllKeepNewest (bases_after base xs) ys
+pub newest-split : (base : Base) (xs ys : List Change) → AllKeepNewest base (xs ++ ys) → AllKeepNewest base xs × AllKeepNewest (bases_after base xs) ys
 newest-split base [] ys all = (tt, all)
 newest-split base (x ∷ xs) ys all = let rest = newest-split (base_after base x) xs ys all.1 in ((all.0, rest.0), rest.1)
 
@@ -126,7 +126,7 @@ begins history (change ∷ more) fine all =
           ∙ append_assoc (captures history) (captured_by (now history) change) rest.0,
     )
 
-with_changes-append : (history : History) (xs ys : List Change) → with_changes history (xs ++ ys) ≡ with_changes (with_changes history xs) ys
+pub with_changes-append : (history : History) (xs ys : List Change) → with_changes history (xs ++ ys) ≡ with_changes (with_changes history xs) ys
 with_changes-append history xs ys = ap (λ (t : List Change). let h : History = record { origin = history.origin; held = history.held; changes = t } in h) (sym (append_assoc history.changes xs ys))
 
 pub journal_captures_grow : JournalCapturesGrow

@@ -1,6 +1,7 @@
 //! What follows from the definitions.
 
-ghost use Rattle.history.specs.Laws.{AsOfStays, AsOfTheDeclaration, CapturedByTheRule, CapturesAreCounted, CapturesGrow, FrontIsSound, HorizonRises, JournalCapturesGrow, JournalPages, MadeIsConsistent, NothingTwice, OneEntry, OneMoreLine, PinnedAreRetained, RetainedBetween, StartsCount, StaysConsistent, StaysRight};
+ghost use Rattle.history.specs.Laws.{AsOfStays, AsOfTheDeclaration, CapturedByTheRule, CapturesAreCounted, CapturesGrow, FrontIsSound, HorizonRises, JournalCapturesGrow, JournalPages, MadeIsConsistent, NothingTwice, OneMoreLine, PinnedAreRetained, StartsCount, StaysConsistent, StaysRight};
+ghost use Rattle.history.specs.LineLaws.{BaseOfOneMore, FaultsDifferInOneMore, FaultsOfFrontDiffer, FaultsOfOneMore, FirstStopInOneMore, ImagesInOneMore, LastChangeInOneMore, LinesOfOneMore, OpenInOneMore, PageOfTheDeclaringLine, PagesAsOfStay, PinsOfOneMore};
 
 /// Of the captures of a consistent history.
 pub fn laws_of_captures()
@@ -27,6 +28,9 @@ pub fn laws_of_the_past()
     ensures declared { AsOfTheDeclaration }
     // While a snapshot is retained, no page as of it changes.
     ensures stays { AsOfStays }
+    // So it is over the lines of a sound journal.
+    ensures declaring_line { PageOfTheDeclaringLine }
+    ensures more_lines { PagesAsOfStay }
 {}
 
 /// Of journals, and of the changes that they leave in the log.
@@ -45,12 +49,24 @@ pub fn laws_of_journals()
     ensures horizon { HorizonRises }
 {}
 
-/// Of the log's records.
-pub fn laws_of_entries()
-    // Bytes are those of one entry.
-    ensures one_entry { OneEntry }
+/// Of what the lines of a journal tell: what one line more adds.
+pub fn laws_of_lines()
+    ensures base { BaseOfOneMore }
+    ensures pins { PinsOfOneMore }
+    ensures lines { LinesOfOneMore }
+    ensures images { ImagesInOneMore }
+    ensures open_items { OpenInOneMore }
+    ensures changes { LastChangeInOneMore }
+    ensures stops { FirstStopInOneMore }
+    ensures faults { FaultsOfOneMore }
+    // The faults differ as before, and the line's is newer than each of its device.
+    ensures differ { FaultsDifferInOneMore }
+    // In a front of a journal the faults differ too.
+    ensures front { FaultsOfFrontDiffer }
+{}
+
+/// Of bases.
+pub fn right_bases_stay()
     // The base behind a right change is right.
-    ensures stays_right { StaysRight }
-    // Behind a right base the retained snapshots are those from the oldest to the newest.
-    ensures retained { RetainedBetween }
+    ensures { StaysRight }
 {}

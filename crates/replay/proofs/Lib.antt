@@ -1,9 +1,5 @@
-pub mod MapSpelling
-pub mod Turns
 pub mod Different
 pub mod Tables
 pub mod Belonging
-pub mod Logs
-pub mod Maps
 pub mod Fronts
 pub mod Past

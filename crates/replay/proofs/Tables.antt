@@ -1,7 +1,7 @@
 -- Tables by page, and lists that meet each page of a table once at most.
-use Rattle.std.proofs.Common.{◌≡◌, ◌≢◌, inl, inr, ◌≤◌, ◌<◌, ◌∙◌, ◌&&◌, ◌||◌, ℕ, Bool, true, false, not, eqb, List, [], ◌∷◌, length, get_or, set, replicate, refl, sym, ap, subst, arith}
+use Rattle.std.proofs.Common.{◌≡◌, ◌≢◌, inl, inr, ◌≤◌, ◌<◌, ◌∙◌, ◌&&◌, ◌||◌, ◌+◌, ℕ, zero, suc, Bool, true, false, not, eqb, List, [], ◌∷◌, length, drop, get_or, set, replicate, refl, sym, ap, subst, arith}
 use Rattle.std.proofs.lemmas.Bool.{cases_eq, cases_lt, eq-eqb, ne_eqb}
-use Rattle.std.proofs.lemmas.List.{get_or-set_same, get_or-set_other, get_or-replicate, get_or_past, length-replicate}
+use Rattle.std.proofs.lemmas.List.{at_drop_more, get_or-set_same, get_or-set_other, get_or-replicate, get_or_past, length-replicate}
 use Rattle.std.proofs.Math.Path.{fun_ext}
 use Rattle.std.specs.List.{list_all}
 use Rattle.history.specs.Writes.{is_among}
@@ -89,3 +89,30 @@ none_put n page pages = ap (λ b. b || is_among page pages) (elim (cases_lt page
   | inl lt ↦ get_or-replicate n page false false lt
   | inr ge ↦ get_or_past (replicate n false) page false (omega (arith, ge, length-replicate n false))
 ])
+
+-- ---- a list met page by page
+
+same_there : (table : List Bool) (i : ℕ) (d e : Bool) → i < length table → get_or table i d ≡ get_or table i e
+same_there [] i d e lt = absurd (omega (arith, lt))
+same_there (x ∷ table) zero d e lt = refl
+same_there (x ∷ table) (suc i) d e lt = same_there table i d e (omega (arith, lt))
+
+pub told : (table : List Bool) (page : ℕ) (read : Bool) → page < length table → read ≡ get_or table page read → has table page ≡ read
+told table page read lt e = same_there table page false read lt ∙ sym e
+
+pub meets : (table : List Bool) (pages others : List ℕ) → ((page : ℕ) → has table page ≡ is_among page others) → each_once (has table) pages ≡ (differ pages && are_among pages others)
+meets table pages others same = each_once_is (has table) pages ∙ ap (λ b. differ pages && b) (all_same (has table) (λ page. is_among page others) pages same)
+
+module _ (table : List Bool) (pages : List ℕ) (i : ℕ) (lt : i < length pages) where
+  abbrev here : ℕ
+  here = get_or pages i 0
+
+  next : each_once (has table) (drop i pages) ≡ (has table here && each_once (but (has table) here) (drop (i + 1) pages))
+  next = at_drop_more (each_once (has table)) pages i 0 lt
+
+  pub stops : has table here ≡ false → each_once (has table) (drop i pages) ≡ false
+  stops none = next ∙ ap (λ b. b && each_once (but (has table) here) (drop (i + 1) pages)) none
+
+  pub goes_on : here < length table → has table here ≡ true → each_once (has (set table here false)) (drop (i + 1) pages) ≡ each_once (has table) (drop i pages)
+  goes_on within is =
+      ap (λ (f : ℕ → Bool). each_once f (drop (i + 1) pages)) (has_but table here within) ∙ sym (next ∙ ap (λ b. b && each_once (but (has table) here) (drop (i + 1) pages)) is)

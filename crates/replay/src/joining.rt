@@ -3,13 +3,12 @@
 ghost use Rattle.std.specs.Prelude.{◌≡◌, ◌+◌, ◌≤◌, ◌<◌, ◌↔◌, ◌&&◌, false, ℕ, List, IsTrue, IfOk, length, get_or};
 ghost use Rattle.std.specs.List.{AllByRecursion};
 ghost use Rattle.history.specs.Right.{IsBase};
-ghost use Rattle.history.specs.Marks.{newest_start, oldest_start};
 ghost use Rattle.history.specs.Writes.{is_among};
 ghost use Rattle.skippy.specs.Mappings.{end_of};
 ghost use Rattle.replay.specs.Joined.{are_among, begins_with, differ, mapped_since, HoldsBase, HoldsChanges};
 
-use crate::mappings::Mappings;
-use history::{Base, Mark};
+use history::{Base, newest_start, oldest_start};
+use skippy::Mappings;
 use std::alloc::{AllocError, Global};
 
 // A table by page that tells which pages these are.
@@ -54,24 +53,6 @@ fn begin_with(pages: &[u32], captured: &[u32]) -> bool
         }
     }
     true
-}
-
-fn newest_start(marks: &[Mark]) -> u64
-    ensures { result ≡ newest_start marks.now }
-{
-    match marks {
-        [] => 0,
-        [.., last] => last.start,
-    }
-}
-
-fn oldest_start(marks: &[Mark]) -> u64
-    ensures { result ≡ oldest_start marks.now }
-{
-    match marks {
-        [] => 0,
-        [first, ..] => first.start,
-    }
 }
 
 // The kept mappings from the newest snapshot of the base on, up to its captures.

@@ -5,6 +5,7 @@ mod entries;
 mod first_table;
 mod laws;
 mod levels;
+mod mappings;
 #[cfg(test)]
 mod tests;
 
@@ -12,3 +13,4 @@ pub use entries::Steps;
 pub use first_table::FirstTable;
 pub use laws::{a_page_costs_a_step, first_mappings_find};
 pub use levels::Levels;
+pub use mappings::Mappings;
