@@ -7,3 +7,4 @@ pub mod Lines
 pub mod MarkLaws
 pub mod PageLists
 pub mod RightLaws
+pub mod SoundLaws

@@ -1,5 +1,5 @@
 -- What follows from these definitions, in the words of the subject.
-use Rattle.std.specs.Prelude.{◌≡◌, ◌≤◌, ◌++◌, ◌+◌, ◌&&◌, ℕ, true, not, IsTrue, List, [], ◌∷◌, length, map, filter, take, drop, Option, Some}
+use Rattle.std.specs.Prelude.{◌≡◌, ◌≤◌, ◌++◌, ◌+◌, ◌&&◌, ℕ, true, not, List, [], ◌∷◌, length, map, filter, take, drop, Option, Some}
 use Rattle.std.specs.List.{AllByRecursion}
 use Rattle.std.specs.Option.{option_to_list}
 use Rattle.history.specs.declared.entry.Base.{Base}
@@ -8,10 +8,10 @@ use Rattle.history.specs.declared.entry.Change.TheVariants.{Commit, Drop}
 use Rattle.history.specs.declared.journal.Line.{Line}
 use Rattle.history.specs.declared.writes.PageImage.{PageImage}
 use Rattle.history.specs.Marks.{oldest, newest, is_retained, start_of, oldest_start, newest_start, AreMarks}
-use Rattle.history.specs.Writes.{pages_of, rises, is_among}
+use Rattle.history.specs.Writes.{pages_of, is_among}
 use Rattle.history.specs.History.{History, now, captures, with_change, with_changes, is_declared, before_write, base_after, bases_after, captured_by, pages_as_of}
 use Rattle.history.specs.Journal.{change_of, changes_of, pages_after_journal, after_journal}
-use Rattle.history.specs.Right.{IsBase, IsRight}
+use Rattle.history.specs.Right.{IsBase, IsRight, WritesRise}
 use Rattle.history.specs.Sound.{Pin, pins_of, IsSound}
 
 -- the pages of the captures since the newest snapshot was declared
@@ -82,11 +82,6 @@ abbrev pub AsOfStays : Type 0
 AsOfStays = (history : History) (more : List Change) (number : ℕ) → IsConsistent history → AllKeepNewest (now history).base more →
     number ≤ newest (now history).base.marks → is_retained number (now (with_changes history more)).base.marks ≡ true → (page : ℕ) →
     pages_as_of (with_changes history more) number page ≡ pages_as_of history number page
-
--- the writes of a commit rise, as the type of writes keeps them
-abbrev pub WritesRise : Change → Type 0
-WritesRise (Commit label writes) = IsTrue (rises 0 (pages_of writes))
-WritesRise (Drop below) = Unit {0}
 
 -- the base behind a right change is right
 abbrev pub StaysRight : Type 0

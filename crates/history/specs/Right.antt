@@ -8,7 +8,7 @@ use Rattle.history.specs.declared.entry.Change.{Change}
 use Rattle.history.specs.declared.entry.Change.TheVariants.{Commit, Drop}
 use Rattle.history.specs.declared.writes.PageImage.{PageImage}
 use Rattle.history.specs.Marks.{oldest, newest, oldest_start, newest_start, AreMarks}
-use Rattle.history.specs.Writes.{rises}
+use Rattle.history.specs.Writes.{pages_of, rises}
 use Rattle.history.specs.History.{base_after}
 
 -- the limits that hold at each place of a log, of these captures and marks
@@ -45,3 +45,18 @@ IsRight base (Drop below) = (oldest base.marks < below) × (below ≤ newest bas
 abbrev pub AreRight : Base → List Change → Type 0
 AreRight base [] = Unit {0}
 AreRight base (change ∷ changes) = IsRight base change × AreRight (base_after base change) changes
+
+-- the writes of a commit rise, as the type of writes keeps them
+abbrev pub WritesRise : Change → Type 0
+WritesRise (Commit label writes) = IsTrue (rises 0 (pages_of writes))
+WritesRise (Drop below) = Unit {0}
+
+-- a change that may follow what the log says
+pub record MayFollow (base : Base) (change : Change) : Type 0 where
+  pub right : IsRight base change
+  pub rises : WritesRise change
+
+-- each change may follow what the log says behind those before it
+abbrev pub AllMayFollow : Base → List Change → Type 0
+AllMayFollow base [] = Unit {0}
+AllMayFollow base (change ∷ changes) = MayFollow base change × AllMayFollow (base_after base change) changes

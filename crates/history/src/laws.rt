@@ -1,7 +1,7 @@
 //! What follows from the definitions.
 
 ghost use Rattle.history.specs.Laws.{AsOfStays, AsOfTheDeclaration, CapturedByTheRule, CapturesAreCounted, CapturesGrow, FrontIsSound, HorizonRises, JournalCapturesGrow, JournalPages, MadeIsConsistent, NothingTwice, OneMoreLine, PinnedAreRetained, StartsCount, StaysConsistent, StaysRight};
-ghost use Rattle.history.specs.LineLaws.{BaseOfOneMore, FaultsDifferInOneMore, FaultsOfFrontDiffer, FaultsOfOneMore, FirstStopInOneMore, ImagesInOneMore, LastChangeInOneMore, LinesOfOneMore, OpenInOneMore, PageOfTheDeclaringLine, PagesAsOfStay, PinsOfOneMore};
+ghost use Rattle.history.specs.LineLaws.{BaseOfOneMore, BaseStaysRight, ChangesMayFollow, DropsAreBelowPins, FaultsDifferInOneMore, FaultsOfFrontDiffer, FaultsOfOneMore, FirstStopInOneMore, ImagesInOneMore, LastChangeInOneMore, LinesOfOneMore, LookedAtStays, OpenInOneMore, PageOfTheDeclaringLine, PagesAsOfStay, PinsOfOneMore, SoundWithOneMore};
 
 /// Of the captures of a consistent history.
 pub fn laws_of_captures()
@@ -41,10 +41,24 @@ pub fn laws_of_journals()
     ensures pages { JournalPages }
     // As a sound journal goes on, what it captured stays.
     ensures captures { JournalCapturesGrow }
+{}
+
+/// Of sound journals.
+pub fn laws_of_sound_journals()
     // The front of a sound journal is sound.
     ensures front { FrontIsSound }
-    // Behind a sound journal each pinned snapshot is retained.
+    // One line more is sound where there is room for it and it keeps the rules.
+    ensures one_more { SoundWithOneMore }
+    // The changes that a sound journal leaves are right, each at its place.
+    ensures follow { ChangesMayFollow }
+    // Behind it the base is right.
+    ensures right { BaseStaysRight }
+    // Each pinned snapshot is retained.
     ensures pinned { PinnedAreRetained }
+    // No drop is below nothing, of the newest snapshot, or of one that is pinned.
+    ensures drops { DropsAreBelowPins }
+    // While a look has no end, what it looked at stays retained.
+    ensures looks { LookedAtStays }
     // As a sound journal goes on, the oldest and the newest snapshot and the oldest start do not fall.
     ensures horizon { HorizonRises }
 {}

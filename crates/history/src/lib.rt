@@ -19,7 +19,8 @@ pub use entry::{Base, Change, Mark, newest, newest_start, oldest, oldest_start};
 pub use journal::{Journal, Line, What};
 pub use label::{Label, is_label};
 pub use laws::{
-    laws_of_captures, laws_of_journals, laws_of_lines, laws_of_the_past, right_bases_stay,
+    laws_of_captures, laws_of_journals, laws_of_lines, laws_of_sound_journals, laws_of_the_past,
+    right_bases_stay,
 };
 pub use log::{Log, Version};
 pub use replaying::Replayed;

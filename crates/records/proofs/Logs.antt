@@ -15,7 +15,8 @@ use Rattle.records.specs.Reading.{Gives}
 use Rattle.history.specs.Right.{IsBase, IsRight}
 use Rattle.history.specs.declared.log.Log.{Log}
 use Rattle.records.specs.Finds.{Finds, FindsNone}
-use Rattle.records.specs.InTurn.{InTurn, BreaksBehind, BreaksAs, stopping, reached}
+use Rattle.gate_log.specs.Bodies.{BreaksBehind, BreaksAs}
+use Rattle.records.specs.InTurn.{InTurn, stopping, reached}
 use Rattle.records.specs.Log.{IsBaseBody, IsChangeBody, IsLog}
 use Rattle.history.specs.Right.{AreRight}
 use Rattle.records.specs.Laws.{IsReadOneWay}

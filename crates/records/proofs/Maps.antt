@@ -4,7 +4,8 @@ use Rattle.history.specs.declared.log.Version.{Version}
 use Rattle.skippy.specs.Mappings.{Mappings}
 use Rattle.records.specs.declared.map_entry.MapEntry.{MapEntry}
 use Rattle.records.specs.declared.map_entry.MapEntry.TheVariants.{Start}
-use Rattle.records.specs.InTurn.{InTurn, BreaksBehind, BreaksAs, stopping, reached}
+use Rattle.gate_log.specs.Bodies.{BreaksBehind, BreaksAs}
+use Rattle.records.specs.InTurn.{InTurn, stopping, reached}
 use Rattle.records.specs.Maplog.{map_entry_bytes, MapEntryFits, mappings_after, IsRightMapping, IsStart, IsStartBody, IsMappingBody, IsMaplog}
 use Rattle.records.specs.Laws.{IsReadOneWay}
 use Rattle.records.proofs.MapSpelling.{one_map_entry}

@@ -2,7 +2,8 @@
 use Rattle.std.proofs.Common.{◌≡◌, ◌⊎◌, inl, inr, ◌∙◌, ◌+◌, ◌-◌, ◌<◌, ◌≤◌, ◌++◌, ℕ, suc, List, [], ◌∷◌, length, take, drop, get_or, Vec, refl, sym, ap, subst, arith, drop-cons}
 use Rattle.std.proofs.lemmas.List.{take-append-drop, append-nil, take_more, take_rest, get_or-map, length-map}
 use Rattle.std.specs.declared.alloc.Global.{Global}
-use Rattle.records.specs.InTurn.{bodies_of, InTurn, BreaksBehind, reached}
+use Rattle.gate_log.specs.Bodies.{bodies_of, BreaksBehind}
+use Rattle.records.specs.InTurn.{InTurn, reached}
 
 module _ {P I : Type 0} (Is : P → List ℕ → I → Type 0) (after : P → I → P) where
   pub reached-push : (place : P) (items : List I) (item : I) → reached after place (items ++ item ∷ []) ≡ after (reached after place items) item

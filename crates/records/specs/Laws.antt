@@ -8,7 +8,7 @@ use Rattle.history.specs.Marks.{oldest, newest, is_retained}
 use Rattle.history.specs.Right.{IsBase}
 use Rattle.records.specs.declared.entry.Entry.{Entry}
 use Rattle.records.specs.Entries.{entry_bytes, EntryFits, IsNumberedFrom}
-use Rattle.records.specs.InTurn.{BreaksBehind}
+use Rattle.gate_log.specs.Bodies.{BreaksBehind}
 use Rattle.records.specs.Log.{IsLog}
 use Rattle.records.specs.Maplog.{IsMaplog}
 

@@ -22,4 +22,3 @@ pub use log::read_log;
 pub use map_decoding::decode_mapping;
 pub use map_entry::{MapEntry, RUN_PAGES};
 pub use maplog::read_maplog;
-pub use unread::Unread;

@@ -8,13 +8,15 @@ ghost use Rattle.records.specs.declared.entry.Entry.TheVariants as entries;
 ghost use Rattle.history.specs.History.{base_after};
 ghost use Rattle.history.specs.Right.{IsBase, IsRight};
 ghost use Rattle.records.specs.Finds.{Finds};
-ghost use Rattle.records.specs.InTurn.{bodies_of, BreaksAs, InTurn, Reads};
+ghost use Rattle.gate_log.specs.Bodies.{bodies_of, BreaksAs, Reads};
+ghost use Rattle.records.specs.InTurn.{InTurn};
 ghost use Rattle.records.specs.Log.{IsBaseBody, IsChangeBody, IsLog};
 ghost use Rattle.history.specs.Right.{AreRight};
 
 use crate::decoding::{DecodeError, decode};
 use crate::entry::Entry;
-use crate::unread::{Unread, stopped_at};
+use crate::unread::stopped_at;
+use gate_log::Unread;
 use history::{Base, Change, Log, Version, base_after, is_base, is_right};
 use std::alloc::Global;
 use values::{Duplicate, Seq};

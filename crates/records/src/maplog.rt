@@ -7,13 +7,14 @@ ghost use Rattle.retro_base.specs.declared.limits.TheConstants.{MAX_CAPTURES};
 ghost use Rattle.skippy.specs.Mappings as ghosts;
 ghost use Rattle.records.specs.declared.map_entry.MapEntry.{MapEntry};
 ghost use Rattle.records.specs.Finds.{Finds};
-ghost use Rattle.records.specs.InTurn.{bodies_of, Reads};
+ghost use Rattle.gate_log.specs.Bodies.{bodies_of, Reads};
 ghost use Rattle.records.specs.Maplog.{mappings_after, IsRightMapping, IsStart, IsStartBody, IsMappingBody, IsMaplog};
 
 use crate::decoding::DecodeError;
 use crate::map_decoding::decode_mapping;
 use crate::map_entry::MapEntry;
-use crate::unread::{Unread, stopped_at};
+use crate::unread::stopped_at;
+use gate_log::Unread;
 use history::Version;
 use retro_base::MAX_CAPTURES;
 use skippy::Mappings;

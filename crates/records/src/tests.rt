@@ -1,6 +1,7 @@
 //! What no clause says: the bytes of records, and lists of bodies with what they stand for, worked by hand.
 
 use crate::*;
+use gate_log::Unread;
 use history::{Base, Change, Version};
 use std::alloc::{AllocError, Global};
 use std::test::Fail;

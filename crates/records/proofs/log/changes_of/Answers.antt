@@ -3,7 +3,8 @@ use Rattle.std.proofs.lemmas.List.{length_push}
 use Rattle.history.specs.declared.entry.Base.{Base}
 use Rattle.history.specs.declared.entry.Change.{Change}
 use Rattle.history.specs.History.{base_after}
-use Rattle.records.specs.InTurn.{bodies_of, BreaksAs, InTurn, reached}
+use Rattle.gate_log.specs.Bodies.{bodies_of, BreaksAs}
+use Rattle.records.specs.InTurn.{InTurn, reached}
 use Rattle.records.specs.Log.{IsChangeBody, IsLog}
 use Rattle.records.proofs.Logs.{breaks_later}
 use Rattle.records.proofs.Turns.{body_at, body_more, length-bodies, in_turn-push, reached-push}

@@ -1,6 +1,7 @@
 use Rattle.std.proofs.Common.{◌≡◌, take, length}
 use Rattle.history.specs.History.{base_after}
-use Rattle.records.specs.InTurn.{bodies_of, InTurn, reached}
+use Rattle.gate_log.specs.Bodies.{bodies_of}
+use Rattle.records.specs.InTurn.{InTurn, reached}
 use Rattle.records.specs.Log.{IsChangeBody}
 use Rattle.records.proofs.log.changes_of.Given as goal
 

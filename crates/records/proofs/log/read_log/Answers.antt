@@ -1,5 +1,6 @@
 use Rattle.std.proofs.Common.{◌-◌, ℕ, List, length, take, drop, sym, subst, arith}
-use Rattle.records.specs.InTurn.{bodies_of, BreaksAs, stopping}
+use Rattle.gate_log.specs.Bodies.{bodies_of, BreaksAs}
+use Rattle.records.specs.InTurn.{stopping}
 use Rattle.records.specs.Log.{IsLog}
 use Rattle.records.proofs.Logs.{breaks_at_first}
 use Rattle.records.proofs.Turns.{bodies_split}

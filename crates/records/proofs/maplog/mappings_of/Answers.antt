@@ -1,6 +1,7 @@
 use Rattle.std.proofs.Common.{◌≡◌, ◌∙◌, ◌+◌, ◌++◌, ◌<◌, ℕ, List, [], ◌∷◌, length, take, sym, ap, subst, arith}
 use Rattle.skippy.specs.Mappings.{Mappings}
-use Rattle.records.specs.InTurn.{bodies_of, BreaksAs, InTurn}
+use Rattle.gate_log.specs.Bodies.{bodies_of, BreaksAs}
+use Rattle.records.specs.InTurn.{InTurn}
 use Rattle.records.specs.Maplog.{mappings_after, IsMappingBody, IsMaplog}
 use Rattle.records.proofs.Maps.{breaks_later}
 use Rattle.records.proofs.Turns.{body_at, body_more, length-bodies, in_turn-push, reached-push}

@@ -1,6 +1,7 @@
 use Rattle.std.proofs.Common.{◌≡◌, take, List}
 use Rattle.records.specs.declared.map_entry.MapEntry.{MapEntry}
-use Rattle.records.specs.InTurn.{bodies_of, InTurn, reached}
+use Rattle.gate_log.specs.Bodies.{bodies_of}
+use Rattle.records.specs.InTurn.{InTurn, reached}
 use Rattle.records.specs.Maplog.{mappings_after, IsMappingBody}
 use Rattle.records.proofs.maplog.mappings_of.Given as goal
 

@@ -1,5 +1,6 @@
 use Rattle.std.proofs.Common.{◌-◌, ℕ, List, length, take, drop, sym, subst, arith}
-use Rattle.records.specs.InTurn.{bodies_of, BreaksAs, Reads, stopping}
+use Rattle.gate_log.specs.Bodies.{bodies_of, BreaksAs, Reads}
+use Rattle.records.specs.InTurn.{stopping}
 use Rattle.records.specs.Maplog.{IsMaplog}
 use Rattle.records.proofs.Maps.{breaks_at_first}
 use Rattle.records.proofs.Turns.{bodies_split}
