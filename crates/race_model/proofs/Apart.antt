@@ -1,28 +1,29 @@
 -- What fits a history fits it when it has gone on; and what the desk told stays right until the vault finds.
-use Rattle.std.proofs.Common.{◌≡◌, inl, inr, ◌≤◌, ◌+◌, ◌-◌, ◌∙◌, ◌++◌, ◌∷◌, [], ℕ, List, Bool, eqb, max, length, drop, take, Some, None, refl, ap, sym, subst, arith, append_assoc, length-drop}
+use Rattle.std.proofs.Common.{◌≡◌, inl, inr, ◌≤◌, ◌+◌, ◌-◌, ◌∙◌, ◌++◌, ◌∷◌, [], ℕ, List, Bool, true, eqb, max, length, drop, take, Some, None, refl, ap, sym, subst, arith, append_assoc, length-drop}
 use Rattle.std.specs.Prelude.{Option, position, option_map}
-use Rattle.std.specs.Option.{option_to_list}
 use Rattle.std.proofs.lemmas.Bool.{cases_lt}
 use Rattle.history.specs.declared.entry.Base.{Base}
 use Rattle.history.specs.declared.entry.Change.{Change}
 use Rattle.history.specs.declared.journal.Line.{Line}
 use Rattle.history.specs.Marks.{is_retained, oldest_start}
 use Rattle.history.specs.Writes.{pages_of}
-use Rattle.history.specs.History.{History, State, now, base_after, bases_after, with_change, with_changes, captures}
-use Rattle.history.specs.Journal.{change_of, changes_of, base_behind, after_journal}
+use Rattle.history.specs.History.{History, State, now, base_after, bases_after, with_change, with_changes, captures, pages_as_of}
+use Rattle.history.specs.Journal.{changes_of, after_journal}
 use Rattle.history.specs.Laws.{IsConsistent, KeepsNewest, AllKeepNewest}
+use Rattle.history.specs.Right.{AllMayFollow}
 use Rattle.history.specs.Sound.{IsSound}
 use Rattle.history.proofs.Captures.{now-with, with_changes-step, with_changes-none}
 use Rattle.history.proofs.Consistent.{step_consistent, next_keeps, stays_consistent}
 use Rattle.history.proofs.AsOf.{base_behind_all}
-use Rattle.history.proofs.Journals.{journal_keeps}
+use Rattle.history.proofs.Journals.{changes-append, journal_keeps, newest-split, with_changes-append}
+use Rattle.history.proofs.SoundLaws.{changes_may_follow}
 use Rattle.skippy.specs.Mappings.{Mappings, end_of, first_in}
-use Rattle.race_model.specs.Desk.{Desk}
-use Rattle.race_model.specs.Vault.{Vault, Batch, AreMappingsOf, trim_to}
+use Rattle.race_model.specs.Desk.{Desk, capacity_of}
+use Rattle.race_model.specs.Vault.{Maplog, Vault, Batch, IsMaplogOf}
 use Rattle.race_model.specs.Fits.{HistoryFits, MappingsFit, VaultFits, BatchFits}
-use Rattle.race_model.specs.Apart.{AllMayFollow, HistoryOutlives, Outlives, OutlivesLines, ToldBelow, AllOutlive, VaultFinds, FindsAlike, PastIsRight, TrimLeaves}
+use Rattle.race_model.specs.Apart.{HistoryOutlives, HistoryOutlivesLines, Outlives, OutlivesLines, ToldBelow, AllOutlive, VaultFinds, FindsAlike, PastIsRight, PastOverLines, TrimLeaves}
 use Rattle.race_model.specs.Invariant.{ToldFits}
-use Rattle.race_model.specs.Reading.{Told, told_of}
+use Rattle.race_model.specs.Reading.{Told, told_of, found}
 use Rattle.race_model.proofs.Lists.{drop-to}
 use Rattle.race_model.proofs.Grows.{contains_none, vault_with, batch_with}
 use Rattle.race_model.proofs.Histories.{keeps_newest, count_with, fits_with}
@@ -31,25 +32,9 @@ use Rattle.race_model.proofs.VaultKeeps.{trim_end}
 
 -- ---- lists of changes
 
-bases-append : (base : Base) (xs ys : List Change) → bases_after base (xs ++ ys) ≡ bases_after (bases_after base xs) ys
-bases-append base [] ys = refl
-bases-append base (x ∷ xs) ys = bases-append (base_after base x) xs ys
-
-changes-append : (base : Base) (lines more : List Line) → changes_of base (lines ++ more) ≡ changes_of base lines ++ changes_of (bases_after base (changes_of base lines)) more
-changes-append base [] more = refl
-changes-append base (line ∷ lines) more =
-    let first : List Change = option_to_list (change_of base line.what) in
-    let next : Base = base_behind base line in
-    ap (λ (t : List Change). first ++ t) (changes-append next lines more)
-    ∙ sym (append_assoc first (changes_of next lines) (changes_of (bases_after next (changes_of next lines)) more))
-    ∙ ap (λ (b : Base). (first ++ changes_of next lines) ++ changes_of b more) (sym (bases-append base first (changes_of next lines)))
-
-newest-split : (base : Base) (xs ys : List Change) → AllKeepNewest base (xs ++ ys) → AllKeepNewest base xs × AllKeepNewest (bases_after base xs) ys
-newest-split base [] ys all = (tt, all)
-newest-split base (x ∷ xs) ys all = let rest = newest-split (base_after base x) xs ys all.1 in ((all.0, rest.0), rest.1)
-
-with_changes-append : (history : History) (xs ys : List Change) → with_changes history (xs ++ ys) ≡ with_changes (with_changes history xs) ys
-with_changes-append history xs ys = ap (λ (t : List Change). record history { changes = t }) (sym (append_assoc history.changes xs ys))
+may_split : (base : Base) (xs ys : List Change) → AllMayFollow base (xs ++ ys) → AllMayFollow (bases_after base xs) ys
+may_split base [] ys all = all
+may_split base (x ∷ xs) ys all = may_split (base_after base x) xs ys all.1
 
 all_keep : (base : Base) (changes : List Change) → AllMayFollow base changes → AllKeepNewest base changes
 all_keep base [] may = tt
@@ -63,6 +48,27 @@ history_outlives history floor (change ∷ more) fits may =
     let step : History = with_change history change in
     let rest = subst (λ (b : Base). AllMayFollow b more) (sym (ap (λ (s : State). s.base) (now-with history change))) may.1 in
     subst (λ (h : History). HistoryFits h floor) (sym (with_changes-step history change more)) (history_outlives step floor more (fits_with history floor fits change may.0) rest)
+
+-- the changes of more lines, and where they lead
+lines_append : (history : History) (lines more : List Line)
+    → after_journal history (lines ++ more) ≡ with_changes (after_journal history lines) (changes_of (bases_after (now history).base (changes_of (now history).base lines)) more)
+lines_append history lines more =
+    let base : Base = (now history).base in
+    let first : List Change = changes_of base lines in
+    ap (with_changes history) (changes-append base lines more) ∙ with_changes-append history first (changes_of (bases_after base first) more)
+
+more_may : (history : History) (lines more : List Line) → IsSound (now history).base (lines ++ more)
+    → AllMayFollow (now (after_journal history lines)).base (changes_of (bases_after (now history).base (changes_of (now history).base lines)) more)
+more_may history lines more sound =
+    let base : Base = (now history).base in
+    let first : List Change = changes_of base lines in
+    let second : List Change = changes_of (bases_after base first) more in
+    subst (λ (b : Base). AllMayFollow b second) (sym (base_behind_all history first)) (may_split base first second (subst (AllMayFollow base) (changes-append base lines more) (changes_may_follow base (lines ++ more) sound)))
+
+pub history_outlives_lines : HistoryOutlivesLines
+history_outlives_lines history floor lines more sound fits =
+    subst (λ (h : History). HistoryFits h floor) (sym (lines_append history lines more))
+    (history_outlives (after_journal history lines) floor (changes_of (bases_after (now history).base (changes_of (now history).base lines)) more) fits (more_may history lines more sound))
 
 -- what one change leaves, all leave
 abbrev OutlivesOne : (History → Type 0) → Type 0
@@ -81,7 +87,7 @@ over_lines Fit all history lines more fine sound fit =
     let second : List Change = changes_of (bases_after base first) more in
     let both = newest-split base first second (subst (AllKeepNewest base) (changes-append base lines more) (journal_keeps base [] (lines ++ more) sound.keeps)) in
     let there : History = with_changes history first in
-    subst Fit (sym (ap (with_changes history) (changes-append base lines more) ∙ with_changes-append history first second))
+    subst Fit (sym (lines_append history lines more))
     (all there second (stays_consistent history first fine both.0) (subst (λ (b : Base). AllKeepNewest b second) (sym (base_behind_all history first)) both.1) fit)
 
 vault_one : (floor : ℕ) (vault : Vault) → OutlivesOne (λ history. VaultFits history floor vault)
@@ -113,13 +119,13 @@ all_outlive_lines = record {
 -- ---- what the vault finds
 
 -- a vault that has whichever of its mappings memory keeps
-module _ (history : History) (floor : ℕ) (vault : Vault) (f : VaultFits history floor vault) (kept : Mappings) (are : AreMappingsOf vault kept) where
+module _ (history : History) (floor : ℕ) (vault : Vault) (f : VaultFits history floor vault) (kept : Maplog) (are : IsMaplogOf vault kept) where
   abbrev kept_vault : Vault
-  kept_vault = record vault { mappings = kept; others = [] }
+  kept_vault = record vault { mappings = kept.mappings; others = [] }
 
-  kept_within : MappingsFit history floor kept × (end_of vault.mappings ≤ end_of kept) × (end_of kept ≤ vault.laid)
+  kept_within : MappingsFit history floor kept.mappings × (end_of vault.mappings ≤ end_of kept.mappings) × (end_of kept.mappings ≤ vault.laid)
   kept_within = elim are [
-    | inl e ↦ subst (λ (m : Mappings). MappingsFit history floor m × (end_of vault.mappings ≤ end_of m) × (end_of m ≤ vault.laid)) (sym e) (f.mappings, omega arith, f.held)
+    | inl e ↦ subst (λ (m : Maplog). MappingsFit history floor m.mappings × (end_of vault.mappings ≤ end_of m.mappings) × (end_of m.mappings ≤ vault.laid)) (sym e) (f.mappings, omega arith, f.held)
     | inr other ↦ ((f.others kept other).0, (f.others kept other).1, (f.others kept other).2)
   ]
 
@@ -150,6 +156,15 @@ past_is_right desk more vault kept snapshot page fits may f are held retained st
     let keeps : AllKeepNewest (now desk.history).base more = all_keep (now desk.history).base more may in
     let later_told = all_outlive.told desk.acked told desk.history more fits.history.consistent keeps (record { there = fits.pending; fits = told_fits desk fits.history snapshot page retained }) in
     vault_finds later desk.floor desk.acked vault kept told (history_outlives desk.history desk.floor more fits.history may) f are held later_told.fits still
+
+pub past_over_lines : PastOverLines
+past_over_lines opening lines more desk vault kept snapshot page sound seen fits f are held retained still =
+    let second : List Change = changes_of (bases_after (now opening).base (changes_of (now opening).base lines)) more in
+    let goes : after_journal opening (lines ++ more) ≡ with_changes desk.history second = lines_append opening lines more ∙ ap (λ (h : History). with_changes h second) (sym seen) in
+    let may : AllMayFollow (now desk.history).base second = subst (λ (h : History). AllMayFollow (now h).base second) (sym seen) (more_may opening lines more sound) in
+    subst (λ (h : History). found (record vault { mappings = kept.mappings }) (capacity_of h) (told_of desk snapshot page) ≡ pages_as_of h snapshot page) (sym goes)
+    (past_is_right desk second vault kept snapshot page fits may (subst (λ (h : History). VaultFits h desk.floor vault) goes f) are held retained
+    (subst (λ (h : History). is_retained snapshot (now h).base.marks ≡ true) goes still))
 
 pub trim_leaves : TrimLeaves
 trim_leaves vault low held = (trim_end vault.mappings low held, λ start upto page above.

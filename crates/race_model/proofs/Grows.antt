@@ -6,12 +6,13 @@ use Rattle.std.proofs.lemmas.List.{drop-append-le}
 use Rattle.history.specs.declared.entry.Change.{Change}
 use Rattle.history.specs.declared.writes.PageImage.{PageImage}
 use Rattle.history.specs.Writes.{pages_of}
+use Rattle.history.specs.Right.{MayFollow}
 use Rattle.history.specs.History.{State, History, now, captures, captured_by, with_change}
 use Rattle.history.proofs.Captures.{now-with}
 use Rattle.history.specs.Laws.{IsConsistent, KeepsNewest}
 use Rattle.skippy.specs.Mappings.{Mappings}
 use Rattle.race_model.specs.Vault.{Vault, Batch}
-use Rattle.race_model.specs.Fits.{MayFollow, HistoryFits, MappingsFit, VaultFits, BatchFits, WasSent}
+use Rattle.race_model.specs.Fits.{HistoryFits, MappingsFit, VaultFits, BatchFits, WasSent}
 use Rattle.race_model.specs.Images.{Holds}
 use Rattle.race_model.proofs.Lists.{pages_of-append, pages_of-length}
 use Rattle.race_model.proofs.Histories.{keeps_newest, page_count_after, count, oldest_within, grown, count_with, start_with, captured_with, drop_with}
@@ -61,7 +62,7 @@ module _ (history : History) (floor : ℕ) (fine : IsConsistent history) (change
   pub vault_with : (vault : Vault) → VaultFits history floor vault → VaultFits (with_change history change) floor vault
   vault_with vault f = record {
     mappings = mappings_with vault.mappings f.mappings;
-    others = λ other is. (mappings_with other (f.others other is).0, (f.others other is).1, (f.others other is).2, (f.others other is).3);
+    others = λ other is. (mappings_with other.mappings (f.others other is).0, (f.others other is).1, (f.others other is).2, (f.others other is).3);
     held = f.held;
     laid = omega (arith, f.laid, count_with history fine change keeps);
     room = f.room;

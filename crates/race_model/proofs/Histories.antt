@@ -12,7 +12,7 @@ use Rattle.history.specs.Marks.{newest, newest_start, oldest_start, MarksRise, A
 use Rattle.history.specs.Writes.{pages_of, is_among}
 use Rattle.history.specs.History.{is_declared, capturing, State, base_after, after, run, captured_by, captures_of, History, now, captures, with_change}
 use Rattle.history.specs.Laws.{IsConsistent, KeepsNewest, captured_since}
-use Rattle.history.specs.Right.{IsBase, IsRight}
+use Rattle.history.specs.Right.{IsBase, IsRight, MayFollow}
 use Rattle.history.proofs.MarkLaws.{newest_start-within}
 use Rattle.history.proofs.Captures.{now-with, captured-length, captures-count, captures-grow}
 use Rattle.history.proofs.Consistent.{step_consistent}
@@ -21,7 +21,7 @@ use Rattle.history.proofs.Journals.{kept-oldest}
 use Rattle.replay.specs.Joined.{differ, are_among}
 use Rattle.replay.specs.Opened.{forgotten}
 use Rattle.race_model.specs.Desk.{captured, capacity_of}
-use Rattle.race_model.specs.Fits.{MayFollow, HistoryFits}
+use Rattle.race_model.specs.Fits.{HistoryFits}
 use Rattle.race_model.proofs.Lists.{are_among-each, rises_differ, all_different, pages_of-length}
 
 pub captures_of-append : (state : State) (changes more : List Change) → captures_of state (changes ++ more) ≡ captures_of state changes ++ captures_of (run state changes) more

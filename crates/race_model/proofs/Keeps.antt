@@ -154,9 +154,9 @@ run_keeps m _ Done f = f
 run_keeps m last (More {next = next} step run) f = run_keeps next last run (step_keeps m next step f)
 
 pub apart_open : ApartOpen
-apart_open desk vault contents f fits enough is_log are_pages are_mappings are_slots =
-    let held = vault_holds desk.history desk.floor vault fits contents.mappings contents.slots are_mappings are_slots in
+apart_open desk vault version contents f fits enough is_log are_pages is_maplog are_slots =
+    let held = vault_holds desk.history desk.floor vault fits (record { version = version; mappings = contents.mappings }) contents.slots is_maplog are_slots in
     desk_opens desk f contents is_log are_pages (record { mapped = held.mapped; enough = omega (arith, held.enough, enough); filled = held.filled })
 
 pub images_open : ImagesOpen
-images_open m contents f images = apart_open m.desk m.vault contents f.desk f.vault (omega (arith, f.desk.needed, f.order)) images.log images.pages images.mappings images.slots
+images_open m contents f images = apart_open m.desk m.vault images.version contents f.desk f.vault (omega (arith, f.desk.needed, f.order)) images.log images.pages images.maplog images.slots

@@ -7,9 +7,9 @@ use Rattle.history.specs.declared.entry.Change.{Change}
 use Rattle.history.specs.declared.writes.PageImage.{PageImage}
 use Rattle.history.specs.Marks.{newest_start}
 use Rattle.history.specs.Writes.{pages_of}
-use Rattle.history.specs.Right.{IsBase, IsRight}
+use Rattle.history.specs.Right.{IsBase, IsRight, MayFollow, WritesRise}
 use Rattle.history.specs.History.{State, base_after, bases_after, run, captured_by, captures_of, History, now, captures, with_change}
-use Rattle.history.specs.Laws.{captured_since, WritesRise}
+use Rattle.history.specs.Laws.{captured_since}
 use Rattle.history.proofs.Captures.{run-append, run-base}
 use Rattle.history.proofs.BaseStays.{stays_right}
 use Rattle.skippy.specs.Mappings.{end_of}
@@ -18,7 +18,7 @@ use Rattle.history.specs.Right.{AreRight}
 use Rattle.replay.specs.Opened.{Contents, opened, slot_images}
 use Rattle.replay.proofs.Belonging.{opened_captures, opened_is_consistent}
 use Rattle.race_model.specs.Desk.{behind}
-use Rattle.race_model.specs.Fits.{MayFollow, HistoryFits, LogFits, all_mappings, AreOfStore}
+use Rattle.race_model.specs.Fits.{HistoryFits, LogFits, all_mappings, AreOfStore}
 use Rattle.race_model.proofs.Lists.{pages_of-append, pages_of-length, pages_of-drop, drop-to, begins_is}
 use Rattle.race_model.proofs.Histories.{keeps_newest, captures_of-append, run_count, count, floor_within, pages_count, grown, oldest-newest, since_differ, since_listed}
 

@@ -2,6 +2,7 @@
 use Rattle.std.proofs.Common.{inl, inr, ◌≤◌, ◌-◌, ℕ, List, drop, refl, sym, ap, arith}
 use Rattle.retro_base.specs.declared.limits.TheConstants.{MIN_PAGES, MAX_PAGES, MIN_CAPACITY, MAX_CAPACITY}
 use Rattle.history.specs.declared.writes.PageImage.{PageImage}
+use Rattle.history.specs.declared.log.Version.{Version}
 use Rattle.history.specs.Writes.{pages_of}
 use Rattle.history.specs.Right.{IsBase}
 use Rattle.history.specs.History.{captures_of, History}
@@ -13,7 +14,7 @@ use Rattle.race_model.specs.Fits.{AreOfStore}
 use Rattle.race_model.specs.Machine.{Machine}
 use Rattle.race_model.specs.Images.{OpenInDoubt, AreImagesOf}
 use Rattle.race_model.specs.Invariant.{Fits}
-use Rattle.race_model.specs.Laws.{MadeFits, BothAtOnce}
+use Rattle.race_model.specs.Laws.{MadeFits, OpenedFits, BothAtOnce}
 use Rattle.race_model.specs.Reopened.{opened_machine, made, Life, Runs, Crashes}
 use Rattle.race_model.proofs.Alike.{run_unchanged}
 use Rattle.race_model.proofs.LogKeeps.{history_opened, log_opened, all_opened}
@@ -21,8 +22,8 @@ use Rattle.race_model.proofs.Opening.{opened_held}
 use Rattle.race_model.proofs.Grows.{contains_none}
 use Rattle.race_model.proofs.Keeps.{step_keeps, run_keeps, images_open}
 
-pub opened_fits : (contents : Contents) → AreOfStore contents → Fits (opened_machine contents)
-opened_fits contents store =
+pub opened_fits : OpenedFits
+opened_fits version contents store =
     let joined = store.right.joined in
     record {
       desk = record {
@@ -58,8 +59,8 @@ opened_fits contents store =
       told = tt;
     }
 
-first_base : (page_count capacity : ℕ) (pages slots : ℕ → List ℕ) → MIN_PAGES ≤ page_count → page_count ≤ MAX_PAGES → MIN_CAPACITY ≤ capacity → capacity ≤ MAX_CAPACITY → IsBase (made page_count capacity pages slots).log.base
-first_base page_count capacity pages slots few many small large = record {
+first_base : (version : Version) (page_count capacity : ℕ) (pages slots : ℕ → List ℕ) → MIN_PAGES ≤ page_count → page_count ≤ MAX_PAGES → MIN_CAPACITY ≤ capacity → capacity ≤ MAX_CAPACITY → IsBase (made version page_count capacity pages slots).log.base
+first_base version page_count capacity pages slots few many small large = record {
   pages = (few, many);
   capacity = (small, large);
   limits = record { total = omega arith; room = omega arith; retained = omega arith; newest = omega arith };
@@ -72,9 +73,9 @@ first_base page_count capacity pages slots few many small large = record {
 }
 
 pub made_fits : MadeFits
-made_fits page_count capacity pages slots few many small large = opened_fits (made page_count capacity pages slots) (record {
+made_fits version page_count capacity pages slots few many small large = opened_fits version (made version page_count capacity pages slots) (record {
   right = record {
-    base = first_base page_count capacity pages slots few many small large;
+    base = first_base version page_count capacity pages slots few many small large;
     right = tt;
     joined = record {
       holds_base = record { counted = omega arith; room = omega arith; different = refl; captured = refl };
@@ -86,7 +87,7 @@ made_fits page_count capacity pages slots few many small large = opened_fits (ma
 
 of_store : (contents : Contents) (history : History) (doubt : Doubt) → OpenInDoubt contents history doubt → AreOfStore contents
 of_store contents history Sure o = o.store
-of_store contents history NewBase o = o.store
+of_store contents history (NewBase version) o = o.store
 of_store contents history (OneMore change) (inl o) = o.store
 of_store contents history (OneMore change) (inr o) = o.store
 
@@ -94,7 +95,7 @@ pub lives_keep : (first last : Machine) → Life first last → Fits first → F
 lives_keep first last (Runs run) f = run_keeps first last run f
 lives_keep first last (Crashes {next = next} contents life images run) f =
     let fits : Fits next = lives_keep first next life f in
-    run_keeps (opened_machine contents) last run (opened_fits contents (of_store contents next.desk.history next.desk.doubt (images_open next contents fits images)))
+    run_keeps (opened_machine images.version contents) last run (opened_fits images.version contents (of_store contents next.desk.history next.desk.doubt (images_open next contents fits images)))
 
 pub lives_open : (first last : Machine) (contents : Contents) → Life first last → Fits first → AreImagesOf last contents → OpenInDoubt contents last.desk.history last.desk.doubt
 lives_open first last contents life f images = images_open last contents (lives_keep first last life f) images

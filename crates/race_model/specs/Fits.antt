@@ -1,26 +1,20 @@
 -- What holds of a desk and of a vault between their steps.
 use Rattle.std.specs.Prelude.{◌≡◌, ◌⊎◌, ◌+◌, ◌%◌, ◌<◌, ◌≤◌, ◌-◌, ◌++◌, ℕ, true, false, IsTrue, List, length, drop, get_or, Contains}
 use Rattle.std.specs.List.{AllByRecursion}
-use Rattle.history.specs.declared.entry.Base.{Base}
 use Rattle.history.specs.declared.entry.Change.{Change}
 use Rattle.history.specs.declared.writes.PageImage.{PageImage}
 use Rattle.history.specs.Marks.{oldest_start}
 use Rattle.history.specs.Writes.{pages_of}
 use Rattle.history.specs.History.{History, now, captures, captures_of}
-use Rattle.history.specs.Laws.{IsConsistent, WritesRise}
-use Rattle.history.specs.Right.{IsBase, IsRight}
+use Rattle.history.specs.Laws.{IsConsistent}
+use Rattle.history.specs.Right.{IsBase, WritesRise, MayFollow}
 use Rattle.skippy.specs.Mappings.{Mappings, end_of}
 use Rattle.replay.specs.Joined.{differ, are_among, mapped_since}
 use Rattle.history.specs.Right.{AreRight}
 use Rattle.replay.specs.Laws.{AreRightContents}
 use Rattle.replay.specs.Opened.{Contents, forgotten}
 use Rattle.race_model.specs.Desk.{Doubt, Sure, OneMore, NewBase, Desk, behind, captured, capacity_of, is_written}
-use Rattle.race_model.specs.Vault.{Vault, Batch, batch_end}
-
--- a change that may be made there
-pub record MayFollow (base : Base) (change : Change) : Type 0 where
-  pub right : IsRight base change
-  pub rises : WritesRise change
+use Rattle.race_model.specs.Vault.{Maplog, Vault, Batch, batch_end}
 
 -- the mappings of the captures from the floor on
 abbrev pub all_mappings : History → ℕ → Mappings
@@ -53,7 +47,7 @@ PageFits desk page = ((desk.loose page ≡ false) × (desk.pages page ≡ (behin
 abbrev pub DoubtFits : Desk → Doubt → Type 0
 DoubtFits desk Sure = Unit {0}
 DoubtFits desk (OneMore change) = MayFollow (now desk.history).base change × (desk.stopped ≡ true)
-DoubtFits desk NewBase =
+DoubtFits desk (NewBase version) =
     ((page : ℕ) → (desk.loose page ≡ false) × (desk.pages page ≡ (now desk.history).pages page)) × ((now desk.history).base.captures ≤ desk.need) × (desk.stopped ≡ true)
 
 -- what holds of a history that is kept from a floor on
@@ -84,7 +78,7 @@ pub record MappingsFit (history : History) (floor : ℕ) (mappings : Mappings) :
 
 pub record VaultFits (history : History) (floor : ℕ) (vault : Vault) : Type 0 where
   pub mappings : MappingsFit history floor vault.mappings
-  pub others : (other : Mappings) → Contains vault.others other → MappingsFit history floor other × (end_of vault.mappings ≤ end_of other) × (end_of other ≤ vault.laid) × (vault.stopped ≡ true)
+  pub others : (other : Maplog) → Contains vault.others other → MappingsFit history floor other.mappings × (end_of vault.mappings ≤ end_of other.mappings) × (end_of other.mappings ≤ vault.laid) × (vault.stopped ≡ true)
   pub held : end_of vault.mappings ≤ vault.laid
   pub laid : vault.laid ≤ (now history).base.captures
   pub room : vault.laid ≤ end_of vault.mappings + capacity_of history

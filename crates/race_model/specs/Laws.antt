@@ -2,12 +2,13 @@
 use Rattle.std.specs.Prelude.{◌≡◌, ◌≤◌, true, false, ℕ, Bool, List, [], Contains}
 use Rattle.retro_base.specs.declared.limits.TheConstants.{MIN_PAGES, MAX_PAGES, MIN_CAPACITY, MAX_CAPACITY}
 use Rattle.history.specs.declared.entry.Change.{Change}
+use Rattle.history.specs.declared.log.Version.{Version}
 use Rattle.history.specs.Marks.{is_retained}
 use Rattle.history.specs.History.{History, now, with_change, pages_as_of}
-use Rattle.skippy.specs.Mappings.{Mappings, end_of}
+use Rattle.skippy.specs.Mappings.{end_of}
 use Rattle.replay.specs.Opened.{Contents}
 use Rattle.race_model.specs.Desk.{Sure, Desk, capacity_of, IsLogOf, ArePagesOf}
-use Rattle.race_model.specs.Vault.{Vault, Batch, AreMappingsOf, AreSlotsOf, IsSlotOf, LeavesOthers}
+use Rattle.race_model.specs.Vault.{Maplog, Vault, Batch, IsMaplogOf, AreSlotsOf, IsSlotOf, LeavesOthers}
 use Rattle.race_model.specs.Fits.{HistoryFits, DeskFits, VaultFits, AreOfStore}
 use Rattle.race_model.specs.Images.{AreImagesOf, IsSameWorld, OpenInDoubt, Holds}
 use Rattle.race_model.specs.Invariant.{Fits}
@@ -16,11 +17,11 @@ use Rattle.race_model.specs.Reopened.{opened_machine, made, Life}
 
 -- a store that was just made is one that fits, whatever its pages and slots hold
 abbrev pub MadeFits : Type 0
-MadeFits = (page_count capacity : ℕ) (pages slots : ℕ → List ℕ) → MIN_PAGES ≤ page_count → page_count ≤ MAX_PAGES → MIN_CAPACITY ≤ capacity → capacity ≤ MAX_CAPACITY → Fits (opened_machine (made page_count capacity pages slots))
+MadeFits = (version : Version) (page_count capacity : ℕ) (pages slots : ℕ → List ℕ) → MIN_PAGES ≤ page_count → page_count ≤ MAX_PAGES → MIN_CAPACITY ≤ capacity → capacity ≤ MAX_CAPACITY → Fits (opened_machine version (made version page_count capacity pages slots))
 
 -- whatever belongs together opens to a machine that fits
 abbrev pub OpenedFits : Type 0
-OpenedFits = (contents : Contents) → AreOfStore contents → Fits (opened_machine contents)
+OpenedFits = (version : Version) (contents : Contents) → AreOfStore contents → Fits (opened_machine version contents)
 
 -- every step keeps what holds
 abbrev pub StepsKeep : Type 0
@@ -49,13 +50,13 @@ DeskImagesOpen = (desk : Desk) (contents : Contents) → DeskFits desk → IsLog
 
 -- and each image of a vault holds the captures up to its count
 abbrev pub VaultImagesHold : Type 0
-VaultImagesHold = (history : History) (floor : ℕ) (vault : Vault) (mappings : Mappings) (slots : ℕ → List ℕ) → VaultFits history floor vault → AreMappingsOf vault mappings → AreSlotsOf vault slots →
-    Holds history floor (end_of vault.mappings) mappings slots
+VaultImagesHold = (history : History) (floor : ℕ) (vault : Vault) (maplog : Maplog) (slots : ℕ → List ℕ) → VaultFits history floor vault → IsMaplogOf vault maplog → AreSlotsOf vault slots →
+    Holds history floor (end_of vault.mappings) maplog.mappings slots
 
 -- together, beside a vault that holds what the desk needs
 abbrev pub ApartOpen : Type 0
-ApartOpen = (desk : Desk) (vault : Vault) (contents : Contents) → DeskFits desk → VaultFits desk.history desk.floor vault → desk.need ≤ end_of vault.mappings → IsLogOf desk contents.log → ArePagesOf desk contents.pages →
-    AreMappingsOf vault contents.mappings → AreSlotsOf vault contents.slots → OpenInDoubt contents desk.history desk.doubt
+ApartOpen = (desk : Desk) (vault : Vault) (version : Version) (contents : Contents) → DeskFits desk → VaultFits desk.history desk.floor vault → desk.need ≤ end_of vault.mappings → IsLogOf desk contents.log → ArePagesOf desk contents.pages →
+    IsMaplogOf vault (record { version = version; mappings = contents.mappings }) → AreSlotsOf vault contents.slots → OpenInDoubt contents desk.history desk.doubt
 
 -- in the same world each page as of a retained snapshot is the same
 abbrev pub SamePast : Type 0

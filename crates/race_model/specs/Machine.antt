@@ -6,11 +6,11 @@ use Rattle.history.specs.declared.entry.Change.{Change}
 use Rattle.history.specs.declared.entry.Change.TheVariants.{Commit, Drop}
 use Rattle.history.specs.declared.entry.Mark.{Mark}
 use Rattle.history.specs.Marks.{is_retained, oldest_start}
+use Rattle.history.specs.Right.{MayFollow}
 use Rattle.history.specs.History.{History, now, captures, with_change}
 use Rattle.skippy.specs.Mappings.{end_of}
 use Rattle.race_model.specs.Desk.{OneMore, NewBase, Desk, captured, capacity_of, writes_page}
-use Rattle.race_model.specs.Vault.{Vault, Batch, batch_end, trim_to, enter_into, LeavesOthers, HoldsBatch}
-use Rattle.race_model.specs.Fits.{MayFollow}
+use Rattle.race_model.specs.Vault.{Vault, Batch, batch_end, listing, trim_to, enter_into, LeavesOthers, HoldsBatch}
 use Rattle.race_model.specs.Reading.{Told, told_of}
 
 -- ---- the desk
@@ -63,7 +63,7 @@ abbrev pub cut : Desk → Desk
 cut desk = record desk { past = desk.history.changes; rest = []; need = (now desk.history).base.captures }
 
 abbrev pub cut_failed : Desk → Desk
-cut_failed desk = record desk { need = (now desk.history).base.captures; doubt = NewBase; stopped = true }
+cut_failed desk = record desk { need = (now desk.history).base.captures; doubt = NewBase desk.version; stopped = true }
 
 -- ---- the vault
 
@@ -86,7 +86,7 @@ abbrev pub entered : Vault → Batch → Vault
 entered vault batch = record vault { mappings = enter_into vault.mappings batch }
 
 abbrev pub enter_failed : Vault → Batch → Vault
-enter_failed vault batch = record vault { others = trim_to vault.mappings batch.low ∷ enter_into vault.mappings batch ∷ []; stopped = true }
+enter_failed vault batch = record vault { others = listing vault (trim_to vault.mappings batch.low) ∷ listing vault (enter_into vault.mappings batch) ∷ []; stopped = true }
 
 -- Mappings may be forgotten below a number up to what is held; a step forgets none that a retained snapshot needs.
 pub record MayTrim (history : History) (vault : Vault) (low : ℕ) : Type 0 where
@@ -97,7 +97,7 @@ abbrev pub trimmed : Vault → ℕ → Vault
 trimmed vault low = record vault { mappings = trim_to vault.mappings low }
 
 abbrev pub trim_failed : Vault → ℕ → Vault
-trim_failed vault low = record vault { others = trim_to vault.mappings low ∷ []; stopped = true }
+trim_failed vault low = record vault { others = listing vault (trim_to vault.mappings low) ∷ []; stopped = true }
 
 -- ---- both
 

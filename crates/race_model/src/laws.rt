@@ -1,6 +1,6 @@
 //! What holds of every list of steps and every crash.
 
-ghost use Rattle.race_model.specs.Apart.{AllOutlive, BatchesFit, FindAfterPeek, FindsAlike, HistoryOutlives, Outlives, OutlivesLines, PastIsRight, PeekTells, TrimLeaves, VaultFinds};
+ghost use Rattle.race_model.specs.Apart.{AllOutlive, BatchesFit, FindAfterPeek, FindsAlike, HistoryOutlives, HistoryOutlivesLines, Outlives, OutlivesLines, PastIsRight, PastOverLines, PeekTells, TrimLeaves, VaultFinds};
 ghost use Rattle.race_model.specs.Laws.{ApartOpen, BothAtOnce, DeskImagesOpen, FailuresCover, ImagesOpen, LivesKeep, LivesOpen, MadeFits, OpenedFits, SamePast, StepsKeep, VaultImagesHold};
 
 /// Of the machine's invariant.
@@ -48,7 +48,8 @@ pub fn histories_go_on()
     ensures history { HistoryOutlives }
     // A vault, a batch, and what a reader was told, whatever changes follow that leave the newest snapshot.
     ensures changes { AllOutlive Outlives }
-    // So over the lines of a sound journal.
+    // So each over the lines of a sound journal.
+    ensures history_lines { HistoryOutlivesLines }
     ensures lines { AllOutlive OutlivesLines }
 {}
 
@@ -70,6 +71,8 @@ pub fn readers_find_the_past()
     ensures alike { FindsAlike }
     // So it is of a desk at one place of a history and a vault at a later one.
     ensures past { PastIsRight }
+    // So it is where one has seen some lines of a sound journal and the other more.
+    ensures over_lines { PastOverLines }
     // So it is of a machine, whatever steps were done since the desk told.
     ensures machine { FindAfterPeek }
 {}

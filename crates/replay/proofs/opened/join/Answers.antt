@@ -14,7 +14,7 @@ holds_changes-requires-clause-captured c =
     let count = store_count c.in_ok-store.store first c.new.result c.as_slice.result.now c.new.ensures c.in_ok-store.ensures.state c.in_ok-store.ensures.captures in
     let told : length c.in_ok-captured.captured.items ≡ length c.in_ok-store.store.captures =
     ap (λ (l : List ℕ). length l) c.in_ok-captured.ensures ∙ length-map c.as_slice-2.result.now (λ (image : PageImage). image.page) ∙ ap (λ (l : List PageImage). length l) c.as_slice-2.ensures in
-    count ∙ ap (λ n. c.args.log.base.captures + n) (sym (ap (λ (l : List ℕ). length l) c.deref.ensures ∙ told))
+    count ∙ ap (λ n. c.args.log.base.captures + n) (sym (ap (λ (l : List ℕ). length l) c.deref.ensures.value ∙ told))
 
 pub from_place-requires : goal.from_place-requires
 from_place-requires c =
