@@ -216,7 +216,7 @@ module _ (desk : Desk) (f : DeskFits desk) where
     unfolding with_log
     surely e =
         subst (λ (log : Log). OpenTo (with_log log) desk.history) (sym e)
-        (opens desk.history desk.floor desk.past desk.rest desk.need contents.pages contents.mappings contents.slots f.history f.log f.known f.based here holds)
+        (opens desk.version desk.history desk.floor desk.past desk.rest desk.need contents.pages contents.mappings contents.slots f.history f.log f.known f.based here holds)
 
     pub desk_opens : OpenInDoubt contents desk.history desk.doubt
     unfolding with_log
@@ -227,12 +227,12 @@ module _ (desk : Desk) (f : DeskFits desk) where
       go (NewBase version) h (inl e) = surely e
       go (NewBase version) h (inr e) =
           subst (λ (log : Log). OpenTo (with_log log) desk.history) (sym e)
-          (opens desk.history desk.floor desk.history.changes [] desk.need contents.pages contents.mappings contents.slots f.history (log_cut desk.history desk.floor f.history) f.known h.1
+          (opens version desk.history desk.floor desk.history.changes [] desk.need contents.pages contents.mappings contents.slots f.history (log_cut desk.history desk.floor f.history) f.known h.1
           (λ page. inl (are_pages page (h.0 page).0 ∙ (h.0 page).1)) holds)
       go (OneMore change) h (inl e) = inl (surely e)
       go (OneMore change) h (inr e) =
           inr (subst (λ (log : Log). OpenTo (with_log log) (with_change desk.history change)) (sym e)
-          (opens (with_change desk.history change) desk.floor desk.past (desk.rest ++ change ∷ []) desk.need contents.pages contents.mappings contents.slots (fits_with desk.history desk.floor f.history change h.0)
+          (opens desk.version (with_change desk.history change) desk.floor desk.past (desk.rest ++ change ∷ []) desk.need contents.pages contents.mappings contents.slots (fits_with desk.history desk.floor f.history change h.0)
           (log_with desk.history desk.floor f.history desk.past desk.rest f.log change h.0) f.known f.based
           (λ page. elim (here page) [ inl same ↦ inl same | inr sent ↦ inr (sent_with desk.history change desk.past desk.rest desk.need page sent) ])
           (holds_with desk.history desk.floor f.history change h.0 desk.need contents.mappings contents.slots holds)))

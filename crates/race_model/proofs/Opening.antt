@@ -4,6 +4,7 @@ use Rattle.std.proofs.lemmas.Bool.{cases_lt}
 use Rattle.std.proofs.lemmas.List.{drop-append-le, take-append-le, drop-take, get_or_append_left, get_or-append_right, get_or-drop, length-replicate, drop_all, length-take}
 use Rattle.history.specs.declared.entry.Base.{Base}
 use Rattle.history.specs.declared.entry.Change.{Change}
+use Rattle.history.specs.declared.log.Version.{Version}
 use Rattle.history.specs.declared.writes.PageImage.{PageImage}
 use Rattle.history.specs.Marks.{newest_start, oldest_start}
 use Rattle.history.specs.Writes.{pages_of}
@@ -194,11 +195,11 @@ module _ (contents : Contents) where
       captured_behind (opened contents) [] contents.log.changes (omega (arith, held_long contents, counted)) refl number (omega (arith, counted, above)) (omega (arith, held_long contents, above))
 
 -- The law: beside an image of the archive that holds `need` captures, an image of the desk's devices opens to the history.
-module _ (history : History) (floor : ℕ) (past rest : List Change) (need : ℕ) (pages : ℕ → List ℕ) (mappings : Mappings) (slots : ℕ → List ℕ) (fits : HistoryFits history floor)
+module _ (version : Version) (history : History) (floor : ℕ) (past rest : List Change) (need : ℕ) (pages : ℕ → List ℕ) (mappings : Mappings) (slots : ℕ → List ℕ) (fits : HistoryFits history floor)
     (log : LogFits history floor past rest) (known : length history.held ≤ need) (based : (behind history past).base.captures ≤ need) (image : (page : ℕ) → ImageFits history past rest need pages page)
     (holds : Holds history floor need mappings slots) where
   abbrev contents : Contents
-  contents = record { log = log_from history past rest; pages = pages; mappings = mappings; slots = slots }
+  contents = record { log = log_from version history past rest; pages = pages; mappings = mappings; slots = slots }
 
   abbrev at : Base
   at = (behind history past).base

@@ -65,7 +65,6 @@ first_base version page_count capacity pages slots few many small large = record
   capacity = (small, large);
   limits = record { total = omega arith; room = omega arith; retained = omega arith; newest = omega arith };
   marks = omega arith;
-  numbered = tt;
   undeclared = λ none. refl;
   rising = refl;
   in_store = tt;

@@ -9,7 +9,7 @@ use Rattle.history.specs.declared.entry.Change.TheVariants.{Commit, Drop}
 use Rattle.history.specs.declared.writes.PageImage.{PageImage}
 use Rattle.history.specs.Writes.{pages_of}
 use Rattle.history.specs.History.{State, now, after, captures, captures_of, captures_page, capturing, captured_by, before_write, base_after, bases_after}
-use Rattle.replay.specs.Log.{AreRight}
+use Rattle.history.specs.Right.{AreRight}
 use Rattle.race_model.specs.Desk.{Desk, behind, capacity_of}
 use Rattle.race_model.specs.Fits.{DeskFits, BatchFits}
 use Rattle.race_model.specs.Machine.{MayTake, batch_of}
