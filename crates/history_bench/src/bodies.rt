@@ -43,10 +43,10 @@ pub fn log_of(alloc: Global, snapshots: u32) -> Result<Vec<Vec<u8>>, AllocError>
     Ok(bodies)
 }
 
-fn run(alloc: Global, first: u64, count: u64) -> Result<Vec<u8>, AllocError> {
-    let mut out = numbers(alloc, &[(1, 2), (8, first), (4, count)])?;
+fn run(alloc: Global, first: u64, count: u16) -> Result<Vec<u8>, AllocError> {
+    let mut out = numbers(alloc, &[(1, 2), (8, first), (4, u64::from(count))])?;
     for number in 0..count {
-        out.extend_from_slice(&(number as u16).to_be_bytes())?;
+        out.extend_from_slice(&number.to_be_bytes())?;
     }
     Ok(out)
 }

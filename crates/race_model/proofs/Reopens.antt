@@ -1,11 +1,19 @@
 -- Opening makes a machine that fits, and so do whole lives.
-use Rattle.std.proofs.Common.{inl, inr, ◌≤◌, ◌-◌, ℕ, List, drop, refl, sym, ap, arith}
+use Rattle.std.proofs.Common.{inl, inr, ◌≤◌, ◌-◌, ℕ, List, [], ◌∷◌, drop, refl, sym, ap, arith}
 use Rattle.retro_base.specs.declared.limits.TheConstants.{MIN_PAGES, MAX_PAGES, MIN_CAPACITY, MAX_CAPACITY}
 use Rattle.history.specs.declared.writes.PageImage.{PageImage}
 use Rattle.history.specs.declared.log.Version.{Version}
 use Rattle.history.specs.Writes.{pages_of}
-use Rattle.history.specs.Right.{IsBase}
-use Rattle.history.specs.History.{captures_of, History}
+use Rattle.std.specs.List.{AllByRecursion}
+use Rattle.history.specs.declared.entry.Base.{Base}
+use Rattle.history.specs.declared.entry.Change.{Change}
+use Rattle.history.specs.declared.entry.Change.TheVariants.{Commit, Drop}
+use Rattle.history.specs.Right.{IsBase, WritesRise}
+use Rattle.records.specs.Entries.{ChangeFits}
+use Rattle.records.specs.InTurn.{InTurn}
+use Rattle.records.specs.Log.{IsChangeBody}
+use Rattle.records.proofs.Logs.{in_turn_right}
+use Rattle.history.specs.History.{base_after, captures_of, History}
 use Rattle.skippy.specs.Mappings.{end_of}
 use Rattle.replay.specs.Opened.{Contents, opened}
 use Rattle.replay.proofs.Belonging.{held_long}
@@ -14,7 +22,7 @@ use Rattle.race_model.specs.Fits.{AreOfStore}
 use Rattle.race_model.specs.Machine.{Machine}
 use Rattle.race_model.specs.Images.{OpenInDoubt, AreImagesOf}
 use Rattle.race_model.specs.Invariant.{Fits}
-use Rattle.race_model.specs.Laws.{MadeFits, OpenedFits, BothAtOnce}
+use Rattle.race_model.specs.Laws.{MadeFits, OpenedFits, ReadFits, BothAtOnce}
 use Rattle.race_model.specs.Reopened.{opened_machine, made, Life, Runs, Crashes}
 use Rattle.race_model.proofs.Alike.{run_unchanged}
 use Rattle.race_model.proofs.LogKeeps.{history_opened, log_opened, all_opened}
@@ -58,6 +66,23 @@ opened_fits version contents store =
       pins = λ pin never. absurd (contains_none pin never);
       told = tt;
     }
+
+-- the commits of a log write in rising page
+all_rise : (version : Version) (base : Base) (bodies : List (List ℕ)) (changes : List Change) → InTurn (IsChangeBody version) base_after base bodies changes → AllByRecursion WritesRise changes
+all_rise version base [] [] are = tt
+all_rise version base [] (change ∷ changes) are = absurd are
+all_rise version base (body ∷ bodies) [] are = absurd are
+all_rise version base (body ∷ bodies) (change ∷ changes) are = (rise change are.0.fits, all_rise version (base_after base change) bodies changes are.1) where
+  rise : (change : Change) → ChangeFits version change → WritesRise change
+  rise (Commit label writes) fits = fits.2
+  rise (Drop below) fits = tt
+
+pub read_fits : ReadFits
+read_fits version [] contents is joined = absurd is
+read_fits version (body ∷ bodies) contents is joined = record {
+  right = record { base = is.1.right; right = in_turn_right version contents.log.base bodies contents.log.changes is.2; joined = joined };
+  rises = all_rise version contents.log.base bodies contents.log.changes is.2;
+}
 
 first_base : (version : Version) (page_count capacity : ℕ) (pages slots : ℕ → List ℕ) → MIN_PAGES ≤ page_count → page_count ≤ MAX_PAGES → MIN_CAPACITY ≤ capacity → capacity ≤ MAX_CAPACITY → IsBase (made version page_count capacity pages slots).log.base
 first_base version page_count capacity pages slots few many small large = record {

@@ -6,6 +6,8 @@ use Rattle.history.specs.declared.log.Version.{Version}
 use Rattle.history.specs.Marks.{is_retained}
 use Rattle.history.specs.History.{History, now, with_change, pages_as_of}
 use Rattle.skippy.specs.Mappings.{end_of}
+use Rattle.records.specs.Log.{IsLog}
+use Rattle.replay.specs.Joined.{AreJoined}
 use Rattle.replay.specs.Opened.{Contents}
 use Rattle.race_model.specs.Desk.{Sure, Desk, capacity_of, IsLogOf, ArePagesOf}
 use Rattle.race_model.specs.Vault.{Maplog, Vault, Batch, IsMaplogOf, AreSlotsOf, IsSlotOf, LeavesOthers}
@@ -22,6 +24,10 @@ MadeFits = (version : Version) (page_count capacity : ℕ) (pages slots : ℕ �
 -- whatever belongs together opens to a machine that fits
 abbrev pub OpenedFits : Type 0
 OpenedFits = (version : Version) (contents : Contents) → AreOfStore contents → Fits (opened_machine version contents)
+
+-- what the bodies of a log stand for opens so, with mappings that belong to it
+abbrev pub ReadFits : Type 0
+ReadFits = (version : Version) (bodies : List (List ℕ)) (contents : Contents) → IsLog version bodies contents.log → AreJoined contents → AreOfStore contents
 
 -- every step keeps what holds
 abbrev pub StepsKeep : Type 0

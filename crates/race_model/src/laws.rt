@@ -1,7 +1,7 @@
 //! What holds of every list of steps and every crash.
 
 ghost use Rattle.race_model.specs.Apart.{AllOutlive, BatchesFit, FindAfterPeek, FindsAlike, HistoryOutlives, HistoryOutlivesLines, Outlives, OutlivesLines, PastIsRight, PastOverLines, PeekTells, TrimLeaves, VaultFinds};
-ghost use Rattle.race_model.specs.Laws.{ApartOpen, BothAtOnce, DeskImagesOpen, FailuresCover, ImagesOpen, LivesKeep, LivesOpen, MadeFits, OpenedFits, SamePast, StepsKeep, VaultImagesHold};
+ghost use Rattle.race_model.specs.Laws.{ApartOpen, BothAtOnce, DeskImagesOpen, FailuresCover, ImagesOpen, LivesKeep, LivesOpen, MadeFits, OpenedFits, ReadFits, SamePast, StepsKeep, VaultImagesHold};
 
 /// Of the machine's invariant.
 pub fn steps_keep()
@@ -9,6 +9,8 @@ pub fn steps_keep()
     ensures made { MadeFits }
     // It holds of the machine that an opening makes, whatever contents that belong together were opened.
     ensures opened { OpenedFits }
+    // What the bodies of a log stand for is such contents, with mappings that belong to it.
+    ensures read { ReadFits }
     // Every step keeps it.
     ensures steps { StepsKeep }
     // So does every list of steps with crashes and openings between.
