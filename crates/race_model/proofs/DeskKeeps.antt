@@ -4,16 +4,17 @@ use Rattle.std.proofs.lemmas.Bool.{cases_lt, cases_eq, eq-eqb, ne_eqb, cond-true
 use Rattle.std.proofs.lemmas.List.{append-nil}
 use Rattle.history.specs.declared.entry.Change.{Change}
 use Rattle.history.specs.declared.writes.PageImage.{PageImage}
+use Rattle.history.specs.Right.{MayFollow}
 use Rattle.history.specs.History.{State, now, captures_of, with_change}
 use Rattle.history.proofs.Captures.{now-with}
 use Rattle.history.specs.declared.log.Log.{Log}
 use Rattle.replay.specs.Opened.{Contents, forgotten}
 use Rattle.race_model.specs.Desk.{Doubt, Sure, OneMore, NewBase, Desk, behind, log_from, IsInDoubt, IsLogOf, ArePagesOf, writes_page}
-use Rattle.race_model.specs.Fits.{MayFollow, WasSent, DoubtFits, DeskFits}
+use Rattle.race_model.specs.Fits.{WasSent, DoubtFits, DeskFits}
 use Rattle.race_model.specs.Machine.{changed, change_failed, acked_to, MayWrite, with_page, written, write_failed, settled, stopped, MayCut, cut, cut_failed}
 use Rattle.race_model.specs.Images.{Holds, OpenTo, OpenInDoubt}
 use Rattle.race_model.proofs.Alike.{unchanged, is_written-append, is_written-last}
-use Rattle.race_model.proofs.Histories.{count_with, fits_with}
+use Rattle.race_model.proofs.Histories.{keeps_newest, count_with, fits_with}
 use Rattle.race_model.proofs.LogKeeps.{counts, log_with, log_cut}
 use Rattle.race_model.proofs.Opening.{ImageFits, captured_behind, opens}
 use Rattle.race_model.proofs.Grows.{sent_with, sent_up, holds_with}
@@ -22,7 +23,7 @@ use Rattle.race_model.proofs.Grows.{sent_with, sent_up, holds_with}
 calm : (desk other : Desk) (doubt : Doubt) → desk.stopped ≡ false → DoubtFits desk doubt → DoubtFits other doubt
 calm desk other Sure goes f = tt
 calm desk other (OneMore change) goes f = absurd (both_ways desk.stopped goes f.1)
-calm desk other NewBase goes f = absurd (both_ways desk.stopped goes f.2)
+calm desk other (NewBase version) goes f = absurd (both_ways desk.stopped goes f.2)
 
 module _ (desk : Desk) (f : DeskFits desk) where
   pub change_keeps : (change : Change) → desk.stopped ≡ false → MayFollow (now desk.history).base change → DeskFits (changed desk change)
@@ -41,7 +42,7 @@ module _ (desk : Desk) (f : DeskFits desk) where
       | inr here ↦ is_written-last page desk.rest change here
     ];
     needed = f.needed;
-    pending = omega (arith, f.pending, count_with desk.history desk.floor f.history change may);
+    pending = omega (arith, f.pending, count_with desk.history f.history.consistent change (keeps_newest (now desk.history).base change may.right));
     doubt = calm desk (changed desk change) desk.doubt goes f.doubt;
   }
 
@@ -75,7 +76,7 @@ module _ (desk : Desk) (f : DeskFits desk) where
     same : (doubt : Doubt) → DoubtFits desk doubt → DoubtFits (acked_to desk count) doubt
     same Sure h = tt
     same (OneMore change) h = h
-    same NewBase h = h
+    same (NewBase version) h = h
 
   pub stop_keeps : DeskFits (stopped desk)
   stop_keeps = record {
@@ -93,7 +94,7 @@ module _ (desk : Desk) (f : DeskFits desk) where
     same : (doubt : Doubt) → DoubtFits desk doubt → DoubtFits (stopped desk) doubt
     same Sure h = tt
     same (OneMore change) h = (h.0, refl)
-    same NewBase h = (h.0, h.1, refl)
+    same (NewBase version) h = (h.0, h.1, refl)
 
   pub settle_keeps : desk.stopped ≡ false → DeskFits (settled desk)
   settle_keeps goes = record {
@@ -211,27 +212,27 @@ module _ (desk : Desk) (f : DeskFits desk) where
     with_log : Log → Contents
     with_log log = record { log = log; pages = contents.pages; mappings = contents.mappings; slots = contents.slots }
 
-    surely : contents.log ≡ log_from desk.history desk.past desk.rest → OpenTo contents desk.history
+    surely : contents.log ≡ log_from desk.version desk.history desk.past desk.rest → OpenTo contents desk.history
     unfolding with_log
     surely e =
         subst (λ (log : Log). OpenTo (with_log log) desk.history) (sym e)
-        (opens desk.history desk.floor desk.past desk.rest desk.need contents.pages contents.mappings contents.slots f.history f.log f.known f.based here holds)
+        (opens desk.version desk.history desk.floor desk.past desk.rest desk.need contents.pages contents.mappings contents.slots f.history f.log f.known f.based here holds)
 
     pub desk_opens : OpenInDoubt contents desk.history desk.doubt
     unfolding with_log
     desk_opens = go desk.doubt f.doubt is_log where
-      go : (doubt : Doubt) → DoubtFits desk doubt → (contents.log ≡ log_from desk.history desk.past desk.rest) ⊎ IsInDoubt desk doubt contents.log → OpenInDoubt contents desk.history doubt
+      go : (doubt : Doubt) → DoubtFits desk doubt → (contents.log ≡ log_from desk.version desk.history desk.past desk.rest) ⊎ IsInDoubt desk doubt contents.log → OpenInDoubt contents desk.history doubt
       go Sure h (inl e) = surely e
       go Sure h (inr never) = absurd never
-      go NewBase h (inl e) = surely e
-      go NewBase h (inr e) =
+      go (NewBase version) h (inl e) = surely e
+      go (NewBase version) h (inr e) =
           subst (λ (log : Log). OpenTo (with_log log) desk.history) (sym e)
-          (opens desk.history desk.floor desk.history.changes [] desk.need contents.pages contents.mappings contents.slots f.history (log_cut desk.history desk.floor f.history) f.known h.1
+          (opens version desk.history desk.floor desk.history.changes [] desk.need contents.pages contents.mappings contents.slots f.history (log_cut desk.history desk.floor f.history) f.known h.1
           (λ page. inl (are_pages page (h.0 page).0 ∙ (h.0 page).1)) holds)
       go (OneMore change) h (inl e) = inl (surely e)
       go (OneMore change) h (inr e) =
           inr (subst (λ (log : Log). OpenTo (with_log log) (with_change desk.history change)) (sym e)
-          (opens (with_change desk.history change) desk.floor desk.past (desk.rest ++ change ∷ []) desk.need contents.pages contents.mappings contents.slots (fits_with desk.history desk.floor f.history change h.0)
+          (opens desk.version (with_change desk.history change) desk.floor desk.past (desk.rest ++ change ∷ []) desk.need contents.pages contents.mappings contents.slots (fits_with desk.history desk.floor f.history change h.0)
           (log_with desk.history desk.floor f.history desk.past desk.rest f.log change h.0) f.known f.based
           (λ page. elim (here page) [ inl same ↦ inl same | inr sent ↦ inr (sent_with desk.history change desk.past desk.rest desk.need page sent) ])
           (holds_with desk.history desk.floor f.history change h.0 desk.need contents.mappings contents.slots holds)))

@@ -1,18 +1,21 @@
 -- What fits a history fits it with one change more.
-use Rattle.std.proofs.Common.{◌≡◌, ◌⊎◌, inl, inr, ◌≤◌, ◌∙◌, ℕ, zero, suc, List, [], ◌∷◌, ◌++◌, drop, sym, ap, subst, arith, append_assoc}
+use Rattle.std.proofs.Common.{◌≡◌, ◌⊎◌, inl, inr, ◌≤◌, ◌<◌, ◌∙◌, ℕ, zero, suc, List, [], ◌∷◌, ◌++◌, drop, sym, ap, subst, arith, append_assoc}
 use Rattle.std.specs.Prelude.{Contains}
 use Rattle.std.specs.List.{AllByRecursion}
 use Rattle.std.proofs.lemmas.List.{drop-append-le}
 use Rattle.history.specs.declared.entry.Change.{Change}
 use Rattle.history.specs.declared.writes.PageImage.{PageImage}
 use Rattle.history.specs.Writes.{pages_of}
-use Rattle.history.specs.History.{History, now, captures, captured_by, with_change}
+use Rattle.history.specs.Right.{MayFollow}
+use Rattle.history.specs.History.{State, History, now, captures, captured_by, with_change}
+use Rattle.history.proofs.Captures.{now-with}
+use Rattle.history.specs.Laws.{IsConsistent, KeepsNewest}
 use Rattle.skippy.specs.Mappings.{Mappings}
 use Rattle.race_model.specs.Vault.{Vault, Batch}
-use Rattle.race_model.specs.Fits.{MayFollow, HistoryFits, MappingsFit, VaultFits, BatchFits, WasSent}
+use Rattle.race_model.specs.Fits.{HistoryFits, MappingsFit, VaultFits, BatchFits, WasSent}
 use Rattle.race_model.specs.Images.{Holds}
 use Rattle.race_model.proofs.Lists.{pages_of-append, pages_of-length}
-use Rattle.race_model.proofs.Histories.{count, oldest_within, grown, count_with, start_with, captured_with, drop_with}
+use Rattle.race_model.proofs.Histories.{keeps_newest, page_count_after, count, oldest_within, grown, count_with, start_with, captured_with, drop_with}
 use Rattle.race_model.proofs.Opening.{end_within}
 
 pub contains_cons : {X : Type 0} (x y : X) (xs : List X) → Contains (x ∷ xs) y → (y ≡ x) ⊎ Contains xs y
@@ -42,48 +45,56 @@ sent_with history change past rest need page sent = record {
 pub sent_up : (history : History) (past rest : List Change) (need more page : ℕ) → need ≤ more → WasSent history past rest need page → WasSent history past rest more page
 sent_up history past rest need more page le sent = record { early = sent.early; late = sent.late; split = sent.split; written = sent.written; below = λ place lt e. omega (arith, sent.below place lt e, le) }
 
-module _ (history : History) (floor : ℕ) (fits : HistoryFits history floor) (change : Change) (may : MayFollow (now history).base change) where
+module _ (history : History) (floor : ℕ) (fine : IsConsistent history) (change : Change) (keeps : KeepsNewest (now history).base change) where
   pub mappings_with : (mappings : Mappings) → MappingsFit history floor mappings → MappingsFit (with_change history change) floor mappings
   mappings_with mappings is = record {
     above = is.above;
-    needed = omega (arith, is.needed, start_with history floor fits change may);
+    needed = omega (arith, is.needed, start_with history fine change keeps);
     later = is.later ++ pages_of (captured_by (now history) change);
-    same = ap (λ (images : List PageImage). drop mappings.low (pages_of images)) (grown history floor fits change may)
+    same = ap (λ (images : List PageImage). drop mappings.low (pages_of images)) (grown history fine change keeps)
         ∙ ap (drop mappings.low) (pages_of-append (captures history) (captured_by (now history) change))
-        ∙ drop-append-le mappings.low (pages_of (captures history)) (pages_of (captured_by (now history) change)) (omega (arith, pages_of-length (captures history), count history floor fits, is.needed, oldest_within history floor fits))
+        ∙ drop-append-le mappings.low (pages_of (captures history)) (pages_of (captured_by (now history) change)) (omega (arith, pages_of-length (captures history), count history fine, is.needed, oldest_within history fine))
         ∙ ap (λ (ps : List ℕ). ps ++ pages_of (captured_by (now history) change)) is.same
         ∙ append_assoc mappings.pages is.later (pages_of (captured_by (now history) change));
     room = is.room;
   }
 
-  pub holds_with : (n : ℕ) (mappings : Mappings) (slots : ℕ → List ℕ) → Holds history floor n mappings slots → Holds (with_change history change) floor n mappings slots
-  holds_with n mappings slots holds = record {
-    mapped = mappings_with mappings holds.mapped;
-    enough = holds.enough;
-    filled = λ number ge lt.
-        holds.filled number (omega (arith, ge, start_with history floor fits change may)) lt
-        ∙ ap (λ (i : PageImage). i.bytes) (sym (captured_with history floor fits change may number (omega (arith, lt, end_within history floor fits mappings holds.mapped))));
-  }
-
   pub vault_with : (vault : Vault) → VaultFits history floor vault → VaultFits (with_change history change) floor vault
   vault_with vault f = record {
     mappings = mappings_with vault.mappings f.mappings;
-    others = λ other is. (mappings_with other (f.others other is).0, (f.others other is).1, (f.others other is).2, (f.others other is).3);
+    others = λ other is. (mappings_with other.mappings (f.others other is).0, (f.others other is).1, (f.others other is).2, (f.others other is).3);
     held = f.held;
-    laid = omega (arith, f.laid, count_with history floor fits change may);
+    laid = omega (arith, f.laid, count_with history fine change keeps);
     room = f.room;
     slots = λ number ge lt. (
-      (f.slots number (omega (arith, ge, start_with history floor fits change may)) lt).0,
-      (f.slots number (omega (arith, ge, start_with history floor fits change may)) lt).1 ∙ ap (λ (i : PageImage). i.bytes) (sym (captured_with history floor fits change may number (omega (arith, lt, f.laid)))),
+      (f.slots number (omega (arith, ge, start_with history fine change keeps)) lt).0,
+      (f.slots number (omega (arith, ge, start_with history fine change keeps)) lt).1 ∙ ap (λ (i : PageImage). i.bytes) (sym (captured_with history fine change keeps number (omega (arith, lt, f.laid)))),
     );
   }
 
+module _ (history : History) (fine : IsConsistent history) (change : Change) (keeps : KeepsNewest (now history).base change) where
+  pages_stay : (now (with_change history change)).base.page_count ≡ (now history).base.page_count
+  pages_stay = ap (λ (s : State). s.base.page_count) (now-with history change) ∙ page_count_after (now history).base change
+
   pub batch_with : (batch : Batch) → BatchFits history batch → BatchFits (with_change history change) batch
   batch_with batch f = record {
-    low = omega (arith, f.low, start_with history floor fits change may);
+    low = omega (arith, f.low, start_with history fine change keeps);
     above = f.above;
     later = f.later ++ captured_by (now history) change;
-    same = drop_with history floor fits change may batch.first (omega (arith, f.within)) ∙ ap (λ (t : List PageImage). t ++ captured_by (now history) change) f.same ∙ append_assoc batch.images f.later (captured_by (now history) change);
-    within = omega (arith, f.within, count_with history floor fits change may);
+    same = drop_with history fine change keeps batch.first (omega (arith, f.within)) ∙ ap (λ (t : List PageImage). t ++ captured_by (now history) change) f.same ∙ append_assoc batch.images f.later (captured_by (now history) change);
+    within = omega (arith, f.within, count_with history fine change keeps);
     room = f.room;
+    pages = subst (λ n. AllByRecursion (λ page. page < n) (pages_of batch.images)) (sym pages_stay) f.pages;
   }
+
+pub holds_with : (history : History) (floor : ℕ) (fits : HistoryFits history floor) (change : Change) (may : MayFollow (now history).base change) (n : ℕ) (mappings : Mappings) (slots : ℕ → List ℕ) → Holds history floor n mappings slots
+    → Holds (with_change history change) floor n mappings slots
+holds_with history floor fits change may n mappings slots holds =
+    let keeps : KeepsNewest (now history).base change = keeps_newest (now history).base change may.right in
+    record {
+      mapped = mappings_with history floor fits.consistent change keeps mappings holds.mapped;
+      enough = holds.enough;
+      filled = λ number ge lt.
+          holds.filled number (omega (arith, ge, start_with history fits.consistent change keeps)) lt
+          ∙ ap (λ (i : PageImage). i.bytes) (sym (captured_with history fits.consistent change keeps number (omega (arith, lt, end_within history floor fits mappings holds.mapped))));
+    }

@@ -7,7 +7,9 @@ pub mod Grows
 pub mod DeskKeeps
 pub mod VaultKeeps
 pub mod Readings
+pub mod Sending
 pub mod Keeps
+pub mod Apart
 pub mod Reopens
 pub mod Covering
 pub mod Batches

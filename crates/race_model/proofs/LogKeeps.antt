@@ -7,9 +7,9 @@ use Rattle.history.specs.declared.entry.Change.{Change}
 use Rattle.history.specs.declared.writes.PageImage.{PageImage}
 use Rattle.history.specs.Marks.{newest_start}
 use Rattle.history.specs.Writes.{pages_of}
-use Rattle.history.specs.Right.{IsBase, IsRight}
+use Rattle.history.specs.Right.{IsBase, IsRight, MayFollow, WritesRise}
 use Rattle.history.specs.History.{State, base_after, bases_after, run, captured_by, captures_of, History, now, captures, with_change}
-use Rattle.history.specs.Laws.{captured_since, WritesRise}
+use Rattle.history.specs.Laws.{captured_since}
 use Rattle.history.proofs.Captures.{run-append, run-base}
 use Rattle.history.proofs.BaseStays.{stays_right}
 use Rattle.skippy.specs.Mappings.{end_of}
@@ -18,9 +18,9 @@ use Rattle.history.specs.Right.{AreRight}
 use Rattle.replay.specs.Opened.{Contents, opened, slot_images}
 use Rattle.replay.proofs.Belonging.{opened_captures, opened_is_consistent}
 use Rattle.race_model.specs.Desk.{behind}
-use Rattle.race_model.specs.Fits.{MayFollow, HistoryFits, LogFits, all_mappings, AreOfStore}
+use Rattle.race_model.specs.Fits.{HistoryFits, LogFits, all_mappings, AreOfStore}
 use Rattle.race_model.proofs.Lists.{pages_of-append, pages_of-length, pages_of-drop, drop-to, begins_is}
-use Rattle.race_model.proofs.Histories.{captures_of-append, run_count, count, floor_within, pages_count, grown, oldest-newest, since_differ, since_listed}
+use Rattle.race_model.proofs.Histories.{keeps_newest, captures_of-append, run_count, count, floor_within, pages_count, grown, oldest-newest, since_differ, since_listed}
 
 all-more : {X : Type 0} (P : X → Type 0) (xs : List X) (x : X) → AllByRecursion P xs → P x → AllByRecursion P (xs ++ x ∷ [])
 all-more P [] x all is = (is, tt)
@@ -43,7 +43,7 @@ module _ (history : History) (past rest : List Change) (split : past ++ rest ≡
 
 module _ (history : History) (floor : ℕ) (fits : HistoryFits history floor) where
   all_length : length (all_mappings history floor).pages ≡ (now history).base.captures - floor
-  all_length = length-drop floor (pages_of (captures history)) ∙ ap (λ n. n - floor) (pages_count history floor fits)
+  all_length = length-drop floor (pages_of (captures history)) ∙ ap (λ n. n - floor) (pages_count history fits.consistent)
 
   module _ (past rest : List Change) (log : LogFits history floor past rest) (change : Change) (may : MayFollow (now history).base change) where
     abbrev more : List ℕ
@@ -54,7 +54,7 @@ module _ (history : History) (floor : ℕ) (fits : HistoryFits history floor) wh
 
     all_grown : (all_mappings (with_change history change) floor).pages ≡ (all_mappings history floor).pages ++ more
     all_grown =
-        ap (λ (images : List PageImage). drop floor (pages_of images)) (grown history floor fits change may)
+        ap (λ (images : List PageImage). drop floor (pages_of images)) (grown history fits.consistent change (keeps_newest (now history).base change may.right))
         ∙ ap (drop floor) (pages_of-append (captures history) (captured_by (now history) change))
         ∙ drop-append-le floor (pages_of (captures history)) (pages_of (captured_by (now history) change)) (omega (arith, pages_of-length (captures history), floor_within history floor fits))
 
@@ -78,7 +78,7 @@ module _ (history : History) (floor : ℕ) (fits : HistoryFits history floor) wh
           ap (drop (base_count - floor)) all_grown
           ∙ drop-append-le (base_count - floor) (all_mappings history floor).pages more (omega (arith, all_length, counts history past rest log.split))
           ∙ ap (λ (ps : List ℕ). ps ++ more) log.same
-          ∙ sym (drop-append-le (floor - base_count) (pages_of caps) more (omega (arith, pages_of-length caps, counts history past rest log.split, floor_within history floor fits, count history floor fits)))
+          ∙ sym (drop-append-le (floor - base_count) (pages_of caps) more (omega (arith, pages_of-length caps, counts history past rest log.split, floor_within history floor fits, count history fits.consistent)))
           ∙ ap (drop (floor - base_count)) (sym (ap pages_of caps_more ∙ pages_of-append caps (captured_by (now history) change)));
     }
 

@@ -4,6 +4,7 @@ use Rattle.std.proofs.lemmas.Bool.{cases_lt}
 use Rattle.std.proofs.lemmas.List.{drop-append-le, take-append-le, drop-take, get_or_append_left, get_or-append_right, get_or-drop, length-replicate, drop_all, length-take}
 use Rattle.history.specs.declared.entry.Base.{Base}
 use Rattle.history.specs.declared.entry.Change.{Change}
+use Rattle.history.specs.declared.log.Version.{Version}
 use Rattle.history.specs.declared.writes.PageImage.{PageImage}
 use Rattle.history.specs.Marks.{newest_start, oldest_start}
 use Rattle.history.specs.Writes.{pages_of}
@@ -102,11 +103,11 @@ module _ (history : History) (floor : ℕ) (fits : HistoryFits history floor) (m
   window = drop-to floor (mappings.low - floor) mappings.low (pages_of (captures history)) (omega (arith, is.above)) ∙ is.same
 
   low_within : mappings.low ≤ (now history).base.captures
-  low_within = omega (arith, is.needed, oldest_within history floor fits)
+  low_within = omega (arith, is.needed, oldest_within history fits.consistent)
 
   pub end_within : end_of mappings ≤ (now history).base.captures
   end_within =
-      omega (arith, low_within, length-drop mappings.low (pages_of (captures history)), pages_count history floor fits, ap (λ (ps : List ℕ). length ps) is.same, length-append mappings.pages is.later)
+      omega (arith, low_within, length-drop mappings.low (pages_of (captures history)), pages_count history fits.consistent, ap (λ (ps : List ℕ). length ps) is.same, length-append mappings.pages is.later)
 
   -- the page of a capture that is mapped
   pub page_mapped : (number : ℕ) → mappings.low ≤ number → number < end_of mappings → get_or mappings.pages (number - mappings.low) 0 ≡ (captured history number).page
@@ -194,11 +195,11 @@ module _ (contents : Contents) where
       captured_behind (opened contents) [] contents.log.changes (omega (arith, held_long contents, counted)) refl number (omega (arith, counted, above)) (omega (arith, held_long contents, above))
 
 -- The law: beside an image of the archive that holds `need` captures, an image of the desk's devices opens to the history.
-module _ (history : History) (floor : ℕ) (past rest : List Change) (need : ℕ) (pages : ℕ → List ℕ) (mappings : Mappings) (slots : ℕ → List ℕ) (fits : HistoryFits history floor)
+module _ (version : Version) (history : History) (floor : ℕ) (past rest : List Change) (need : ℕ) (pages : ℕ → List ℕ) (mappings : Mappings) (slots : ℕ → List ℕ) (fits : HistoryFits history floor)
     (log : LogFits history floor past rest) (known : length history.held ≤ need) (based : (behind history past).base.captures ≤ need) (image : (page : ℕ) → ImageFits history past rest need pages page)
     (holds : Holds history floor need mappings slots) where
   abbrev contents : Contents
-  contents = record { log = log_from history past rest; pages = pages; mappings = mappings; slots = slots }
+  contents = record { log = log_from version history past rest; pages = pages; mappings = mappings; slots = slots }
 
   abbrev at : Base
   at = (behind history past).base
@@ -261,7 +262,7 @@ module _ (history : History) (floor : ℕ) (past rest : List Change) (need : ℕ
       captures =
           let start : ℕ = oldest_start (now history).base.marks in
           let consistent : IsConsistent (opened contents) = opened_is_consistent contents of_store.right in
-          let total : length (captures (opened contents)) ≡ length (captures history) = captures_are_counted (opened contents) consistent ∙ ap (λ (b : Base). b.captures) same_base ∙ sym (count history floor fits) in
+          let total : length (captures (opened contents)) ≡ length (captures history) = captures_are_counted (opened contents) consistent ∙ ap (λ (b : Base). b.captures) same_base ∙ sym (count history fits.consistent) in
           same_at (drop start (captures (opened contents))) (drop start (captures history)) (omega (arith, total, length-drop start (captures (opened contents)), length-drop start (captures history)))
           (λ place. get_or-drop start (captures (opened contents)) place forgotten ∙ same_capture (start + place) (omega arith) ∙ sym (get_or-drop start (captures history) place forgotten));
     };

@@ -13,21 +13,22 @@ use Rattle.history.specs.declared.entry.Change.TheVariants.{Commit, Drop}
 use Rattle.history.specs.declared.writes.PageImage.{PageImage}
 use Rattle.history.specs.Marks.{newest, oldest_start, start_of, is_retained, kept_marks, MarksRise}
 use Rattle.history.specs.Writes.{pages_of}
+use Rattle.history.specs.Laws.{IsConsistent, KeepsNewest}
 use Rattle.history.specs.History.{State, capturing, base_after, History, now, captures, captured_by, with_change, bytes_at, pages_as_of}
 use Rattle.history.proofs.MarkLaws.{start-le, start-append, start-kept, newest_start-within, retained-append, retained-newest}
 use Rattle.history.proofs.Captures.{now-with}
 use Rattle.history.proofs.AsOf.{over, as_of-over, as_of_stays, newest_rises, retained_before}
-use Rattle.skippy.specs.Mappings.{end_of}
+use Rattle.skippy.specs.Mappings.{end_of, first_in}
 use Rattle.replay.specs.Opened.{forgotten}
 use Rattle.race_model.specs.Desk.{Desk, capacity_of}
 use Rattle.race_model.specs.Vault.{Vault}
-use Rattle.race_model.specs.Fits.{MayFollow, HistoryFits, VaultFits}
+use Rattle.race_model.specs.Fits.{HistoryFits, VaultFits}
 use Rattle.race_model.specs.Reading.{Told, told_of, in_slot, found}
 use Rattle.race_model.specs.Machine.{KeepsPins}
 use Rattle.race_model.specs.Images.{IsSameWorld}
 use Rattle.race_model.specs.Invariant.{ToldFits}
 use Rattle.race_model.proofs.Lists.{pages_of-drop, drop-to}
-use Rattle.race_model.proofs.Histories.{count, drop_with, keeps_newest}
+use Rattle.race_model.proofs.Histories.{count, drop_with}
 
 -- ---- the first image of a page
 
@@ -110,34 +111,34 @@ start_same base (Drop below) number marks was kept = start-kept base.captures 0 
 
 -- ---- what was told
 
-module _ (history : History) (floor : ℕ) (fits : HistoryFits history floor) where
+module _ (history : History) (fine : IsConsistent history) where
   pub start_within : (number : ℕ) → start_of number (now history).base.marks ≤ (now history).base.captures
   start_within number =
-      omega (arith, start-le (now history).base.captures 0 0 number (now history).base.marks fits.consistent.marks, newest_start-within (now history).base.captures 0 0 (now history).base.marks fits.consistent.marks)
+      omega (arith, start-le (now history).base.captures 0 0 number (now history).base.marks fine.marks, newest_start-within (now history).base.captures 0 0 (now history).base.marks fine.marks)
 
   pub pin_with : (change : Change) (pins : List ℕ) (pin : ℕ) → KeepsPins pins change → ((below : ℕ) → AllByRecursion (λ p. below ≤ p) pins → below ≤ pin)
       → is_retained pin (now history).base.marks ≡ true → is_retained pin (now (with_change history change)).base.marks ≡ true
   pin_with change pins pin keeps at is = subst (λ (s : State). is_retained pin s.base.marks ≡ true) (sym (now-with history change)) (retained_after (now history).base change pins pin keeps at is)
 
-  pub told_with : (change : Change) → MayFollow (now history).base change → (acked : ℕ) → acked ≤ (now history).base.captures → (told : Told) → ToldFits history acked told → ToldFits (with_change history change) acked told
-  told_with change may acked pending told f =
+  pub told_with : (change : Change) → KeepsNewest (now history).base change → (acked : ℕ) → acked ≤ (now history).base.captures → (told : Told) → ToldFits history acked told → ToldFits (with_change history change) acked told
+  told_with change keeps acked pending told f =
       let base : Base = (now history).base in
       let after : (now (with_change history change)).base ≡ base_after base change = ap (λ (s : State). s.base) (now-with history change) in
       let was : is_retained told.snapshot (now (with_change history change)).base.marks ≡ true → is_retained told.snapshot base.marks ≡ true =
       λ kept. retained_before base change told.snapshot f.known (ap (λ (b : Base). is_retained told.snapshot b.marks) (sym after) ∙ kept) in
       record {
-        known = omega (arith, f.known, newest_rises base change (keeps_newest base change may.right), ap (λ (b : Base). newest b.marks) after);
+        known = omega (arith, f.known, newest_rises base change (keeps), ap (λ (b : Base). newest b.marks) after);
         upto = f.upto;
         start = λ kept.
             f.start (was kept)
-            ∙ sym (start_same base change told.snapshot fits.consistent.marks (was kept) (ap (λ (b : Base). is_retained told.snapshot b.marks) (sym after) ∙ kept))
+            ∙ sym (start_same base change told.snapshot fine.marks (was kept) (ap (λ (b : Base). is_retained told.snapshot b.marks) (sym after) ∙ kept))
             ∙ ap (λ (b : Base). start_of told.snapshot b.marks) (sym after);
         reads = λ kept.
             let from : told.start ≤ base.captures = omega (arith, f.start (was kept), start_within told.snapshot) in
             let same : part told.start told.upto (captures (with_change history change)) ≡ part told.start told.upto (captures history) =
-            ap (take (told.upto - told.start)) (drop_with history floor fits change may told.start from)
-            ∙ take-append-le (told.upto - told.start) (drop told.start (captures history)) (captured_by (now history) change) (omega (arith, length-drop told.start (captures history), count history floor fits, f.upto, pending)) in
-            as_of_stays history (change ∷ []) told.snapshot fits.consistent (keeps_newest base change may.right, tt) f.known kept told.page
+            ap (take (told.upto - told.start)) (drop_with history fine change keeps told.start from)
+            ∙ take-append-le (told.upto - told.start) (drop told.start (captures history)) (captured_by (now history) change) (omega (arith, length-drop told.start (captures history), count history fine, f.upto, pending)) in
+            as_of_stays history (change ∷ []) told.snapshot fine (keeps, tt) f.known kept told.page
             ∙ f.reads (was kept)
             ∙ as_part (captures history) told.start told.upto told.page told.bytes
             ∙ ap (λ (l : List PageImage). over (λ p. told.bytes) l told.page) (sym same)
@@ -180,7 +181,7 @@ told_fits desk fits snapshot page retained =
 
 -- ---- what the vault finds
 
-option_map-add : (a b c : ℕ) (o : Option ℕ) → a + b ≡ c → option_map (λ place. a + place) (option_map (λ place. b + place) o) ≡ option_map (λ place. c + place) o
+pub option_map-add : (a b c : ℕ) (o : Option ℕ) → a + b ≡ c → option_map (λ place. a + place) (option_map (λ place. b + place) o) ≡ option_map (λ place. c + place) o
 option_map-add a b c None e = refl
 option_map-add a b c (Some k) e = let sum : a + (b + k) ≡ c + k = omega (arith, e) in ap (λ n. Some n) sum
 
@@ -218,16 +219,20 @@ module _ (history : History) (floor : ℕ) (fits : HistoryFits history floor) (v
         ∙ sym (pages_of-take (to - from) (drop from (captures history)))
   ]
 
+  -- so a page's first mapping there is its first capture there
+  pub first_is : (from to page : ℕ) → low ≤ from → to ≤ end_of vault.mappings → first_in vault.mappings from to page ≡ option_map (λ place. from + place) (position (λ other. eqb other page) (pages_of (part from to (captures history))))
+  first_is from to page above within =
+      let test : ℕ → Bool = λ other. eqb other page in
+      ap (λ (ps : List ℕ). option_map (λ place. low + place) (option_map (λ place. (from - low) + place) (position test ps))) (mapped_part from to above within)
+      ∙ option_map-add low (from - low) from (position test (pages_of (part from to (captures history)))) (omega (arith, above))
+
   pub found_is : (told : Told) (acked : ℕ) → acked ≤ end_of vault.mappings → ToldFits history acked told → is_retained told.snapshot (now history).base.marks ≡ true → found vault capacity told ≡ pages_as_of history told.snapshot told.page
   found_is told acked held fit retained =
       let start : oldest_start (now history).base.marks ≤ told.start = omega (arith, fit.start retained, oldest-start (now history).base.captures 0 0 told.snapshot (now history).base.marks fits.consistent.marks retained) in
-      let above : low ≤ told.start = omega (arith, start, f.mappings.needed) in
       let within : told.upto ≤ end_of vault.mappings = omega (arith, fit.upto, held) in
-      let test : ℕ → Bool = λ other. eqb other told.page in
       let rest : List PageImage = part told.start told.upto (captures history) in
-      ap (λ (ps : List ℕ). in_slot vault capacity told.bytes (option_map (λ place. low + place) (option_map (λ place. (told.start - low) + place) (position test ps)))) (mapped_part told.start told.upto above within)
-      ∙ ap (λ (o : Option ℕ). in_slot vault capacity told.bytes (option_map (λ place. low + place) (option_map (λ place. (told.start - low) + place) o))) (position_from-zero test (pages_of rest))
-      ∙ ap (in_slot vault capacity told.bytes) (option_map-add low (told.start - low) told.start (position_from test 0 (pages_of rest)) (omega (arith, above)))
+      ap (in_slot vault capacity told.bytes) (first_is told.start told.upto told.page (omega (arith, start, f.mappings.needed)) within)
+      ∙ ap (λ (o : Option ℕ). in_slot vault capacity told.bytes (option_map (λ place. told.start + place) o)) (position_from-zero (λ other. eqb other told.page) (pages_of rest))
       ∙ met_in vault capacity told.start 0 told.page told.bytes rest
       (λ j lt.
       let inside : j < told.upto - told.start = omega (arith, lt, length-take (told.upto - told.start) (drop told.start (captures history))) in

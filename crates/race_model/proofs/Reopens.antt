@@ -1,10 +1,19 @@
 -- Opening makes a machine that fits, and so do whole lives.
-use Rattle.std.proofs.Common.{inl, inr, ◌≤◌, ◌-◌, ℕ, drop, refl, sym, ap, arith}
+use Rattle.std.proofs.Common.{inl, inr, ◌≤◌, ◌-◌, ℕ, List, [], ◌∷◌, drop, refl, sym, ap, arith}
 use Rattle.retro_base.specs.declared.limits.TheConstants.{MIN_PAGES, MAX_PAGES, MIN_CAPACITY, MAX_CAPACITY}
 use Rattle.history.specs.declared.writes.PageImage.{PageImage}
+use Rattle.history.specs.declared.log.Version.{Version}
 use Rattle.history.specs.Writes.{pages_of}
-use Rattle.history.specs.Right.{IsBase}
-use Rattle.history.specs.History.{captures_of, History}
+use Rattle.std.specs.List.{AllByRecursion}
+use Rattle.history.specs.declared.entry.Base.{Base}
+use Rattle.history.specs.declared.entry.Change.{Change}
+use Rattle.history.specs.declared.entry.Change.TheVariants.{Commit, Drop}
+use Rattle.history.specs.Right.{IsBase, WritesRise}
+use Rattle.records.specs.Entries.{ChangeFits}
+use Rattle.records.specs.InTurn.{InTurn}
+use Rattle.records.specs.Log.{IsChangeBody}
+use Rattle.records.proofs.Logs.{in_turn_right}
+use Rattle.history.specs.History.{base_after, captures_of, History}
 use Rattle.skippy.specs.Mappings.{end_of}
 use Rattle.replay.specs.Opened.{Contents, opened}
 use Rattle.replay.proofs.Belonging.{held_long}
@@ -13,7 +22,7 @@ use Rattle.race_model.specs.Fits.{AreOfStore}
 use Rattle.race_model.specs.Machine.{Machine}
 use Rattle.race_model.specs.Images.{OpenInDoubt, AreImagesOf}
 use Rattle.race_model.specs.Invariant.{Fits}
-use Rattle.race_model.specs.Laws.{BothAtOnce}
+use Rattle.race_model.specs.Laws.{MadeFits, OpenedFits, ReadFits, BothAtOnce}
 use Rattle.race_model.specs.Reopened.{opened_machine, made, Life, Runs, Crashes}
 use Rattle.race_model.proofs.Alike.{run_unchanged}
 use Rattle.race_model.proofs.LogKeeps.{history_opened, log_opened, all_opened}
@@ -21,8 +30,8 @@ use Rattle.race_model.proofs.Opening.{opened_held}
 use Rattle.race_model.proofs.Grows.{contains_none}
 use Rattle.race_model.proofs.Keeps.{step_keeps, run_keeps, images_open}
 
-pub opened_fits : (contents : Contents) → AreOfStore contents → Fits (opened_machine contents)
-opened_fits contents store =
+pub opened_fits : OpenedFits
+opened_fits version contents store =
     let joined = store.right.joined in
     record {
       desk = record {
@@ -58,23 +67,39 @@ opened_fits contents store =
       told = tt;
     }
 
-made_base : (page_count capacity : ℕ) → MIN_PAGES ≤ page_count → page_count ≤ MAX_PAGES → MIN_CAPACITY ≤ capacity → capacity ≤ MAX_CAPACITY → IsBase (made page_count capacity).log.base
-made_base page_count capacity few many small large = record {
+-- the commits of a log write in rising page
+all_rise : (version : Version) (base : Base) (bodies : List (List ℕ)) (changes : List Change) → InTurn (IsChangeBody version) base_after base bodies changes → AllByRecursion WritesRise changes
+all_rise version base [] [] are = tt
+all_rise version base [] (change ∷ changes) are = absurd are
+all_rise version base (body ∷ bodies) [] are = absurd are
+all_rise version base (body ∷ bodies) (change ∷ changes) are = (rise change are.0.fits, all_rise version (base_after base change) bodies changes are.1) where
+  rise : (change : Change) → ChangeFits version change → WritesRise change
+  rise (Commit label writes) fits = fits.2
+  rise (Drop below) fits = tt
+
+pub read_fits : ReadFits
+read_fits version [] contents is joined = absurd is
+read_fits version (body ∷ bodies) contents is joined = record {
+  right = record { base = is.1.right; right = in_turn_right version contents.log.base bodies contents.log.changes is.2; joined = joined };
+  rises = all_rise version contents.log.base bodies contents.log.changes is.2;
+}
+
+first_base : (version : Version) (page_count capacity : ℕ) (pages slots : ℕ → List ℕ) → MIN_PAGES ≤ page_count → page_count ≤ MAX_PAGES → MIN_CAPACITY ≤ capacity → capacity ≤ MAX_CAPACITY → IsBase (made version page_count capacity pages slots).log.base
+first_base version page_count capacity pages slots few many small large = record {
   pages = (few, many);
   capacity = (small, large);
   limits = record { total = omega arith; room = omega arith; retained = omega arith; newest = omega arith };
   marks = omega arith;
-  numbered = tt;
   undeclared = λ none. refl;
   rising = refl;
   in_store = tt;
   captured = omega arith;
 }
 
-pub made_fits : (page_count capacity : ℕ) → MIN_PAGES ≤ page_count → page_count ≤ MAX_PAGES → MIN_CAPACITY ≤ capacity → capacity ≤ MAX_CAPACITY → Fits (opened_machine (made page_count capacity))
-made_fits page_count capacity few many small large = opened_fits (made page_count capacity) (record {
+pub made_fits : MadeFits
+made_fits version page_count capacity pages slots few many small large = opened_fits version (made version page_count capacity pages slots) (record {
   right = record {
-    base = made_base page_count capacity few many small large;
+    base = first_base version page_count capacity pages slots few many small large;
     right = tt;
     joined = record {
       holds_base = record { counted = omega arith; room = omega arith; different = refl; captured = refl };
@@ -86,7 +111,7 @@ made_fits page_count capacity few many small large = opened_fits (made page_coun
 
 of_store : (contents : Contents) (history : History) (doubt : Doubt) → OpenInDoubt contents history doubt → AreOfStore contents
 of_store contents history Sure o = o.store
-of_store contents history NewBase o = o.store
+of_store contents history (NewBase version) o = o.store
 of_store contents history (OneMore change) (inl o) = o.store
 of_store contents history (OneMore change) (inr o) = o.store
 
@@ -94,7 +119,7 @@ pub lives_keep : (first last : Machine) → Life first last → Fits first → F
 lives_keep first last (Runs run) f = run_keeps first last run f
 lives_keep first last (Crashes {next = next} contents life images run) f =
     let fits : Fits next = lives_keep first next life f in
-    run_keeps (opened_machine contents) last run (opened_fits contents (of_store contents next.desk.history next.desk.doubt (images_open next contents fits images)))
+    run_keeps (opened_machine images.version contents) last run (opened_fits images.version contents (of_store contents next.desk.history next.desk.doubt (images_open next contents fits images)))
 
 pub lives_open : (first last : Machine) (contents : Contents) → Life first last → Fits first → AreImagesOf last contents → OpenInDoubt contents last.desk.history last.desk.doubt
 lives_open first last contents life f images = images_open last contents (lives_keep first last life f) images

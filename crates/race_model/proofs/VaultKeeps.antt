@@ -12,7 +12,7 @@ use Rattle.history.specs.History.{History, now, captures}
 use Rattle.skippy.specs.Mappings.{Mappings, end_of}
 use Rattle.replay.specs.Opened.{forgotten}
 use Rattle.race_model.specs.Desk.{captured, capacity_of}
-use Rattle.race_model.specs.Vault.{Vault, Batch, batch_end, AreMappingsOf, AreSlotsOf, trim_to, enter_into, IsSlotOf, LeavesOthers, HoldsBatch}
+use Rattle.race_model.specs.Vault.{Maplog, Vault, Batch, batch_end, listing, IsMaplogOf, AreSlotsOf, trim_to, enter_into, IsSlotOf, LeavesOthers, HoldsBatch}
 use Rattle.race_model.specs.Fits.{MappingsFit, VaultFits, BatchFits}
 use Rattle.race_model.specs.Machine.{MayLay, laid, lay_failed, MayEnter, entered, enter_failed, MayTrim, trimmed, trim_failed}
 use Rattle.race_model.specs.Images.{Holds}
@@ -77,15 +77,15 @@ module _ (history : History) (floor : ℕ) where
       omega (arith, length-append (trim_to mappings batch.low).pages (pages_of batch.images), pages_of-length batch.images, trim_end mappings batch.low (omega (arith, fits.above, first)), first)
 
   module _ (vault : Vault) (f : VaultFits history floor vault) where
-    quiet : {X : Type 0} (other : Mappings) → vault.stopped ≡ false → Contains vault.others other → X
+    quiet : {X : Type 0} (other : Maplog) → vault.stopped ≡ false → Contains vault.others other → X
     quiet other goes is = absurd (both_ways vault.stopped goes (f.others other is).3)
 
-    pub trim_keeps : (low : ℕ) → MayTrim history vault low → VaultFits history floor (trimmed vault low)
-    trim_keeps low can =
+    pub trim_keeps : (low : ℕ) → vault.stopped ≡ false → MayTrim history vault low → VaultFits history floor (trimmed vault low)
+    trim_keeps low goes can =
         let ends : end_of (trim_to vault.mappings low) ≡ end_of vault.mappings = trim_end vault.mappings low can.held in
         record {
           mappings = trim_fits vault.mappings low f.mappings can.held can.needed;
-          others = λ other is. quiet other can.goes is;
+          others = λ other is. quiet other goes is;
           held = omega (arith, f.held, ends);
           laid = f.laid;
           room = omega (arith, f.room, ends);
@@ -97,9 +97,9 @@ module _ (history : History) (floor : ℕ) where
         let ends : end_of (trim_to vault.mappings low) ≡ end_of vault.mappings = trim_end vault.mappings low can.held in
         record {
           mappings = f.mappings;
-          others = λ other is. elim (contains_cons (trim_to vault.mappings low) other [] is) [
+          others = λ other is. elim (contains_cons (listing vault (trim_to vault.mappings low)) other [] is) [
             | inl e ↦
-                subst (λ (m : Mappings). MappingsFit history floor m × (end_of vault.mappings ≤ end_of m) × (end_of m ≤ vault.laid) × (true ≡ true)) (sym e)
+                subst (λ (m : Maplog). MappingsFit history floor m.mappings × (end_of vault.mappings ≤ end_of m.mappings) × (end_of m.mappings ≤ vault.laid) × (true ≡ true)) (sym e)
                 (trim_fits vault.mappings low f.mappings can.held can.needed, omega (arith, ends), omega (arith, ends, f.held), refl)
             | inr never ↦ absurd (contains_none other never)
           ];
@@ -110,12 +110,12 @@ module _ (history : History) (floor : ℕ) where
         }
 
     module _ (batch : Batch) (fits : BatchFits history batch) where
-      pub enter_keeps : MayEnter vault batch → VaultFits history floor (entered vault batch)
-      enter_keeps can =
+      pub enter_keeps : vault.stopped ≡ false → MayEnter vault batch → VaultFits history floor (entered vault batch)
+      enter_keeps goes can =
           let ends : end_of (enter_into vault.mappings batch) ≡ batch_end batch = enter_end vault.mappings batch fits can.first in
           record {
             mappings = enter_fits vault.mappings batch f.mappings fits can.first;
-            others = λ other is. quiet other can.goes is;
+            others = λ other is. quiet other goes is;
             held = omega (arith, ends, can.laid);
             laid = f.laid;
             room = omega (arith, f.room, ends, can.first);
@@ -127,12 +127,12 @@ module _ (history : History) (floor : ℕ) where
           let held : batch.low ≤ end_of vault.mappings = omega (arith, fits.above, can.first) in
           let trim_ends : end_of (trim_to vault.mappings batch.low) ≡ end_of vault.mappings = trim_end vault.mappings batch.low held in
           let enter_ends : end_of (enter_into vault.mappings batch) ≡ batch_end batch = enter_end vault.mappings batch fits can.first in
-          let Fitting : Mappings → Type 0 = λ m. MappingsFit history floor m × (end_of vault.mappings ≤ end_of m) × (end_of m ≤ vault.laid) × (true ≡ true) in
+          let Fitting : Maplog → Type 0 = λ m. MappingsFit history floor m.mappings × (end_of vault.mappings ≤ end_of m.mappings) × (end_of m.mappings ≤ vault.laid) × (true ≡ true) in
           record {
             mappings = f.mappings;
-            others = λ other is. elim (contains_cons (trim_to vault.mappings batch.low) other (enter_into vault.mappings batch ∷ []) is) [
+            others = λ other is. elim (contains_cons (listing vault (trim_to vault.mappings batch.low)) other (listing vault (enter_into vault.mappings batch) ∷ []) is) [
               | inl e ↦ subst Fitting (sym e) (trim_fits vault.mappings batch.low f.mappings held fits.low, omega (arith, trim_ends), omega (arith, trim_ends, f.held), refl)
-              | inr later ↦ elim (contains_cons (enter_into vault.mappings batch) other [] later) [
+              | inr later ↦ elim (contains_cons (listing vault (enter_into vault.mappings batch)) other [] later) [
                 | inl e ↦ subst Fitting (sym e) (enter_fits vault.mappings batch f.mappings fits can.first, omega (arith, enter_ends, can.first), omega (arith, enter_ends, can.laid), refl)
                 | inr never ↦ absurd (contains_none other never)
               ]
@@ -158,10 +158,10 @@ module _ (history : History) (floor : ℕ) where
       batch_at place lt =
           sym (get_or_append_left batch.images fits.later forgotten place lt) ∙ ap (λ (t : List PageImage). get_or t place forgotten) (sym fits.same) ∙ get_or-drop batch.first (captures history) place forgotten
 
-      pub lay_keeps : (slots : ℕ → List ℕ) (loose : ℕ → Bool) → MayLay vault batch → LeavesOthers capacity vault batch slots loose → HoldsBatch capacity batch slots loose → VaultFits history floor (laid vault batch slots loose)
-      lay_keeps slots loose can outside put = record {
+      pub lay_keeps : (slots : ℕ → List ℕ) (loose : ℕ → Bool) → vault.stopped ≡ false → MayLay vault batch → LeavesOthers capacity vault batch slots loose → HoldsBatch capacity batch slots loose → VaultFits history floor (laid vault batch slots loose)
+      lay_keeps slots loose goes can outside put = record {
         mappings = f.mappings;
-        others = λ other is. quiet other can.goes is;
+        others = λ other is. quiet other goes is;
         held = omega (arith, f.held);
         laid = omega (arith, f.laid, fits.within);
         room = omega (arith, f.room, fits.room, fits.above, can.first);
@@ -180,10 +180,10 @@ module _ (history : History) (floor : ℕ) where
         );
       }
 
-      pub lay_failed_keeps : (slots : ℕ → List ℕ) (loose : ℕ → Bool) → MayLay vault batch → LeavesOthers capacity vault batch slots loose → VaultFits history floor (lay_failed vault slots loose)
-      lay_failed_keeps slots loose can outside = record {
+      pub lay_failed_keeps : (slots : ℕ → List ℕ) (loose : ℕ → Bool) → vault.stopped ≡ false → MayLay vault batch → LeavesOthers capacity vault batch slots loose → VaultFits history floor (lay_failed vault slots loose)
+      lay_failed_keeps slots loose goes can outside = record {
         mappings = f.mappings;
-        others = λ other is. quiet other can.goes is;
+        others = λ other is. quiet other goes is;
         held = omega arith;
         laid = omega (arith, f.laid, f.held);
         room = omega arith;
@@ -195,11 +195,11 @@ module _ (history : History) (floor : ℕ) where
 
     -- ---- its images
 
-    pub vault_holds : (mappings : Mappings) (slots : ℕ → List ℕ) → AreMappingsOf vault mappings → AreSlotsOf vault slots → Holds history floor (end_of vault.mappings) mappings slots
-    vault_holds mappings slots are_mappings are_slots =
-        let at : MappingsFit history floor mappings × (end_of vault.mappings ≤ end_of mappings) × (end_of mappings ≤ vault.laid) = elim are_mappings [
-          | inl e ↦ subst (λ (m : Mappings). MappingsFit history floor m × (end_of vault.mappings ≤ end_of m) × (end_of m ≤ vault.laid)) (sym e) (f.mappings, omega arith, f.held)
-          | inr other ↦ ((f.others mappings other).0, (f.others mappings other).1, (f.others mappings other).2)
+    pub vault_holds : (maplog : Maplog) (slots : ℕ → List ℕ) → IsMaplogOf vault maplog → AreSlotsOf vault slots → Holds history floor (end_of vault.mappings) maplog.mappings slots
+    vault_holds maplog slots is_maplog are_slots =
+        let at : MappingsFit history floor maplog.mappings × (end_of vault.mappings ≤ end_of maplog.mappings) × (end_of maplog.mappings ≤ vault.laid) = elim is_maplog [
+          | inl e ↦ subst (λ (m : Maplog). MappingsFit history floor m.mappings × (end_of vault.mappings ≤ end_of m.mappings) × (end_of m.mappings ≤ vault.laid)) (sym e) (f.mappings, omega arith, f.held)
+          | inr other ↦ ((f.others maplog other).0, (f.others maplog other).1, (f.others maplog other).2)
         ] in
         record {
           mapped = at.0;

@@ -7,16 +7,18 @@ use Rattle.history.specs.declared.writes.PageImage.{PageImage}
 use Rattle.history.specs.Writes.{pages_of, is_among}
 use Rattle.history.specs.History.{State, run, captures, History}
 use Rattle.history.specs.declared.log.Log.{Log}
+use Rattle.history.specs.declared.log.Version.{Version}
 use Rattle.replay.specs.Opened.{forgotten}
 
--- what a failed call may have left of the log beside its list: nothing; the list with one change more; a new base alone
+-- what a failed call may have left of the log beside its list: nothing; the list with one change more; a new base alone, in records of a version
 pub data Doubt : Type 0 where
   Sure : Doubt
   OneMore : Change → Doubt
-  NewBase : Doubt
+  NewBase : Version → Doubt
 
--- The changes of the history are those before the log's base and those that the log lists. The archive's lowest capture at the opening was `floor`. The devices open beside an archive that holds `need` captures; `acked` are known to stand in it. The pages' device reads as `pages`: `loose` are those written since it was settled, `dirty` those changed and not written.
+-- The log is in records of a version. The changes of the history are those before its base and those that it lists. The archive's lowest capture at the opening was `floor`. The devices open beside an archive that holds `need` captures; `acked` are known to stand in it. The pages' device reads as `pages`: `loose` are those written since it was settled, `dirty` those changed and not written.
 pub record Desk : Type 0 where
+  pub version : Version
   pub history : History
   pub floor : ℕ
   pub past : List Change
@@ -41,18 +43,18 @@ captured history number = get_or (captures history) number forgotten
 abbrev pub behind : History → List Change → State
 behind history changes = run history.origin changes
 
--- the log whose base stands there, and that lists these changes
-abbrev pub log_from : History → List Change → List Change → Log
-log_from history past rest = record { base = (behind history past).base; changes = rest }
+-- the log whose base stands there, and that lists these changes, in records of a version
+abbrev pub log_from : Version → History → List Change → List Change → Log
+log_from version history past rest = record { version = version; base = (behind history past).base; changes = rest }
 
 abbrev pub IsInDoubt : Desk → Doubt → Log → Type 0
 IsInDoubt desk Sure log = ⊥
-IsInDoubt desk (OneMore change) log = log ≡ log_from desk.history desk.past (desk.rest ++ change ∷ [])
-IsInDoubt desk NewBase log = log ≡ log_from desk.history desk.history.changes []
+IsInDoubt desk (OneMore change) log = log ≡ log_from desk.version desk.history desk.past (desk.rest ++ change ∷ [])
+IsInDoubt desk (NewBase version) log = log ≡ log_from version desk.history desk.history.changes []
 
 -- a log that an image may list
 abbrev pub IsLogOf : Desk → Log → Type 0
-IsLogOf desk log = (log ≡ log_from desk.history desk.past desk.rest) ⊎ IsInDoubt desk desk.doubt log
+IsLogOf desk log = (log ≡ log_from desk.version desk.history desk.past desk.rest) ⊎ IsInDoubt desk desk.doubt log
 
 -- pages that an image may hold: any bytes where they are loose
 abbrev pub ArePagesOf : Desk → (ℕ → List ℕ) → Type 0

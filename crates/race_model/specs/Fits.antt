@@ -1,26 +1,20 @@
 -- What holds of a desk and of a vault between their steps.
 use Rattle.std.specs.Prelude.{◌≡◌, ◌⊎◌, ◌+◌, ◌%◌, ◌<◌, ◌≤◌, ◌-◌, ◌++◌, ℕ, true, false, IsTrue, List, length, drop, get_or, Contains}
 use Rattle.std.specs.List.{AllByRecursion}
-use Rattle.history.specs.declared.entry.Base.{Base}
 use Rattle.history.specs.declared.entry.Change.{Change}
 use Rattle.history.specs.declared.writes.PageImage.{PageImage}
 use Rattle.history.specs.Marks.{oldest_start}
 use Rattle.history.specs.Writes.{pages_of}
 use Rattle.history.specs.History.{History, now, captures, captures_of}
-use Rattle.history.specs.Laws.{IsConsistent, WritesRise}
-use Rattle.history.specs.Right.{IsBase, IsRight}
+use Rattle.history.specs.Laws.{IsConsistent}
+use Rattle.history.specs.Right.{IsBase, WritesRise, MayFollow}
 use Rattle.skippy.specs.Mappings.{Mappings, end_of}
 use Rattle.replay.specs.Joined.{differ, are_among, mapped_since}
 use Rattle.history.specs.Right.{AreRight}
 use Rattle.replay.specs.Laws.{AreRightContents}
 use Rattle.replay.specs.Opened.{Contents, forgotten}
 use Rattle.race_model.specs.Desk.{Doubt, Sure, OneMore, NewBase, Desk, behind, captured, capacity_of, is_written}
-use Rattle.race_model.specs.Vault.{Vault, Batch, batch_end}
-
--- a change that may be made there
-pub record MayFollow (base : Base) (change : Change) : Type 0 where
-  pub right : IsRight base change
-  pub rises : WritesRise change
+use Rattle.race_model.specs.Vault.{Maplog, Vault, Batch, batch_end}
 
 -- the mappings of the captures from the floor on
 abbrev pub all_mappings : History → ℕ → Mappings
@@ -53,7 +47,7 @@ PageFits desk page = ((desk.loose page ≡ false) × (desk.pages page ≡ (behin
 abbrev pub DoubtFits : Desk → Doubt → Type 0
 DoubtFits desk Sure = Unit {0}
 DoubtFits desk (OneMore change) = MayFollow (now desk.history).base change × (desk.stopped ≡ true)
-DoubtFits desk NewBase =
+DoubtFits desk (NewBase version) =
     ((page : ℕ) → (desk.loose page ≡ false) × (desk.pages page ≡ (now desk.history).pages page)) × ((now desk.history).base.captures ≤ desk.need) × (desk.stopped ≡ true)
 
 -- what holds of a history that is kept from a floor on
@@ -84,14 +78,14 @@ pub record MappingsFit (history : History) (floor : ℕ) (mappings : Mappings) :
 
 pub record VaultFits (history : History) (floor : ℕ) (vault : Vault) : Type 0 where
   pub mappings : MappingsFit history floor vault.mappings
-  pub others : (other : Mappings) → Contains vault.others other → MappingsFit history floor other × (end_of vault.mappings ≤ end_of other) × (end_of other ≤ vault.laid) × (vault.stopped ≡ true)
+  pub others : (other : Maplog) → Contains vault.others other → MappingsFit history floor other.mappings × (end_of vault.mappings ≤ end_of other.mappings) × (end_of other.mappings ≤ vault.laid) × (vault.stopped ≡ true)
   pub held : end_of vault.mappings ≤ vault.laid
   pub laid : vault.laid ≤ (now history).base.captures
   pub room : vault.laid ≤ end_of vault.mappings + capacity_of history
   pub slots : (number : ℕ) → oldest_start (now history).base.marks ≤ number → number < vault.laid →
       (vault.loose (number % capacity_of history) ≡ false) × (vault.slots (number % capacity_of history) ≡ (captured history number).bytes)
 
--- a batch is a part of the captures
+-- a batch is a part of the captures, of pages of the store
 pub record BatchFits (history : History) (batch : Batch) : Type 0 where
   pub low : batch.low ≤ oldest_start (now history).base.marks
   pub above : batch.low ≤ batch.first
@@ -99,6 +93,7 @@ pub record BatchFits (history : History) (batch : Batch) : Type 0 where
   pub same : drop batch.first (captures history) ≡ batch.images ++ later
   pub within : batch_end batch ≤ (now history).base.captures
   pub room : batch_end batch ≤ batch.low + capacity_of history
+  pub pages : AllByRecursion (λ page. page < (now history).base.page_count) (pages_of batch.images)
 
 -- what opens to a store: a right log, whose commits write in rising page, and mappings that belong to it
 pub record AreOfStore (contents : Contents) : Type 0 where

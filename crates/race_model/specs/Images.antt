@@ -1,19 +1,21 @@
 -- What images of the devices of a machine hold, and what they open to.
 use Rattle.std.specs.Prelude.{◌≡◌, ◌⊎◌, ◌%◌, ◌<◌, ◌≤◌, ℕ, List, drop}
+use Rattle.history.specs.declared.log.Version.{Version}
 use Rattle.history.specs.Marks.{oldest_start}
 use Rattle.history.specs.History.{History, now, captures, with_change}
 use Rattle.skippy.specs.Mappings.{Mappings, end_of}
 use Rattle.replay.specs.Opened.{Contents, opened}
 use Rattle.race_model.specs.Desk.{Doubt, Sure, OneMore, NewBase, captured, capacity_of, IsLogOf, ArePagesOf}
-use Rattle.race_model.specs.Vault.{AreMappingsOf, AreSlotsOf}
+use Rattle.race_model.specs.Vault.{IsMaplogOf, AreSlotsOf}
 use Rattle.race_model.specs.Fits.{MappingsFit, AreOfStore}
 use Rattle.race_model.specs.Machine.{Machine}
 
--- an image of the four devices
+-- an image of the four devices, its Maplog in records of some version
 pub record AreImagesOf (machine : Machine) (contents : Contents) : Type 0 where
   pub log : IsLogOf machine.desk contents.log
   pub pages : ArePagesOf machine.desk contents.pages
-  pub mappings : AreMappingsOf machine.vault contents.mappings
+  pub version : Version
+  pub maplog : IsMaplogOf machine.vault (record { version = version; mappings = contents.mappings })
   pub slots : AreSlotsOf machine.vault contents.slots
 
 -- no reader can tell the two apart: the log says the same, the pages are the same, and so are the captures that a retained snapshot may need
@@ -30,7 +32,7 @@ pub record OpenTo (contents : Contents) (history : History) : Type 0 where
 -- to the history, or to it with the change that is in doubt
 abbrev pub OpenInDoubt : Contents → History → Doubt → Type 0
 OpenInDoubt contents history Sure = OpenTo contents history
-OpenInDoubt contents history NewBase = OpenTo contents history
+OpenInDoubt contents history (NewBase version) = OpenTo contents history
 OpenInDoubt contents history (OneMore change) = OpenTo contents history ⊎ OpenTo contents (with_change history change)
 
 -- an image of the archive that holds at least so many captures

@@ -2,26 +2,32 @@
 use Rattle.std.specs.Prelude.{◌≡◌, ◌≤◌, true, false, ℕ, Bool, List, [], Contains}
 use Rattle.retro_base.specs.declared.limits.TheConstants.{MIN_PAGES, MAX_PAGES, MIN_CAPACITY, MAX_CAPACITY}
 use Rattle.history.specs.declared.entry.Change.{Change}
+use Rattle.history.specs.declared.log.Version.{Version}
 use Rattle.history.specs.Marks.{is_retained}
 use Rattle.history.specs.History.{History, now, with_change, pages_as_of}
-use Rattle.skippy.specs.Mappings.{Mappings, end_of}
+use Rattle.skippy.specs.Mappings.{end_of}
+use Rattle.records.specs.Log.{IsLog}
+use Rattle.replay.specs.Joined.{AreJoined}
 use Rattle.replay.specs.Opened.{Contents}
 use Rattle.race_model.specs.Desk.{Sure, Desk, capacity_of, IsLogOf, ArePagesOf}
-use Rattle.race_model.specs.Vault.{Vault, Batch, AreMappingsOf, AreSlotsOf, IsSlotOf, LeavesOthers}
-use Rattle.race_model.specs.Fits.{MayFollow, HistoryFits, DeskFits, VaultFits, AreOfStore}
+use Rattle.race_model.specs.Vault.{Maplog, Vault, Batch, IsMaplogOf, AreSlotsOf, IsSlotOf, LeavesOthers}
+use Rattle.race_model.specs.Fits.{HistoryFits, DeskFits, VaultFits, AreOfStore}
 use Rattle.race_model.specs.Images.{AreImagesOf, IsSameWorld, OpenInDoubt, Holds}
 use Rattle.race_model.specs.Invariant.{Fits}
 use Rattle.race_model.specs.Machine.{Machine, Step, changed, change_failed, written, write_failed, settled, stopped, cut, cut_failed, laid, lay_failed, entered, enter_failed, trimmed, trim_failed}
-use Rattle.race_model.specs.Reading.{Told, found}
 use Rattle.race_model.specs.Reopened.{opened_machine, made, Life}
 
--- a store that was just made is one that fits
+-- a store that was just made is one that fits, whatever its pages and slots hold
 abbrev pub MadeFits : Type 0
-MadeFits = (page_count capacity : ℕ) → MIN_PAGES ≤ page_count → page_count ≤ MAX_PAGES → MIN_CAPACITY ≤ capacity → capacity ≤ MAX_CAPACITY → Fits (opened_machine (made page_count capacity))
+MadeFits = (version : Version) (page_count capacity : ℕ) (pages slots : ℕ → List ℕ) → MIN_PAGES ≤ page_count → page_count ≤ MAX_PAGES → MIN_CAPACITY ≤ capacity → capacity ≤ MAX_CAPACITY → Fits (opened_machine version (made version page_count capacity pages slots))
 
 -- whatever belongs together opens to a machine that fits
 abbrev pub OpenedFits : Type 0
-OpenedFits = (contents : Contents) → AreOfStore contents → Fits (opened_machine contents)
+OpenedFits = (version : Version) (contents : Contents) → AreOfStore contents → Fits (opened_machine version contents)
+
+-- what the bodies of a log stand for opens so, with mappings that belong to it
+abbrev pub ReadFits : Type 0
+ReadFits = (version : Version) (bodies : List (List ℕ)) (contents : Contents) → IsLog version bodies contents.log → AreJoined contents → AreOfStore contents
 
 -- every step keeps what holds
 abbrev pub StepsKeep : Type 0
@@ -50,26 +56,17 @@ DeskImagesOpen = (desk : Desk) (contents : Contents) → DeskFits desk → IsLog
 
 -- and each image of a vault holds the captures up to its count
 abbrev pub VaultImagesHold : Type 0
-VaultImagesHold = (history : History) (floor : ℕ) (vault : Vault) (mappings : Mappings) (slots : ℕ → List ℕ) → VaultFits history floor vault → AreMappingsOf vault mappings → AreSlotsOf vault slots →
-    Holds history floor (end_of vault.mappings) mappings slots
+VaultImagesHold = (history : History) (floor : ℕ) (vault : Vault) (maplog : Maplog) (slots : ℕ → List ℕ) → VaultFits history floor vault → IsMaplogOf vault maplog → AreSlotsOf vault slots →
+    Holds history floor (end_of vault.mappings) maplog.mappings slots
 
 -- together, beside a vault that holds what the desk needs
 abbrev pub ApartOpen : Type 0
-ApartOpen = (desk : Desk) (vault : Vault) (contents : Contents) → DeskFits desk → VaultFits desk.history desk.floor vault → desk.need ≤ end_of vault.mappings → IsLogOf desk contents.log → ArePagesOf desk contents.pages →
-    AreMappingsOf vault contents.mappings → AreSlotsOf vault contents.slots → OpenInDoubt contents desk.history desk.doubt
-
--- a vault that fits a history fits it with one change more
-abbrev pub VaultOutlives : Type 0
-VaultOutlives = (history : History) (floor : ℕ) (vault : Vault) (change : Change) → HistoryFits history floor → MayFollow (now history).base change → VaultFits history floor vault → VaultFits (with_change history change) floor vault
+ApartOpen = (desk : Desk) (vault : Vault) (version : Version) (contents : Contents) → DeskFits desk → VaultFits desk.history desk.floor vault → desk.need ≤ end_of vault.mappings → IsLogOf desk contents.log → ArePagesOf desk contents.pages →
+    IsMaplogOf vault (record { version = version; mappings = contents.mappings }) → AreSlotsOf vault contents.slots → OpenInDoubt contents desk.history desk.doubt
 
 -- in the same world each page as of a retained snapshot is the same
 abbrev pub SamePast : Type 0
 SamePast = (history other : History) (floor : ℕ) → HistoryFits other floor → IsSameWorld history other → (snapshot page : ℕ) → is_retained snapshot (now other).base.marks ≡ true → pages_as_of history snapshot page ≡ pages_as_of other snapshot page
-
--- A reader was told something of a page as of a snapshot that is still pinned, whatever was done since: what the vault finds below the count that was told, or else what was told, is the page as of the snapshot.
-abbrev pub FindAfterPeek : Type 0
-FindAfterPeek = (machine : Machine) (told : Told) → Fits machine → Contains machine.told told → Contains machine.pins told.snapshot →
-    found machine.vault (capacity_of machine.desk.history) told ≡ pages_as_of machine.desk.history told.snapshot told.page
 
 -- each image of the one machine is one of the other
 abbrev pub Covers : Machine → Machine → Type 0
@@ -79,7 +76,7 @@ Covers machine other = (contents : Contents) → AreImagesOf machine contents �
 abbrev pub LoosensBatch : ℕ → Vault → Batch → (ℕ → Bool) → Type 0
 LoosensBatch capacity vault batch loose = (slot : ℕ) → loose slot ≡ false → (IsSlotOf capacity batch slot → ⊥) × (vault.loose slot ≡ false)
 
--- Wherever in a call a crash comes, it leaves what the failing of the call leaves, where none failed before: all that the devices might hold before the call, and all that they may hold behind it.
+-- A call's failing leaves all that the devices might hold before the call, and all that they may hold behind it, where none failed before; and of a call that enters a batch also what they hold between the low mark, or the rewrite, and the batch's run.
 pub record FailuresCover : Type 0 where
   pub change : (m : Machine) (change : Change) → m.desk.doubt ≡ Sure → let failed : Machine = record m { desk = change_failed m.desk change } in Covers m failed × Covers (record m { desk = changed m.desk change }) failed
   pub write : (m : Machine) (page need : ℕ) (left : List ℕ) → let failed : Machine = record m { desk = write_failed m.desk page need left } in Covers m failed × Covers (record m { desk = written m.desk page need }) failed
@@ -87,5 +84,6 @@ pub record FailuresCover : Type 0 where
   pub cut : (m : Machine) → m.desk.doubt ≡ Sure → let failed : Machine = record m { desk = cut_failed m.desk } in Covers m failed × Covers (record m { desk = cut m.desk }) failed
   pub lay : (m : Machine) (batch : Batch) (slots left : ℕ → List ℕ) (loose sure : ℕ → Bool) → LoosensBatch (capacity_of m.desk.history) m.vault batch loose → LeavesOthers (capacity_of m.desk.history) m.vault batch left loose →
       LeavesOthers (capacity_of m.desk.history) m.vault batch slots sure → let failed : Machine = record m { vault = lay_failed m.vault left loose } in Covers m failed × Covers (record m { vault = laid m.vault batch slots sure }) failed
-  pub enter : (m : Machine) (batch : Batch) → m.vault.others ≡ [] → let failed : Machine = record m { vault = enter_failed m.vault batch } in Covers m failed × Covers (record m { vault = entered m.vault batch }) failed
+  pub enter : (m : Machine) (batch : Batch) → m.vault.others ≡ [] → let failed : Machine = record m { vault = enter_failed m.vault batch } in
+      Covers m failed × Covers (record m { vault = trimmed m.vault batch.low }) failed × Covers (record m { vault = entered m.vault batch }) failed
   pub trim : (m : Machine) (low : ℕ) → m.vault.others ≡ [] → let failed : Machine = record m { vault = trim_failed m.vault low } in Covers m failed × Covers (record m { vault = trimmed m.vault low }) failed

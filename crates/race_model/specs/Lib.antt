@@ -6,4 +6,5 @@ pub mod Images
 pub mod Invariant
 pub mod Reading
 pub mod Reopened
+pub mod Apart
 pub mod Laws

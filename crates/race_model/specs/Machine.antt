@@ -6,11 +6,11 @@ use Rattle.history.specs.declared.entry.Change.{Change}
 use Rattle.history.specs.declared.entry.Change.TheVariants.{Commit, Drop}
 use Rattle.history.specs.declared.entry.Mark.{Mark}
 use Rattle.history.specs.Marks.{is_retained, oldest_start}
+use Rattle.history.specs.Right.{MayFollow}
 use Rattle.history.specs.History.{History, now, captures, with_change}
 use Rattle.skippy.specs.Mappings.{end_of}
 use Rattle.race_model.specs.Desk.{OneMore, NewBase, Desk, captured, capacity_of, writes_page}
-use Rattle.race_model.specs.Vault.{Vault, Batch, batch_end, trim_to, enter_into, LeavesOthers, HoldsBatch}
-use Rattle.race_model.specs.Fits.{MayFollow}
+use Rattle.race_model.specs.Vault.{Vault, Batch, batch_end, listing, trim_to, enter_into, LeavesOthers, HoldsBatch}
 use Rattle.race_model.specs.Reading.{Told, told_of}
 
 -- ---- the desk
@@ -63,13 +63,12 @@ abbrev pub cut : Desk → Desk
 cut desk = record desk { past = desk.history.changes; rest = []; need = (now desk.history).base.captures }
 
 abbrev pub cut_failed : Desk → Desk
-cut_failed desk = record desk { need = (now desk.history).base.captures; doubt = NewBase; stopped = true }
+cut_failed desk = record desk { need = (now desk.history).base.captures; doubt = NewBase desk.version; stopped = true }
 
 -- ---- the vault
 
 -- a batch may be laid where it goes on behind the mappings
 pub record MayLay (vault : Vault) (batch : Batch) : Type 0 where
-  pub goes : vault.stopped ≡ false
   pub first : batch.first ≡ end_of vault.mappings
 
 abbrev pub laid : Vault → Batch → (ℕ → List ℕ) → (ℕ → Bool) → Vault
@@ -80,7 +79,6 @@ lay_failed vault slots loose = record vault { slots = slots; loose = loose; laid
 
 -- a batch may be entered where it is laid
 pub record MayEnter (vault : Vault) (batch : Batch) : Type 0 where
-  pub goes : vault.stopped ≡ false
   pub first : batch.first ≡ end_of vault.mappings
   pub laid : batch_end batch ≤ vault.laid
 
@@ -88,11 +86,10 @@ abbrev pub entered : Vault → Batch → Vault
 entered vault batch = record vault { mappings = enter_into vault.mappings batch }
 
 abbrev pub enter_failed : Vault → Batch → Vault
-enter_failed vault batch = record vault { others = trim_to vault.mappings batch.low ∷ enter_into vault.mappings batch ∷ []; stopped = true }
+enter_failed vault batch = record vault { others = listing vault (trim_to vault.mappings batch.low) ∷ listing vault (enter_into vault.mappings batch) ∷ []; stopped = true }
 
--- mappings may be forgotten below a number that no retained snapshot is above
+-- Mappings may be forgotten below a number up to what is held; a step forgets none that a retained snapshot needs.
 pub record MayTrim (history : History) (vault : Vault) (low : ℕ) : Type 0 where
-  pub goes : vault.stopped ≡ false
   pub held : low ≤ end_of vault.mappings
   pub needed : low ≤ oldest_start (now history).base.marks
 
@@ -100,7 +97,7 @@ abbrev pub trimmed : Vault → ℕ → Vault
 trimmed vault low = record vault { mappings = trim_to vault.mappings low }
 
 abbrev pub trim_failed : Vault → ℕ → Vault
-trim_failed vault low = record vault { others = trim_to vault.mappings low ∷ []; stopped = true }
+trim_failed vault low = record vault { others = listing vault (trim_to vault.mappings low) ∷ []; stopped = true }
 
 -- ---- both
 
@@ -141,14 +138,14 @@ pub data Step : Machine → Machine → Type 0 where
   Stops : (m : Machine) → Step m (record m { desk = stopped m.desk })
   CutsLog : (m : Machine) → MayCut m.desk → Step m (record m { desk = cut m.desk })
   CutFails : (m : Machine) → MayCut m.desk → Step m (record m { desk = cut_failed m.desk })
-  Lays : (m : Machine) (batch : Batch) (slots : ℕ → List ℕ) (loose : ℕ → Bool) → Contains m.batches batch → MayLay m.vault batch → LeavesOthers (capacity_of m.desk.history) m.vault batch slots loose →
+  Lays : (m : Machine) (batch : Batch) (slots : ℕ → List ℕ) (loose : ℕ → Bool) → Contains m.batches batch → m.vault.stopped ≡ false → MayLay m.vault batch → LeavesOthers (capacity_of m.desk.history) m.vault batch slots loose →
       HoldsBatch (capacity_of m.desk.history) batch slots loose → Step m (record m { vault = laid m.vault batch slots loose })
-  LayFails : (m : Machine) (batch : Batch) (slots : ℕ → List ℕ) (loose : ℕ → Bool) → Contains m.batches batch → MayLay m.vault batch → LeavesOthers (capacity_of m.desk.history) m.vault batch slots loose →
+  LayFails : (m : Machine) (batch : Batch) (slots : ℕ → List ℕ) (loose : ℕ → Bool) → Contains m.batches batch → m.vault.stopped ≡ false → MayLay m.vault batch → LeavesOthers (capacity_of m.desk.history) m.vault batch slots loose →
       Step m (record m { vault = lay_failed m.vault slots loose })
-  Enters : (m : Machine) (batch : Batch) → Contains m.batches batch → MayEnter m.vault batch → Step m (record m { vault = entered m.vault batch; receipts = batch_end batch ∷ m.receipts })
-  EnterFails : (m : Machine) (batch : Batch) → Contains m.batches batch → MayEnter m.vault batch → Step m (record m { vault = enter_failed m.vault batch })
-  Trims : (m : Machine) (low : ℕ) → MayTrim m.desk.history m.vault low → Step m (record m { vault = trimmed m.vault low })
-  TrimFails : (m : Machine) (low : ℕ) → MayTrim m.desk.history m.vault low → Step m (record m { vault = trim_failed m.vault low })
+  Enters : (m : Machine) (batch : Batch) → Contains m.batches batch → m.vault.stopped ≡ false → MayEnter m.vault batch → Step m (record m { vault = entered m.vault batch; receipts = batch_end batch ∷ m.receipts })
+  EnterFails : (m : Machine) (batch : Batch) → Contains m.batches batch → m.vault.stopped ≡ false → MayEnter m.vault batch → Step m (record m { vault = enter_failed m.vault batch })
+  Trims : (m : Machine) (low : ℕ) → m.vault.stopped ≡ false → MayTrim m.desk.history m.vault low → Step m (record m { vault = trimmed m.vault low })
+  TrimFails : (m : Machine) (low : ℕ) → m.vault.stopped ≡ false → MayTrim m.desk.history m.vault low → Step m (record m { vault = trim_failed m.vault low })
   Looks : (m : Machine) (snapshot : ℕ) → is_retained snapshot (now m.desk.history).base.marks ≡ true → Step m (record m { pins = snapshot ∷ m.pins })
   LooksAtAll : (m : Machine) → Step m (record m { pins = map (λ (mark : Mark). mark.number) (now m.desk.history).base.marks ++ m.pins })
   Unlooks : (m : Machine) (pins : List ℕ) → ((pin : ℕ) → Contains pins pin → Contains m.pins pin) → Step m (record m { pins = pins })

@@ -1,14 +1,21 @@
 -- The vault as plain data: what the Maplog's device and the Pagelog's device may hold.
 use Rattle.std.specs.Prelude.{◌≡◌, ◌⊎◌, ◌+◌, ◌%◌, ◌<◌, max, ℕ, Bool, false, List, [], ◌∷◌, length, get_or, Contains}
+use Rattle.history.specs.declared.log.Version.{Version}
 use Rattle.history.specs.declared.writes.PageImage.{PageImage}
 use Rattle.history.specs.Writes.{pages_of}
 use Rattle.skippy.specs.Mappings.{Mappings, push, trim}
 use Rattle.replay.specs.Opened.{forgotten}
 
--- The Maplog lists `mappings`, or one of `others` since a call failed. Below `laid` the slots hold their captures. `loose` slots were written since the Pagelog was settled.
-pub record Vault : Type 0 where
+-- what a Maplog lists: mappings, in records of a version
+pub record Maplog : Type 0 where
+  pub version : Version
   pub mappings : Mappings
-  pub others : List Mappings
+
+-- The Maplog lists `mappings` in records of this version, or is one of `others` since a call failed. Below `laid` the slots hold their captures. `loose` slots were written since the Pagelog was settled.
+pub record Vault : Type 0 where
+  pub version : Version
+  pub mappings : Mappings
+  pub others : List Maplog
   pub laid : ℕ
   pub slots : ℕ → List ℕ
   pub loose : ℕ → Bool
@@ -30,9 +37,13 @@ images_of (page ∷ pages) (bytes ∷ all) = record { page = page; bytes = bytes
 abbrev pub batch_end : Batch → ℕ
 batch_end batch = batch.first + length batch.images
 
--- mappings that an image may list
-abbrev pub AreMappingsOf : Vault → Mappings → Type 0
-AreMappingsOf vault mappings = (mappings ≡ vault.mappings) ⊎ Contains vault.others mappings
+-- the same with other mappings
+abbrev pub listing : Vault → Mappings → Maplog
+listing vault mappings = record { version = vault.version; mappings = mappings }
+
+-- a Maplog that an image may list
+abbrev pub IsMaplogOf : Vault → Maplog → Type 0
+IsMaplogOf vault maplog = (maplog ≡ listing vault vault.mappings) ⊎ Contains vault.others maplog
 
 -- slots that an image may hold: any bytes where they are loose
 abbrev pub AreSlotsOf : Vault → (ℕ → List ℕ) → Type 0

@@ -1,6 +1,7 @@
 //! What holds of every list of steps and every crash.
 
-ghost use Rattle.race_model.specs.Laws.{ApartOpen, BothAtOnce, DeskImagesOpen, FailuresCover, FindAfterPeek, ImagesOpen, LivesKeep, LivesOpen, MadeFits, OpenedFits, SamePast, StepsKeep, VaultImagesHold, VaultOutlives};
+ghost use Rattle.race_model.specs.Apart.{AllOutlive, BatchesFit, FindAfterPeek, FindsAlike, HistoryOutlives, HistoryOutlivesLines, Outlives, OutlivesLines, PastIsRight, PastOverLines, PeekTells, TrimLeaves, VaultFinds};
+ghost use Rattle.race_model.specs.Laws.{ApartOpen, BothAtOnce, DeskImagesOpen, FailuresCover, ImagesOpen, LivesKeep, LivesOpen, MadeFits, OpenedFits, ReadFits, SamePast, StepsKeep, VaultImagesHold};
 
 /// Of the machine's invariant.
 pub fn steps_keep()
@@ -8,6 +9,8 @@ pub fn steps_keep()
     ensures made { MadeFits }
     // It holds of the machine that an opening makes, whatever contents that belong together were opened.
     ensures opened { OpenedFits }
+    // What the bodies of a log stand for is such contents, with mappings that belong to it.
+    ensures read { ReadFits }
     // Every step keeps it.
     ensures steps { StepsKeep }
     // So does every list of steps with crashes and openings between.
@@ -39,11 +42,39 @@ pub fn images_apart()
     ensures vault { VaultImagesHold }
     // Together they open, where the archive holds what the desk needs.
     ensures together { ApartOpen }
-    // A vault that fits a history fits it with one change more.
-    ensures outlives { VaultOutlives }
+{}
+
+/// What fits a history fits it when it has gone on, whoever holds it meanwhile.
+pub fn histories_go_on()
+    // A history, with changes that each may follow.
+    ensures history { HistoryOutlives }
+    // A vault, a batch, and what a reader was told, whatever changes follow that leave the newest snapshot.
+    ensures changes { AllOutlive Outlives }
+    // So each over the lines of a sound journal.
+    ensures history_lines { HistoryOutlivesLines }
+    ensures lines { AllOutlive OutlivesLines }
+{}
+
+/// Of batches on their way to the vault, and of what it forgets.
+pub fn batches_go_between()
+    // While captures are not acknowledged, each count of 1 to 64 of them is a batch, and fits.
+    ensures batches { BatchesFit }
+    // A trim up to what is held leaves what is held, and what is found from the new lowest on.
+    ensures trim { TrimLeaves }
 {}
 
 /// A reader asks the desk and later the vault, whatever is done between: it finds the page as of the pinned snapshot.
 pub fn readers_find_the_past()
-    ensures { FindAfterPeek }
+    // What the desk tells is right.
+    ensures tells { PeekTells }
+    // With what was told the vault finds, also one that has stopped, by whichever of its mappings it keeps in memory.
+    ensures finds { VaultFinds }
+    // A page's first mapping is one number in all of these.
+    ensures alike { FindsAlike }
+    // So it is of a desk at one place of a history and a vault at a later one.
+    ensures past { PastIsRight }
+    // So it is where one has seen some lines of a sound journal and the other more.
+    ensures over_lines { PastOverLines }
+    // So it is of a machine, whatever steps were done since the desk told.
+    ensures machine { FindAfterPeek }
 {}

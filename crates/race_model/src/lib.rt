@@ -12,6 +12,7 @@ mod tests;
 pub use batch::Batch;
 pub use fault::Fault;
 pub use laws::{
-    a_failing_covers_its_call, crashes_open, images_apart, readers_find_the_past, steps_keep,
+    a_failing_covers_its_call, batches_go_between, crashes_open, histories_go_on, images_apart,
+    readers_find_the_past, steps_keep,
 };
 pub use receipt::Receipt;

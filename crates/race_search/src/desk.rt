@@ -32,7 +32,8 @@ pub enum Doubt {
 
 /// The log has its base where the history stood at `past`, and lists `rest`. The devices open beside an archive that
 /// holds `need` captures; `acked` are known to stand in it. Pages are `loose` from their write until the device is
-/// settled, and `dirty` from their change until they are written.
+/// settled, and `dirty` from their change until they are written. A `hasty` one is planted: it does not wait with a
+/// write until the page's captures are acknowledged.
 #[derive(Clone, Drop)]
 pub struct Desk {
     pub history: World,
@@ -45,6 +46,7 @@ pub struct Desk {
     pub dirty: [bool; 16],
     pub doubt: Doubt,
     pub stopped: bool,
+    pub hasty: bool,
 }
 
 /// Captures on their way to the vault, numbered from `first` on; mappings below `low` may be forgotten.
@@ -114,7 +116,7 @@ impl Desk {
         let need = self
             .need
             .max(last.map_or(0, |number| number.saturating_add(1)));
-        let may = !self.stopped && at(&self.dirty, page) && need <= self.acked;
+        let may = !self.stopped && at(&self.dirty, page) && (need <= self.acked || self.hasty);
         let left = fate.of(at(&self.pages, page), at(&self.history.pages, page));
         put(&mut self.pages, page, left);
         put(&mut self.loose, page, true);
@@ -148,6 +150,33 @@ impl Desk {
             self.stopped = true;
         }
         Ok(may)
+    }
+
+    pub fn is_in_doubt(&self) -> bool {
+        !matches!(self.doubt, Doubt::Sure)
+    }
+
+    /// What an opening makes of the list, or of what a failed call left of it, beside an archive that holds so many
+    /// captures.
+    pub fn open(&mut self, left: bool, held: usize) -> Result<(), AllocError> {
+        match self.doubt {
+            Doubt::OneMore(change) if left => {
+                self.history = self.history.after(change)?;
+                self.rest.push(change)?;
+            }
+            Doubt::NewBase if left => {
+                self.past = self.history.clone()?;
+                self.rest.clear();
+            }
+            _ => {}
+        }
+        (self.need, self.acked) = (held, held);
+        (self.loose, self.dirty) = ([false; 16], [false; 16]);
+        for page in self.rest.iter().flat_map(|change| change.pages()) {
+            put(&mut self.dirty, *page, true);
+        }
+        (self.doubt, self.stopped) = (Doubt::Sure, false);
+        Ok(())
     }
 
     /// The page's first capture from the start on that is not yet acknowledged, else the page as it is.

@@ -21,6 +21,8 @@ pub enum Step {
     /// Pins so many of the newest snapshots.
     Look(usize),
     Unlook,
+    /// Opens the store again once a side has stopped.
+    Open,
 }
 
 impl Step {
@@ -29,6 +31,7 @@ impl Step {
         match self {
             Step::Write(_) | Step::Lay(_) => &[Fate::Done, Fate::Old, Fate::New, Fate::Other],
             Step::Make(_) | Step::Cut | Step::Enter(_) | Step::Trim => &[Fate::Done, Fate::Old],
+            Step::Open => &[Fate::Done, Fate::New],
             _ => &[Fate::Done],
         }
     }
@@ -46,7 +49,7 @@ pub struct Machine {
 
 impl Machine {
     /// The machine of a store that was just made, its slots filled with a byte that no page has.
-    pub fn made(alloc: Global) -> Result<Machine, AllocError> {
+    pub fn made(alloc: Global, hasty: bool) -> Result<Machine, AllocError> {
         let world = World {
             changes: 0,
             pages: [0; 16],
@@ -66,6 +69,7 @@ impl Machine {
                 dirty: [false; 16],
                 doubt: Doubt::Sure,
                 stopped: false,
+                hasty,
             },
             vault: Vault {
                 mappings: Mappings { low: 0, pages },
@@ -130,6 +134,20 @@ impl Machine {
         may
     }
 
+    // An opening of what the devices list, or of what a failed call left.
+    fn open(&mut self, fate: Fate) -> Result<bool, AllocError> {
+        let left = fate != Fate::Done;
+        let stopped = self.desk.stopped || self.vault.stopped;
+        let other = self.desk.is_in_doubt() || !self.vault.others.is_empty();
+        self.vault.open(left);
+        self.desk.open(left, self.vault.mappings.end())?;
+        self.batches.clear();
+        self.receipts.clear();
+        self.pins.clear();
+        self.told.clear();
+        Ok(stopped && (other || !left))
+    }
+
     // Whether the step could be made, and was no quiet one.
     fn make(&mut self, alloc: Global, step: Step, fate: Fate) -> Result<bool, AllocError> {
         match step {
@@ -148,6 +166,7 @@ impl Machine {
             Step::Trim => self.trim(alloc, fate),
             Step::Look(count) => self.look(count),
             Step::Unlook => Ok(self.unlook()),
+            Step::Open => self.open(fate),
         }
     }
 

@@ -77,6 +77,17 @@ impl Vault {
         Ok(may)
     }
 
+    /// What an opening makes of the list, or of the last that a failed call may have left.
+    pub fn open(&mut self, left: bool) {
+        if left && let Some(other) = self.others.pop() {
+            self.mappings = other;
+        }
+        self.others.clear();
+        self.laid = self.mappings.end();
+        self.loose = [false; 64];
+        self.stopped = false;
+    }
+
     /// The byte in the slot of the page's first mapping below the count that was told, else the byte that was told.
     pub fn found(&self, told: &Told) -> u8 {
         let mappings = &self.mappings;

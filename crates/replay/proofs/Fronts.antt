@@ -1,8 +1,6 @@
 -- Fronts and parts of lists of pages.
 use Rattle.std.proofs.Common.{◌≡◌, ◌<◌, ◌-◌, ◌+◌, ◌∙◌, ◌&&◌, ℕ, Bool, true, false, eqb, List, [], ◌∷◌, length, take, drop, min, refl, sym, ap, arith}
-use Rattle.std.proofs.lemmas.List.{take_min, drop_min, drop-take, length-take, take_rest, drop-map}
-use Rattle.history.specs.declared.writes.PageImage.{PageImage}
-use Rattle.history.specs.Writes.{pages_of}
+use Rattle.std.proofs.lemmas.List.{take_min, drop_min, drop-take, length-take, take_rest}
 use Rattle.replay.specs.Joined.{begins_with}
 
 -- a list does not begin with a longer one
@@ -28,18 +26,10 @@ part_is pages low count start a b end from =
     ∙ ap (λ (l : List ℕ). drop (start - low) l) (take_min (count - low) pages)
 
 -- a test of the parts behind two places
-pub begins_part : (pages : List ℕ) (images : List PageImage) (i j : ℕ) → begins_with (take (length pages - i) (drop i pages)) (pages_of (take (length images - j) (drop j images))) ≡ begins_with (drop i pages) (drop j (pages_of images))
-begins_part pages images i j =
-    ap (λ (l : List ℕ). begins_with l (pages_of (take (length images - j) (drop j images)))) (take_rest pages i)
-    ∙ ap (λ (l : List PageImage). begins_with (drop i pages) (pages_of l)) (take_rest images j)
-    ∙ ap (λ (l : List ℕ). begins_with (drop i pages) l) (sym (drop-map (λ (image : PageImage). image.page) j images))
-
--- the same with equal lists and places
-pub begins_there : (pages seen : List ℕ) (images shown : List PageImage) (i j a b : ℕ) → seen ≡ pages → shown ≡ images → i ≡ a → j ≡ b
-    → begins_with (take (length seen - i) (drop i seen)) (pages_of (take (length shown - j) (drop j shown))) ≡ begins_with (drop a pages) (drop b (pages_of images))
-begins_there pages seen images shown i j a b is are first second =
-    begins_part seen shown i j
-    ∙ ap (λ (l : List ℕ). begins_with (drop i l) (drop j (pages_of shown))) is
-    ∙ ap (λ (l : List PageImage). begins_with (drop i pages) (drop j (pages_of l))) are
-    ∙ ap (λ (n : ℕ). begins_with (drop n pages) (drop j (pages_of images))) first
-    ∙ ap (λ (n : ℕ). begins_with (drop a pages) (drop n (pages_of images))) second
+pub begins_there : (pages seen captured : List ℕ) (i j a b : ℕ) → seen ≡ pages → i ≡ a → j ≡ b → begins_with (take (length seen - i) (drop i seen)) (take (length captured - j) (drop j captured)) ≡ begins_with (drop a pages) (drop b captured)
+begins_there pages seen captured i j a b is first second =
+    ap (λ (l : List ℕ). begins_with l (take (length captured - j) (drop j captured))) (take_rest seen i)
+    ∙ ap (λ (l : List ℕ). begins_with (drop i seen) l) (take_rest captured j)
+    ∙ ap (λ (l : List ℕ). begins_with (drop i l) (drop j captured)) is
+    ∙ ap (λ (n : ℕ). begins_with (drop n pages) (drop j captured)) first
+    ∙ ap (λ (n : ℕ). begins_with (drop a pages) (drop n captured)) second

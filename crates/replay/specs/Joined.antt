@@ -2,7 +2,6 @@
 use Rattle.std.specs.Prelude.{◌≤◌, ◌-◌, ◌==◌, ◌&&◌, ℕ, Bool, true, false, not, IsTrue, List, [], ◌∷◌, length, take, drop}
 use Rattle.std.specs.List.{list_all}
 use Rattle.history.specs.declared.entry.Base.{Base}
-use Rattle.history.specs.declared.writes.PageImage.{PageImage}
 use Rattle.history.specs.Writes.{pages_of, is_among}
 use Rattle.history.specs.Marks.{oldest_start, newest_start}
 use Rattle.history.specs.History.{now, captures_of}
@@ -39,13 +38,13 @@ pub record HoldsBase (base : Base) (mappings : Mappings) : Type 0 where
   pub different : IsTrue (differ (mapped_since base mappings))
   pub captured : IsTrue (are_among (mapped_since base mappings) base.captured)
 
--- Behind a base with this count of captures, changes made these captures. The archive holds no more, keeps all that a retained snapshot needs, and from the base on it maps what the changes captured.
-pub record HoldsChanges (count : ℕ) (behind : Base) (images : List PageImage) (mappings : Mappings) : Type 0 where
+-- Behind a base with this count of captures, changes captured these pages. The archive holds no more, keeps all that a retained snapshot needs, and from the base on it maps what the changes captured.
+pub record HoldsChanges (count : ℕ) (behind : Base) (captured : List ℕ) (mappings : Mappings) : Type 0 where
   pub known : end_of mappings ≤ behind.captures
   pub needed : mappings.low ≤ oldest_start behind.marks
-  pub same : IsTrue (begins_with (pages_from count mappings.low mappings.pages) (pages_from mappings.low count (pages_of images)))
+  pub same : IsTrue (begins_with (pages_from count mappings.low mappings.pages) (pages_from mappings.low count captured))
 
 -- the log and the Maplog belong together
 pub record AreJoined (contents : Contents) : Type 0 where
   pub holds_base : HoldsBase contents.log.base contents.mappings
-  pub holds_changes : HoldsChanges contents.log.base.captures (now (opened contents)).base (captures_of (opened contents).origin contents.log.changes) contents.mappings
+  pub holds_changes : HoldsChanges contents.log.base.captures (now (opened contents)).base (pages_of (captures_of (opened contents).origin contents.log.changes)) contents.mappings

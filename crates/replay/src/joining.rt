@@ -1,50 +1,54 @@
 //! Whether the log and the Maplog belong together.
 
-ghost use Rattle.std.specs.Prelude.{◌≡◌, ◌+◌, ◌≤◌, ◌↔◌, IsTrue, length};
-ghost use Rattle.history.specs.Writes.{is_among, pages_of};
+ghost use Rattle.std.specs.Prelude.{◌≡◌, ◌+◌, ◌≤◌, ◌<◌, ◌↔◌, ◌&&◌, false, ℕ, List, IsTrue, IfOk, length, get_or};
+ghost use Rattle.std.specs.List.{AllByRecursion};
+ghost use Rattle.history.specs.Right.{IsBase};
+ghost use Rattle.history.specs.Writes.{is_among};
 ghost use Rattle.skippy.specs.Mappings.{end_of};
 ghost use Rattle.replay.specs.Joined.{are_among, begins_with, differ, mapped_since, HoldsBase, HoldsChanges};
 
-use history::{Base, PageImage, Replayed, newest_start, oldest_start};
+use history::{Base, newest_start, oldest_start};
 use skippy::Mappings;
+use std::alloc::{AllocError, Global};
 
-fn is_among(page: u32, pages: &[u32]) -> bool
-    ensures { result ≡ is_among page pages.now }
+// A table by page that tells which pages these are.
+fn table_of(alloc: Global, page_count: u32, pages: &[u32]) -> Result<Vec<bool>, AllocError>
+    requires { AllByRecursion (λ page. page < page_count) pages.now }
+    ensures { IfOk result (λ table. (page : ℕ) → get_or table.items page false ≡ is_among page pages.now) }
 {
-    pages.iter().any(|other| *other == page)
-}
-
-fn differ(pages: &[u32]) -> bool
-    ensures { result ≡ differ pages.now }
-{
-    for (i, page) in pages.iter().enumerate() {
-        if is_among(*page, &pages[i + 1..]) {
-            return false;
-        }
+    let mut table = vec![in alloc; false; page_count as usize]?;
+    for page in pages {
+        table[*page as usize] = true;
     }
-    true
+    Ok(table)
 }
 
-fn are_among(pages: &[u32], others: &[u32]) -> bool
-    ensures { result ≡ are_among pages.now others.now }
+// Whether these pages are different, and each of them one that the table has.
+fn meets_each_once(mut table: Vec<bool>, pages: &[u32]) -> bool
+    ensures {
+        (others : List ℕ) → ((page : ℕ) → get_or table.items page false ≡ is_among page others) →
+            result ≡ (differ pages.now && are_among pages.now others)
+    }
 {
     for page in pages {
-        if !is_among(*page, others) {
+        let place = *page as usize;
+        if place >= table.len() || !table[place] {
             return false;
         }
+        table[place] = false;
     }
     true
 }
 
 // Whether the captures begin with these pages.
-fn begin_with(pages: &[u32], captures: &[PageImage]) -> bool
-    ensures { result ≡ begins_with pages.now (pages_of captures.now) }
+fn begin_with(pages: &[u32], captured: &[u32]) -> bool
+    ensures { result ≡ begins_with pages.now captured.now }
 {
-    if captures.len() < pages.len() {
+    if captured.len() < pages.len() {
         return false;
     }
     for (i, page) in pages.iter().enumerate() {
-        if captures[i].page != *page {
+        if captured[i] != *page {
             return false;
         }
     }
@@ -64,28 +68,33 @@ fn mapped_since<'a>(base: &Base, mappings: &'a Mappings) -> &'a [u32]
     &pages[start..end]
 }
 
-// Whether the mappings fit the base.
-pub(crate) fn holds_base(base: &Base, mappings: &Mappings) -> bool
-    ensures { IsTrue result ↔ HoldsBase base.now mappings.now }
+/// Whether the mappings fit the base: the archive holds the captures before it and keeps at most the capacity, and
+/// those since the base's newest snapshot are of different pages, each of which the base tells as captured. It takes a
+/// byte for each page of the store, and a step for each mapping.
+pub fn holds_base(alloc: Global, base: &Base, mappings: &Mappings) -> Result<bool, AllocError>
+    requires { IsBase base.now }
+    ensures { IfOk result (λ holds. IsTrue holds ↔ HoldsBase base.now mappings.now) }
 {
-    let since = mapped_since(base, mappings);
-    base.captures <= mappings.end()
-        && mappings.pages().len() as u64 <= u64::from(base.capacity)
-        && differ(since)
-        && are_among(since, base.captured.as_slice())
+    let kept = mappings.pages().len() as u64;
+    if mappings.end() < base.captures || kept > u64::from(base.capacity) {
+        return Ok(false);
+    }
+    let table = table_of(alloc, base.page_count, base.captured.as_slice())?;
+    Ok(meets_each_once(table, mapped_since(base, mappings)))
 }
 
-// Whether the mappings fit the changes behind a base with this count of captures.
-pub(crate) fn holds_changes(captures: u64, store: &Replayed, mappings: &Mappings) -> bool
-    requires counted { captures ≤ end_of mappings.now }
-    requires count { store.now.base.captures ≡ captures + length store.now.captures }
-    ensures { IsTrue result ↔ HoldsChanges captures store.now.base store.now.captures mappings.now }
+/// Whether the mappings fit the changes behind a base with that count of captures: the archive holds no more captures
+/// than there are behind the changes, keeps each that a retained snapshot needs, and from the base on maps the pages
+/// that the changes captured. These are told by their pages alone. It takes a step for each mapping, and no memory.
+pub fn holds_changes(count: u64, behind: &Base, captured: &[u32], mappings: &Mappings) -> bool
+    requires counted { count ≤ end_of mappings.now }
+    requires captured { behind.now.captures ≡ count + length captured.now }
+    ensures { IsTrue result ↔ HoldsChanges count behind.now captured.now mappings.now }
 {
     let low = mappings.low();
-    if mappings.end() > store.base.captures || low > oldest_start(store.base.marks.as_slice()) {
+    if mappings.end() > behind.captures || low > oldest_start(behind.marks.as_slice()) {
         return false;
     }
-    let mapped = &mappings.pages()[captures.saturating_sub(low) as usize..];
-    let captured = &store.captures.as_slice()[low.saturating_sub(captures) as usize..];
-    begin_with(mapped, captured)
+    let mapped = &mappings.pages()[count.saturating_sub(low) as usize..];
+    begin_with(mapped, &captured[low.saturating_sub(count) as usize..])
 }

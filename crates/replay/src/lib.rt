@@ -8,5 +8,6 @@ mod opened;
 #[cfg(test)]
 mod tests;
 
+pub use joining::{holds_base, holds_changes};
 pub use laws::laws_of_the_opened;
 pub use opened::{Opened, join};

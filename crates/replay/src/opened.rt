@@ -4,6 +4,7 @@ ghost use Rattle.std.specs.Prelude.{◌≡◌, ◌++◌, ◌≤◌, ◌<◌, ◌
 ghost use Rattle.history.specs.History.{run, captures_of};
 ghost use Rattle.history.specs.Replayed.{page_in, state_of};
 ghost use Rattle.history.specs.Right.{IsBase};
+ghost use Rattle.history.specs.Writes.{pages_of};
 ghost use Rattle.replay.specs.Joined.{AreJoined};
 ghost use Rattle.history.specs.Right.{AreRight};
 ghost use Rattle.replay.specs.Opened.{contents_of, slot_images, Opens};
@@ -70,6 +71,12 @@ fn images_of(
     Ok(images)
 }
 
+fn captured_pages(alloc: Global, captures: &[PageImage]) -> Result<Vec<u32>, AllocError>
+    ensures { IfOk result (λ pages. pages.items ≡ pages_of captures.now) }
+{
+    captures.iter().map(|image| image.page).collect(alloc)
+}
+
 // The captures from that place on.
 fn from_place(captures: &[PageImage], place: usize) -> &[PageImage]
     requires { place ≤ length captures.now }
@@ -94,7 +101,7 @@ pub fn join(
     ensures opens { IfOk result (λ found. IfSome found (Opens (contents_of log pages mappings.now slots.now))) }
     ensures joined { IfOk result (λ found. IsSome found ↔ AreJoined (contents_of log pages mappings.now slots.now)) }
 {
-    if !holds_base(&log.base, mappings) {
+    if !holds_base(alloc, &log.base, mappings)? {
         return Ok(None);
     }
     let captures = log.base.captures;
@@ -105,7 +112,8 @@ pub fn join(
         captures: Seq::new(alloc),
     };
     let store = replayed(alloc, first, changes.as_slice())?;
-    if !holds_changes(captures, &store, mappings) {
+    let captured = captured_pages(alloc, store.captures.as_slice())?;
+    if !holds_changes(captures, &store.base, &captured, mappings) {
         return Ok(None);
     }
     let mut images = images_of(alloc, mappings, slots)?;

@@ -1,17 +1,16 @@
 use Rattle.std.proofs.Common.{◌≡◌, ◌-◌, ◌∙◌, drop, sym, ap, arith}
 use Rattle.history.specs.Marks.{oldest_start}
-use Rattle.history.specs.Writes.{pages_of}
 use Rattle.replay.specs.Joined.{begins_with}
 use Rattle.replay.proofs.Fronts.{begins_there}
 use Rattle.replay.proofs.joining.holds_changes.Goals as goal
 
 pub returns : goal.returns
 returns c =
-    let count = c.args.captures in
-    let store = c.args.store.now in
+    let count = c.args.count in
+    let behind = c.args.behind.now in
     let mappings = c.args.mappings.now in
-    let start : c.oldest_start.result ≡ oldest_start store.base.marks = c.oldest_start.ensures ∙ ap oldest_start c.as_slice.ensures in
-    let same : c.begin_with.result ≡ begins_with (drop (count - mappings.low) mappings.pages) (drop (mappings.low - count) (pages_of store.captures)) =
+    let start : c.oldest_start.result ≡ oldest_start behind.marks = c.oldest_start.ensures ∙ ap oldest_start c.as_slice.ensures in
+    let same : c.begin_with.result ≡ begins_with (drop (count - mappings.low) mappings.pages) (drop (mappings.low - count) c.args.captured.now) =
     c.begin_with.ensures
-    ∙ begins_there mappings.pages c.pages.result.now store.captures c.as_slice-2.result.now c.saturating_sub.result c.saturating_sub-2.result (count - mappings.low) (mappings.low - count) c.pages.ensures c.as_slice-2.ensures (omega arith) (omega arith) in
+    ∙ begins_there mappings.pages c.pages.result.now c.args.captured.now c.saturating_sub.result c.saturating_sub-2.result (count - mappings.low) (mappings.low - count) c.pages.ensures (omega arith) (omega arith) in
     (λ t. record { known = omega arith; needed = omega (arith, start); same = sym same ∙ t }, λ h. same ∙ h.same)

@@ -1,4 +1,5 @@
-use Rattle.std.proofs.Common.{◌≡◌, ◌∙◌, ◌-◌, ◌++◌, ℕ, List, length, drop, refl, sym, ap, arith}
+use Rattle.std.proofs.Common.{◌≡◌, ◌∙◌, ◌-◌, ◌++◌, ◌+◌, ℕ, List, length, drop, refl, sym, ap, arith}
+use Rattle.std.proofs.lemmas.List.{length-map}
 use Rattle.history.specs.declared.writes.PageImage.{PageImage}
 use Rattle.history.specs.History.{State, run, captures_of}
 use Rattle.history.specs.Replayed.{page_in, state_of}
@@ -7,17 +8,20 @@ use Rattle.replay.specs.Opened.{Contents, contents_of, opened, slot_images}
 use Rattle.replay.proofs.Belonging.{opened_captures, store_count}
 use Rattle.replay.proofs.opened.join.Goals as goal
 
-pub holds_changes-requires-clause-count : goal.holds_changes-requires-clause-count
-holds_changes-requires-clause-count c =
+pub holds_changes-requires-clause-captured : goal.holds_changes-requires-clause-captured
+holds_changes-requires-clause-captured c =
     let first : State = record { base = c.args.log.base; pages = page_in c.args.pages } in
-    store_count c.in_ok-store.store first c.new.result c.as_slice.result.now c.new.ensures c.in_ok-store.ensures.state c.in_ok-store.ensures.captures
+    let count = store_count c.in_ok-store.store first c.new.result c.as_slice.result.now c.new.ensures c.in_ok-store.ensures.state c.in_ok-store.ensures.captures in
+    let told : length c.in_ok-captured.captured.items ≡ length c.in_ok-store.store.captures =
+    ap (λ (l : List ℕ). length l) c.in_ok-captured.ensures ∙ length-map c.as_slice-2.result.now (λ (image : PageImage). image.page) ∙ ap (λ (l : List PageImage). length l) c.as_slice-2.ensures in
+    count ∙ ap (λ n. c.args.log.base.captures + n) (sym (ap (λ (l : List ℕ). length l) c.deref.ensures.value ∙ told))
 
 pub from_place-requires : goal.from_place-requires
 from_place-requires c =
     let first : State = record { base = c.args.log.base; pages = page_in c.args.pages } in
     let count = store_count c.in_ok-store.store first c.new.result c.as_slice.result.now c.new.ensures c.in_ok-store.ensures.state c.in_ok-store.ensures.captures in
     let holds = c.if-not-holds_changes.ensures.0 refl in
-    omega (arith, count, holds.known, c.end-held.ensures.same, ap (λ (l : List PageImage). length l) c.as_slice-2.ensures)
+    omega (arith, count, holds.known, c.end-held.ensures.same, ap (λ (l : List PageImage). length l) c.as_slice-3.ensures)
 
 pub returns-clause-opens : goal.returns-clause-opens
 returns-clause-opens c =
@@ -35,7 +39,7 @@ returns-clause-opens c =
           c.from.ensures
           ∙ c.in_ok-extend_from_slice.ensures.items
           ∙ ap (λ (l : List PageImage). c.in_ok-images.images.items ++ l)
-          (c.from_place.ensures ∙ ap (drop (c.end-held.result - c.args.log.base.captures)) (c.as_slice-2.ensures ∙ caps) ∙ ap (λ (n : ℕ). drop (n - c.args.log.base.captures) (captures_of first c.args.log.changes)) c.end-held.ensures.same)
+          (c.from_place.ensures ∙ ap (drop (c.end-held.result - c.args.log.base.captures)) (c.as_slice-3.ensures ∙ caps) ∙ ap (λ (n : ℕ). drop (n - c.args.log.base.captures) (captures_of first c.args.log.changes)) c.end-held.ensures.same)
           ∙ ap (λ (l : List PageImage). l ++ drop (end_of c.args.mappings.now - c.args.log.base.captures) (captures_of first c.args.log.changes))
           (c.in_ok-images.ensures ∙ ap (λ (n : ℕ). slot_images (page_in c.args.slots.now) n c.args.mappings.now.low c.args.mappings.now.pages) c.requires.slots)
           ∙ sym (opened_captures contents);
