@@ -25,10 +25,6 @@ slice_get-drop xs zero k = let e : k ≡ zero + k = omega arith in ap (slice_get
 slice_get-drop [] (suc n) k = refl
 slice_get-drop (x ∷ xs) (suc n) k = let e : suc (n + k) ≡ suc n + k = omega arith in slice_get-drop xs n k ∙ ap (slice_get (x ∷ xs)) e
 
-pub map-push : {X Y : Type 0} (f : X → Y) (xs : List X) (x : X) → map f (xs ++ x ∷ []) ≡ map f xs ++ f x ∷ []
-map-push f [] x = refl
-map-push f (y ∷ xs) x = ap (λ r. f y ∷ r) (map-push f xs x)
-
 pub mapped-within : {X Y : Type 0} (f : X → Y) (xs : List X) (k : ℕ) (y : Y) → option_map f (slice_get xs k) ≡ Some y → k < length xs
 mapped-within f [] k y is = absurd cc
 mapped-within f (x ∷ xs) zero y is = omega arith
