@@ -1,6 +1,6 @@
-ghost use Rattle.std.specs.Prelude.{◌≡◌, ◌*◌, ◌<◌, ◌++◌, [], ◌∷◌, ℕ, List, length};
+ghost use Rattle.std.specs.Prelude.{◌≡◌, ◌*◌, ◌<◌, ◌++◌, [], ◌∷◌, ℕ, List, length, OnOk};
 ghost use Rattle.area_log.specs.Area.{Holds, ListsEither};
-ghost use Rattle.block_file.specs.Blocks.{KeepsSettled};
+ghost use Rattle.block_file.specs.Blocks.{block_at, KeepsSettled};
 ghost use Rattle.device_tests.specs.Left.{EachLeft};
 ghost use Rattle.disk_mem.specs.History.{state_of};
 ghost use Rattle.gate_log.specs.Bodies.{bodies_of};
@@ -16,7 +16,9 @@ use std::alloc::Global;
 /// Adds a body. Each crash within it leaves the list with the body or without.
 pub fn append_on(log: &mut AreaLog, disk: &mut MemDisk, framed: &Framed) -> Result<(), Refusal>
     requires { length (state_of disk.old.past).seen ≡ 2 * log.old.log.size }
-    ensures { (bodies : List (List ℕ)) → Holds log.old bodies (state_of disk.old.past)
+    ensures holds { (bodies : List (List ℕ)) → Holds log.old bodies (state_of disk.old.past)
+        → OnOk result (Holds log.new (bodies ++ framed.now ∷ []) (state_of disk.new.past)) }
+    ensures left { (bodies : List (List ℕ)) → Holds log.old bodies (state_of disk.old.past)
         → EachLeft disk.old disk.new (ListsEither log.old.log.size bodies (bodies ++ framed.now ∷ [])) }
 {
     log.append(disk, framed)
@@ -31,7 +33,9 @@ pub fn replace_on(
 ) -> Result<(), Refusal>
     requires whole { length (state_of disk.old.past).seen ≡ 2 * log.old.log.size }
     requires short { AreBodies (bodies_of bodies.now) }
-    ensures { (old : List (List ℕ)) → Holds log.old old (state_of disk.old.past)
+    ensures holds { (old : List (List ℕ)) → Holds log.old old (state_of disk.old.past)
+        → OnOk result (Holds log.new (bodies_of bodies.now) (state_of disk.new.past)) }
+    ensures left { (old : List (List ℕ)) → Holds log.old old (state_of disk.old.past)
         → EachLeft disk.old disk.new (ListsEither log.old.log.size old (bodies_of bodies.now)) }
 {
     log.replace(alloc, disk, bodies)
@@ -40,7 +44,8 @@ pub fn replace_on(
 /// Writes a page. Each crash within it leaves every other settled page as it was.
 pub fn write_on(file: &mut PageFile<MemDisk>, page: u32, bytes: &Page) -> Result<(), Refusal>
     requires { page < file.old.blocks }
-    ensures { EachLeft file.old.disk file.new.disk
+    ensures written { OnOk result (block_at (state_of file.new.disk.past).seen page ≡ bytes.now) }
+    ensures left { EachLeft file.old.disk file.new.disk
         (KeepsSettled (λ other. other ≡ page) (state_of file.old.disk.past)) }
 {
     file.write(page, bytes)
