@@ -54,6 +54,7 @@ bound-step (suc (suc zero)) count pages low under = refl
 bound-step (suc (suc (suc zero))) count pages low under = refl
 bound-step (suc (suc (suc (suc zero)))) count pages low under = absurd (under refl)
 bound-step (suc (suc (suc (suc (suc above))))) count pages low under = absurd (omega arith)
+
 pub climb-meets : (table : List (ℕ × ℕ)) (m : Mappings) (level from first last to fan : ℕ) → fan ≡ fan_of level → m.low ≤ from * size_of level → from ≤ first * fan → first ≤ last → last * fan ≤ to
     → to * size_of level ≤ end_of m
     → meet table (first_mappings m (from * size_of level) (to * size_of level))

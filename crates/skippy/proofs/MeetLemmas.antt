@@ -108,6 +108,7 @@ one-mapping m level index page zeroth low known here =
   where
     times-one : (n : ℕ) → n * 1 ≡ n
     times-one n = omega arith
+
 pub first_mappings-none : (m : Mappings) (from : ℕ) → first_mappings m from from ≡ []
 first_mappings-none m from = sym (meet-empty (first_mappings m from from)) ∙ meet-first_mappings-none [] m from from (omega arith)
 
@@ -125,6 +126,6 @@ pub first_mappings-next : (m : Mappings) (from number page : ℕ) → m.low ≤ 
 first_mappings-next m from number page low above below here =
     let one : first_mappings m number (number + 1) ≡ (page, number) ∷ []
     = sym (meet-empty (first_mappings m number (number + 1)))
-        ∙ meet-first_mappings-more [] m number (number + 1) page (omega arith) (omega arith) (omega arith) here
-        ∙ meet-first_mappings-none ((page, number) ∷ []) m (number + 1) (number + 1) (omega arith) in
+    ∙ meet-first_mappings-more [] m number (number + 1) page (omega arith) (omega arith) (omega arith) here
+    ∙ meet-first_mappings-none ((page, number) ∷ []) m (number + 1) (number + 1) (omega arith) in
     ap (meet (first_mappings m from number)) (sym one) ∙ first_mappings-join m from number (number + 1) low above (omega arith) (omega arith)

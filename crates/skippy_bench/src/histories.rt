@@ -30,7 +30,9 @@ pub fn pages_of(alloc: Global, history: History, length: u32) -> Result<Vec<u32>
     let mut pages = Vec::new(alloc);
     let mut random = 7u64;
     for number in 0..length {
-        random = random.wrapping_mul(6_364_136_223_846_793_005).wrapping_add(1_442_695_040_888_963_407);
+        random = random
+            .wrapping_mul(6_364_136_223_846_793_005)
+            .wrapping_add(1_442_695_040_888_963_407);
         pages.push(match history {
             History::Different => number % 65_536,
             History::Repeated => number % 4,

@@ -36,7 +36,12 @@ fn levels_of(alloc: Global, pages: &[u32]) -> Result<Levels, Refusal> {
 }
 
 /// How many pages the table of a snapshot that starts there has.
-fn table_len<L: Ledger>(blank: Blank, alloc: Global, levels: &Levels, start: u64) -> Result<usize, Refusal>
+fn table_len<L: Ledger>(
+    blank: Blank,
+    alloc: Global,
+    levels: &Levels,
+    start: u64,
+) -> Result<usize, Refusal>
     requires name { blank.name ≡ L.name }
     requires parts { blank.parts ≡ L.parts }
     requires one_part { blank.parts ≡ 1 }
@@ -46,7 +51,11 @@ fn table_len<L: Ledger>(blank: Blank, alloc: Global, levels: &Levels, start: u64
     }
     let mut table = SnapTable::new(alloc, start);
     table.extend(levels, levels.end(), &mut Steps::<L>::new(blank))?;
-    Ok((0..65_536).filter(|page| table.find(*page).is_some()).count())
+    Ok(
+        (0..65_536)
+            .filter(|page| table.find(*page).is_some())
+            .count(),
+    )
 }
 
 /// What a scan of a history from `start` on reads: each mapping, or by the levels; and how many pages it finds.
@@ -75,8 +84,7 @@ fn tell(rt: &(impl Print + AllocGlobal), name: &str, length: u32, start: u32) ->
     } = cost_of(rt.alloc(), history, length, start).ok()?;
     println!(rt;
         "{name} {length} from {start}: {plain} entries plain, {levels} by the levels, {pages} pages"
-    )
-    .ok()
+    ).ok()
 }
 
 /// What the words ask for; nothing where they ask for nothing known, or memory runs out.

@@ -62,7 +62,7 @@ fn segment_of(
         IsLevel (coming low pages.now more.now) (size_of (height - 1)) l.now) }
     ensures ok { IfOk result (λ segment. from_start (index * size_of height) segment
         ≡ first_mappings (coming low pages.now more.now)
-            (index * size_of height) ((index + 1) * size_of height)) }
+        (index * size_of height) ((index + 1) * size_of height)) }
     ensures refused { IfErr result (λ e. e ≡ Refusal.OutOfMemory) }
 {
     let table = table_of(height, index, below, alloc, low, pages, more)?;
@@ -87,7 +87,7 @@ fn table_of(
         IsLevel (coming low pages.now more.now) (size_of (height - 1)) l.now) }
     ensures ok { IfOk result (λ table. table
         ≡ first_mappings (coming low pages.now more.now)
-            (index * size_of height) ((index + 1) * size_of height)) }
+        (index * size_of height) ((index + 1) * size_of height)) }
     ensures refused { IfErr result (λ e. e ≡ Refusal.OutOfMemory) }
 {
     let mut table = FirstTable::new(alloc);

@@ -105,7 +105,12 @@ impl Levels {
         }
         let size = range_of(height);
         let place = index - self.low.div_ceil(size);
-        meet_segment(self.level(height).segment(place as usize), index * size, table, steps)
+        meet_segment(
+            self.level(height).segment(place as usize),
+            index * size,
+            table,
+            steps,
+        )
     }
 }
 

@@ -24,7 +24,7 @@ overflow_step-part c =
     let rises : c.args.index * size_of c.args.height ≤ (c.args.index + 1) * size_of c.args.height = omega arith in
     let few : c.args.index * c.fan-fan.result ≤ 2 ^ 62
     = no-more (c.args.index * c.fan-fan.result) (size_of (c.args.height - 1)) (2 ^ 62) (size-some (c.args.height - 1))
-        (omega (arith, range-is c.args.height c.args.index c.fan-fan.result c.requires.height.0 c.fan-fan.ensures, c.requires.known, c.requires.room)) in
+    (omega (arith, range-is c.args.height c.args.index c.fan-fan.result c.requires.height.0 c.fan-fan.ensures, c.requires.known, c.requires.room)) in
     omega arith
 
 pub overflow_add-part-end : goal.overflow_add-part-end
@@ -37,7 +37,7 @@ pub overflow_mul-part-end : goal.overflow_mul-part-end
 overflow_mul-part-end c =
     let few : (c.args.index + 1) * c.fan-fan.result ≤ 2 ^ 62
     = no-more ((c.args.index + 1) * c.fan-fan.result) (size_of (c.args.height - 1)) (2 ^ 62) (size-some (c.args.height - 1))
-        (omega (arith, range-is c.args.height (c.args.index + 1) c.fan-fan.result c.requires.height.0 c.fan-fan.ensures, c.requires.known, c.requires.room)) in
+    (omega (arith, range-is c.args.height (c.args.index + 1) c.fan-fan.result c.requires.height.0 c.fan-fan.ensures, c.requires.known, c.requires.room)) in
     omega arith
 
 pub loop-part-init : goal.loop-part-init
@@ -94,7 +94,7 @@ loop-part-preserved c =
     let size : ℕ = size_of (c.args.height - 1) in
     let made : from_start (c.loop-part.part * c.range_of-size-in-Some.result) c.segment.result.now ≡ first_mappings m (c.loop-part.part * size_of (c.args.height - 1)) ((c.loop-part.part + 1) * size_of (c.args.height - 1))
     = ap (λ n. from_start (c.loop-part.part * n) c.segment.result.now) c.range_of-size-in-Some.ensures.same
-        ∙ segment-is m (size_of (c.args.height - 1)) c.loop-part.part (c.loop-part.part - c.div_ceil.result) c.in-Some.level.now c.segment.result.now is_level range.kept range.known place c.segment.ensures in
+    ∙ segment-is m (size_of (c.args.height - 1)) c.loop-part.part (c.loop-part.part - c.div_ceil.result) c.in-Some.level.now c.segment.result.now is_level range.kept range.known place c.segment.ensures in
     let begin : c.args.index * c.fan-fan.result * size_of (c.args.height - 1) ≡ c.args.index * size_of c.args.height = range-is c.args.height c.args.index c.fan-fan.result c.requires.height.0 c.fan-fan.ensures in
     c.in_ok-meet_places-in-Some.ensures.ok
     ∙ ap (meet_each c.loop-part.table) made
@@ -104,15 +104,15 @@ loop-part-preserved c =
 
 pub returns-clause-ok : goal.returns-clause-ok
 returns-clause-ok c = elim c.match-below.branch [
-      in-None+else-loop-number-test w ↦
+  | in-None+else-loop-number-test w ↦
       (let m : Mappings = coming c.args.low c.args.pages.now c.args.more.now in
       let last : (c.args.index + 1) * w.range_of-size.result ≡ (c.args.index + 1) * size_of c.args.height = ap (λ n. (c.args.index + 1) * n) w.range_of-size.ensures.same in
       let end : w.loop-number.number ≡ (c.args.index + 1) * size_of c.args.height = omega arith in
       w.table-is ∙ w.loop-number.invariant ∙ ap (first_mappings m (c.args.index * size_of c.args.height)) end)
-    | in-Some+else-loop-part-test w ↦
+  | in-Some+else-loop-part-test w ↦
       (let m : Mappings = coming c.args.low c.args.pages.now c.args.more.now in
       let last : w.loop-part.part ≡ (c.args.index + 1) * w.fan-fan.result = omega arith in
       let end : w.loop-part.part * size_of (c.args.height - 1) ≡ (c.args.index + 1) * size_of c.args.height
       = ap (λ n. n * size_of (c.args.height - 1)) last ∙ range-is c.args.height (c.args.index + 1) w.fan-fan.result c.requires.height.0 w.fan-fan.ensures in
       w.table-is ∙ w.loop-part.invariant ∙ ap (first_mappings m (c.args.index * size_of c.args.height)) end)
-    ]
+]
