@@ -92,15 +92,7 @@ fn change_one<P: EditPager>(
     requires { IsShort row.now }
 {
     if draft.size() == pager.size() {
-        drafting::change(
-            alloc,
-            pager,
-            draft,
-            first,
-            placed.page,
-            placed.number,
-            row,
-        )?;
+        drafting::change(alloc, pager, draft, first, placed.page, placed.number, row)?;
     }
     Ok(())
 }

@@ -567,10 +567,14 @@ removed-met size pages first links head page number meets route at_first a work 
     go (Ok y) (held, at, h) = let rest = same held at (Ok y) h in ((meets.previous, meets.held), meets.found, (rest.0, rest.1, turned rest.0 rest.1 (Ok y) rest.2))
     go (Err why) (inl broken) = absurd (broken.1 meets.held meets.at)
     go (Err why) (inr (held, at, h)) =
-        inr ((meets.previous, meets.held), meets.found, elim (same held at (Err why) h) [
-          | inl refused ↦ inl refused
-          | inr rest ↦ inr (rest.0, rest.1, turned rest.0 rest.1 (Err why) rest.2)
-        ])
+        inr (
+          (meets.previous, meets.held),
+          meets.found,
+          elim (same held at (Err why) h) [
+            | inl refused ↦ inl refused
+            | inr rest ↦ inr (rest.0, rest.1, turned rest.0 rest.1 (Err why) rest.2)
+          ],
+        )
 
 pub remove_law : RemoveLaw
 remove_law size pages firsts indexes first table placed answer well has shows among_rows work =

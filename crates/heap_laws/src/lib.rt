@@ -3,9 +3,9 @@
 
 mod store;
 
-pub use store::with_table;
-
 ghost use Rattle.heap_laws.specs.Laws.{AddLaw, ChainAnswersAreOne, ChangeLaw, FreshLaw, IndexLaw, MakeLaw, ReadLaw, RemoveLaw, SizedLaw};
+
+pub use store::with_table;
 
 /// Any pages determine what `remove` and `change` answer, and the pages after them.
 pub fn chain_answers_are_one()
