@@ -1,13 +1,11 @@
 -- What fits a history fits it when it has gone on; and what the desk told stays right until the vault finds.
-use Rattle.std.proofs.Common.{◌≡◌, inl, inr, ◌≤◌, ◌+◌, ◌-◌, ◌∙◌, ◌++◌, ◌∷◌, [], ℕ, List, Bool, true, eqb, max, length, drop, take, Some, None, refl, ap, sym, subst, arith, append_assoc, length-drop}
-use Rattle.std.specs.Prelude.{Option, position, option_map}
-use Rattle.std.proofs.lemmas.Bool.{cases_lt}
+use Rattle.std.proofs.Common.{◌≡◌, inl, inr, ◌≤◌, ◌+◌, ◌-◌, ◌∙◌, ◌++◌, ◌∷◌, [], ℕ, List, Bool, true, eqb, max, drop, take, ap, sym, subst, arith}
+use Rattle.std.specs.Prelude.{position, option_map}
 use Rattle.history.specs.declared.entry.Base.{Base}
 use Rattle.history.specs.declared.entry.Change.{Change}
 use Rattle.history.specs.declared.journal.Line.{Line}
-use Rattle.history.specs.Marks.{is_retained, oldest_start}
-use Rattle.history.specs.Writes.{pages_of}
-use Rattle.history.specs.History.{History, State, now, base_after, bases_after, with_change, with_changes, captures, pages_as_of}
+use Rattle.history.specs.Marks.{is_retained}
+use Rattle.history.specs.History.{History, State, now, base_after, bases_after, with_change, with_changes, pages_as_of}
 use Rattle.history.specs.Journal.{changes_of, after_journal}
 use Rattle.history.specs.Laws.{IsConsistent, KeepsNewest, AllKeepNewest}
 use Rattle.history.specs.Right.{AllMayFollow}
@@ -17,17 +15,16 @@ use Rattle.history.proofs.Consistent.{step_consistent, next_keeps, stays_consist
 use Rattle.history.proofs.AsOf.{base_behind_all}
 use Rattle.history.proofs.Journals.{changes-append, journal_keeps, newest-split, with_changes-append}
 use Rattle.history.proofs.SoundLaws.{changes_may_follow}
-use Rattle.skippy.specs.Mappings.{Mappings, end_of, first_in}
-use Rattle.race_model.specs.Desk.{Desk, capacity_of}
+use Rattle.skippy.specs.Mappings.{end_of}
+use Rattle.race_model.specs.Desk.{capacity_of}
 use Rattle.race_model.specs.Vault.{Maplog, Vault, Batch, IsMaplogOf}
 use Rattle.race_model.specs.Fits.{HistoryFits, MappingsFit, VaultFits, BatchFits}
 use Rattle.race_model.specs.Apart.{HistoryOutlives, HistoryOutlivesLines, Outlives, OutlivesLines, ToldBelow, AllOutlive, VaultFinds, FindsAlike, PastIsRight, PastOverLines, TrimLeaves}
-use Rattle.race_model.specs.Invariant.{ToldFits}
 use Rattle.race_model.specs.Reading.{Told, told_of, found}
 use Rattle.race_model.proofs.Lists.{drop-to}
 use Rattle.race_model.proofs.Grows.{contains_none, vault_with, batch_with}
 use Rattle.race_model.proofs.Histories.{keeps_newest, count_with, fits_with}
-use Rattle.race_model.proofs.Readings.{option_map-add, part, told_with, told_fits, first_is, found_is}
+use Rattle.race_model.proofs.Readings.{option_map-add, told_with, told_fits, first_is, found_is}
 use Rattle.race_model.proofs.VaultKeeps.{trim_end}
 
 -- ---- lists of changes
@@ -167,14 +164,17 @@ past_over_lines opening lines more desk vault kept snapshot page sound seen fits
     (subst (λ (h : History). is_retained snapshot (now h).base.marks ≡ true) goes still))
 
 pub trim_leaves : TrimLeaves
-trim_leaves vault low held = (trim_end vault.mappings low held, λ start upto page above.
-    let from : ℕ = vault.mappings.low in
-    let to : ℕ = max vault.mappings.low low in
-    let test : ℕ → Bool = λ other. eqb other page in
-    let pages : List ℕ = vault.mappings.pages in
-    let same : drop (start - to) (drop (to - from) pages) ≡ drop (start - from) pages = drop-to (to - from) (start - to) (start - from) pages (omega (arith, above)) in
-    let as_many : (upto - to) - (start - to) ≡ (upto - from) - (start - from) = omega (arith, above) in
-    ap (λ (ps : List ℕ). option_map (λ place. to + place) (option_map (λ place. (start - to) + place) (position test (take ((upto - to) - (start - to)) ps)))) same
-    ∙ option_map-add to (start - to) start (position test (take ((upto - to) - (start - to)) (drop (start - from) pages))) (omega (arith, above))
-    ∙ ap (λ n. option_map (λ place. start + place) (position test (take n (drop (start - from) pages)))) as_many
-    ∙ sym (option_map-add from (start - from) start (position test (take ((upto - from) - (start - from)) (drop (start - from) pages))) (omega (arith, above))))
+trim_leaves vault low held = (
+  trim_end vault.mappings low held,
+  λ start upto page above.
+      let from : ℕ = vault.mappings.low in
+      let to : ℕ = max vault.mappings.low low in
+      let test : ℕ → Bool = λ other. eqb other page in
+      let pages : List ℕ = vault.mappings.pages in
+      let same : drop (start - to) (drop (to - from) pages) ≡ drop (start - from) pages = drop-to (to - from) (start - to) (start - from) pages (omega (arith, above)) in
+      let as_many : (upto - to) - (start - to) ≡ (upto - from) - (start - from) = omega (arith, above) in
+      ap (λ (ps : List ℕ). option_map (λ place. to + place) (option_map (λ place. (start - to) + place) (position test (take ((upto - to) - (start - to)) ps)))) same
+      ∙ option_map-add to (start - to) start (position test (take ((upto - to) - (start - to)) (drop (start - from) pages))) (omega (arith, above))
+      ∙ ap (λ n. option_map (λ place. start + place) (position test (take n (drop (start - from) pages)))) as_many
+      ∙ sym (option_map-add from (start - from) start (position test (take ((upto - from) - (start - from)) (drop (start - from) pages))) (omega (arith, above))),
+)

@@ -35,13 +35,15 @@ failures_cover = record {
     λ contents i. record {
       log = i.log;
       pages = λ q firm. let other = other_page m.desk.loose page q firm in i.pages q other.1 ∙ sym (cond-false (eqb q page) left (m.desk.pages q) other.0);
-      version = i.version; maplog = i.maplog;
+      version = i.version;
+      maplog = i.maplog;
       slots = i.slots;
     },
     λ contents i. record {
       log = i.log;
       pages = λ q firm. let other = other_page m.desk.loose page q firm in i.pages q firm ∙ cond-false (eqb q page) _ (m.desk.pages q) other.0 ∙ sym (cond-false (eqb q page) left (m.desk.pages q) other.0);
-      version = i.version; maplog = i.maplog;
+      version = i.version;
+      maplog = i.maplog;
       slots = i.slots;
     },
   );
@@ -57,13 +59,15 @@ failures_cover = record {
     λ contents i. record {
       log = i.log;
       pages = i.pages;
-      version = i.version; maplog = i.maplog;
+      version = i.version;
+      maplog = i.maplog;
       slots = λ slot firm. i.slots slot (loosens slot firm).1 ∙ sym (outside.same slot (loosens slot firm).0);
     },
     λ contents i. record {
       log = i.log;
       pages = i.pages;
-      version = i.version; maplog = i.maplog;
+      version = i.version;
+      maplog = i.maplog;
       slots = λ slot firm.
           let free = (loosens slot firm).0 in
           i.slots slot (outside_too.sure slot free (loosens slot firm).1) ∙ outside_too.same slot free ∙ sym (outside.same slot free);

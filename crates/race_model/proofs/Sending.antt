@@ -1,5 +1,5 @@
 -- Batches that the desk takes.
-use Rattle.std.proofs.Common.{◌≡◌, ◌≤◌, ◌<◌, ◌+◌, ◌-◌, ◌∙◌, ℕ, zero, suc, Bool, true, false, cond, List, [], ◌∷◌, ◌++◌, length, take, drop, map, refl, sym, ap, subst, arith, length-append, length-drop}
+use Rattle.std.proofs.Common.{◌≡◌, ◌≤◌, ◌<◌, ◌+◌, ◌-◌, ◌∙◌, ℕ, zero, suc, Bool, true, false, cond, List, [], ◌∷◌, ◌++◌, length, take, drop, map, refl, sym, ap, subst, arith, length-drop}
 use Rattle.std.specs.Prelude.{filter}
 use Rattle.std.specs.List.{AllByRecursion}
 use Rattle.std.proofs.lemmas.List.{drop_at, take-append-drop, length-take-le}
@@ -8,7 +8,7 @@ use Rattle.history.specs.declared.entry.Change.{Change}
 use Rattle.history.specs.declared.entry.Change.TheVariants.{Commit, Drop}
 use Rattle.history.specs.declared.writes.PageImage.{PageImage}
 use Rattle.history.specs.Writes.{pages_of}
-use Rattle.history.specs.History.{State, now, after, captures, captures_of, captures_page, capturing, captured_by, before_write, base_after, bases_after}
+use Rattle.history.specs.History.{State, now, after, captures, captures_of, captures_page, captured_by, before_write, base_after, bases_after}
 use Rattle.history.specs.Right.{AreRight}
 use Rattle.race_model.specs.Desk.{Desk, behind, capacity_of}
 use Rattle.race_model.specs.Fits.{DeskFits, BatchFits}

@@ -1,10 +1,10 @@
 -- What holds of every list of steps and every crash.
-use Rattle.std.specs.Prelude.{◌≡◌, ◌≤◌, true, false, ℕ, Bool, List, [], Contains}
+use Rattle.std.specs.Prelude.{◌≡◌, ◌≤◌, true, false, ℕ, Bool, List, []}
 use Rattle.retro_base.specs.declared.limits.TheConstants.{MIN_PAGES, MAX_PAGES, MIN_CAPACITY, MAX_CAPACITY}
 use Rattle.history.specs.declared.entry.Change.{Change}
 use Rattle.history.specs.declared.log.Version.{Version}
 use Rattle.history.specs.Marks.{is_retained}
-use Rattle.history.specs.History.{History, now, with_change, pages_as_of}
+use Rattle.history.specs.History.{History, now, pages_as_of}
 use Rattle.skippy.specs.Mappings.{end_of}
 use Rattle.records.specs.Log.{IsLog}
 use Rattle.replay.specs.Joined.{AreJoined}
