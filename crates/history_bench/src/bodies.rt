@@ -30,7 +30,17 @@ pub fn log_of(alloc: Global, snapshots: u32) -> Result<Vec<Vec<u8>>, AllocError>
     let (pages, capacity) = (u64::from(PAGES), u64::from(CAPACITY));
     let base = numbers(
         alloc,
-        &[(1, 1), (2, 1), (4, pages), (4, capacity), (8, 0), (8, 0), (4, 1), (4, 0), (4, 0)],
+        &[
+            (1, 1),
+            (2, 1),
+            (4, pages),
+            (4, capacity),
+            (8, 0),
+            (8, 0),
+            (4, 1),
+            (4, 0),
+            (4, 0),
+        ],
     )?;
     let mut bodies = vec![in alloc; base]?;
     for _ in 0..snapshots {

@@ -73,7 +73,11 @@ fn belongs(alloc: Global, captured: u32) -> Result<bool, Refusal> {
         mappings.push(&[captured - 1 - page])?;
     }
     let holds = holds_base(alloc, &base, &mappings)?;
-    Ok(holds && base.captures <= mappings.end() && holds_changes(base.captures, &base, &[], &mappings))
+    Ok(
+        holds
+            && base.captures <= mappings.end()
+            && holds_changes(base.captures, &base, &[], &mappings),
+    )
 }
 
 // Whether there is no word behind the program's own name.

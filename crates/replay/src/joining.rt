@@ -25,10 +25,8 @@ fn table_of(alloc: Global, page_count: u32, pages: &[u32]) -> Result<Vec<bool>, 
 
 // Whether these pages are different, and each of them one that the table has.
 fn meets_each_once(mut table: Vec<bool>, pages: &[u32]) -> bool
-    ensures {
-        (others : List ℕ) → ((page : ℕ) → get_or table.items page false ≡ is_among page others) →
-            result ≡ (differ pages.now && are_among pages.now others)
-    }
+    ensures { (others : List ℕ) → ((page : ℕ) → get_or table.items page false ≡ is_among page others) →
+        result ≡ (differ pages.now && are_among pages.now others) }
 {
     for page in pages {
         let place = *page as usize;
