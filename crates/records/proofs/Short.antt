@@ -1,5 +1,5 @@
 -- How long records are.
-use Rattle.std.proofs.Common.{◌≡◌, ◌<◌, ◌≤◌, ◌+◌, ◌*◌, ◌++◌, ℕ, true, leb, List, [], ◌∷◌, length, Option, Some, None, arith, length-append}
+use Rattle.std.proofs.Common.{◌≡◌, ◌<◌, ◌≤◌, ◌+◌, ◌*◌, ◌^◌, ◌++◌, ℕ, true, leb, List, [], ◌∷◌, length, Option, Some, None, arith, length-append}
 use Rattle.std.specs.List.{AllByRecursion, flat_map, list_all}
 use Rattle.std.proofs.lemmas.Bool.{and_parts, leb-true}
 use Rattle.retro_base.specs.declared.limits.TheConstants.{LABEL_BYTES}
@@ -7,6 +7,7 @@ use Rattle.retro_base.specs.Fields.{field_bytes}
 use Rattle.retro_base.proofs.FieldLaws.{length-field_bytes}
 use Rattle.history.specs.declared.entry.Base.{Base}
 use Rattle.history.specs.declared.entry.Mark.{Mark}
+use Rattle.history.specs.declared.entry.Change.{Change}
 use Rattle.history.specs.declared.entry.Change.TheVariants.{Commit, Drop}
 use Rattle.history.specs.declared.log.Version.{Version}
 use Rattle.history.specs.declared.log.Version.TheVariants.{One, Two}
@@ -14,9 +15,11 @@ use Rattle.history.specs.declared.writes.PageImage.{PageImage}
 use Rattle.history.specs.Log.{version_number}
 use Rattle.history.specs.Marks.{oldest, newest}
 use Rattle.history.specs.Label.{is_label, is_printable}
+use Rattle.history.specs.Right.{IsBase}
 use Rattle.history.specs.Writes.{rises}
-use Rattle.records.specs.Entries.{page_width, sizes_bytes, counts_bytes, label_bytes, mark_bytes, write_bytes, declaration_bytes, MarkFits, WriteFits, LabelFits, base_bytes}
-use Rattle.records.specs.Laws.{RightBasesAreShort, ChangesAreShort}
+use Rattle.records.specs.Entries.{page_width, sizes_bytes, counts_bytes, label_bytes, mark_bytes, write_bytes, declaration_bytes, MarkFits, WriteFits, BaseFits, LabelFits, ChangeFits, base_bytes, change_bytes}
+use Rattle.records.specs.declared.entry.Entry.TheVariants as entries
+use Rattle.records.specs.Laws.{RecordsAreShort}
 
 -- so many items of at most so many bytes
 flat-short : {X : Type 0} (f : X → List ℕ) (most : ℕ) (xs : List X) → AllByRecursion (λ x. length (f x) ≤ most) xs → length (flat_map f xs) ≤ length xs * most
@@ -80,7 +83,7 @@ base-long version base =
       length-field_bytes 4 (length base.captured),
     )
 
-pub changes_are_short : ChangesAreShort
+changes_are_short : (version : Version) (change : Change) → ChangeFits version change → length (change_bytes version change) < 2 ^ 32
 changes_are_short version (Commit label writes) fits =
     let images = flat-short (write_bytes version) 1028 writes (writes-short version writes fits.3) in
     omega (
@@ -94,9 +97,13 @@ changes_are_short version (Commit label writes) fits =
     )
 changes_are_short version (Drop below) fits = omega (arith, length-field_bytes 4 below)
 
-pub right_bases_are_short : RightBasesAreShort
-right_bases_are_short version base fits right =
+bases_are_short : (version : Version) (base : Base) → BaseFits version base → IsBase base → length (base_bytes version base) < 2 ^ 32
+bases_are_short version base fits right =
     let marks = flat-short mark_bytes 73 base.marks (marks-short base.marks fits.marks) in
     let captured = flat-short (field_bytes (page_width version)) 4 base.captured (pages-short version base.captured) in
     let few = rises-few 0 base.page_count base.captured right.rising right.in_store (omega arith) in
     omega (arith, base-long version base, marks, captured, few, right.limits.retained, right.pages.1)
+
+pub records_are_short : RecordsAreShort
+records_are_short version (entries.Base base) fits right = bases_are_short version base fits right
+records_are_short version (entries.Change change) fits right = changes_are_short version change fits

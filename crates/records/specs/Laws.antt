@@ -7,7 +7,8 @@ use Rattle.history.specs.History.{base_after}
 use Rattle.history.specs.Marks.{oldest, newest, is_retained}
 use Rattle.history.specs.Right.{IsBase}
 use Rattle.records.specs.declared.entry.Entry.{Entry}
-use Rattle.records.specs.Entries.{base_bytes, change_bytes, entry_bytes, BaseFits, ChangeFits, EntryFits, IsNumberedFrom}
+use Rattle.records.specs.declared.entry.Entry.TheVariants as entries
+use Rattle.records.specs.Entries.{entry_bytes, EntryFits, IsNumberedFrom}
 use Rattle.gate_log.specs.Bodies.{BreaksBehind}
 use Rattle.records.specs.Log.{IsLog}
 use Rattle.records.specs.Maplog.{IsMaplog}
@@ -16,13 +17,14 @@ use Rattle.records.specs.Maplog.{IsMaplog}
 abbrev pub OneEntry : Type 0
 OneEntry = (version : Version) (entry other : Entry) → EntryFits version entry → EntryFits version other → entry_bytes version entry ≡ entry_bytes version other → entry ≡ other
 
--- A change whose fields fit theirs takes less than 2^32 bytes.
-abbrev pub ChangesAreShort : Type 0
-ChangesAreShort = (version : Version) (change : Change) → ChangeFits version change → length (change_bytes version change) < 2 ^ 32
+-- a record that is right where it is a base
+abbrev pub IsRightBase : Entry → Type 0
+IsRightBase (entries.Base base) = IsBase base
+IsRightBase (entries.Change change) = Unit {0}
 
--- So does a right base.
-abbrev pub RightBasesAreShort : Type 0
-RightBasesAreShort = (version : Version) (base : Base) → BaseFits version base → IsBase base → length (base_bytes version base) < 2 ^ 32
+-- such a record takes less than 2^32 bytes
+abbrev pub RecordsAreShort : Type 0
+RecordsAreShort = (version : Version) (entry : Entry) → EntryFits version entry → IsRightBase entry → length (entry_bytes version entry) < 2 ^ 32
 
 -- no number is left out from the oldest retained snapshot to the newest
 abbrev pub IsNumbered : Base → Type 0

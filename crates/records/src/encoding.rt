@@ -5,6 +5,7 @@ ghost use Rattle.std.specs.List.{AllByRecursion, flat_map};
 ghost use Rattle.retro_base.specs.Fields.{field_bytes};
 ghost use Rattle.retro_base.specs.declared.refusal.Refusal.TheVariants.{OutOfMemory};
 ghost use Rattle.records.specs.Entries.{page_width, label_bytes, mark_bytes, write_bytes, declaration_bytes, sizes_bytes, counts_bytes, base_bytes, change_bytes, entry_bytes, BaseFits, WriteFits, ChangeFits, EntryFits};
+ghost use Rattle.records.specs.Laws.{IsRightBase};
 
 use crate::entry::Entry;
 use gate_log::{Framed, FramedBuilder};
@@ -179,17 +180,27 @@ fn put_change(version: Version, change: &Change, out: &mut FramedBuilder) -> Res
     }
 }
 
-/// The bytes of an entry whose fields fit theirs, framed for an append. The only refusal is want of memory.
+fn put_entry(version: Version, entry: &Entry, out: &mut FramedBuilder) -> Result<(), Refusal>
+    requires { EntryFits version entry.now }
+    ensures bytes { OnOk result (out.new ≡ out.old ++ entry_bytes version entry.now) }
+    ensures memory { IfErr result (λ why. why ≡ OutOfMemory) }
+{
+    match entry {
+        Entry::Base(base) => put_base(version, base, out),
+        Entry::Change(change) => put_change(version, change, out),
+    }
+}
+
+/// The bytes of an entry whose fields fit theirs, and which is right where it is a base, framed for an append. The
+/// only refusal is want of memory.
+#[tactic(auto, using(crate::proofs::Short::records_are_short))]
 pub fn encode(alloc: Global, version: Version, entry: &Entry) -> Result<Framed, Refusal>
     requires fits { EntryFits version entry.now }
-    requires short { length (entry_bytes version entry.now) < 2 ^ 32 }
+    requires right { IsRightBase entry.now }
     ensures bytes { IfOk result (λ framed. framed ≡ entry_bytes version entry.now) }
     ensures memory { IfErr result (λ why. why ≡ OutOfMemory) }
 {
     let mut out = FramedBuilder::new(alloc)?;
-    match entry {
-        Entry::Base(base) => put_base(version, base, &mut out)?,
-        Entry::Change(change) => put_change(version, change, &mut out)?,
-    }
+    put_entry(version, entry, &mut out)?;
     out.finish()
 }

@@ -1,14 +1,13 @@
 //! What follows from the definitions.
 
-ghost use Rattle.records.specs.Laws.{ChangesAreShort, LogIsReadOneWay, MaplogIsReadOneWay, NumberedStays, OneEntry, RetainedBetween, RightBasesAreShort};
+ghost use Rattle.records.specs.Laws.{LogIsReadOneWay, MaplogIsReadOneWay, NumberedStays, OneEntry, RecordsAreShort, RetainedBetween};
 
 /// Of the bytes of records.
 pub fn laws_of_records()
     // Bytes are those of one record.
     ensures one_entry { OneEntry }
-    // Right records take less than 2^32 bytes.
-    ensures changes { ChangesAreShort }
-    ensures bases { RightBasesAreShort }
+    // Each takes less than 2^32 bytes, where a base is right.
+    ensures short { RecordsAreShort }
 {}
 
 /// Lists of bodies are read in one way: each stands for one value at most, or breaks behind one front at most.

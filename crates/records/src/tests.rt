@@ -2,7 +2,7 @@
 
 use crate::*;
 use gate_log::Unread;
-use history::{Base, Change, Version};
+use history::{Base, Change, Version, is_base};
 use std::alloc::{AllocError, Global};
 use std::test::Fail;
 use values::Seq;
@@ -48,15 +48,18 @@ fn a_drop_has_these_bytes(rt: HostRuntime) -> Result<(), Fail> {
 #[test]
 fn a_base_has_these_bytes(rt: HostRuntime) -> Result<(), Fail> {
     let alloc = rt.alloc();
-    let base = Entry::Base(Base {
+    let base = Base {
         page_count: 16,
         capacity: 64,
         changes: 0,
         captures: 0,
         marks: Seq::new(alloc),
         captured: Seq::new(alloc),
-    });
-    let framed = encode(alloc, Version::One, &base)?;
+    };
+    if !is_base(&base) {
+        return Err(Fail::new("not right"));
+    }
+    let framed = encode(alloc, Version::One, &Entry::Base(base))?;
     assert_eq!(rt; framed.as_bytes().get(4..43), Some(BASE.as_slice()));
     Ok(())
 }
