@@ -5,6 +5,8 @@ pub mod Changed
 pub mod Counting
 pub mod Creating
 pub mod Deleting
+pub mod Drawing
+pub mod Drawn
 pub mod Eaches
 pub mod Entries
 pub mod Filling
