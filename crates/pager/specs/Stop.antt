@@ -1,10 +1,10 @@
 -- What calls over a pager answer: the forms of their contracts.
-use Rattle.std.specs.Prelude.{◌≡◌, ◌≤◌, ◌⊎◌, ℕ, Result, Ok, Err, Option, Some}
+use Rattle.std.specs.Prelude.{◌≡◌, ◌⊎◌, ℕ, Result, Ok, Err}
 use Rattle.retro_base.specs.Cause.{Rose}
 use Rattle.retro_base.specs.declared.device.Device.TheVariants as device
 use Rattle.retro_base.specs.declared.refusal.Refusal.{Refusal}
 use Rattle.retro_base.specs.declared.refusal.Refusal.TheVariants.{OutOfMemory, NotAStore, PagesFull}
-use Rattle.pager.specs.Pages.{Pages}
+use Rattle.pager.specs.Pages.{Pages, IsPartOf, Leads, Narrows}
 use Rattle.pager.specs.declared.stop.Stop.{Stop}
 use Rattle.pager.specs.declared.stop.Stop.TheVariants as stop
 
@@ -28,48 +28,66 @@ abbrev pub IsCaused : {X F : Type 0} → ℕ → ℕ → Result X (Stop F) → T
 IsCaused before now (Ok x) = now ≡ before
 IsCaused before now (Err why) = StopIsCaused before now why
 
--- the refusals of calls over the pages of a store: want of memory, pages that are no store's, and no page left
+-- the refusals of calls that read the pages of a store: want of memory, and pages that are no store's
+abbrev pub IsOfReading : Refusal → Type 0
+IsOfReading OutOfMemory = Unit {0}
+IsOfReading (NotAStore where_ place) = where_ ≡ device.Pages
+IsOfReading _ = ⊥
+
+-- the refusals of calls that edit them: no page left, besides
 abbrev pub IsOfPages : ℕ → Refusal → Type 0
-IsOfPages size OutOfMemory = Unit {0}
-IsOfPages size (NotAStore where_ place) = where_ ≡ device.Pages
-IsOfPages size (PagesFull pages) = pages ≡ size
-IsOfPages size _ = ⊥
+IsOfPages size why = IsOfReading why ⊎ (why ≡ PagesFull size)
 
-abbrev pub StopIsNamed : {F : Type 0} → ℕ → Stop F → Type 0
-StopIsNamed size (stop.Refused why) = IsOfPages size why
-StopIsNamed size (stop.Pager fault) = Unit {0}
+abbrev pub StopIsNamed : {F : Type 0} → (Refusal → Type 0) → Stop F → Type 0
+StopIsNamed named (stop.Refused why) = named why
+StopIsNamed named (stop.Pager fault) = Unit {0}
 
--- a call over any pages answers a value, one of those refusals, or the pager's fault
-abbrev pub IsNamed : {X F : Type 0} → ℕ → Result X (Stop F) → Type 0
-IsNamed size (Ok x) = Unit {0}
-IsNamed size (Err why) = StopIsNamed size why
+-- a call answers a value, one of these refusals, or the pager's fault
+abbrev pub IsNamed : {X F : Type 0} → (Refusal → Type 0) → Result X (Stop F) → Type 0
+IsNamed named (Ok x) = Unit {0}
+IsNamed named (Err why) = StopIsNamed named why
 
--- a call keeps the number of pages, and tells what ended it
-pub record Accounts {P X F : Type 0} (size faults : P → ℕ) (old new : P) (result : Result X (Stop F)) : Type 0 where
-  pub size_stays : size new ≡ size old
-  pub cause : IsCaused (faults old) (faults new) result
-  pub named : IsNamed (size old) result
+-- what a call that only reads answers is what the definition allows of the pages that the pager shows
+abbrev pub Answers : {X Y F : Type 0} → (X → Y) → (Pages → Pages → Type 0) → (Pages → Result Y Refusal → Type 0) → Result X (Stop F) → Type 0
+Answers view tells allows result = (base shown : Pages) → tells base shown → Allowed view (allows shown) result
 
--- what a call that only reads answers is what the definition allows of the pages that the pager told
-abbrev pub Answers : {X Y F : Type 0} → (X → Y) → Option Pages → (Pages → Result Y Refusal → Type 0) → Result X (Stop F) → Type 0
-Answers view told allows result = (shown : Pages) → told ≡ Some shown → Allowed view (allows shown) result
+-- what is left of the pages where the pager failed: all as they were, or some of the edits made that an answer makes
+abbrev pub IsCutShort : {Y : Type 0} → (Result (Y × Pages) Refusal → Type 0) → Pages → Pages → Type 0
+IsCutShort {Y} allows was now = (now ≡ was) ⊎ ((y : Y) × (whole : Pages) × allows (Ok (y, whole)) × IsPartOf was whole now)
 
 -- what a call that edits leaves where it was not Ok: after a refusal no page was edited
-abbrev pub MakesNone : {F : Type 0} → Pages → Option Pages → (Refusal → Type 0) → Stop F → Type 0
-MakesNone shown after allows (stop.Refused why) = (after ≡ Some shown) × ((why ≡ OutOfMemory) ⊎ allows why)
-MakesNone shown after allows (stop.Pager fault) = Unit {0}
+abbrev pub LeavesStopped : {Y F : Type 0} → (Result (Y × Pages) Refusal → Type 0) → Pages → Pages → Stop F → Type 0
+LeavesStopped allows was now (stop.Refused why) = (now ≡ was) × ((why ≡ OutOfMemory) ⊎ allows (Err why))
+LeavesStopped allows was now (stop.Pager fault) = IsCutShort allows was now
 
-abbrev pub MakesFrom : {X Y F : Type 0} → (X → Y) → Pages → Option Pages → (Result (Y × Pages) Refusal → Type 0) → Result X (Stop F) → Type 0
-MakesFrom view shown after allows (Ok x) = (pages : Pages) × (after ≡ Some pages) × allows (Ok (view x, pages))
-MakesFrom view shown after allows (Err why) = MakesNone shown after (λ refusal. allows (Err refusal)) why
+-- what a call that edits answers and leaves is what the definition allows of the pages before it
+abbrev pub Leaves : {X Y F : Type 0} → (X → Y) → (Result (Y × Pages) Refusal → Type 0) → Pages → Pages → Result X (Stop F) → Type 0
+Leaves view allows was now (Ok x) = allows (Ok (view x, now))
+Leaves view allows was now (Err why) = LeavesStopped allows was now why
 
--- what a call that edits answers, and the pages after it, are what the definition allows of the pages that the pager told before
-abbrev pub Makes : {X Y F : Type 0} → (X → Y) → Option Pages → Option Pages → (Pages → Result (Y × Pages) Refusal → Type 0) → Result X (Stop F) → Type 0
-Makes view before after allows result = (shown : Pages) → before ≡ Some shown → MakesFrom view shown after (allows shown) result
+-- the same of the pages that the pager shows before the call and after it
+abbrev pub Makes : {X Y F : Type 0} → (X → Y) → (Pages → Pages → Type 0) → (Pages → Pages → Type 0) → (Pages → Result (Y × Pages) Refusal → Type 0) → Result X (Stop F) → Type 0
+Makes view before after allows result = Leads before after (λ was now. Leaves view (allows was) was now result)
 
--- a call that edits no page leaves the pages, and tells what ended it
-pub record OnlyReads {P X F : Type 0} (pages : P → Option Pages) (size faults : P → ℕ) (old new : P) (result : Result X (Stop F)) : Type 0 where
-  pub pages_stay : pages new ≡ pages old
+-- what a call keeps whatever it answers, and what ended it
+pub record Accounts {P X F : Type 0} (goes : P → P → Type 0) (size faults : P → ℕ) (old new : P) (result : Result X (Stop F)) : Type 0 where
+  pub goes_on : goes old new
   pub size_stays : size new ≡ size old
   pub cause : IsCaused (faults old) (faults new) result
-  pub named : IsNamed (size old) result
+  pub named : IsNamed (IsOfPages (size old)) result
+
+-- the same of a call that drafts edits: it makes none
+pub record OnlyDrafts {P X F : Type 0} (tells : P → Pages → Pages → Type 0) (goes : P → P → Type 0) (size faults : P → ℕ) (old new : P) (result : Result X (Stop F)) : Type 0 where
+  pub narrows : Narrows (tells old) (tells new)
+  pub goes_on : goes old new
+  pub size_stays : size new ≡ size old
+  pub cause : IsCaused (faults old) (faults new) result
+  pub named : IsNamed (IsOfPages (size old)) result
+
+-- the same of a call that only reads: it is never refused for want of a free page
+pub record OnlyReads {P X F : Type 0} (tells : P → Pages → Pages → Type 0) (goes : P → P → Type 0) (size faults : P → ℕ) (old new : P) (result : Result X (Stop F)) : Type 0 where
+  pub narrows : Narrows (tells old) (tells new)
+  pub goes_on : goes old new
+  pub size_stays : size new ≡ size old
+  pub cause : IsCaused (faults old) (faults new) result
+  pub named : IsNamed IsOfReading result

@@ -1,15 +1,15 @@
 //! Edits in memory.
 
 ghost use Rattle.std.specs.Prelude.{◌≡◌, ◌<◌, [], OnErr, OnOk};
-ghost use Rattle.std.specs.Option.{option_map};
-ghost use Rattle.pager.specs.Draft.{drafted, IsPlaceOf, Reads};
-ghost use Rattle.pager.specs.Pages.{Pages, written};
+ghost use Rattle.pager.specs.Draft.{drafted, Reads};
+ghost use Rattle.pager.specs.Pages.{Pages, IsPartOf, Leads, written};
 ghost use Rattle.pager.specs.Root.{page_in};
 ghost use Rattle.pager.specs.Stop.{OnlyReads};
 ghost use Rattle.retro_base.specs.Cause.{HasCause};
 
 use crate::stop::{Stop, broken};
 use crate::traits::{EditPager, Pager};
+use indexmap::IndexMap;
 use retro_base::Page;
 use std::alloc::{AllocError, Global};
 use std::marker::Model;
@@ -19,14 +19,7 @@ use std::marker::Model;
 #[derive(Drop)]
 pub struct Draft {
     size: u32,
-    edits: Vec<Edit>,
-}
-
-// The bytes that a page is to have.
-#[derive(Clone, Copy)]
-struct Edit {
-    page: u32,
-    bytes: Page,
+    edits: IndexMap<u32, Page>,
 }
 
 impl Model for Draft {
@@ -34,9 +27,9 @@ impl Model for Draft {
 
     ghost Value = { Edits };
 
-    ghost view = { λ d. record { size = d.size; list = d.edits.items } };
+    ghost view = { λ d. record { size = d.size; list = d.edits.entries } };
 
-    ghost invariant = { λ d. AreInside d.size d.edits.items };
+    ghost invariant = { λ d. AreInside d.size d.edits.entries };
 }
 
 impl Draft {
@@ -46,7 +39,7 @@ impl Draft {
     {
         Draft {
             size,
-            edits: Vec::new(alloc),
+            edits: IndexMap::new(alloc),
         }
     }
 
@@ -60,15 +53,15 @@ impl Draft {
     /// The page of that number, as it will be after the edits.
     pub fn read<P: Pager>(&self, pager: &mut P, page: u32) -> Result<Page, Stop<P::Fault>>
         requires { self.now.size ≡ P.size pager.old }
-        ensures read { Reads (λ bytes. bytes) (P.pages pager.old) self.now.list (λ pages r. page_in self.now.size pages page ≡ r) result }
-        ensures only_reads { OnlyReads P.pages P.size P.faults pager.old pager.new result }
+        ensures read { Reads (λ bytes. bytes) (P.tells pager.new) self.now.list (λ pages r. page_in self.now.size pages page ≡ r) result }
+        ensures only_reads { OnlyReads P.tells P.goes P.size P.faults pager.old pager.new result }
         ensures inside { OnOk result (page < self.now.size) }
     {
         if page >= self.size {
             return Err(Stop::Refused(broken(page)));
         }
-        if let Some(place) = place_of(&self.edits, page) {
-            return Ok(self.edits[place].bytes);
+        if let Some(bytes) = self.edits.get(&page) {
+            return Ok(*bytes);
         }
         let mut bytes = Page::zero();
         pager.read(page, &mut bytes).map_err(Stop::Pager)?;
@@ -82,34 +75,24 @@ impl Draft {
         ensures err { OnErr result (self.new.list ≡ self.old.list) }
         ensures size { self.new.size ≡ self.old.size }
     {
-        match place_of(&self.edits, page) {
-            Some(place) => self.edits[place].bytes = *bytes,
-            None => self.edits.push(Edit {
-                page,
-                bytes: *bytes,
-            })?,
-        }
+        self.edits.insert(page, *bytes)?;
         Ok(())
     }
 
-    /// Makes the edits, one for each page that has some.
+    /// Makes the edits, one for each page that has some. After a fault some of them are made.
     pub fn write<P: EditPager>(&self, pager: &mut P) -> Result<(), P::Fault>
         requires { self.now.size ≡ P.size pager.old }
-        ensures ok { OnOk result (P.pages pager.new ≡ option_map (λ pages. drafted pages self.now.list) (P.pages pager.old)) }
+        ensures ok { OnOk result (Leads (P.tells pager.old) (P.tells pager.new) (λ was now. now ≡ drafted was self.now.list)) }
+        ensures err { OnErr result (Leads (P.tells pager.old) (P.tells pager.new) (λ was now. IsPartOf was (drafted was self.now.list) now)) }
+        ensures goes { P.goes pager.old pager.new }
         ensures size { P.size pager.new ≡ P.size pager.old }
         ensures cause { HasCause (P.faults pager.old) (P.faults pager.new) result }
     {
-        for i in (0..self.edits.len()).rev() {
-            let edit = &self.edits[i];
-            pager.edit(edit.page, &edit.bytes)?;
+        for place in (0..self.edits.len()).rev() {
+            if let Some((page, bytes)) = self.edits.get_index(place) {
+                pager.edit(*page, bytes)?;
+            }
         }
         Ok(())
     }
-}
-
-// The place of the first edit of that page.
-fn place_of(edits: &[Edit], page: u32) -> Option<usize>
-    ensures { IsPlaceOf edits.now page result }
-{
-    edits.iter().position(|edit| edit.page == page)
 }

@@ -3,7 +3,7 @@
 ghost use Rattle.std.specs.Prelude.{◌≡◌, ◌<◌, IsTrue, IfOk};
 ghost use Rattle.pager.specs.Draft.{Drafts, Reads};
 ghost use Rattle.pager.specs.Root.{root_in, is_root, next_page, never_used, first_free, taken, freed, free_bytes};
-ghost use Rattle.pager.specs.Stop.{OnlyReads};
+ghost use Rattle.pager.specs.Stop.{OnlyDrafts, OnlyReads};
 
 use crate::draft::Draft;
 use crate::root::Root;
@@ -19,8 +19,8 @@ const FREE_PAGE: u8 = 3;
 // The root page.
 fn root<P: Pager>(pager: &mut P, draft: &Draft) -> Result<Root, Stop<P::Fault>>
     requires { draft.now.size ≡ P.size pager.old }
-    ensures read { Reads (λ root. root) (P.pages pager.old) draft.now.list (λ pages r. root_in draft.now.size pages ≡ r) result }
-    ensures only_reads { OnlyReads P.pages P.size P.faults pager.old pager.new result }
+    ensures read { Reads (λ root. root) (P.tells pager.new) draft.now.list (λ pages r. root_in draft.now.size pages ≡ r) result }
+    ensures only_reads { OnlyReads P.tells P.goes P.size P.faults pager.old pager.new result }
     ensures root { IfOk result (λ root. IsTrue (is_root draft.now.size root)) }
 {
     let root = Root::of(&draft.read(pager, ROOT)?);
@@ -55,8 +55,8 @@ fn first_free<P: Pager>(
 ) -> Result<(u32, Root), Stop<P::Fault>>
     requires size { draft.now.size ≡ P.size pager.old }
     requires some { 0 < root.now.free }
-    ensures read { Reads (λ next. next) (P.pages pager.old) draft.now.list (λ pages r. first_free draft.now.size pages root.now ≡ r) result }
-    ensures only_reads { OnlyReads P.pages P.size P.faults pager.old pager.new result }
+    ensures read { Reads (λ next. next) (P.tells pager.new) draft.now.list (λ pages r. first_free draft.now.size pages root.now ≡ r) result }
+    ensures only_reads { OnlyReads P.tells P.goes P.size P.faults pager.old pager.new result }
     ensures inside { IfOk result (λ next. next.0 < draft.now.size) }
 {
     let page = draft.read(pager, root.first_free)?;
@@ -80,8 +80,8 @@ fn next_page<P: Pager>(
 ) -> Result<(u32, Root), Stop<P::Fault>>
     requires size { draft.now.size ≡ P.size pager.old }
     requires root { IsTrue (is_root draft.now.size root.now) }
-    ensures read { Reads (λ next. next) (P.pages pager.old) draft.now.list (λ pages r. next_page draft.now.size pages root.now ≡ r) result }
-    ensures only_reads { OnlyReads P.pages P.size P.faults pager.old pager.new result }
+    ensures read { Reads (λ next. next) (P.tells pager.new) draft.now.list (λ pages r. next_page draft.now.size pages root.now ≡ r) result }
+    ensures only_reads { OnlyDrafts P.tells P.goes P.size P.faults pager.old pager.new result }
     ensures inside { IfOk result (λ next. next.0 < draft.now.size) }
 {
     if root.free == 0 {
@@ -95,8 +95,8 @@ fn next_page<P: Pager>(
 /// itself is left to the caller. Refused where no page is left, and where the root page or the free page is broken.
 pub fn take<P: Pager>(pager: &mut P, draft: &mut Draft) -> Result<u32, Stop<P::Fault>>
     requires { draft.old.size ≡ P.size pager.old }
-    ensures taken { Drafts (λ page. page) (P.pages pager.old) draft.old.list draft.new.list (λ pages r. taken draft.old.size pages ≡ r) result }
-    ensures only_reads { OnlyReads P.pages P.size P.faults pager.old pager.new result }
+    ensures taken { Drafts (λ page. page) (P.tells pager.new) draft.old.list draft.new.list (λ pages r. taken draft.old.size pages ≡ r) result }
+    ensures only_reads { OnlyDrafts P.tells P.goes P.size P.faults pager.old pager.new result }
     ensures size { draft.new.size ≡ draft.old.size }
     ensures inside { IfOk result (λ page. page < draft.old.size) }
 {
@@ -110,8 +110,8 @@ pub fn take<P: Pager>(pager: &mut P, draft: &mut Draft) -> Result<u32, Stop<P::F
 /// handed out.
 pub fn free<P: Pager>(pager: &mut P, draft: &mut Draft, page: u32) -> Result<(), Stop<P::Fault>>
     requires { draft.old.size ≡ P.size pager.old }
-    ensures freed { Drafts (λ u. u) (P.pages pager.old) draft.old.list draft.new.list (λ pages r. freed draft.old.size pages page ≡ r) result }
-    ensures only_reads { OnlyReads P.pages P.size P.faults pager.old pager.new result }
+    ensures freed { Drafts (λ u. u) (P.tells pager.new) draft.old.list draft.new.list (λ pages r. freed draft.old.size pages page ≡ r) result }
+    ensures only_reads { OnlyDrafts P.tells P.goes P.size P.faults pager.old pager.new result }
     ensures size { draft.new.size ≡ draft.old.size }
 {
     let size = draft.size();

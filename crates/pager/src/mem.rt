@@ -1,6 +1,6 @@
 //! Pages in memory.
 
-ghost use Rattle.std.specs.Prelude.{◌≡◌, ◌≤◌, ◌<◌, ◌^◌, ◌++◌, ◌∷◌, ◌↔◌, [], Some, IsErr, IsTrue, OnErr, OnOk, Contains, cond, length, slice_index_or, slice_set};
+ghost use Rattle.std.specs.Prelude.{◌≡◌, ◌≤◌, ◌<◌, ◌^◌, ◌++◌, ◌∷◌, ◌↔◌, [], IsErr, IsTrue, OnErr, OnOk, Contains, cond, length, slice_index_or, slice_set};
 ghost use Rattle.retro_base.specs.Cause.{HasCause, raised};
 ghost use Rattle.pager.specs.Pages.{written};
 ghost use Rattle.pager.specs.MemPages.{shown};
@@ -82,9 +82,13 @@ impl MemPager {
 }
 
 impl Pager for MemPager {
+    ghost use Rattle.std.proofs.Common.{◌∙◌, refl};
+
     type Fault = Failed;
 
-    ghost pages = { λ m. Some (shown m) };
+    ghost tells = { λ m base now. now ≡ shown m };
+
+    ghost goes = { λ m n. n.failing ≡ m.failing };
 
     ghost size = { λ m. length m.pages };
 
@@ -113,6 +117,10 @@ impl Pager for MemPager {
     fn faults(&self) -> u64 {
         self.faults
     }
+
+    ghost stays = { λ m. refl };
+
+    ghost goes_on = { λ m n o one two. two ∙ one };
 }
 
 impl EditPager for MemPager {
@@ -123,6 +131,7 @@ impl EditPager for MemPager {
         ensures ok { OnOk result (self.new ≡ record self.old { pages = slice_set self.old.pages page bytes.now; edits = self.old.edits ++ page ∷ []; calls = raised self.old.calls }) }
         ensures err { OnErr result (self.new ≡ record self.old { calls = raised self.old.calls; faults = raised self.old.faults }) }
         ensures shown { OnOk result (shown self.new ≡ written (shown self.old) page bytes.now) }
+        ensures steady { OnErr result (shown self.new ≡ shown self.old) }
         ensures cause { HasCause self.old.faults self.new.faults result }
     {
         if self.fails() {

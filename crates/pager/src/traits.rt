@@ -1,7 +1,6 @@
-ghost use Rattle.std.specs.Prelude.{◌≡◌, ◌<◌, ℕ, Option, IfSome, OnErr, OnOk};
-ghost use Rattle.std.specs.Option.{option_map};
+ghost use Rattle.std.specs.Prelude.{◌≡◌, ◌<◌, ◌⊎◌, ℕ, OnErr, OnOk};
 ghost use Rattle.retro_base.specs.Cause.{HasCause};
-ghost use Rattle.pager.specs.Pages.{Pages, written};
+ghost use Rattle.pager.specs.Pages.{Pages, Leads, Narrows, asked, written};
 
 use retro_base::Page;
 
@@ -10,8 +9,11 @@ pub trait Pager {
     /// Why a call failed.
     type Fault;
 
-    // The pages, where the pager tells them.
-    ghost pages: { Self → Option Pages };
+    // The pages that it shows, were these the pages of the store when it began. Each page that is read rules out some.
+    ghost tells: { Self → Pages → Pages → Type 0 };
+
+    // What stays over its calls, whatever they answer.
+    ghost goes: { Self → Self → Type 0 };
 
     // How many pages there are.
     ghost size: { Self → ℕ };
@@ -22,8 +24,9 @@ pub trait Pager {
     /// Puts the page of that number into `out`. After a fault `out` may hold any bytes.
     fn read(&mut self, page: u32, out: &mut Page) -> Result<(), Self::Fault>
         requires { page < size self.old }
-        ensures told { OnOk result (IfSome (pages self.old) (λ shown. out.new ≡ shown.at page)) }
-        ensures pages { pages self.new ≡ pages self.old }
+        ensures told { OnOk result ((base shown : Pages) → tells self.new base shown → out.new ≡ shown.at page) }
+        ensures narrows { Narrows (tells self.old) (tells self.new) }
+        ensures goes { goes self.old self.new }
         ensures size { size self.new ≡ size self.old }
         ensures cause { HasCause (faults self.old) (faults self.new) result };
 
@@ -34,15 +37,21 @@ pub trait Pager {
     /// How many calls have failed.
     fn faults(&self) -> u64
         ensures { result ≡ faults self.now };
+
+    ghost stays: { (p : Self) → goes p p };
+
+    ghost goes_on: { (p q r : Self) → goes p q → goes q r → goes p r };
 }
 
 /// Where pages are edited too.
 pub trait EditPager: Pager {
-    /// Puts these bytes into the page of that number. After a fault all pages are as before.
+    /// Puts these bytes into the page of that number. After a fault the bytes of all pages are as before, and the page
+    /// may count as edited.
     fn edit(&mut self, page: u32, bytes: &Page) -> Result<(), Self::Fault>
         requires { page < Self.size self.old }
-        ensures ok { OnOk result (Self.pages self.new ≡ option_map (λ pages. written pages page bytes.now) (Self.pages self.old)) }
-        ensures err { OnErr result (Self.pages self.new ≡ Self.pages self.old) }
+        ensures ok { OnOk result (Leads (Self.tells self.old) (Self.tells self.new) (λ was now. now ≡ written was page bytes.now)) }
+        ensures err { OnErr result (Leads (Self.tells self.old) (Self.tells self.new) (λ was now. (now ≡ was) ⊎ (now ≡ asked was page))) }
+        ensures goes { Self.goes self.old self.new }
         ensures size { Self.size self.new ≡ Self.size self.old }
         ensures cause { HasCause (Self.faults self.old) (Self.faults self.new) result };
 }

@@ -1,6 +1,6 @@
-use Rattle.std.proofs.Common.{◌≡◌, ◌∙◌, Ok, true, refl, sym, ap, arith}
+use Rattle.std.proofs.Common.{◌≡◌, ◌∙◌, true, refl, sym, ap, arith}
 use Rattle.pager.specs.Pages.{Pages, written}
-use Rattle.pager.specs.Root.{is_root, in_front, free_bytes, root_bytes}
+use Rattle.pager.specs.Root.{is_root, in_front}
 use Rattle.pager.proofs.Overlays.{is_root-free}
 use Rattle.pager.proofs.free_list.free.Goals as goal
 
@@ -9,8 +9,8 @@ overflow_add-in_front g c =
     let room = is_root-free c.args.draft.now.size c.in_ok-root.root c.in_ok-root.ensures.root in omega arith
 
 pub returns-clause-freed : goal.returns-clause-freed
-returns-clause-freed g c = λ shown told.
-    let root = c.in_ok-root.ensures.read shown told in
+returns-clause-freed g c = λ base shown told.
+    let root = c.in_ok-root.ensures.read base shown told in
     let yes : is_root c.args.draft.now.size (in_front c.args.page c.in_ok-root.root) ≡ true = rw (← c.size-size.ensures) (sym c.is_root.ensures ∙ c.if-not-is_root.false) in
     let pages =
     c.in_ok-put-2.ensures.drafted shown
