@@ -1,7 +1,7 @@
 //! What no clause says: pages byte for byte by hand, which pages each call edits, and that calls succeed.
 //! Each call stands in a function without clauses of its own, so that the tests stay cheap to prove.
 
-ghost use Rattle.std.specs.Prelude.{◌≤◌, IfOk};
+ghost use Rattle.std.specs.Prelude.{◌≤◌, All, IfOk};
 ghost use Rattle.heap_file.specs.HeapPage.{IsShort};
 
 use super::*;
@@ -110,53 +110,71 @@ fn one_table(alloc: Global) -> Result<MemPager, Stop<Failed>> {
 
 // How many tables there are.
 fn tables_in(alloc: Global, pager: &mut MemPager) -> Result<usize, Stop<Failed>> {
-    Ok(schema(alloc, pager)?.tables.len())
+    Ok(open(alloc, pager)?.schema(alloc)?.tables.len())
+}
+
+// The table t of a catalog.
+fn t(alloc: Global, catalog: &Catalog) -> Result<&StoredTable, Stop<Failed>> {
+    match catalog.table(&name(alloc, b"t")?) {
+        Some(table) => Ok(table),
+        None => Err(Stop::Refused(Refusal::BadWords)),
+    }
+}
+
+// Adds rows to the table t.
+fn insert_rows(alloc: Global, pager: &mut MemPager, rows: &[Row]) -> Result<(), Stop<Failed>>
+    requires { All IsShort rows.now }
+{
+    let catalog = open(alloc, pager)?;
+    insert(alloc, pager, t(alloc, &catalog)?, rows)
 }
 
 // Adds a row of one integer to the table t.
 fn insert_integer(alloc: Global, pager: &mut MemPager, number: i64) -> Result<(), Stop<Failed>> {
-    let table = name(alloc, b"t")?;
     let row = integer(alloc, number)?;
-    insert(alloc, pager, &table, &[row])
+    insert_rows(alloc, pager, &[row])
 }
 
 // Adds a row of five texts to the table t.
 fn insert_texts(alloc: Global, pager: &mut MemPager, last: usize) -> Result<(), Stop<Failed>>
     requires { last ≤ 200 }
 {
-    let table = name(alloc, b"t")?;
     let row = five_texts(alloc, last)?;
-    insert(alloc, pager, &table, &[row])
+    insert_rows(alloc, pager, &[row])
 }
 
-// Changes a row of the table t to one integer.
+// Changes a row of the table t, which stands on page 2, to one integer.
 fn update_integer(
     alloc: Global,
     pager: &mut MemPager,
     number: u64,
     value: i64,
 ) -> Result<(), Stop<Failed>> {
-    let table = name(alloc, b"t")?;
     let row = integer(alloc, value)?;
-    update(alloc, pager, &table, &[(number, row)])
+    let page = 2;
+    let catalog = open(alloc, pager)?;
+    update(alloc, pager, t(alloc, &catalog)?, &[Placed { number, page, row }])
 }
 
-// Takes rows out of the table t.
+// Takes the rows of these numbers out of the table t.
 fn delete_rows(alloc: Global, pager: &mut MemPager, numbers: &[u64]) -> Result<(), Stop<Failed>> {
-    let table = name(alloc, b"t")?;
-    delete(alloc, pager, &table, numbers)
+    let catalog = open(alloc, pager)?;
+    let table = t(alloc, &catalog)?;
+    let mut rows = rows(alloc, pager, table)?;
+    rows.retain(|placed| numbers.contains(&placed.number));
+    delete(alloc, pager, table, &rows)
 }
 
 // The next row number of the table t.
 fn next_in_t(alloc: Global, pager: &mut MemPager) -> Result<u64, Stop<Failed>> {
-    let table = name(alloc, b"t")?;
-    next_number(alloc, pager, &table)
+    let catalog = open(alloc, pager)?;
+    next_number(alloc, pager, t(alloc, &catalog)?)
 }
 
 // The rows of the table t.
 fn rows_in_t(alloc: Global, pager: &mut MemPager) -> Result<Vec<Placed>, Stop<Failed>> {
-    let table = name(alloc, b"t")?;
-    rows(alloc, pager, &table)
+    let catalog = open(alloc, pager)?;
+    rows(alloc, pager, t(alloc, &catalog)?)
 }
 
 // How many rows the table t has.

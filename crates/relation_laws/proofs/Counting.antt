@@ -33,19 +33,19 @@ use Rattle.relation_laws.proofs.Updating.{changed_at, numbers_of, still-changed,
 use Rattle.relation_laws.proofs.Weighing.{under-one}
 
 -- a change that is made
-record Change (size : ℕ) (pages after : Pages) (firsts indexes : List ℕ) (first last : ℕ) (table : Table) (change : ℕ × List Value) (to : ℕ) : Type 0 where
-  well : WellFormed size after firsts indexes
-  shows : IsTable size after first (with_changed table (record { number = change.0; page = to; row = change.1 }))
-  end : ℕ
-  opens : ℕ
-  next : HeapPage
-  ends : EndsAt size after first end next
-  goes : Goes (has_room_for change (page_under change.0 table.rows) table.rows) (has_room_for change last table.rows) (page_under change.0 table.rows) last (taken_after pages 0) to end opens
-  draws : Draws pages after opens
-  touches : Touches pages after (page_under change.0 table.rows ∷ first ∷ last ∷ with_root (next_pages pages opens))
-  takes : opens + free_pages size after ≡ free_pages size pages
+pub record Change (size : ℕ) (pages after : Pages) (firsts indexes : List ℕ) (first last : ℕ) (table : Table) (change : ℕ × List Value) (to : ℕ) : Type 0 where
+  pub well : WellFormed size after firsts indexes
+  pub shows : IsTable size after first (with_changed table (record { number = change.0; page = to; row = change.1 }))
+  pub end : ℕ
+  pub opens : ℕ
+  pub next : HeapPage
+  pub ends : EndsAt size after first end next
+  pub goes : Goes (has_room_for change (page_under change.0 table.rows) table.rows) (has_room_for change last table.rows) (page_under change.0 table.rows) last (taken_after pages 0) to end opens
+  pub draws : Draws pages after opens
+  pub touches : Touches pages after (page_under change.0 table.rows ∷ first ∷ last ∷ with_root (next_pages pages opens))
+  pub takes : opens + free_pages size after ≡ free_pages size pages
 
-one-change : (size : ℕ) (pages : Pages) (firsts indexes : List ℕ) (first : ℕ) (rows : List Placed) (table : Table) (change : ℕ × List Value) (last : ℕ) (tail : HeapPage) (y : ℕ × Pages) → WellFormed size pages firsts indexes → Contains firsts first → IsTable size pages first table → IsStorable change.1
+pub one-change : (size : ℕ) (pages : Pages) (firsts indexes : List ℕ) (first : ℕ) (rows : List Placed) (table : Table) (change : ℕ × List Value) (last : ℕ) (tail : HeapPage) (y : ℕ × Pages) → WellFormed size pages firsts indexes → Contains firsts first → IsTable size pages first table → IsStorable change.1
     → (found : Placed) × (found.number ≡ change.0) × Contains table.rows found × (page_of first change.0 rows ≡ Ok found.page) → EndsAt size pages first last tail → row_changed size first rows change pages (Ok y) → Change size pages y.1 firsts indexes first last table change y.0
 one-change size pages firsts indexes first rows table change last tail y well among is storable there ends h =
     let found = there.0 in
@@ -85,7 +85,7 @@ next-same pages mid opens draws same = next-behind pages mid opens 0 draws same 
     plus-zero n = omega arith
 
 -- a change and those behind it open what they open one after the other
-opens-behind : (pages mid : Pages) (last : ℕ) (rows : List Placed) (change : ℕ × List Value) (changes : List (ℕ × List Value)) (to end opens : ℕ) → Goes (has_room_for change (page_under change.0 rows) rows) (has_room_for change last rows) (page_under change.0 rows) last (taken_after pages 0) to end opens → Draws pages mid opens
+pub opens-behind : (pages mid : Pages) (last : ℕ) (rows : List Placed) (change : ℕ × List Value) (changes : List (ℕ × List Value)) (to end opens : ℕ) → Goes (has_room_for change (page_under change.0 rows) rows) (has_room_for change last rows) (page_under change.0 rows) last (taken_after pages 0) to end opens → Draws pages mid opens
     → changes_open (taken_after pages) last rows (change ∷ changes) ≡ opens + changes_open (taken_after mid) end (moved_to change to rows) changes
 opens-behind pages mid last rows change changes to end opens goes draws = go (has_room_for change (page_under change.0 rows) rows) (has_room_for change last rows) goes
   where

@@ -122,6 +122,10 @@ draws-none size pages after firsts indexes well root same = record { goes = λ k
     go k true lt = free-alike pages after (root_at pages).first_free well.free k well.listed (omega (arith, ltb-true k (root_at pages).free lt, well.counted)) same
     go k false lt = refl
 
+-- the page that is taken after so many others, where this is the root page
+abbrev from_root : Pages → Root → ℕ → ℕ
+from_root pages root others = cond (nat_lt others root.free) (free_behind pages root.first_free others) (2 + root.used + (others - root.free))
+
 plus-one : (k : ℕ) → suc k ≡ 1 + k
 plus-one k = omega arith
 
@@ -133,7 +137,10 @@ draws-one size pages after firsts indexes next well take root same = record { go
     roots = ap (λ (b : List ℕ). root_of b) root ∙ taken-root size pages firsts indexes next well take
 
     go : (k : ℕ) (b : Bool) → ((root_at pages).free == 0) ≡ b → root_at after ≡ cond b (record { used = (root_at pages).used + 1; first_free = 0; free = 0 }) (behind_first (pages.at (root_at pages).first_free) (root_at pages)) → taken_after after k ≡ taken_after pages (1 + k)
-    go k true none e = rw e (rw (eqb-true (root_at pages).free 0 none) (omega arith))
+    go k true none e = ap (λ (root : Root). from_root after root k) e ∙ unused (root_at pages) (eqb-true (root_at pages).free 0 none)
+      where
+        unused : (root : Root) → root.free ≡ 0 → from_root after (record { used = root.used + 1; first_free = 0; free = 0 }) k ≡ from_root pages root (1 + k)
+        unused root none = rw (none, le-ltb k 0 (omega arith), le-ltb (1 + k) 0 (omega arith)) (omega arith)
     go k false some e = listed well.free refl
       where
         clash : true ≡ false → ⊥
@@ -141,7 +148,7 @@ draws-one size pages after firsts indexes next well take root same = record { go
 
         listed : (free : List ℕ) → well.free ≡ free → taken_after after k ≡ taken_after pages (1 + k)
         listed [] is = absurd (clash (sym (eq-eqb (root_at pages).free 0 (sym well.counted ∙ ap length is)) ∙ some))
-        listed (page ∷ rest) is = rw e (pick (nat_lt k ((root_at pages).free - 1)) refl)
+        listed (page ∷ rest) is = ap (λ (root : Root). from_root after root k) e ∙ pick (nat_lt k ((root_at pages).free - 1)) refl
           where
             chain : IsFreeList pages (root_at pages).first_free (page ∷ rest)
             chain = subst (IsFreeList pages (root_at pages).first_free) is well.listed

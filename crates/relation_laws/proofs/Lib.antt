@@ -21,3 +21,5 @@ pub mod Singling
 pub mod Spared
 pub mod Updating
 pub mod Weighing
+pub mod Within
+pub mod Working
