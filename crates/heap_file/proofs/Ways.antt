@@ -4,7 +4,7 @@ use Rattle.std.proofs.lemmas.Bool.{lt-ltb, eq-eqb, ne_eqb}
 use Rattle.retro_base.specs.declared.refusal.Refusal.{Refusal}
 use Rattle.pager.specs.Pages.{Pages, written}
 use Rattle.pager.specs.Root.{page_in, freed}
-use Rattle.pager.specs.Stop.{Allowed, AllowedStop, MakesNone}
+use Rattle.pager.specs.Stop.{Allowed, AllowedStop}
 use Rattle.pager.specs.declared.stop.Stop.{Stop}
 use Rattle.pager.specs.declared.stop.Stop.TheVariants as stop
 use Rattle.heap_file.specs.declared.page.HeapPage.{HeapPage}
@@ -47,11 +47,6 @@ pub appended_long : (size : ℕ) (pages : Pages) (first : ℕ) (entry : Entry) (
 appended_long size pages first entry head tail one last end room (Ok y) h = (head, one, (tail, last, rw (end, room) h))
 appended_long size pages first entry head tail one last end room (Err why) h = inr (head, one, inr (tail, last, rw (end, room) h))
 
--- a refusal before the first edit
-pub makes_none : {F : Type 0} (P : Refusal → Type 0) (shown : Pages) (after : Option Pages) (e : Stop F) → after ≡ Some shown → AllowedStop P e → MakesNone shown after P e
-makes_none P shown after (stop.Refused why) same allowed = (same, allowed)
-makes_none P shown after (stop.Pager fault) same allowed = tt
-
 -- the row under the number that is found first
 pub row_of-found : (number : ℕ) (entries : List Entry) (i : ℕ) (d : Entry) → i < length entries → (get_or entries i d).number ≡ number → ((k : ℕ) → k < i → (get_or entries k d).number ≡ number → ⊥) → row_of number entries ≡ Some (get_or entries i d).row
 row_of-found number [] i d lt is before = absurd (omega arith)
@@ -73,9 +68,9 @@ unlinked_end size pages mid first previous page next before at named (Ok y) e = 
 unlinked_end size pages mid first previous page next before at named (Err why) e = inr (before, at, inr ((tt, mid), named, e))
 
 -- a page that leaves its chain
-pub removed_out : (size : ℕ) (pages : Pages) (first page number previous place : ℕ) (held : HeapPage) → met size pages first page (Ok (previous, held)) → IsPlace number held.entries (Some place) → (not (eqb previous 0) && eqb (length (without held place).entries) 0) ≡ true → (a : Result (Unit {0} × Pages) Refusal) → unlinked size pages first previous page held.next a → removed size pages first page number a
-removed_out size pages first page number previous place held found is leaves (Ok y) h = ((previous, held), found, (place, is, rw leaves h))
-removed_out size pages first page number previous place held found is leaves (Err why) h = inr ((previous, held), found, inr (place, is, rw leaves h))
+pub removed_out : (size : ℕ) (pages : Pages) (first page number previous place : ℕ) (held behind : HeapPage) → IsAt size pages page held → IsPlace number held.entries (Some place) → (not (eqb page first) && eqb (length (without held place).entries) 0) ≡ true → met size pages first page (Ok (previous, behind)) → (a : Result (Unit {0} × Pages) Refusal) → unlinked size pages first previous page held.next a → removed size pages first page number a
+removed_out size pages first page number previous place held behind at is leaves found (Ok y) h = (held, at, (place, is, rw leaves ((previous, behind), found, h)))
+removed_out size pages first page number previous place held behind at is leaves found (Err why) h = inr (held, at, inr (place, is, rw leaves (inr ((previous, behind), found, h))))
 
 -- the same pages of the same store
 pub renamed_at : (size width : ℕ) (pages shown : Pages) (first last next : ℕ) (a : Result (Unit {0} × Pages) Refusal) → width ≡ size → shown ≡ pages → renamed width shown first last next a → renamed size pages first last next a
@@ -83,9 +78,9 @@ renamed_at size width pages shown first last next a e f h =
     subst (λ (s : ℕ). renamed s pages first last next a) e (subst (λ (p : Pages). renamed width p first last next a) f h)
 
 -- a row that moves to the end of its chain
-pub changed_moved : (size : ℕ) (pages : Pages) (first page previous place : ℕ) (held : HeapPage) (entry : Entry) → met size pages first page (Ok (previous, held)) → IsPlace entry.number held.entries (Some place) → fits ((without held place).entries ++ entry ∷ []) ≡ false → (a : Result (ℕ × Pages) Refusal) → appended size (written pages page (page_bytes (without held place))) first entry a → changed size pages first page entry a
-changed_moved size pages first page previous place held entry found is room (Ok y) h = ((previous, held), found, (place, is, rw room h))
-changed_moved size pages first page previous place held entry found is room (Err why) h = inr ((previous, held), found, inr (place, is, rw room h))
+pub changed_moved : (size : ℕ) (pages : Pages) (first page place : ℕ) (held : HeapPage) (entry : Entry) → IsAt size pages page held → IsPlace entry.number held.entries (Some place) → fits ((without held place).entries ++ entry ∷ []) ≡ false → (a : Result (ℕ × Pages) Refusal) → appended size (written pages page (page_bytes (without held place))) first entry a → changed size pages first page entry a
+changed_moved size pages first page place held entry at is room (Ok y) h = (held, at, (place, is, rw room h))
+changed_moved size pages first page place held entry at is room (Err why) h = inr (held, at, inr (place, is, rw room h))
 
 -- the same pages of the same store
 pub appended_at : (size width : ℕ) (pages shown : Pages) (first : ℕ) (entry : Entry) (a : Result (ℕ × Pages) Refusal) → width ≡ size → shown ≡ pages → appended width shown first entry a → appended size pages first entry a

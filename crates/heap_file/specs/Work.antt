@@ -112,18 +112,21 @@ unlinked size pages first previous page next = do
 -- a row is taken out of its page; a page that is then empty is taken out of the chain, unless it is the first
 abbrev pub removed : ℕ → Pages → ℕ → ℕ → ℕ → Result (Unit {0} × Pages) Refusal → Type 0
 removed size pages first page number = do
-  found ← met size pages first page
-  place ← place_in page number found.1.entries
-  either (not (found.0 == 0) && (length (without found.1 place).entries == 0))
-      (unlinked size pages first found.0 page found.1.next)
-      (only (Ok (tt, written pages page (page_bytes (without found.1 place)))))
+  held ← heap_page size pages page
+  place ← place_in page number held.entries
+  let rest = without held place
+  either (not (page == first) && (length rest.entries == 0))
+      (do
+        found ← met size pages first page
+        unlinked size pages first found.0 page rest.next)
+      (only (Ok (tt, written pages page (page_bytes rest))))
 
 -- a row stays at its place where its page then fits, else it is taken out and goes to the end of the chain, under its number
 abbrev pub changed : ℕ → Pages → ℕ → ℕ → Entry → Result (ℕ × Pages) Refusal → Type 0
 changed size pages first page entry = do
-  found ← met size pages first page
-  place ← place_in page entry.number found.1.entries
-  let rest = without found.1 place
+  held ← heap_page size pages page
+  place ← place_in page entry.number held.entries
+  let rest = without held place
   either (fits (rest.entries ++ entry ∷ []))
       (only (Ok (page, written pages page (page_bytes (record rest { entries = insert rest.entries place entry })))))
       (appended size (written pages page (page_bytes rest)) first entry)

@@ -13,12 +13,12 @@ use values::Row;
 
 /// Takes an empty page for a table, and answers it.
 pub fn make<P: EditPager>(alloc: Global, pager: &mut P) -> Result<u32, Stop<P::Fault>>
-    ensures made { Makes (λ page. page) (P.pages pager.old) (P.pages pager.new) (made (P.size pager.old)) result }
-    ensures accounts { Accounts P.size P.faults pager.old pager.new result }
+    ensures made { Makes (λ page. page) (P.tells pager.old) (P.tells pager.new) (made (P.size pager.old)) result }
+    ensures accounts { Accounts P.goes P.size P.faults pager.old pager.new result }
 {
     let mut draft = Draft::new(alloc, pager.size());
     let page = drafting::make(alloc, pager, &mut draft)?;
-    draft.write(pager).map_err(Stop::Pager)?;
+    draft.write(pager)?;
     Ok(page)
 }
 
@@ -28,8 +28,8 @@ pub fn next_number<P: Pager>(
     pager: &mut P,
     first: u32,
 ) -> Result<u64, Stop<P::Fault>>
-    ensures next { Answers (λ number. number) (P.pages pager.old) (λ pages. next_of (P.size pager.old) pages first) result }
-    ensures only_reads { OnlyReads P.pages P.size P.faults pager.old pager.new result }
+    ensures next { Answers (λ number. number) (P.tells pager.new) (λ pages. next_of (P.size pager.old) pages first) result }
+    ensures only_reads { OnlyReads P.tells P.goes P.size P.faults pager.old pager.new result }
 {
     let draft = Draft::new(alloc, pager.size());
     drafting::next_number(alloc, pager, &draft, first)
@@ -42,8 +42,8 @@ pub fn get<P: Pager>(
     page: u32,
     number: u64,
 ) -> Result<Option<Row>, Stop<P::Fault>>
-    ensures got { Answers (λ row. row) (P.pages pager.old) (λ pages. got (P.size pager.old) pages page number) result }
-    ensures only_reads { OnlyReads P.pages P.size P.faults pager.old pager.new result }
+    ensures got { Answers (λ row. row) (P.tells pager.new) (λ pages. got (P.size pager.old) pages page number) result }
+    ensures only_reads { OnlyReads P.tells P.goes P.size P.faults pager.old pager.new result }
 {
     let draft = Draft::new(alloc, pager.size());
     drafting::get(alloc, pager, &draft, page, number)
@@ -57,12 +57,12 @@ pub fn add<P: EditPager>(
     row: &Row,
 ) -> Result<(u64, u32), Stop<P::Fault>>
     requires { IsShort row.now }
-    ensures added { Makes (λ placed. placed) (P.pages pager.old) (P.pages pager.new) (λ pages. added (P.size pager.old) pages first row.now) result }
-    ensures accounts { Accounts P.size P.faults pager.old pager.new result }
+    ensures added { Makes (λ placed. placed) (P.tells pager.old) (P.tells pager.new) (λ pages. added (P.size pager.old) pages first row.now) result }
+    ensures accounts { Accounts P.goes P.size P.faults pager.old pager.new result }
 {
     let mut draft = Draft::new(alloc, pager.size());
     let placed = drafting::add(alloc, pager, &mut draft, first, row)?;
-    draft.write(pager).map_err(Stop::Pager)?;
+    draft.write(pager)?;
     Ok(placed)
 }
 
@@ -72,8 +72,8 @@ pub fn scan<P: Pager>(
     pager: &mut P,
     first: u32,
 ) -> Result<Vec<Placed>, Stop<P::Fault>>
-    ensures scanned { Answers (λ rows. rows.items) (P.pages pager.old) (λ pages. scanned (P.size pager.old) pages first) result }
-    ensures only_reads { OnlyReads P.pages P.size P.faults pager.old pager.new result }
+    ensures scanned { Answers (λ rows. rows.items) (P.tells pager.new) (λ pages. scanned (P.size pager.old) pages first) result }
+    ensures only_reads { OnlyReads P.tells P.goes P.size P.faults pager.old pager.new result }
 {
     let draft = Draft::new(alloc, pager.size());
     drafting::scan(alloc, pager, &draft, first)
@@ -87,12 +87,12 @@ pub fn remove<P: EditPager>(
     page: u32,
     number: u64,
 ) -> Result<(), Stop<P::Fault>>
-    ensures removed { Makes (λ u. u) (P.pages pager.old) (P.pages pager.new) (λ pages. removed (P.size pager.old) pages first page number) result }
-    ensures accounts { Accounts P.size P.faults pager.old pager.new result }
+    ensures removed { Makes (λ u. u) (P.tells pager.old) (P.tells pager.new) (λ pages. removed (P.size pager.old) pages first page number) result }
+    ensures accounts { Accounts P.goes P.size P.faults pager.old pager.new result }
 {
     let mut draft = Draft::new(alloc, pager.size());
     let removed = drafting::remove(alloc, pager, &mut draft, first, page, number)?;
-    draft.write(pager).map_err(Stop::Pager)?;
+    draft.write(pager)?;
     Ok(removed)
 }
 
@@ -107,11 +107,11 @@ pub fn change<P: EditPager>(
     row: &Row,
 ) -> Result<u32, Stop<P::Fault>>
     requires { IsShort row.now }
-    ensures changed { Makes (λ page. page) (P.pages pager.old) (P.pages pager.new) (λ pages. changed (P.size pager.old) pages first page (record { number = number; row = row.now })) result }
-    ensures accounts { Accounts P.size P.faults pager.old pager.new result }
+    ensures changed { Makes (λ page. page) (P.tells pager.old) (P.tells pager.new) (λ pages. changed (P.size pager.old) pages first page (record { number = number; row = row.now })) result }
+    ensures accounts { Accounts P.goes P.size P.faults pager.old pager.new result }
 {
     let mut draft = Draft::new(alloc, pager.size());
     let changed = drafting::change(alloc, pager, &mut draft, first, page, number, row)?;
-    draft.write(pager).map_err(Stop::Pager)?;
+    draft.write(pager)?;
     Ok(changed)
 }

@@ -4,7 +4,7 @@ ghost use Rattle.std.specs.Prelude.{◌≡◌, ◌≤◌, ◌<◌, ◌==◌, ◌
 ghost use Rattle.retro_base.specs.declared.refusal.Refusal.TheVariants.{OutOfMemory};
 ghost use Rattle.pager.specs.Draft.{drafted, Drafts, Reads};
 ghost use Rattle.pager.specs.Pages.{Pages, written};
-ghost use Rattle.pager.specs.Stop.{OnlyReads};
+ghost use Rattle.pager.specs.Stop.{OnlyDrafts, OnlyReads};
 ghost use Rattle.heap_file.specs.Chain.{last_page, scanned};
 ghost use Rattle.heap_file.specs.HeapPage.{IsEntry, IsHeapPage, IsShort, page_bytes};
 ghost use Rattle.std.specs.List.{insert};
@@ -37,8 +37,8 @@ pub fn make<P: Pager>(
     draft: &mut Draft,
 ) -> Result<u32, Stop<P::Fault>>
     requires { draft.old.size ≡ P.size pager.old }
-    ensures made { Drafts (λ page. page) (P.pages pager.old) draft.old.list draft.new.list (made draft.old.size) result }
-    ensures only_reads { OnlyReads P.pages P.size P.faults pager.old pager.new result }
+    ensures made { Drafts (λ page. page) (P.tells pager.new) draft.old.list draft.new.list (made draft.old.size) result }
+    ensures only_reads { OnlyDrafts P.tells P.goes P.size P.faults pager.old pager.new result }
     ensures size { draft.new.size ≡ draft.old.size }
 {
     let page = take(pager, draft)?;
@@ -88,8 +88,8 @@ fn lengthen<P: Pager>(
     requires there { last < draft.old.size }
     requires tail { IsHeapPage tail }
     requires entry { IsEntry entry }
-    ensures lengthened { Drafts (λ page. page) (P.pages pager.old) draft.old.list draft.new.list (λ pages. lengthened draft.old.size pages first last tail entry) result }
-    ensures only_reads { OnlyReads P.pages P.size P.faults pager.old pager.new result }
+    ensures lengthened { Drafts (λ page. page) (P.tells pager.new) draft.old.list draft.new.list (λ pages. lengthened draft.old.size pages first last tail entry) result }
+    ensures only_reads { OnlyDrafts P.tells P.goes P.size P.faults pager.old pager.new result }
     ensures size { draft.new.size ≡ draft.old.size }
 {
     let next = take(pager, draft)?;
@@ -113,8 +113,8 @@ fn append<P: Pager>(
 ) -> Result<u32, Stop<P::Fault>>
     requires size { draft.old.size ≡ P.size pager.old }
     requires entry { IsShort entry.row }
-    ensures appended { Drafts (λ page. page) (P.pages pager.old) draft.old.list draft.new.list (λ pages. appended draft.old.size pages first entry) result }
-    ensures only_reads { OnlyReads P.pages P.size P.faults pager.old pager.new result }
+    ensures appended { Drafts (λ page. page) (P.tells pager.new) draft.old.list draft.new.list (λ pages. appended draft.old.size pages first entry) result }
+    ensures only_reads { OnlyDrafts P.tells P.goes P.size P.faults pager.old pager.new result }
     ensures size { draft.new.size ≡ draft.old.size }
 {
     let head = load(alloc, pager, draft, first)?;
@@ -141,8 +141,8 @@ pub fn add<P: Pager>(
 ) -> Result<(u64, u32), Stop<P::Fault>>
     requires size { draft.old.size ≡ P.size pager.old }
     requires row { IsShort row.now }
-    ensures added { Drafts (λ placed. placed) (P.pages pager.old) draft.old.list draft.new.list (λ pages. added draft.old.size pages first row.now) result }
-    ensures only_reads { OnlyReads P.pages P.size P.faults pager.old pager.new result }
+    ensures added { Drafts (λ placed. placed) (P.tells pager.new) draft.old.list draft.new.list (λ pages. added draft.old.size pages first row.now) result }
+    ensures only_reads { OnlyDrafts P.tells P.goes P.size P.faults pager.old pager.new result }
     ensures size { draft.new.size ≡ draft.old.size }
 {
     let number = load(alloc, pager, draft, first)?.next_number;
@@ -168,8 +168,8 @@ pub fn next_number<P: Pager>(
     first: u32,
 ) -> Result<u64, Stop<P::Fault>>
     requires { draft.now.size ≡ P.size pager.old }
-    ensures next { Reads (λ number. number) (P.pages pager.old) draft.now.list (λ pages. next_of draft.now.size pages first) result }
-    ensures only_reads { OnlyReads P.pages P.size P.faults pager.old pager.new result }
+    ensures next { Reads (λ number. number) (P.tells pager.new) draft.now.list (λ pages. next_of draft.now.size pages first) result }
+    ensures only_reads { OnlyReads P.tells P.goes P.size P.faults pager.old pager.new result }
 {
     Ok(load(alloc, pager, draft, first)?.next_number)
 }
@@ -183,8 +183,8 @@ pub fn get<P: Pager>(
     number: u64,
 ) -> Result<Option<Row>, Stop<P::Fault>>
     requires { draft.now.size ≡ P.size pager.old }
-    ensures got { Reads (λ row. row) (P.pages pager.old) draft.now.list (λ pages. got draft.now.size pages page number) result }
-    ensures only_reads { OnlyReads P.pages P.size P.faults pager.old pager.new result }
+    ensures got { Reads (λ row. row) (P.tells pager.new) draft.now.list (λ pages. got draft.now.size pages page number) result }
+    ensures only_reads { OnlyReads P.tells P.goes P.size P.faults pager.old pager.new result }
 {
     let held = load(alloc, pager, draft, page)?;
     match place_of(held.entries.as_slice(), number) {
@@ -208,8 +208,8 @@ pub fn scan<P: Pager>(
     first: u32,
 ) -> Result<Vec<Placed>, Stop<P::Fault>>
     requires { draft.now.size ≡ P.size pager.old }
-    ensures scanned { Reads (λ rows. rows.items) (P.pages pager.old) draft.now.list (λ pages. scanned draft.now.size pages first) result }
-    ensures only_reads { OnlyReads P.pages P.size P.faults pager.old pager.new result }
+    ensures scanned { Reads (λ rows. rows.items) (P.tells pager.new) draft.now.list (λ pages. scanned draft.now.size pages first) result }
+    ensures only_reads { OnlyReads P.tells P.goes P.size P.faults pager.old pager.new result }
 {
     let links = chain(alloc, pager, draft, first)?;
     let mut rows = rows_of(alloc, &links)?;
@@ -227,26 +227,27 @@ pub fn remove<P: Pager>(
     number: u64,
 ) -> Result<(), Stop<P::Fault>>
     requires { draft.old.size ≡ P.size pager.old }
-    ensures removed { Drafts (λ u. u) (P.pages pager.old) draft.old.list draft.new.list (λ pages. removed draft.old.size pages first page number) result }
-    ensures only_reads { OnlyReads P.pages P.size P.faults pager.old pager.new result }
+    ensures removed { Drafts (λ u. u) (P.tells pager.new) draft.old.list draft.new.list (λ pages. removed draft.old.size pages first page number) result }
+    ensures only_reads { OnlyDrafts P.tells P.goes P.size P.faults pager.old pager.new result }
     ensures size { draft.new.size ≡ draft.old.size }
 {
-    let (previous, held) = meet(alloc, pager, draft, first, page)?;
+    let held = load(alloc, pager, draft, page)?;
     let Some(place) = place_of(held.entries.as_slice(), number) else {
         return Err(Stop::Refused(broken(page)));
     };
     let rest = without(held, place);
-    if leaves_chain(previous, &rest) {
+    if leaves_chain(first, page, &rest) {
+        let (previous, _) = meet(alloc, pager, draft, first, page)?;
         return unlink(alloc, pager, draft, first, previous, page, rest.next);
     }
     Ok(store(alloc, draft, page, &rest)?)
 }
 
-// Whether a page behind a previous one (0 is none) leaves its chain.
-fn leaves_chain(previous: u32, held: &HeapPage) -> bool
-    ensures { result ≡ (not (previous == 0) && (length held.now.entries == 0)) }
+// Whether a page that holds this leaves the chain that begins with the first.
+fn leaves_chain(first: u32, page: u32, held: &HeapPage) -> bool
+    ensures { result ≡ (not (page == first) && (length held.now.entries == 0)) }
 {
-    previous != 0 && held.entries.is_empty()
+    page != first && held.entries.is_empty()
 }
 
 // How the first page names the last one.
@@ -290,8 +291,8 @@ fn unlink<P: Pager>(
     next: u32,
 ) -> Result<(), Stop<P::Fault>>
     requires { draft.old.size ≡ P.size pager.old }
-    ensures unlinked { Drafts (λ u. u) (P.pages pager.old) draft.old.list draft.new.list (λ pages. unlinked draft.old.size pages first previous page next) result }
-    ensures only_reads { OnlyReads P.pages P.size P.faults pager.old pager.new result }
+    ensures unlinked { Drafts (λ u. u) (P.tells pager.new) draft.old.list draft.new.list (λ pages. unlinked draft.old.size pages first previous page next) result }
+    ensures only_reads { OnlyDrafts P.tells P.goes P.size P.faults pager.old pager.new result }
     ensures size { draft.new.size ≡ draft.old.size }
 {
     let before = load(alloc, pager, draft, previous)?;
@@ -311,8 +312,8 @@ fn rename_last<P: Pager>(
     next: u32,
 ) -> Result<(), Stop<P::Fault>>
     requires { draft.old.size ≡ P.size pager.old }
-    ensures renamed { Drafts (λ u. u) (P.pages pager.old) draft.old.list draft.new.list (λ pages. renamed draft.old.size pages first last next) result }
-    ensures only_reads { OnlyReads P.pages P.size P.faults pager.old pager.new result }
+    ensures renamed { Drafts (λ u. u) (P.tells pager.new) draft.old.list draft.new.list (λ pages. renamed draft.old.size pages first last next) result }
+    ensures only_reads { OnlyDrafts P.tells P.goes P.size P.faults pager.old pager.new result }
     ensures size { draft.new.size ≡ draft.old.size }
 {
     if next != 0 {
@@ -338,11 +339,11 @@ pub fn change<P: Pager>(
 ) -> Result<u32, Stop<P::Fault>>
     requires size { draft.old.size ≡ P.size pager.old }
     requires row { IsShort row.now }
-    ensures changed { Drafts (λ page. page) (P.pages pager.old) draft.old.list draft.new.list (λ pages. changed draft.old.size pages first page (record { number = number; row = row.now })) result }
-    ensures only_reads { OnlyReads P.pages P.size P.faults pager.old pager.new result }
+    ensures changed { Drafts (λ page. page) (P.tells pager.new) draft.old.list draft.new.list (λ pages. changed draft.old.size pages first page (record { number = number; row = row.now })) result }
+    ensures only_reads { OnlyDrafts P.tells P.goes P.size P.faults pager.old pager.new result }
     ensures size { draft.new.size ≡ draft.old.size }
 {
-    let (_, held) = meet(alloc, pager, draft, first, page)?;
+    let held = load(alloc, pager, draft, page)?;
     let Some(place) = place_of(held.entries.as_slice(), number) else {
         return Err(Stop::Refused(broken(page)));
     };

@@ -1,12 +1,13 @@
 -- Edits that are kept in memory until all of them are known.
-use Rattle.std.specs.Prelude.{◌<◌, ◌||◌, ℕ, List, Option, is_some, nat_eq, Result}
+use Rattle.std.specs.Prelude.{◌≡◌, ◌<◌, ◌||◌, ℕ, List, Option, is_some, nat_eq, Result, Ok, Err}
 use Rattle.std.specs.List.{AllByRecursion}
 use Rattle.std.specs.Map.{lookup}
 use Rattle.std.specs.Option.{unwrap_or}
 use Rattle.retro_base.specs.declared.refusal.Refusal.{Refusal}
-use Rattle.pager.specs.Pages.{Pages}
+use Rattle.pager.specs.Pages.{Pages, IsPartOf, Leads}
 use Rattle.pager.specs.Stop.{Allowed}
 use Rattle.pager.specs.declared.stop.Stop.{Stop}
+use Rattle.pager.specs.declared.stop.Stop.TheVariants as stop
 
 -- the edits of a store of so many pages: for each page that has one, its number and bytes
 pub record Edits : Type 0 where
@@ -37,3 +38,9 @@ Reads view tells edits allows result =
 abbrev pub Drafts : {X Y F : Type 0} → (X → Y) → (Pages → Pages → Type 0) → List (ℕ × List ℕ) → List (ℕ × List ℕ) → (Pages → Result (Y × Pages) Refusal → Type 0) → Result X (Stop F) → Type 0
 Drafts view tells before after allows result =
     (base shown : Pages) → tells base shown → Allowed (λ x. (view x, drafted shown after)) (allows (drafted shown before)) result
+
+-- where the pages stand after a draft is written: all edits are made, or the pager failed and some of them are
+abbrev pub Writes : {F : Type 0} → (Pages → Pages → Type 0) → (Pages → Pages → Type 0) → List (ℕ × List ℕ) → Result (Unit {0}) (Stop F) → Type 0
+Writes before after list (Ok done) = Leads before after (λ was now. now ≡ drafted was list)
+Writes before after list (Err (stop.Refused why)) = ⊥
+Writes before after list (Err (stop.Pager fault)) = Leads before after (λ was now. IsPartOf was (drafted was list) now)

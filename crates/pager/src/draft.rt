@@ -1,11 +1,10 @@
 //! Edits in memory.
 
 ghost use Rattle.std.specs.Prelude.{◌≡◌, ◌<◌, [], OnErr, OnOk};
-ghost use Rattle.pager.specs.Draft.{drafted, Reads};
-ghost use Rattle.pager.specs.Pages.{Pages, IsPartOf, Leads, written};
+ghost use Rattle.pager.specs.Draft.{drafted, Reads, Writes};
+ghost use Rattle.pager.specs.Pages.{Pages, written};
 ghost use Rattle.pager.specs.Root.{page_in};
-ghost use Rattle.pager.specs.Stop.{OnlyReads};
-ghost use Rattle.retro_base.specs.Cause.{HasCause};
+ghost use Rattle.pager.specs.Stop.{IsCaused, OnlyReads};
 
 use crate::stop::{Stop, broken};
 use crate::traits::{EditPager, Pager};
@@ -80,17 +79,18 @@ impl Draft {
     }
 
     /// Makes the edits, one for each page that has some. After a fault some of them are made.
-    pub fn write<P: EditPager>(&self, pager: &mut P) -> Result<(), P::Fault>
+    pub fn write<P: EditPager>(&self, pager: &mut P) -> Result<(), Stop<P::Fault>>
         requires { self.now.size ≡ P.size pager.old }
-        ensures ok { OnOk result (Leads (P.tells pager.old) (P.tells pager.new) (λ was now. now ≡ drafted was self.now.list)) }
-        ensures err { OnErr result (Leads (P.tells pager.old) (P.tells pager.new) (λ was now. IsPartOf was (drafted was self.now.list) now)) }
+        ensures writes { Writes (P.tells pager.old) (P.tells pager.new) self.now.list result }
         ensures goes { P.goes pager.old pager.new }
         ensures size { P.size pager.new ≡ P.size pager.old }
-        ensures cause { HasCause (P.faults pager.old) (P.faults pager.new) result }
+        ensures cause { IsCaused (P.faults pager.old) (P.faults pager.new) result }
     {
         for place in (0..self.edits.len()).rev() {
             if let Some((page, bytes)) = self.edits.get_index(place) {
-                pager.edit(*page, bytes)?;
+                if let Err(fault) = pager.edit(*page, bytes) {
+                    return Err(Stop::Pager(fault));
+                }
             }
         }
         Ok(())

@@ -1,22 +1,26 @@
-use Rattle.std.proofs.Common.{◌≡◌, ◌∙◌, ap, sym}
-use Rattle.std.specs.Option.{option_map}
-use Rattle.std.specs.Prelude.{is_ok, true}
+use Rattle.std.proofs.Common.{◌≡◌, ℕ}
 use Rattle.std.proofs.lemmas.Result.{err_from_is_err_and}
-use Rattle.pager.specs.Draft.{drafted}
-use Rattle.pager.proofs.Overlays.{at_ok}
-use Rattle.heap_file.proofs.Ways.{makes_none}
+use Rattle.pager.proofs.Makings.{makes-all, makes-none, makes-part}
+use Rattle.heap_file.specs.Work.{added}
 use Rattle.heap_file.proofs.calls.add.Goals as goal
 
 pub returns-in_err-placed-clause-added : goal.returns-in_err-placed-clause-added
-returns-in_err-placed-clause-added g c = λ shown told.
+returns-in_err-placed-clause-added g c =
     let p = err_from_is_err_and c.from_residual.result c.from_residual.ensures.1 in
     rw (p.1, p.2)
-    (makes_none _ shown _ c.in_err-placed.field-0.0 (c.in_err-placed.ensures.only_reads.pages_stay ∙ told) (rw (c.new-draft.ensures, c.size.ensures) at (c.in_err-placed.ensures.added shown told)))
+    (makes-none (λ (placed : ℕ × ℕ). placed) _ _ (λ pages. added (g.P.Pager.size c.args.pager.now) pages c.args.first c.args.row.now) c.in_err-placed.field-0.0 c.in_err-placed.ensures.only_reads.narrows
+    (λ base shown told. rw (c.new-draft.ensures, c.size.ensures) at (c.in_err-placed.ensures.added base shown told)))
+
+pub returns-in_err-write-clause-added : goal.returns-in_err-write-clause-added
+returns-in_err-write-clause-added g c =
+    let p = err_from_is_err_and c.from_residual-in_err-write.result c.from_residual-in_err-write.ensures.1 in
+    rw (p.1, p.2)
+    (makes-part (λ (placed : ℕ × ℕ). placed) _ _ _ c.add.new.draft.list (λ pages. added (g.P.Pager.size c.args.pager.now) pages c.args.first c.args.row.now) c.in_ok-placed.placed c.in_ok-placed.ensures.only_reads.narrows
+    (λ base shown told. rw (c.new-draft.ensures, c.size.ensures) at (c.in_ok-placed.ensures.added base shown told))
+    c.in_err-write.field-0.0 c.in_err-write.ensures.writes)
 
 pub returns-clause-added : goal.returns-clause-added
-returns-clause-added g c = λ shown told.
-    let list = c.add.new.draft.list in
-    let ok : is_ok c.write.result ≡ true = sym c.in_ok-map_err.ensures.variant in
-    let done = at_ok c.write.result ok c.write.ensures.ok in
-    let before = c.in_ok-placed.ensures.only_reads.pages_stay ∙ told in
-    (drafted shown list, done ∙ ap (option_map (λ pages. drafted pages list)) before, rw (c.new-draft.ensures, c.size.ensures) at (c.in_ok-placed.ensures.added shown told))
+returns-clause-added g c =
+    makes-all (λ (placed : ℕ × ℕ). placed) _ _ _ c.add.new.draft.list (λ pages. added (g.P.Pager.size c.args.pager.now) pages c.args.first c.args.row.now) c.in_ok-placed.placed c.in_ok-placed.ensures.only_reads.narrows
+    (λ base shown told. rw (c.new-draft.ensures, c.size.ensures) at (c.in_ok-placed.ensures.added base shown told))
+    c.in_ok-write.ensures.writes

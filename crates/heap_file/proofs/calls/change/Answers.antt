@@ -1,22 +1,26 @@
-use Rattle.std.proofs.Common.{◌≡◌, ◌∙◌, ap, sym}
-use Rattle.std.specs.Option.{option_map}
-use Rattle.std.specs.Prelude.{is_ok, true}
+use Rattle.std.proofs.Common.{◌≡◌, ℕ}
 use Rattle.std.proofs.lemmas.Result.{err_from_is_err_and}
-use Rattle.pager.specs.Draft.{drafted}
-use Rattle.pager.proofs.Overlays.{at_ok}
-use Rattle.heap_file.proofs.Ways.{makes_none}
+use Rattle.pager.proofs.Makings.{makes-all, makes-none, makes-part}
+use Rattle.heap_file.specs.Work.{changed}
 use Rattle.heap_file.proofs.calls.change.Goals as goal
 
 pub returns-in_err-changed-clause-changed : goal.returns-in_err-changed-clause-changed
-returns-in_err-changed-clause-changed g c = λ shown told.
+returns-in_err-changed-clause-changed g c =
     let p = err_from_is_err_and c.from_residual.result c.from_residual.ensures.1 in
     rw (p.1, p.2)
-    (makes_none _ shown _ c.in_err-changed.field-0.0 (c.in_err-changed.ensures.only_reads.pages_stay ∙ told) (rw (c.new-draft.ensures, c.size.ensures) at (c.in_err-changed.ensures.changed shown told)))
+    (makes-none (λ (page : ℕ). page) _ _ (λ pages. changed (g.P.Pager.size c.args.pager.now) pages c.args.first c.args.page (record { number = c.args.number; row = c.args.row.now })) c.in_err-changed.field-0.0 c.in_err-changed.ensures.only_reads.narrows
+    (λ base shown told. rw (c.new-draft.ensures, c.size.ensures) at (c.in_err-changed.ensures.changed base shown told)))
+
+pub returns-in_err-write-clause-changed : goal.returns-in_err-write-clause-changed
+returns-in_err-write-clause-changed g c =
+    let p = err_from_is_err_and c.from_residual-in_err-write.result c.from_residual-in_err-write.ensures.1 in
+    rw (p.1, p.2)
+    (makes-part (λ (page : ℕ). page) _ _ _ c.change.new.draft.list (λ pages. changed (g.P.Pager.size c.args.pager.now) pages c.args.first c.args.page (record { number = c.args.number; row = c.args.row.now })) c.in_ok-changed.changed c.in_ok-changed.ensures.only_reads.narrows
+    (λ base shown told. rw (c.new-draft.ensures, c.size.ensures) at (c.in_ok-changed.ensures.changed base shown told))
+    c.in_err-write.field-0.0 c.in_err-write.ensures.writes)
 
 pub returns-clause-changed : goal.returns-clause-changed
-returns-clause-changed g c = λ shown told.
-    let list = c.change.new.draft.list in
-    let ok : is_ok c.write.result ≡ true = sym c.in_ok-map_err.ensures.variant in
-    let done = at_ok c.write.result ok c.write.ensures.ok in
-    let before = c.in_ok-changed.ensures.only_reads.pages_stay ∙ told in
-    (drafted shown list, done ∙ ap (option_map (λ pages. drafted pages list)) before, rw (c.new-draft.ensures, c.size.ensures) at (c.in_ok-changed.ensures.changed shown told))
+returns-clause-changed g c =
+    makes-all (λ (page : ℕ). page) _ _ _ c.change.new.draft.list (λ pages. changed (g.P.Pager.size c.args.pager.now) pages c.args.first c.args.page (record { number = c.args.number; row = c.args.row.now })) c.in_ok-changed.changed c.in_ok-changed.ensures.only_reads.narrows
+    (λ base shown told. rw (c.new-draft.ensures, c.size.ensures) at (c.in_ok-changed.ensures.changed base shown told))
+    c.in_ok-write.ensures.writes

@@ -1,5 +1,5 @@
 use Rattle.heap_file.proofs.calls.scan.Goals as goal
 
 pub returns-clause-scanned : goal.returns-clause-scanned
-returns-clause-scanned g c = λ shown told.
-    rw (c.new-draft.ensures, c.size.ensures) at (c.scan.ensures.scanned shown told)
+returns-clause-scanned g c = λ base shown told.
+    rw (c.new-draft.ensures, c.size.ensures) at (c.scan.ensures.scanned base shown told)

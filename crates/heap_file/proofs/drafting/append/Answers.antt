@@ -8,31 +8,30 @@ use Rattle.heap_file.proofs.Ways.{allowed_stop, allowed_on, appended_long}
 use Rattle.heap_file.proofs.drafting.append.Goals as goal
 
 pub returns-in_err-tail-clause-appended : goal.returns-in_err-tail-clause-appended
-returns-in_err-tail-clause-appended g c = λ shown told.
+returns-in_err-tail-clause-appended g c = λ base shown told.
     let p = err_from_is_err_and c.from_residual-in_err-tail.result c.from_residual-in_err-tail.ensures.1 in
-    let head = c.in_ok-head.ensures.read shown told in
+    let head = c.in_ok-head.ensures.read base shown (c.in_err-tail.ensures.only_reads.narrows base shown told) in
     rw (p.1, p.2)
     (allowed_stop c.in_err-tail.field-0.0 (λ why h. inr (c.in_ok-head.head, head, inl h))
-    (rw c.last_page-last.ensures at (c.in_err-tail.ensures.read shown (c.in_ok-head.ensures.only_reads.pages_stay ∙ told))))
+    (rw c.last_page-last.ensures at (c.in_err-tail.ensures.read base shown told)))
 
 pub returns-then-not-branch-clause-appended : goal.returns-then-not-branch-clause-appended
-returns-then-not-branch-clause-appended g c = λ shown told.
+returns-then-not-branch-clause-appended g c = λ base shown told.
     let size = c.args.draft.now.size in
     let pages = drafted shown c.args.draft.now.list in
-    let head = c.in_ok-head.ensures.read shown told in
-    let told2 = c.in_ok-head.ensures.only_reads.pages_stay ∙ told in
-    let tail = rw c.last_page-last.ensures at (c.in_ok-tail.ensures.read shown told2) in
+    let told-tail = c.lengthen.ensures.only_reads.narrows base shown told in
+    let head = c.in_ok-head.ensures.read base shown (c.in_ok-tail.ensures.only_reads.narrows base shown told-tail) in
+    let tail = rw c.last_page-last.ensures at (c.in_ok-tail.ensures.read base shown told-tail) in
     let end : eqb 0 c.in_ok-tail.tail.next ≡ true = eq-eqb 0 c.in_ok-tail.tail.next (sym c.if-tail-ne0.false) in
     let room : fits (c.in_ok-tail.tail.entries ++ c.args.entry ∷ []) ≡ false = rw c.as_slice.ensures at (sym c.in_ok-has_room.ensures.room ∙ c.if-not-branch.true) in
     allowed_on (λ page. (page, drafted shown c.lengthen.new.draft.list)) (lengthened size pages c.args.first (last_page c.args.first c.in_ok-head.head) c.in_ok-tail.tail c.args.entry) (appended size pages c.args.first c.args.entry) c.lengthen.result
     (appended_long size pages c.args.first c.args.entry c.in_ok-head.head c.in_ok-tail.tail head tail end room)
-    (rw c.last_page-last.ensures at (c.lengthen.ensures.lengthened shown (c.in_ok-tail.ensures.only_reads.pages_stay ∙ told2)))
+    (rw c.last_page-last.ensures at (c.lengthen.ensures.lengthened base shown told))
 
 pub returns-clause-appended : goal.returns-clause-appended
-returns-clause-appended g c = λ shown told.
-    let head = c.in_ok-head.ensures.read shown told in
-    let told2 = c.in_ok-head.ensures.only_reads.pages_stay ∙ told in
-    let tail = rw c.last_page-last.ensures at (c.in_ok-tail.ensures.read shown told2) in
+returns-clause-appended g c = λ base shown told.
+    let head = c.in_ok-head.ensures.read base shown (c.in_ok-tail.ensures.only_reads.narrows base shown told) in
+    let tail = rw c.last_page-last.ensures at (c.in_ok-tail.ensures.read base shown told) in
     let end : eqb 0 c.in_ok-tail.tail.next ≡ true = eq-eqb 0 c.in_ok-tail.tail.next (sym c.if-tail-ne0.false) in
     let room : fits (c.in_ok-tail.tail.entries ++ c.args.entry ∷ []) ≡ true = rw c.as_slice.ensures at (sym c.in_ok-has_room.ensures.room ∙ c.if-not-branch.false) in
     let last = last_page c.args.first c.in_ok-head.head in

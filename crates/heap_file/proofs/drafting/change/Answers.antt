@@ -9,13 +9,12 @@ use Rattle.heap_file.proofs.Ways.{allowed_on, appended_at, changed_moved}
 use Rattle.heap_file.proofs.drafting.change.Goals as goal
 
 pub returns-in_default-clause-changed : goal.returns-in_default-clause-changed
-returns-in_default-clause-changed g c = λ shown told.
-    let found = c.in_ok-held.ensures.met shown told in
+returns-in_default-clause-changed g c = λ base shown told.
     let none = rw (c.as_slice.ensures, c.in_default.is) at c.place_of.ensures in
-    inr (inr ((c.in_ok-held.field-0-0, c.in_ok-held.held), found, inl (c.broken.ensures, none)))
+    inr (inr (c.in_ok-held.held, c.in_ok-held.ensures.read base shown told, inl (c.broken.ensures, none)))
 
 pub returns-then-not-branch-clause-changed : goal.returns-then-not-branch-clause-changed
-returns-then-not-branch-clause-changed g c = λ shown told.
+returns-then-not-branch-clause-changed g c = λ base shown told.
     let size = c.args.draft.now.size in
     let pages = drafted shown c.args.draft.now.list in
     let held = c.in_ok-held.held in
@@ -23,26 +22,25 @@ returns-then-not-branch-clause-changed g c = λ shown told.
     let entry : Entry = record { number = c.args.number; row = c.args.row.now } in
     let made : Entry = record { number = c.args.number; row = c.in_ok-row.row } in
     let moved : Pages = written pages c.args.page (page_bytes (without held place)) in
-    let found = c.in_ok-held.ensures.met shown told in
-    let told2 = c.in_ok-held.ensures.only_reads.pages_stay ∙ told in
+    let found = c.in_ok-held.ensures.read base shown (c.append.ensures.only_reads.narrows base shown told) in
     let is = rw c.as_slice.ensures at c.in-Some.ensures in
     let rest = c.without-rest.ensures.without in
     let room : fits ((without held place).entries ++ entry ∷ []) ≡ false = rw (c.as_slice-2.ensures, rest, c.in_ok-row.ensures) at (sym c.in_ok-has_room.ensures.room ∙ c.if-not-branch.true) in
     let stored : drafted shown c.store.new.draft.list ≡ moved = rw rest at (c.in_ok-store.ensures.drafted shown) in
     allowed_on (λ page. (page, drafted shown c.append.new.draft.list)) (appended c.store.new.draft.size (drafted shown c.store.new.draft.list) c.args.first made) (changed size pages c.args.first c.args.page entry) c.append.result
-    (λ a h. changed_moved size pages c.args.first c.args.page c.in_ok-held.field-0-0 place held entry found is room a
+    (λ a h. changed_moved size pages c.args.first c.args.page place held entry found is room a
     (appended_at size c.store.new.draft.size moved (drafted shown c.store.new.draft.list) c.args.first entry a c.in_ok-store.ensures.size stored
     (subst (λ (row : List Value). appended c.store.new.draft.size (drafted shown c.store.new.draft.list) c.args.first (record { number = c.args.number; row = row }) a) c.in_ok-row.ensures h)))
-    (c.append.ensures.appended shown told2)
+    (c.append.ensures.appended base shown told)
 
 pub returns-clause-changed : goal.returns-clause-changed
-returns-clause-changed g c = λ shown told.
+returns-clause-changed g c = λ base shown told.
     let held = c.in_ok-held.held in
     let place = c.in-Some.place in
     let entry : Entry = record { number = c.args.number; row = c.args.row.now } in
-    let found = c.in_ok-held.ensures.met shown told in
+    let found = c.in_ok-held.ensures.read base shown told in
     let is = rw c.as_slice.ensures at c.in-Some.ensures in
     let rest = c.without-rest.ensures.without in
     let room : fits ((without held place).entries ++ entry ∷ []) ≡ true = rw (c.as_slice-2.ensures, rest, c.in_ok-row.ensures) at (sym c.in_ok-has_room.ensures.room ∙ c.if-not-branch.false) in
     let stored = rw (c.in_ok-kept.ensures.0, rest, c.in_ok-row.ensures) at (c.in_ok-store-2.ensures.drafted shown) in
-    ((c.in_ok-held.field-0-0, held), found, (place, is, rw room (ap (λ (pages : Pages). Ok (c.args.page, pages)) (sym stored))))
+    (held, found, (place, is, rw room (ap (λ (pages : Pages). Ok (c.args.page, pages)) (sym stored))))

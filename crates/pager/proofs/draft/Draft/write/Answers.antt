@@ -17,13 +17,13 @@ loop-place-init g c = record {
   steady = refl;
 }
 
-pub loop-place-preserved-in-Continue-1 : goal.loop-place-preserved-in-Continue-1
-loop-place-preserved-in-Continue-1 g c =
+pub loop-place-preserved-in_default-edit : goal.loop-place-preserved-in_default-edit
+loop-place-preserved-in_default-edit g c =
     let edit : ℕ × List ℕ = (c.in-Some.page.now, c.in-Some.bytes.now) in
     let list = c.args.self.now.list in
     record {
       made = λ base shown told.
-          let made = c.in_ok-edit.ensures.ok base shown told in
+          let made = c.in_default-edit.ensures.ok base shown told in
           let was = c.loop-place.invariant.made base made.0 made.1 in
           (
             was.0,
@@ -32,30 +32,28 @@ loop-place-preserved-in-Continue-1 g c =
             ∙ ap (λ (p : Pages). written p edit.0 edit.1) was.2
             ∙ drafted-from was.0 list c.loop-place.place edit c.loop-place-test.true (c.in-Some.ensures.entry ∙ ap (λ d. slice_get d.list (c.loop-place.place - 1)) c.self.view_is),
           );
-      goes = g.met.P.Pager.goes_on _ _ _ c.loop-place.invariant.goes c.in_ok-edit.ensures.goes;
-      size = c.in_ok-edit.ensures.size ∙ c.loop-place.invariant.size;
-      steady = c.in_ok-edit.ensures.cause.steady ∙ c.loop-place.invariant.steady;
+      goes = g.met.P.Pager.goes_on _ _ _ c.loop-place.invariant.goes c.in_default-edit.ensures.goes;
+      size = c.in_default-edit.ensures.size ∙ c.loop-place.invariant.size;
+      steady = c.in_default-edit.ensures.cause.steady ∙ c.loop-place.invariant.steady;
     }
 
-pub returns-in_err-edit-clause-err : goal.returns-in_err-edit-clause-err
-returns-in_err-edit-clause-err g c =
-    at_err c.from_residual.result
-    (λ base shown told.
-        let edit : ℕ × List ℕ = (c.in-Some.page.now, c.in-Some.bytes.now) in
-        let edits = c.self.inside.edits.entries in
-        let place = c.loop-place.place in
-        let asked_for = c.in_err-edit.ensures.err base shown told in
-        let was = c.loop-place.invariant.made base asked_for.0 asked_for.1 in
-        let made = was.2 ∙ sym (ap (λ d. drafted was.0 (drop place d.list)) c.self.view_is) in
-        let unique = c.len-place.ensures.unique in
-        (
-          was.0,
-          was.1,
-          subst (λ d. IsPartOf was.0 (drafted was.0 d.list) shown) c.self.view_is
-          (elim asked_for.2 [
-            | inl same ↦ subst (IsPartOf was.0 (drafted was.0 edits)) (sym (same ∙ made)) (part-made was.0 edits place unique)
-            | inr same ↦
-                subst (IsPartOf was.0 (drafted was.0 edits)) (sym (same ∙ ap (λ (p : Pages). asked p edit.0) made))
-                (part-asked was.0 edits place (place - 1) edit unique c.in-Some.ensures.entry)
-          ]),
-        ))
+pub returns-in-Err-clause-writes : goal.returns-in-Err-clause-writes
+returns-in-Err-clause-writes g c = λ base shown told.
+    let edit : ℕ × List ℕ = (c.in-Some.page.now, c.in-Some.bytes.now) in
+    let edits = c.self.inside.edits.entries in
+    let place = c.loop-place.place in
+    let asked_for = c.in-Err.ensures.err base shown told in
+    let was = c.loop-place.invariant.made base asked_for.0 asked_for.1 in
+    let made = was.2 ∙ sym (ap (λ d. drafted was.0 (drop place d.list)) c.self.view_is) in
+    let unique = c.len-place.ensures.unique in
+    (
+      was.0,
+      was.1,
+      subst (λ d. IsPartOf was.0 (drafted was.0 d.list) shown) c.self.view_is
+      (elim asked_for.2 [
+        | inl same ↦ subst (IsPartOf was.0 (drafted was.0 edits)) (sym (same ∙ made)) (part-made was.0 edits place unique)
+        | inr same ↦
+            subst (IsPartOf was.0 (drafted was.0 edits)) (sym (same ∙ ap (λ (p : Pages). asked p edit.0) made))
+            (part-asked was.0 edits place (place - 1) edit unique c.in-Some.ensures.entry)
+      ]),
+    )
