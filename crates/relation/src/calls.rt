@@ -68,7 +68,7 @@ pub fn create_table<P: EditPager>(
 {
     let mut draft = Draft::new(alloc, pager.size());
     drafting::create_table(alloc, pager, &mut draft, name, columns)?;
-    draft.write(pager).map_err(Stop::Pager)?;
+    draft.write(pager)?;
     Ok(())
 }
 
@@ -86,7 +86,7 @@ pub fn insert<P: EditPager>(
 {
     let mut draft = Draft::new(alloc, pager.size());
     drafting::insert(alloc, pager, &mut draft, table.first, rows)?;
-    draft.write(pager).map_err(Stop::Pager)?;
+    draft.write(pager)?;
     Ok(())
 }
 
@@ -105,7 +105,7 @@ pub fn update<P: EditPager>(
 {
     let mut draft = Draft::new(alloc, pager.size());
     drafting::update(alloc, pager, &mut draft, table.first, changes)?;
-    draft.write(pager).map_err(Stop::Pager)?;
+    draft.write(pager)?;
     Ok(())
 }
 
@@ -122,6 +122,6 @@ pub fn delete<P: EditPager>(
 {
     let mut draft = Draft::new(alloc, pager.size());
     drafting::delete(alloc, pager, &mut draft, table.first, rows)?;
-    draft.write(pager).map_err(Stop::Pager)?;
+    draft.write(pager)?;
     Ok(())
 }
