@@ -23,3 +23,4 @@ pub mod Updating
 pub mod Weighing
 pub mod Within
 pub mod Working
+pub mod Leaving

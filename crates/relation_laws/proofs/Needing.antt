@@ -295,7 +295,7 @@ table-bytes name first other = omega (arith, two-more (row_values (TableOf (reco
     lengths : length (row_code 0 (row_values (TableOf (record { name = name; first = first })))) ≡ length (row_code 0 (row_values (TableOf (record { name = name; first = other }))))
     lengths = table-length name first ∙ sym (table-length name other)
 
-opened-same : (taken : ℕ) (name : List ℕ) (first other : ℕ) (columns : List TableColumn) → opened taken (map row_values (rows_of_table name first columns)) ≡ opened taken (map row_values (rows_of_table name other columns))
+pub opened-same : (taken : ℕ) (name : List ℕ) (first other : ℕ) (columns : List TableColumn) → opened taken (map row_values (rows_of_table name first columns)) ≡ opened taken (map row_values (rows_of_table name other columns))
 opened-same taken name first other columns =
     ap (λ (n : ℕ). cond (nat_le (taken + n) 1004) (opened (taken + n) (map row_values (rows_of_columns name 0 columns))) (1 + opened n (map row_values (rows_of_columns name 0 columns)))) (table-bytes name first other)
 
@@ -311,6 +311,18 @@ insert-needs size pages all table rows answer is has fit room work =
     go one last tail ends (Ok y) h = rows-take size pages y.1 (firsts_of is.store.found) (pages_in is.store.held) one.stored.first (record { next_number = table.next_number; rows = one.shows.placed }) rows last tail is.store.heap (has-first is.store.found one.stored one.has) one.shows.is_table (storable-rows table rows fit) room ends h
     go one last tail ends (Err why) h = rows-full size pages (firsts_of is.store.found) (pages_in is.store.held) one.stored.first (record { next_number = table.next_number; rows = one.shows.placed }) rows why last tail is.store.heap (has-first is.store.found one.stored one.has) one.shows.is_table (storable-rows table rows fit) room ends h
 
+-- the catalog ends where it did once a table's first page is made
+pub ends-made : {all : PlainTables} (size : ℕ) (pages : Pages) (is : IsStoreOf size pages all) (table : ℕ × Pages) → Makes size pages (firsts_of is.store.found) (pages_in is.store.held) table.0 table.1 → (last : ℕ) (tail : HeapPage) → EndsAt size pages CATALOG last tail → EndsAt size table.1 CATALOG last tail
+ends-made size pages is table makes last tail ends =
+    let read = reads size pages (firsts_of is.store.found) (pages_in is.store.held) CATALOG is.store.heap (has-catalog is.store.found) in
+    let same = made-spares size pages table.1 (firsts_of is.store.found) (pages_in is.store.held) table.0 is.store.heap makes CATALOG (has-catalog is.store.found) read.one.chain.links read.route.leads in
+    record {
+      head = ends.head;
+      at_first = at-same size pages table.1 CATALOG ends.head (same CATALOG (own-first size pages (firsts_of is.store.found) (pages_in is.store.held) CATALOG is.store.heap (has-catalog is.store.found))).0 ends.at_first;
+      named = ends.named;
+      at_last = at-same size pages table.1 last tail (same last (own-last size pages (firsts_of is.store.found) (pages_in is.store.held) CATALOG last tail is.store.heap (has-catalog is.store.found) ends)).0 ends.at_last;
+    }
+
 pub create-needs : (size : ℕ) (pages : Pages) (all : PlainTables) (name : List ℕ) (columns : List TableColumn) (answer : Result (Unit {0} × Pages) Refusal)
     → IsStoreOf size pages all → IsNewName all name → AreTableColumns columns
     → created size pages name columns answer → (needs : ℕ) × CreateNeeds size pages name columns needs × TakesNeeded size pages needs answer
@@ -319,22 +331,11 @@ create-needs size pages all name columns answer is new_name are work =
     let behind = opened (length (entry_bytes end.1.entries)) (map row_values (rows_of_table name 0 columns)) in
     (1 + behind, (behind, (end.0, end.1, end.2, refl), refl), go end.0 end.1 end.2 answer work)
   where
-    ends_after : (table : ℕ × Pages) → Makes size pages (firsts_of is.store.found) (pages_in is.store.held) table.0 table.1 → (last : ℕ) (tail : HeapPage) → EndsAt size pages CATALOG last tail → EndsAt size table.1 CATALOG last tail
-    ends_after table makes last tail ends =
-        let read = reads size pages (firsts_of is.store.found) (pages_in is.store.held) CATALOG is.store.heap (has-catalog is.store.found) in
-        let same = made-spares size pages table.1 (firsts_of is.store.found) (pages_in is.store.held) table.0 is.store.heap makes CATALOG (has-catalog is.store.found) read.one.chain.links read.route.leads in
-        record {
-          head = ends.head;
-          at_first = at-same size pages table.1 CATALOG ends.head (same CATALOG (own-first size pages (firsts_of is.store.found) (pages_in is.store.held) CATALOG is.store.heap (has-catalog is.store.found))).0 ends.at_first;
-          named = ends.named;
-          at_last = at-same size pages table.1 last tail (same last (own-last size pages (firsts_of is.store.found) (pages_in is.store.held) CATALOG last tail is.store.heap (has-catalog is.store.found) ends)).0 ends.at_last;
-        }
-
     go : (last : ℕ) (tail : HeapPage) → EndsAt size pages CATALOG last tail → (answer : Result (Unit {0} × Pages) Refusal) → created size pages name columns answer → TakesNeeded size pages (1 + opened (length (entry_bytes tail.entries)) (map row_values (rows_of_table name 0 columns))) answer
     go last tail ends (Ok y) (table, make, add) =
         let makes = make_law size pages (firsts_of is.store.found) (pages_in is.store.held) (Ok table) is.store.heap make in
         let base = ready size pages is.store name columns table.0 table.1 new_name.is_name are makes in
-        let took = rows-take size table.1 y.1 (firsts_of is.store.found ++ table.0 ∷ []) (pages_in is.store.held) CATALOG (record { next_number = length is.store.placed; rows = is.store.placed }) (map row_values (rows_of_table name table.0 columns)) last tail makes.well (contains-left (firsts_of is.store.found) (table.0 ∷ []) CATALOG (has-catalog is.store.found)) base.is_table base.storable base.room (ends_after table makes last tail ends) add in
+        let took = rows-take size table.1 y.1 (firsts_of is.store.found ++ table.0 ∷ []) (pages_in is.store.held) CATALOG (record { next_number = length is.store.placed; rows = is.store.placed }) (map row_values (rows_of_table name table.0 columns)) last tail makes.well (contains-left (firsts_of is.store.found) (table.0 ∷ []) CATALOG (has-catalog is.store.found)) base.is_table base.storable base.room (ends-made size pages is table makes last tail ends) add in
         omega (arith, took, makes.takes.one_less, opened-same (length (entry_bytes tail.entries)) name 0 table.0 columns)
     go last tail ends (Err why) (inl refused) =
         let full = make_law size pages (firsts_of is.store.found) (pages_in is.store.held) (Err why) is.store.heap refused in
@@ -342,7 +343,7 @@ create-needs size pages all name columns answer is new_name are work =
     go last tail ends (Err why) (inr (table, make, add)) =
         let makes = make_law size pages (firsts_of is.store.found) (pages_in is.store.held) (Ok table) is.store.heap make in
         let base = ready size pages is.store name columns table.0 table.1 new_name.is_name are makes in
-        let full = rows-full size table.1 (firsts_of is.store.found ++ table.0 ∷ []) (pages_in is.store.held) CATALOG (record { next_number = length is.store.placed; rows = is.store.placed }) (map row_values (rows_of_table name table.0 columns)) why last tail makes.well (contains-left (firsts_of is.store.found) (table.0 ∷ []) CATALOG (has-catalog is.store.found)) base.is_table base.storable base.room (ends_after table makes last tail ends) add in
+        let full = rows-full size table.1 (firsts_of is.store.found ++ table.0 ∷ []) (pages_in is.store.held) CATALOG (record { next_number = length is.store.placed; rows = is.store.placed }) (map row_values (rows_of_table name table.0 columns)) why last tail makes.well (contains-left (firsts_of is.store.found) (table.0 ∷ []) CATALOG (has-catalog is.store.found)) base.is_table base.storable base.room (ends-made size pages is table makes last tail ends) add in
         omega (arith, full, makes.takes.one_less, opened-same (length (entry_bytes tail.entries)) name 0 table.0 columns)
 
 pub edits_law : EditsLaw

@@ -97,7 +97,7 @@ moved-pages T change to (placed ∷ rows) all here = (go (placed.number == chang
     go true = here
     go false = all.0
 
-all-root : (T : ℕ → Type 0) (list : List ℕ) → T 0 → AllByRecursion T list → AllByRecursion T (with_root list)
+pub all-root : (T : ℕ → Type 0) (list : List ℕ) → T 0 → AllByRecursion T list → AllByRecursion T (with_root list)
 all-root T [] root all = tt
 all-root T (page ∷ list) root all = (root, all)
 

@@ -11,8 +11,9 @@ use Rattle.heap_file.specs.declared.chain.Placed.{Placed}
 use Rattle.heap_file.specs.Allows.{◌>>=◌}
 use Rattle.heap_file.specs.HeapPage.{entry_bytes}
 use Rattle.heap_laws.specs.Store.{free_pages, times}
-use Rattle.heap_laws.specs.Table.{Table}
+use Rattle.heap_laws.specs.Table.{EndsAt, Table}
 use Rattle.heap_laws.proofs.Making.{make_law}
+use Rattle.heap_laws.proofs.Reading.{ok-one}
 use Rattle.relation.specs.declared.catalog.StoredTable.{StoredTable}
 use Rattle.relation.specs.declared.catalog.TheConstants.{CATALOG}
 use Rattle.relation.specs.Catalog.{same_name}
@@ -21,7 +22,7 @@ use Rattle.relation.specs.Each.{in_turn}
 use Rattle.relation.specs.Work.{all_added, created, deleted, inserted, row_changed, rows_at, rows_of_table, table_in, updated}
 use Rattle.relation.proofs.Steps.{left_pages}
 use Rattle.relation_laws.specs.Laws.{AreChangesOf, AreNumbersOf, AreTableColumns, IsNewName, IsRowFor, IsStoreOf, with_changes, with_rows, with_table, without_rows}
-use Rattle.relation_laws.specs.Needs.{CreateNeeds, InsertNeeds, UpdateNeeds, changes_open, next_pages, opened, taken_after}
+use Rattle.relation_laws.specs.Needs.{InsertNeeds, RowsNeed, UpdateNeeds, changes_open, next_pages, opened, taken_after}
 use Rattle.relation_laws.specs.Reach.{with_root}
 use Rattle.relation_laws.specs.Tables.{AreDifferent, PlainTable, PlainTables, Shows, names_of}
 use Rattle.relation_laws.specs.Work.{AreAllowed, AreWorked, Changes, Creates, EditsWithin, Inserts, IsAllowed, IsFullAtOne, IsInReach, IsInReachOf, IsOfTable, IsWorked, Leaves, Needs, OfTable, Removes, Work, WorkLaw, all_worked, tables_behind, tables_behind_all, where_named, worked}
@@ -29,15 +30,17 @@ use Rattle.relation_laws.proofs.Catalogs.{goes-on}
 use Rattle.relation_laws.proofs.Counting.{needs_law}
 use Rattle.relation_laws.proofs.Creating.{create_law, ready}
 use Rattle.relation_laws.proofs.Deleting.{delete_law, still}
+use Rattle.relation_laws.proofs.Drawing.{next-first}
+use Rattle.relation_laws.proofs.Drawn.{make-draws}
 use Rattle.relation_laws.proofs.Inserting.{insert_law, storable-rows}
-use Rattle.relation_laws.proofs.Lists.{contains-cases, contains-cons, contains-head, different-split, one-keyed}
+use Rattle.relation_laws.proofs.Lists.{contains-cons, contains-head, contains-left, different-split, one-keyed}
 use Rattle.relation_laws.proofs.Names.{name-is}
-use Rattle.relation_laws.proofs.Needing.{ends-one, ends-there, last-one, next-more, rows-edit}
+use Rattle.relation_laws.proofs.Needing.{ends-made, ends-one, ends-there, last-one, next-more, opened-same, rows-edit}
 use Rattle.relation_laws.proofs.Reaching.{all-imp, own, own-first, own-last}
 use Rattle.relation_laws.proofs.Singling.{Single, by-name, firsts_of, has-catalog, has-first, named-here, named-in, pages_in, rows-here, rows-read, shown-here, single}
 use Rattle.relation_laws.proofs.Updating.{numbers_of, storable-changes, update_law}
 use Rattle.relation_laws.proofs.Weighing.{rows-own}
-use Rattle.relation_laws.proofs.Within.{all-contained, changes-within, own-page, within-edits, within-then}
+use Rattle.relation_laws.proofs.Within.{all-contained, all-root, changes-within, own-page, within-edits, within-then}
 
 -- what is so of each item
 map-in : {A B : Type 0} (f g : A → B) (xs : List A) → ((x : A) → Contains xs x → f x ≡ g x) → map f xs ≡ map g xs
@@ -119,3 +122,135 @@ change-within size pages after all table changes is has these work =
     (taken-within size pages (Changes table.name changes) count (one.stored, named-here size pages all table is one, one.shows.placed, rows-here size pages all table is one, end.0, end.1, end.2, refl))
     (goes-on (rows_at size pages one.stored) (λ rows. in_turn (row_changed size one.stored.first rows) changes pages) one.shows.placed (rows-read size pages all table is one) (Ok (tt, after))
     (by-name size pages all table is one (λ stored. rows_at size pages stored >>= λ rows. in_turn (row_changed size stored.first rows) changes pages) (Ok (tt, after)) work))
+
+-- a table is made
+create-within : (size : ℕ) (pages after : Pages) (all : PlainTables) (name : List ℕ) (columns : List TableColumn) → IsStoreOf size pages all → IsNewName all name → AreTableColumns columns → created size pages name columns (Ok (tt, after)) → EditsWithin pages after (IsInReach size pages (Creates name columns))
+create-within size pages after all name columns is new_name are (table, make, add) =
+    let firsts = firsts_of is.store.found in
+    let held = pages_in is.store.held in
+    let among = has-catalog is.store.found in
+    let makes = make_law size pages firsts held (Ok table) is.store.heap make in
+    let base = ready size pages is.store name columns table.0 table.1 new_name.is_name are makes in
+    let end = ends-there size pages firsts held CATALOG is.store.heap among in
+    let behind = opened (length (entry_bytes end.1.entries)) (map row_values (rows_of_table name 0 columns)) in
+    let rows = map row_values (rows_of_table name table.0 columns) in
+    let edits = rows-edit size table.1 after (firsts ++ table.0 ∷ []) held CATALOG (record { next_number = length is.store.placed; rows = is.store.placed }) rows end.0 end.1 makes.well (contains-left firsts (table.0 ∷ []) CATALOG among) base.is_table base.storable base.room (ends-made size pages is table makes end.0 end.1 end.2) (omega arith) add in
+    let T : ℕ → Type 0 = IsInReach size pages (Creates name columns) in
+    let taken : AllByRecursion T (with_root (next_pages pages (1 + behind))) = taken-within size pages (Creates name columns) (1 + behind) (behind, (end.0, end.1, end.2, refl), refl) in
+    let all_taken : AllByRecursion T (0 ∷ taken_after pages 0 ∷ next_pages table.1 behind) = subst (λ (l : List ℕ). AllByRecursion T (with_root l)) (sym (next-more pages table.1 behind (make-draws size pages firsts held CATALOG table is.store.heap among make makes))) taken in
+    let mine : (p : ℕ) → 0 < times p (own size pages firsts held CATALOG is.store.heap among) → T p = λ p here. inl (own-page size pages firsts held CATALOG is.store.heap among p here) in
+    within-then T T T pages table.1 after (λ p t. t) (λ p t. t)
+    (within-edits T pages table.1 (table.0 ∷ 0 ∷ []) makes.edits (subst T (sym (makes.takes.next ∙ next-first pages)) all_taken.1.0, (all_taken.0, tt)))
+    (within-edits T table.1 after (CATALOG ∷ end.0 ∷ with_root (next_pages table.1 (opened (length (entry_bytes end.1.entries)) rows))) edits (
+      mine CATALOG (own-first size pages firsts held CATALOG is.store.heap among),
+      (
+        mine end.0 (own-last size pages firsts held CATALOG end.0 end.1 is.store.heap among end.2),
+        subst (λ (n : ℕ). AllByRecursion T (with_root (next_pages table.1 n))) (opened-same (length (entry_bytes end.1.entries)) name 0 table.0 columns) (all-root T (next_pages table.1 behind) all_taken.0 all_taken.1.1),
+      ),
+    ))
+
+-- what rows need at the end of a table is one number
+rows-need : (size : ℕ) (pages : Pages) (first : ℕ) (rows : List (List Value)) (needs other : ℕ) → RowsNeed size pages first rows needs → RowsNeed size pages first rows other → needs ≡ other
+rows-need size pages first rows needs other one two =
+    one.3 ∙ ap (λ (t : HeapPage). opened (length (entry_bytes t.entries)) rows) (ends-one size pages first one.0 two.0 one.1 two.1 one.2 two.2) ∙ sym two.3
+
+-- the number that a piece of work needs is one
+need-one : (size : ℕ) (pages : Pages) (all : PlainTables) (work : Work) (needs other : ℕ) → IsStoreOf size pages all → IsAllowed all work → Needs size pages work needs → Needs size pages work other → needs ≡ other
+need-one size pages all (Creates name columns) needs other is allowed = λ one two. one.2 ∙ ap (λ (n : ℕ). 1 + n) (rows-need size pages CATALOG (map row_values (rows_of_table name 0 columns)) one.0 two.0 one.1 two.1) ∙ sym two.2
+need-one size pages all (Inserts name rows) needs other is (table, has, named, allowed) = subst (λ (n : List ℕ). InsertNeeds size pages n rows needs → InsertNeeds size pages n rows other → needs ≡ other) named (λ one two.
+    let only_one = single size pages all table is has in
+    let here : (n : ℕ) → InsertNeeds size pages table.name rows n → RowsNeed size pages only_one.stored.first rows n = λ n it. subst (λ (t : StoredTable). RowsNeed size pages t.first rows n) (ok-one (named-in size pages all table is only_one (Ok it.0) it.1)) it.2 in
+    rows-need size pages only_one.stored.first rows needs other (here needs one) (here other two))
+need-one size pages all (Changes name changes) needs other is (table, has, named, allowed) = subst (λ (n : List ℕ). UpdateNeeds size pages n changes needs → UpdateNeeds size pages n changes other → needs ≡ other) named (λ one two.
+    let only_one = single size pages all table is has in
+    changes-need size pages all table is only_one changes needs one ∙ sym (changes-need size pages all table is only_one changes other two))
+  where
+    changes-need : (size : ℕ) (pages : Pages) (all : PlainTables) (table : PlainTable) (is : IsStoreOf size pages all) (one : Single size pages all table is) (changes : List (ℕ × List Value)) (n : ℕ) → UpdateNeeds size pages table.name changes n
+        → n ≡ changes_open (taken_after pages) (ends-there size pages (firsts_of is.store.found) (pages_in is.store.held) one.stored.first is.store.heap (has-first is.store.found one.stored one.has)).0 one.shows.placed changes
+    changes-need size pages all table is one changes n it =
+        let end = ends-there size pages (firsts_of is.store.found) (pages_in is.store.held) one.stored.first is.store.heap (has-first is.store.found one.stored one.has) in
+        let stored : it.0 ≡ one.stored = ok-one (named-in size pages all table is one (Ok it.0) it.1) in
+        let rows : it.2 ≡ one.shows.placed = ok-one (rows-read size pages all table is one (Ok it.2) (subst (λ (t : StoredTable). rows_at size pages t (Ok it.2)) stored it.3)) in
+        let last : it.4 ≡ end.0 = last-one size pages one.stored.first it.4 end.0 it.5 end.1 (subst (λ (t : StoredTable). EndsAt size pages t.first it.4 it.5) stored it.6) end.2 in
+        it.7 ∙ ap (λ (l : ℕ). changes_open (taken_after pages) l it.2 changes) last ∙ ap (λ (r : List Placed). changes_open (taken_after pages) end.0 r changes) rows
+need-one size pages all (Removes name numbers) needs other is allowed = λ one two. one ∙ sym two
+
+-- rows are taken out
+removed-within : (size : ℕ) (pages after : Pages) (all : PlainTables) (table : PlainTable) (numbers : List ℕ) → IsStoreOf size pages all → Contains all.tables table → AreNumbersOf table numbers → deleted size pages table.name numbers (Ok (tt, after)) → (free_pages size pages ≤ free_pages size after) × EditsWithin pages after (IsInReach size pages (Removes table.name numbers))
+removed-within size pages after all table numbers is has these work = ?
+
+-- one piece of work
+work-insert : (size : ℕ) (pages : Pages) (all : PlainTables) (table : PlainTable) (rows : List (List Value)) (answer : Result (Unit {0} × Pages) Refusal) → IsStoreOf size pages all → Contains all.tables table → AllByRecursion (IsRowFor table) rows → table.next_number + length rows < 2 ^ 64 → inserted size pages table.name rows answer → IsWorked size pages all (Inserts table.name rows) answer
+work-insert size pages all table rows (Ok y) is has fit room work =
+    let need = needs_law.insert size pages all table rows (Ok y) is has fit room work in
+    record {
+      store = subst (IsStoreOf size y.1) (named-one size pages all table (with_rows rows) is has refl) (insert_law size pages all table rows (Ok y) is has fit room work).0;
+      needs = need.0;
+      are_needed = need.1;
+      takes = need.2;
+      within = insert-within size pages y.1 all table rows is has fit room work;
+    }
+work-insert size pages all table rows (Err why) is has fit room work = (insert_law size pages all table rows (Err why) is has fit room work, needs_law.insert size pages all table rows (Err why) is has fit room work)
+
+work-change : (size : ℕ) (pages : Pages) (all : PlainTables) (table : PlainTable) (changes : List (ℕ × List Value)) (answer : Result (Unit {0} × Pages) Refusal) → IsStoreOf size pages all → Contains all.tables table → AreChangesOf table changes → updated size pages table.name changes answer → IsWorked size pages all (Changes table.name changes) answer
+work-change size pages all table changes (Ok y) is has these work =
+    let need = needs_law.update size pages all table changes (Ok y) is has these work in
+    record {
+      store = subst (IsStoreOf size y.1) (named-one size pages all table (with_changes changes) is has refl) (update_law size pages all table changes (Ok y) is has these work).0;
+      needs = need.0;
+      are_needed = need.1;
+      takes = need.2;
+      within = change-within size pages y.1 all table changes is has these work;
+    }
+work-change size pages all table changes (Err why) is has these work = (update_law size pages all table changes (Err why) is has these work, needs_law.update size pages all table changes (Err why) is has these work)
+
+work-create : (size : ℕ) (pages : Pages) (all : PlainTables) (name : List ℕ) (columns : List TableColumn) (answer : Result (Unit {0} × Pages) Refusal) → IsStoreOf size pages all → IsNewName all name → AreTableColumns columns → created size pages name columns answer → IsWorked size pages all (Creates name columns) answer
+work-create size pages all name columns (Ok y) is new_name are work =
+    let need = needs_law.create size pages all name columns (Ok y) is new_name are work in
+    record {
+      store = (create_law size pages all name columns (Ok y) is new_name are work).0;
+      needs = need.0;
+      are_needed = need.1;
+      takes = need.2;
+      within = create-within size pages y.1 all name columns is new_name are work;
+    }
+work-create size pages all name columns (Err why) is new_name are work = (create_law size pages all name columns (Err why) is new_name are work, needs_law.create size pages all name columns (Err why) is new_name are work)
+
+work-remove : (size : ℕ) (pages : Pages) (all : PlainTables) (table : PlainTable) (numbers : List ℕ) (answer : Result (Unit {0} × Pages) Refusal) → IsStoreOf size pages all → Contains all.tables table → AreNumbersOf table numbers → deleted size pages table.name numbers answer → IsWorked size pages all (Removes table.name numbers) answer
+work-remove size pages all table numbers (Ok y) is has these work =
+    let gone = removed-within size pages y.1 all table numbers is has these work in
+    record {
+      store = subst (IsStoreOf size y.1) (named-one size pages all table (without_rows numbers) is has refl) (delete_law size pages all table numbers (Ok y) is has these work).0;
+      needs = 0;
+      are_needed = refl;
+      takes = gone.0;
+      within = gone.1;
+    }
+work-remove size pages all table numbers (Err why) is has these work = absurd (delete_law size pages all table numbers (Err why) is has these work).1
+
+work-one : (size : ℕ) (pages : Pages) (all : PlainTables) (work : Work) (answer : Result (Unit {0} × Pages) Refusal) → IsStoreOf size pages all → IsAllowed all work → worked size work pages answer → IsWorked size pages all work answer
+work-one size pages all (Creates name columns) answer is allowed = work-create size pages all name columns answer is allowed.0 allowed.1
+work-one size pages all (Inserts name rows) answer is (table, has, named, allowed) = subst (λ (n : List ℕ). inserted size pages n rows answer → IsWorked size pages all (Inserts n rows) answer) named (work-insert size pages all table rows answer is has allowed.0 allowed.1)
+work-one size pages all (Changes name changes) answer is (table, has, named, allowed) = subst (λ (n : List ℕ). updated size pages n changes answer → IsWorked size pages all (Changes n changes) answer) named (work-change size pages all table changes answer is has allowed)
+work-one size pages all (Removes name numbers) answer is (table, has, named, allowed) = subst (λ (n : List ℕ). deleted size pages n numbers answer → IsWorked size pages all (Removes n numbers) answer) named (work-remove size pages all table numbers answer is has allowed)
+
+-- several pieces of work
+works : (size : ℕ) (pages : Pages) (all : PlainTables) (list : List Work) (answer : Result (Unit {0} × Pages) Refusal) → IsStoreOf size pages all → AreAllowed all list → all_worked size list pages answer → AreWorked size pages all list answer
+works size pages all [] (Ok y) is allowed h =
+    let same : pages ≡ y.1 = left_pages pages y.1 h in
+    (subst (λ (p : Pages). IsStoreOf size p all) same is, λ page. inl (ap (λ (p : Pages). p.at page) (sym same), ap (λ (p : Pages). p.edited page) (sym same)))
+works size pages all [] (Err why) is allowed h = absurd cc
+works size pages all (work ∷ list) (Ok y) is allowed (next, one, rest) =
+    let leaves = work-one size pages all work (Ok next) is allowed.0 one in
+    let behind = works size next.1 (tables_behind work all) list (Ok y) leaves.store allowed.1 rest in
+    (behind.0, within-then (IsInReach size pages work) (IsInReachOf size next.1 list) (IsInReachOf size pages (work ∷ list)) pages next.1 y.1 (λ p here. inl here) (λ p here. inr (next.1, one, here)) leaves.within behind.1)
+works size pages all (work ∷ list) (Err why) is allowed (inl refused) =
+    let full = work-one size pages all work (Err why) is allowed.0 refused in
+    (full.0, inl full.1)
+works size pages all (work ∷ list) (Err why) is allowed (inr (next, one, rest)) =
+    let leaves = work-one size pages all work (Ok next) is allowed.0 one in
+    let behind = works size next.1 (tables_behind work all) list (Err why) leaves.store allowed.1 rest in
+    (behind.0, inr (next.1, one, behind.1))
+
+pub work_law : WorkLaw
+work_law = record { one_need = need-one; single = work-one; several = works }
