@@ -28,12 +28,15 @@ impl Counting {
 }
 
 impl Pager for Counting {
-    ghost use Rattle.std.specs.Prelude.{Some, length};
+    ghost use Rattle.std.specs.Prelude.{length};
+    ghost use Rattle.std.proofs.Common.{◌∙◌, refl};
     ghost use Rattle.pager.specs.MemPages.{shown};
 
     type Fault = Failed;
 
-    ghost pages = { λ c. Some (shown c.pages) };
+    ghost tells = { λ c base now. now ≡ shown c.pages };
+
+    ghost goes = { λ c d. d.pages.failing ≡ c.pages.failing };
 
     ghost size = { λ c. length c.pages.pages };
 
@@ -51,6 +54,10 @@ impl Pager for Counting {
     fn faults(&self) -> u64 {
         self.pages.faults()
     }
+
+    ghost stays = { λ c. refl };
+
+    ghost goes_on = { λ c d e one two. two ∙ one };
 }
 
 impl EditPager for Counting {

@@ -4,7 +4,7 @@ ghost use Rattle.std.specs.Prelude.{◌≤◌, IfOk};
 ghost use Rattle.heap_file.specs.HeapPage.{IsShort};
 
 use super::*;
-use pager::{MemPager, Root, Stop};
+use pager::{EditPager, MemPager, Pager, Root, Stop};
 use retro_base::{Device, Page, Refusal};
 use std::alloc::{AllocError, Global};
 use std::test::Fail;
@@ -178,5 +178,104 @@ fn a_longer_row_moves_to_the_last_page(rt: HostRuntime) -> Result<(), Fail> {
         [0, 80, 0, 0, 0, 0, 0, 0, 0, 0, 1, 2, 69, b'x'].as_slice()
     );
     assert_eq!(rt; scan(alloc, &mut pager, first)?.len(), 17);
+    Ok(())
+}
+
+// A row of sixteen values that takes 900 bytes: twelve times this integer, and four texts.
+fn sixteen_values(alloc: Global, number: i64) -> Result<Row, Refusal>
+    ensures { IfOk result IsShort }
+{
+    let mut row = Seq::new(alloc);
+    for _ in 0..12 {
+        row.push(Value::Int(number))?;
+    }
+    for letters in [200, 200, 200, 175] {
+        let text = vec![in alloc; b'x'; letters.min(200)]?;
+        row.push(Value::Text(Text::new(Seq::from(text))))?;
+    }
+    if row.len() == 16 && row_codec::encode(alloc, 0, &row)?.len() == 900 {
+        Ok(row)
+    } else {
+        Err(Refusal::BadSizes)
+    }
+}
+
+// Adds so many rows, the first of zeros, the next of ones, and on.
+fn add_rows<P: EditPager>(
+    alloc: Global,
+    pager: &mut P,
+    first: u32,
+    count: i64,
+) -> Result<(), Stop<P::Fault>> {
+    for number in 0..count {
+        add(alloc, pager, first, &sixteen_values(alloc, number)?)?;
+    }
+    Ok(())
+}
+
+// Changes each row to one of a greater integer.
+fn change_rows<P: EditPager>(
+    alloc: Global,
+    pager: &mut P,
+    first: u32,
+    more: i64,
+) -> Result<(), Stop<P::Fault>> {
+    let mut number = more;
+    for placed in &scan(alloc, pager, first)? {
+        let row = sixteen_values(alloc, number)?;
+        change(alloc, pager, first, placed.page, placed.number, &row)?;
+        number = number.saturating_add(1);
+    }
+    Ok(())
+}
+
+// Takes out each row.
+fn remove_rows<P: EditPager>(
+    alloc: Global,
+    pager: &mut P,
+    first: u32,
+) -> Result<(), Stop<P::Fault>> {
+    for placed in &scan(alloc, pager, first)? {
+        remove(alloc, pager, first, placed.page, placed.number)?;
+    }
+    Ok(())
+}
+
+// How many rows there are whose number is their place, and whose first value is so much more.
+fn count_rows<P: Pager>(
+    alloc: Global,
+    pager: &mut P,
+    first: u32,
+    more: i64,
+) -> Result<usize, Stop<P::Fault>> {
+    let mut count: usize = 0;
+    let mut number = more;
+    for placed in &scan(alloc, pager, first)? {
+        let here = placed.number == count as u64;
+        if here && matches!(placed.row.as_slice().first(), Some(Value::Int(n)) if *n == number) {
+            count = count.saturating_add(1);
+        }
+        number = number.saturating_add(1);
+    }
+    Ok(count)
+}
+
+#[test]
+fn a_table_of_forty_pages(rt: HostRuntime) -> Result<(), Fail> {
+    let alloc = rt.alloc();
+    let pages = vec![in alloc; Page::zero(); 50]?;
+    let mut pager = MemPager::new(alloc, pages, Vec::new(alloc));
+    let first = make(alloc, &mut pager)?;
+    add_rows(alloc, &mut pager, first, 40)?;
+    let added = count_rows(alloc, &mut pager, first, 0)?;
+    change_rows(alloc, &mut pager, first, 1000)?;
+    let changed = count_rows(alloc, &mut pager, first, 1000)?;
+    remove_rows(alloc, &mut pager, first)?;
+    let left = scan(alloc, &mut pager, first)?.len();
+    let root = Root::of(&page_at(&pager, 0));
+    assert_eq!(rt;
+        (added, changed, left, root.used, root.free),
+        (40, 40, 0, 40, 39)
+    );
     Ok(())
 }

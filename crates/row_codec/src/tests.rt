@@ -74,6 +74,40 @@ fn nine_hundred_bytes_at_most(rt: HostRuntime) -> Result<(), Fail> {
     Ok(())
 }
 
+// Twelve integers, three texts of 200 letters and one of 175: 900 bytes.
+fn sixteen_values(alloc: Global) -> Result<Row, AllocError> {
+    let mut row = Vec::new(alloc);
+    for number in 0..12 {
+        row.push(Value::Int(number))?;
+    }
+    for _ in 0..3 {
+        row.push(letters(alloc, 200)?)?;
+    }
+    row.push(letters(alloc, 175)?)?;
+    Ok(Seq::from(row))
+}
+
+// The encoding of a row of sixteen values. Empty where it has not so many.
+fn encoding(alloc: Global, row: &Row) -> Result<Vec<u8>, Refusal> {
+    if row.len() == 16 {
+        encode(alloc, 7, row)
+    } else {
+        Ok(Vec::new(alloc))
+    }
+}
+
+#[test]
+fn sixteen_values_are_read_again(rt: HostRuntime) -> Result<(), Fail> {
+    let bytes = encoding(rt.alloc(), &sixteen_values(rt.alloc())?)?;
+    let (number, row) = decode(rt.alloc(), &bytes)?.ok_or("no row")?;
+    let again = encoding(rt.alloc(), &row)?;
+    assert_eq!(rt;
+        (bytes.len(), number, row.len(), again == bytes),
+        (900, 7, 16, true)
+    );
+    Ok(())
+}
+
 #[test]
 fn other_bytes_are_no_row(rt: HostRuntime) -> Result<(), Fail> {
     // (the place of the byte that is changed, its new value)
