@@ -2,13 +2,14 @@
 use Rattle.std.proofs.Common.{◌≡◌, ◌∙◌, ◌<◌, ◌+◌, ◌==◌, cond, ℕ, Bool, true, false, nat_le, List, [], ◌∷◌, length, Some, Ok, inl, inr, refl, sym, ap, subst, arith}
 use Rattle.std.specs.List.{Contains, insert}
 use Rattle.std.proofs.lemmas.Bool.{leb-true}
+use Rattle.std.proofs.lemmas.List.Sorted.{Contains-permutation, IsPermutation-sym}
 use Rattle.values.specs.declared.value.Value.{Value}
 use Rattle.pager.specs.Pages.{Pages, written}
 use Rattle.heap_file.specs.declared.chain.Placed.{Placed}
 use Rattle.heap_file.specs.declared.page.Entry.{Entry}
 use Rattle.heap_file.specs.declared.page.HeapPage.{HeapPage}
 use Rattle.heap_file.specs.Allows.{either, only}
-use Rattle.heap_file.specs.Chain.{IsAt, last_page, met}
+use Rattle.heap_file.specs.Chain.{IsAt, last_page, met, rows_of}
 use Rattle.heap_file.specs.HeapPage.{IsEntry, entry_bytes, page_bytes}
 use Rattle.heap_file.specs.Work.{IsPlace, appended, changed, without}
 use Rattle.heap_file.proofs.Packing.{with_fits, without_fits}
@@ -17,9 +18,11 @@ use Rattle.heap_laws.specs.Table.{ChangeIsFull, Edits, EndsAt, IsTable, Table, h
 use Rattle.heap_laws.proofs.Adding.{IsPut, put-answer, tail-there}
 use Rattle.heap_laws.proofs.Appending.{update-head}
 use Rattle.heap_laws.proofs.Editing.{Finished, edits-none, edits-write, free-same}
-use Rattle.heap_laws.proofs.Reading.{ok-one, reads}
+use Rattle.heap_laws.proofs.Meeting.{changed-met, changed_met, meets}
+use Rattle.heap_laws.proofs.Reading.{Reads, ok-one, reads, rows-read}
 use Rattle.heap_laws.proofs.Removing.{place-there, take-out, without-sized}
 use Rattle.heap_laws.proofs.Routes.{IsRoute, around, link_of, route-update, written-other}
+use Rattle.heap_laws.proofs.Rows.{Standing, standing}
 use Rattle.heap_laws.proofs.Spotting.{spot}
 use Rattle.relation_laws.specs.Needs.{bytes_on, has_room_for, next_pages, row_bytes, taken_after}
 use Rattle.relation_laws.specs.Reach.{with_root}
@@ -182,9 +185,9 @@ moves-on size pages firsts indexes first table placed row y last tail rest well 
         }
 
 -- a changed row, wherever it goes
-pub moves : (size : ℕ) (pages : Pages) (firsts indexes : List ℕ) (first : ℕ) (table : Table) (placed : Placed) (row : List Value) (y : ℕ × Pages) (last : ℕ) (tail : HeapPage) → WellFormed size pages firsts indexes → Contains firsts first → IsTable size pages first table → IsEntry (record { number = placed.number; row = row })
-    → changed size pages first placed.page (record { number = placed.number; row = row }) (Ok y) → WellFormed size y.1 firsts indexes → EndsAt size pages first last tail → Moves size pages y.1 first last placed.page (placed.number, row) table.rows y.0
-moves size pages firsts indexes first table placed row y last tail well has shows is (found, at, (place, here, work)) well_after ends =
+moves-met : (size : ℕ) (pages : Pages) (firsts indexes : List ℕ) (first : ℕ) (table : Table) (placed : Placed) (row : List Value) (y : ℕ × Pages) (last : ℕ) (tail : HeapPage) → WellFormed size pages firsts indexes → Contains firsts first → IsTable size pages first table → IsEntry (record { number = placed.number; row = row })
+    → changed_met size pages first placed.page (record { number = placed.number; row = row }) (Ok y) → WellFormed size y.1 firsts indexes → EndsAt size pages first last tail → Moves size pages y.1 first last placed.page (placed.number, row) table.rows y.0
+moves-met size pages firsts indexes first table placed row y last tail well has shows is (found, at, (place, here, work)) well_after ends =
     go (has_room (without found.1 place) (record { number = placed.number; row = row })) refl (out-of size pages firsts indexes first table placed found place last tail well has shows at here ends) work
   where
     go : (b : Bool) → has_room (without found.1 place) (record { number = placed.number; row = row }) ≡ b → Out size pages firsts indexes first table placed last (without found.1 place)
@@ -211,6 +214,20 @@ moves size pages firsts indexes first table placed row y last tail well has show
           touches = λ q off. untouched pages (written pages placed.page (page_bytes now)) (placed.page ∷ []) q edits (off.0, tt);
         })
     go false e out h = moves-on size pages firsts indexes first table placed row y last tail (without found.1 place) well has shows is ends (has, λ w c. own-met size pages firsts indexes first placed.page found.0 found.1 w c at) out e h
+
+-- the same where its page is known
+pub moves : (size : ℕ) (pages : Pages) (firsts indexes : List ℕ) (first : ℕ) (table : Table) (placed : Placed) (row : List Value) (y : ℕ × Pages) (last : ℕ) (tail : HeapPage) → WellFormed size pages firsts indexes → Contains firsts first → IsTable size pages first table → Contains table.rows placed → IsEntry (record { number = placed.number; row = row })
+    → changed size pages first placed.page (record { number = placed.number; row = row }) (Ok y) → WellFormed size y.1 firsts indexes → EndsAt size pages first last tail → Moves size pages y.1 first last placed.page (placed.number, row) table.rows y.0
+moves size pages firsts indexes first table placed row y last tail well has shows among_rows is change well_after ends =
+    moves-met size pages firsts indexes first table placed row y last tail well has shows is (changed-met size pages first placed.page (record { number = placed.number; row = row }) (meets size pages first read.one.chain.links placed read.route read.few stands) (Ok y) change) well_after ends
+  where
+    read : Reads size pages firsts indexes first well
+    read = reads size pages firsts indexes first well has
+
+    stands : Standing read.one.chain.links placed
+    stands =
+        let rows = rows-read size pages first table read.one.chain.links read.one.lawful.head shows read.route.leads read.head_at in
+        standing read.one.chain.links placed (Contains-permutation table.rows (rows_of read.one.chain.links) placed (IsPermutation-sym (rows_of read.one.chain.links) table.rows rows.permutation) among_rows)
 
 -- a change that is refused has room nowhere
 pub full-both : (size : ℕ) (pages : Pages) (firsts indexes : List ℕ) (first : ℕ) (table : Table) (placed : Placed) (row : List Value) (last : ℕ) (tail : HeapPage) → WellFormed size pages firsts indexes → Contains firsts first → IsTable size pages first table → EndsAt size pages first last tail

@@ -55,7 +55,7 @@ one-change size pages firsts indexes first rows table change last tail y well am
     let numbered = table-read size pages first table read.one.chain.links read.one.lawful.head is read.route.leads read.head_at in
     let sized = head-sized size pages first read.one.chain.links read.one.lawful.head read.route read.head_at in
     let entry : IsEntry (record { number = found.number; row = change.1 }) = storable-entry found.number change.1 (omega (arith, sized.next_number, numbered.next_number, (rows-numbered size pages firsts indexes first table well among is found.number).1 (keyed-contains number_of table.rows found there.2))) storable in
-    let move = moves size pages firsts indexes first table found change.1 y last tail well among is entry work one.well ends in
+    let move = moves size pages firsts indexes first table found change.1 y last tail well among is there.2 entry work one.well ends in
     let under = under-one change.0 table.rows found (rows-numbered size pages firsts indexes first table well among is change.0).0 there.2 there.1 in
     record {
       well = one.well;

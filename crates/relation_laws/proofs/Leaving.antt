@@ -13,9 +13,9 @@ use Rattle.heap_file.specs.declared.chain.Link.{Link}
 use Rattle.heap_file.specs.declared.page.HeapPage.{HeapPage}
 use Rattle.heap_file.specs.Allows.{either, only}
 use Rattle.heap_file.specs.Allows as allows
-use Rattle.heap_file.specs.Chain.{IsAt, Leads, heap_page}
+use Rattle.heap_file.specs.Chain.{IsAt, Leads, heap_page, met}
 use Rattle.heap_file.specs.HeapPage.{Holds, entry_bytes, page_bytes}
-use Rattle.heap_file.specs.Work.{last_field, renamed, unlinked}
+use Rattle.heap_file.specs.Work.{last_field, removed, renamed, unlinked, without}
 use Rattle.heap_laws.proofs.Reading.{ok-one}
 use Rattle.heap_laws.proofs.Routes.{at-one, at-same, written-other}
 use Rattle.relation_laws.proofs.Drawing.{ok-no}
@@ -141,3 +141,18 @@ closed-unlinked T size pages after closed small first previous page next head_in
         let next_of_head = closed-one first head head_in head_at in
         subst (Closed T size) (ap (λ (x : Unit {0} × Pages). x.1) (ok-one h)) (closed-write T size one closed-one first (record head { last = last_field first previous }) (bound head.next next_of_head) next_of_head)
     go false h = subst (Closed T size) (ap (λ (x : Unit {0} × Pages). x.1) (ok-one h)) closed-one
+
+-- a row that is taken out leaves them closed
+pub closed-removed : (T : ℕ → Type 0) (size : ℕ) (pages after : Pages) → Closed T size pages → ((page : ℕ) → T page → page < 2 ^ 32) → (first page number : ℕ) → T first → T page → removed size pages first page number (Ok (tt, after)) → Closed T size after
+closed-removed T size pages after closed small first page number head_in here (held, at, (place, is, work)) = go (not (page == first) && (length (without held place).entries == 0)) work
+  where
+    next : (held.next ≡ 0) ⊎ T held.next
+    next = closed page held here at
+
+    bound : (held.next ≡ 0) ⊎ T held.next → held.next < 2 ^ 32
+    bound (inl none) = omega (arith, none)
+    bound (inr there) = small held.next there
+
+    go : (b : Bool) → either b (allows.◌>>=◌ (met size pages first page) (λ (found : ℕ × HeapPage). unlinked size pages first found.0 page held.next)) (only (Ok (tt, written pages page (page_bytes (without held place))))) (Ok (tt, after)) → Closed T size after
+    go true (found, found_at, h) = closed-unlinked T size pages after closed small first found.0 page held.next head_in next h
+    go false h = subst (Closed T size) (ap (λ (x : Unit {0} × Pages). x.1) (ok-one h)) (closed-write T size pages closed page (without held place) (bound next) next)

@@ -11,10 +11,12 @@ pub mod Eaches
 pub mod Entries
 pub mod Filling
 pub mod Inserting
+pub mod Leaving
 pub mod Lists
 pub mod Moving
 pub mod Names
 pub mod Needing
+pub mod Placing
 pub mod Reaching
 pub mod Rereading
 pub mod Singling
@@ -23,4 +25,3 @@ pub mod Updating
 pub mod Weighing
 pub mod Within
 pub mod Working
-pub mod Leaving

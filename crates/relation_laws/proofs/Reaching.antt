@@ -204,15 +204,22 @@ own-met size pages firsts indexes first page previous held well has stood =
     let one = met-one size pages first page previous held read.one.chain.links read.route.leads stood in
     omega (arith, ap (λ (l : List Link). times page (pages_on l)) one.links_are, times-links page one.before (link_of page held) one.behind, ap one_if (eq-eqb page page refl))
 
-previous-within : (size : ℕ) (pages : Pages) (firsts indexes : List ℕ) (first page previous : ℕ) (held : HeapPage) (well : WellFormed size pages firsts indexes) (has : Contains firsts first) → met size pages first page (Ok (previous, held)) → Within size pages firsts indexes first well has previous
-previous-within size pages firsts indexes first page previous held well has stood =
+-- the page before a page of a table is the table's own, if there is one
+pub previous-own : (size : ℕ) (pages : Pages) (firsts indexes : List ℕ) (first page previous : ℕ) (held : HeapPage) (well : WellFormed size pages firsts indexes) (has : Contains firsts first) → met size pages first page (Ok (previous, held)) → (previous ≡ 0) ⊎ (0 < times previous (own size pages firsts indexes first well has))
+previous-own size pages firsts indexes first page previous held well has stood =
     elim one.previous_is [
       | inl start ↦ inl start.1
-      | inr later ↦ inr (inl (omega (arith, ap (λ (l : List Link). times previous (pages_on l)) one.links_are, times-links previous one.before (link_of page held) one.behind, ap (λ (l : List Link). times previous (pages_on l)) later.2, times-links previous later.0 later.1 [], ap one_if (eq-eqb later.1.page previous later.3))))
+      | inr later ↦ inr (omega (arith, ap (λ (l : List Link). times previous (pages_on l)) one.links_are, times-links previous one.before (link_of page held) one.behind, ap (λ (l : List Link). times previous (pages_on l)) later.2, times-links previous later.0 later.1 [], ap one_if (eq-eqb later.1.page previous later.3)))
     ]
   where
     one : Met (reads size pages firsts indexes first well has).one.chain.links page previous held
     one = met-one size pages first page previous held (reads size pages firsts indexes first well has).one.chain.links (reads size pages firsts indexes first well has).route.leads stood
+
+previous-within : (size : ℕ) (pages : Pages) (firsts indexes : List ℕ) (first page previous : ℕ) (held : HeapPage) (well : WellFormed size pages firsts indexes) (has : Contains firsts first) → met size pages first page (Ok (previous, held)) → Within size pages firsts indexes first well has previous
+previous-within size pages firsts indexes first page previous held well has stood = elim (previous-own size pages firsts indexes first page previous held well has stood) [
+  | inl none ↦ inl none
+  | inr here ↦ inr (inl here)
+]
 
 -- a row that is added
 pub added-spares : (size : ℕ) (pages after : Pages) (firsts indexes : List ℕ) (first : ℕ) (table : Table) (row : List Value) (placed : ℕ × ℕ) → WellFormed size pages firsts indexes → Contains firsts first → Adds size pages firsts indexes first table row placed after → Spares false size pages after firsts first

@@ -1,5 +1,5 @@
 -- Which pages a piece of work edits.
-use Rattle.std.proofs.Common.{◌≡◌, ◌≢◌, ◌∙◌, ◌<◌, ◌+◌, ◌⊎◌, ◌==◌, cond, ℕ, suc, Bool, true, false, List, [], ◌∷◌, length, map, Ok, inl, inr, refl, sym, ap, subst, arith}
+use Rattle.std.proofs.Common.{◌≡◌, ◌≢◌, ◌∙◌, ◌<◌, ◌+◌, ◌^◌, ◌⊎◌, ◌==◌, not, cond, ℕ, suc, Bool, true, false, List, [], ◌∷◌, length, map, Ok, inl, inr, refl, sym, ap, subst, arith}
 use Rattle.std.specs.List.{AllByRecursion, Contains, range_with_len}
 use Rattle.std.proofs.lemmas.Bool.Decides.{eqb_tells}
 use Rattle.values.specs.declared.value.Value.{Value}
@@ -7,23 +7,25 @@ use Rattle.pager.specs.Pages.{Pages}
 use Rattle.heap_file.specs.declared.chain.Placed.{Placed}
 use Rattle.heap_file.specs.declared.page.HeapPage.{HeapPage}
 use Rattle.heap_laws.specs.Store.{WellFormed, times}
-use Rattle.heap_laws.specs.Table.{Edits, EndsAt, IsStorable, IsTable, Table, with_changed}
+use Rattle.heap_laws.specs.Table.{Edits, EndsAt, IsRemoved, IsStorable, IsTable, Removes, Table, leaves, with_changed, without_row}
 use Rattle.heap_laws.proofs.Counts.{one_if}
 use Rattle.heap_laws.proofs.Reading.{reads}
+use Rattle.heap_laws.proofs.Removing.{remove_law}
 use Rattle.heap_laws.proofs.Routes.{times-cons}
 use Rattle.relation.specs.Each.{in_turn}
-use Rattle.relation.specs.Work.{row_changed}
+use Rattle.relation.specs.Work.{row_changed, row_removed}
 use Rattle.relation.proofs.Steps.{left_pages}
 use Rattle.relation_laws.specs.Needs.{changes_open, moved_to, next_pages, page_under, taken_after}
 use Rattle.relation_laws.specs.Reach.{IsPageOf, IsUntouched, with_root}
 use Rattle.relation_laws.specs.Work.{EditsWithin}
 use Rattle.relation_laws.proofs.Changed.{Goes}
 use Rattle.relation_laws.proofs.Counting.{one-change, opens-behind}
-use Rattle.relation_laws.proofs.Deleting.{StillThere}
+use Rattle.relation_laws.proofs.Deleting.{StillThere, fitting-left, still-without, taken_out}
 use Rattle.relation_laws.proofs.Drawing.{Draws, draws-pages}
-use Rattle.relation_laws.proofs.Lists.{contains-cases, contains-cons, contains-head}
+use Rattle.relation_laws.proofs.Leaving.{Closed, closed-removed, walk}
+use Rattle.relation_laws.proofs.Lists.{all-at, contains-cases, contains-cons, contains-head}
 use Rattle.relation_laws.proofs.Needing.{next-more}
-use Rattle.relation_laws.proofs.Reaching.{Touches, own, untouched, untouched-then}
+use Rattle.relation_laws.proofs.Reaching.{Touches, own, previous-own, untouched, untouched-then}
 use Rattle.relation_laws.proofs.Updating.{numbers_of, still-changed}
 
 -- a page is one of these, or apart from each
@@ -67,7 +69,7 @@ pub all-contained : (list : List ℕ) (P : ℕ → Type 0) → ((p : ℕ) → Co
 all-contained [] P go = tt
 all-contained (q ∷ list) P go = (go q (contains-head q list), all-contained list P (λ p has. go p (contains-cons p q list has)))
 
-contains-times : (list : List ℕ) (p : ℕ) → 0 < times p list → Contains list p
+pub contains-times : (list : List ℕ) (p : ℕ) → 0 < times p list → Contains list p
 contains-times [] p some = absurd (omega (arith, some))
 contains-times (q ∷ list) p some = elim (eqb_tells q p) [
   | inl same ↦ subst (λ (k : ℕ). Contains (q ∷ list) k) same.1 (contains-head q list)
@@ -154,3 +156,39 @@ changes-within T size pages after firsts indexes first rows table (change ∷ ch
     (within-touches T pages h.0.1 (page_under change.0 table.rows ∷ first ∷ last ∷ with_root (next_pages pages step.opens)) step.touches (here, (at_first, (at_last, parts.0))))
     (changes-within T size h.0.1 after firsts indexes first rows (with_changed table moved) changes step.end step.next step.well among step.shows storable.1 (still-changed first rows table moved (numbers_of changes) there.1 there.2) step.ends
     at_first ways.1 (moved-pages T change h.0.0 table.rows on ways.0) parts.1 h.2)
+
+-- one row that is taken out edits the pages of its table, and the root page
+removed-within : (T : ℕ → Type 0) (size : ℕ) (pages after : Pages) (firsts indexes : List ℕ) (first : ℕ) (table : Table) (page number : ℕ) (well : WellFormed size pages firsts indexes) → Contains firsts first → Closed T size pages → T first → T page → Removes size pages firsts indexes first table page number after → EditsWithin pages after (λ p. (p ≡ 0) ⊎ T p)
+removed-within T size pages after firsts indexes first table page number well has closed head_in here removes = go (leaves first page removes.held) removes.effect
+  where
+    before : (removes.previous ≡ 0) ⊎ (0 < times removes.previous (own size pages firsts indexes first well has)) → (removes.previous ≡ 0) ⊎ T removes.previous
+    before (inl none) = inl none
+    before (inr some) =
+        let read = reads size pages firsts indexes first well has in
+        inr (walk T size pages closed first read.one.chain.links read.route.leads head_in removes.previous (contains-times (own size pages firsts indexes first well has) removes.previous some))
+
+    renamed_first : (b : Bool) → AllByRecursion (λ p. (p ≡ 0) ⊎ T p) (cond b (first ∷ []) [])
+    renamed_first true = (inr head_in, tt)
+    renamed_first false = tt
+
+    go : (b : Bool) → IsRemoved b size pages after first removes.previous page removes.held → EditsWithin pages after (λ p. (p ≡ 0) ⊎ T p)
+    go false effect = within-edits (λ p. (p ≡ 0) ⊎ T p) pages after (page ∷ []) effect.1 (inr here, tt)
+    go true effect =
+        within-edits (λ p. (p ≡ 0) ⊎ T p) pages after (removes.previous ∷ page ∷ 0 ∷ cond (removes.held.next == 0) (first ∷ []) []) effect.1
+        (before (previous-own size pages firsts indexes first page removes.previous removes.held well has removes.stood), (inr here, (inl refl, renamed_first (removes.held.next == 0))))
+
+-- rows that are taken out edit the pages of their table, and the root page
+pub removes-within : (T : ℕ → Type 0) (size : ℕ) (pages after : Pages) (firsts indexes : List ℕ) (first : ℕ) (rows : List Placed) (table : Table) (numbers : List ℕ) → ((page : ℕ) → T page → page < 2 ^ 32) → WellFormed size pages firsts indexes → Contains firsts first → IsTable size pages first table → StillThere first rows table numbers
+    → Closed T size pages → T first → AllByRecursion (λ (placed : Placed). T placed.page) table.rows → in_turn (row_removed size first rows) numbers pages (Ok (tt, after)) → EditsWithin pages after (λ p. (p ≡ 0) ⊎ T p)
+removes-within T size pages after firsts indexes first rows table [] small well has is there closed head_in on h = λ page. inl (ap (λ (p : Pages). p.at page) (sym (left_pages pages after h)), ap (λ (p : Pages). p.edited page) (sym (left_pages pages after h)))
+removes-within T size pages after firsts indexes first rows table (number ∷ numbers) small well has is there closed head_in on h =
+    let found = there.0.0 in
+    let work = taken_out size first rows found number pages (Ok h.0) there.0.1 there.0.3 h.1 in
+    let one = remove_law size pages firsts indexes first table found (Ok h.0) well has is there.0.2 work in
+    let here : T found.page = all-at (λ (placed : Placed). T placed.page) table.rows found on there.0.2 in
+    let without : IsTable size h.0.1 first (without_row table number) = subst (λ (n : ℕ). IsTable size h.0.1 first (without_row table n)) there.0.1 one.shows in
+    within-then (λ p. (p ≡ 0) ⊎ T p) (λ p. (p ≡ 0) ⊎ T p) (λ p. (p ≡ 0) ⊎ T p) pages h.0.1 after (λ p t. t) (λ p t. t)
+    (removed-within T size pages h.0.1 firsts indexes first table found.page found.number well has closed head_in here one)
+    (removes-within T size h.0.1 after firsts indexes first rows (without_row table number) numbers small one.well has without (still-without first rows table number numbers there.1 there.2)
+    (closed-removed T size pages h.0.1 closed small first found.page found.number head_in here work) head_in
+    (fitting-left (λ (placed : Placed). T placed.page) (λ (placed : Placed). not (placed.number == number)) table.rows on) h.2)

@@ -13,13 +13,14 @@ use Rattle.heap_file.specs.HeapPage.{entry_bytes}
 use Rattle.heap_laws.specs.Store.{free_pages, times}
 use Rattle.heap_laws.specs.Table.{EndsAt, Table}
 use Rattle.heap_laws.proofs.Making.{make_law}
-use Rattle.heap_laws.proofs.Reading.{ok-one}
+use Rattle.heap_laws.proofs.Reading.{ok-one, reads}
+use Rattle.heap_laws.proofs.Stores.{times-some}
 use Rattle.relation.specs.declared.catalog.StoredTable.{StoredTable}
 use Rattle.relation.specs.declared.catalog.TheConstants.{CATALOG}
 use Rattle.relation.specs.Catalog.{same_name}
 use Rattle.relation.specs.CatalogRow.{row_values}
 use Rattle.relation.specs.Each.{in_turn}
-use Rattle.relation.specs.Work.{all_added, created, deleted, inserted, row_changed, rows_at, rows_of_table, table_in, updated}
+use Rattle.relation.specs.Work.{all_added, created, deleted, inserted, row_changed, row_removed, rows_at, rows_of_table, table_in, updated}
 use Rattle.relation.proofs.Steps.{left_pages}
 use Rattle.relation_laws.specs.Laws.{AreChangesOf, AreNumbersOf, AreTableColumns, IsNewName, IsRowFor, IsStoreOf, with_changes, with_rows, with_table, without_rows}
 use Rattle.relation_laws.specs.Needs.{InsertNeeds, RowsNeed, UpdateNeeds, changes_open, next_pages, opened, taken_after}
@@ -29,10 +30,11 @@ use Rattle.relation_laws.specs.Work.{AreAllowed, AreWorked, Changes, Creates, Ed
 use Rattle.relation_laws.proofs.Catalogs.{goes-on}
 use Rattle.relation_laws.proofs.Counting.{needs_law}
 use Rattle.relation_laws.proofs.Creating.{create_law, ready}
-use Rattle.relation_laws.proofs.Deleting.{delete_law, still}
+use Rattle.relation_laws.proofs.Deleting.{delete_law, shrunk, still}
 use Rattle.relation_laws.proofs.Drawing.{next-first}
 use Rattle.relation_laws.proofs.Drawn.{make-draws}
 use Rattle.relation_laws.proofs.Inserting.{insert_law, storable-rows}
+use Rattle.relation_laws.proofs.Leaving.{chain-closed, page_in}
 use Rattle.relation_laws.proofs.Lists.{contains-cons, contains-head, contains-left, different-split, one-keyed}
 use Rattle.relation_laws.proofs.Names.{name-is}
 use Rattle.relation_laws.proofs.Needing.{ends-made, ends-one, ends-there, last-one, next-more, opened-same, rows-edit}
@@ -40,7 +42,7 @@ use Rattle.relation_laws.proofs.Reaching.{all-imp, own, own-first, own-last}
 use Rattle.relation_laws.proofs.Singling.{Single, by-name, firsts_of, has-catalog, has-first, named-here, named-in, pages_in, rows-here, rows-read, shown-here, single}
 use Rattle.relation_laws.proofs.Updating.{numbers_of, storable-changes, update_law}
 use Rattle.relation_laws.proofs.Weighing.{rows-own}
-use Rattle.relation_laws.proofs.Within.{all-contained, all-root, changes-within, own-page, within-edits, within-then}
+use Rattle.relation_laws.proofs.Within.{all-contained, all-root, changes-within, contains-times, own-page, removes-within, within-edits, within-then, within-wider}
 
 -- what is so of each item
 map-in : {A B : Type 0} (f g : A → B) (xs : List A) → ((x : A) → Contains xs x → f x ≡ g x) → map f xs ≡ map g xs
@@ -177,7 +179,29 @@ need-one size pages all (Removes name numbers) needs other is allowed = λ one t
 
 -- rows are taken out
 removed-within : (size : ℕ) (pages after : Pages) (all : PlainTables) (table : PlainTable) (numbers : List ℕ) → IsStoreOf size pages all → Contains all.tables table → AreNumbersOf table numbers → deleted size pages table.name numbers (Ok (tt, after)) → (free_pages size pages ≤ free_pages size after) × EditsWithin pages after (IsInReach size pages (Removes table.name numbers))
-removed-within size pages after all table numbers is has these work = ?
+removed-within size pages after all table numbers is has these work =
+    let firsts = firsts_of is.store.found in
+    let held = pages_in is.store.held in
+    let one = single size pages all table is has in
+    let among = has-first is.store.found one.stored one.has in
+    let read = reads size pages firsts held one.stored.first is.store.heap among in
+    let links = read.one.chain.links in
+    let T : ℕ → Type 0 = Contains (map page_in links) in
+    let before : Table = record { next_number = table.next_number; rows = one.shows.placed } in
+    let there = still one.stored.first before numbers (subst (λ (rows : List (ℕ × List Value)). AllByRecursion (λ (number : ℕ). Contains (map (λ (row : ℕ × List Value). row.0) rows) number) numbers) one.shows.rows these.0) these.1 in
+    let turns = goes-on (rows_at size pages one.stored) (λ rows. in_turn (row_removed size one.stored.first rows) numbers pages) one.shows.placed (rows-read size pages all table is one) (Ok (tt, after))
+    (by-name size pages all table is one (λ stored. rows_at size pages stored >>= λ rows. in_turn (row_removed size stored.first rows) numbers pages) (Ok (tt, after)) work) in
+    let shrinks = shrunk size pages after firsts held one.stored.first one.shows.placed before numbers is.store.heap among one.shows.is_table there turns in
+    let inside : (p : ℕ) → T p → 0 < times p (own size pages firsts held one.stored.first is.store.heap among) = λ p here. times-some (map page_in links) p here in
+    let contained : (p : ℕ) → 0 < times p (own size pages firsts held one.stored.first is.store.heap among) → T p = λ p some. contains-times (map page_in links) p some in
+    let edits = removes-within T size pages after firsts held one.stored.first one.shows.placed before numbers (λ p here. omega (arith, (read.inside p (inside p here)).1, is.store.heap.small)) is.store.heap among one.shows.is_table there
+    (chain-closed size pages one.stored.first links read.route.leads) (contained one.stored.first (own-first size pages firsts held one.stored.first is.store.heap among))
+    (all-imp (λ (p : Placed). 0 < times p.page (own size pages firsts held one.stored.first is.store.heap among)) (λ (p : Placed). T p.page) one.shows.placed (λ p some. contained p.page some) (rows-own size pages firsts held one.stored.first before is.store.heap among one.shows.is_table)) turns in
+    (shrinks.spares.turn, within-wider (λ p. (p ≡ 0) ⊎ T p) (IsInReach size pages (Removes table.name numbers)) pages after (λ p here. reached one p (inside p) here) edits)
+  where
+    reached : (one : Single size pages all table is) (p : ℕ) {T : Type 0} → (T → 0 < times p (own size pages (firsts_of is.store.found) (pages_in is.store.held) one.stored.first is.store.heap (has-first is.store.found one.stored one.has))) → (p ≡ 0) ⊎ T → IsInReach size pages (Removes table.name numbers) p
+    reached one p mine (inl none) = inl (inl none)
+    reached one p mine (inr here) = inl (inr (of-table size pages all table is one p (mine here)))
 
 -- one piece of work
 work-insert : (size : ℕ) (pages : Pages) (all : PlainTables) (table : PlainTable) (rows : List (List Value)) (answer : Result (Unit {0} × Pages) Refusal) → IsStoreOf size pages all → Contains all.tables table → AllByRecursion (IsRowFor table) rows → table.next_number + length rows < 2 ^ 64 → inserted size pages table.name rows answer → IsWorked size pages all (Inserts table.name rows) answer
