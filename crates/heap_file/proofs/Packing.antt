@@ -11,7 +11,7 @@ use Rattle.retro_base.proofs.FieldLaws.{length-field_bytes, number_at-field, num
 use Rattle.values.specs.declared.value.Value.{Value}
 use Rattle.retro_base.specs.declared.refusal.Refusal.{Refusal}
 use Rattle.retro_base.specs.declared.refusal.Refusal.TheVariants.{OutOfMemory}
-use Rattle.row_codec.specs.RowCode.{row_code, value_code, encoded, IsEncoded, IsDecoded}
+use Rattle.row_codec.specs.RowCode.{row_code, value_code, encoded, IsEncoded, IsDecoded, IsRow}
 use Rattle.row_codec.proofs.Codes.{same_parts, one_row}
 use Rattle.heap_file.specs.declared.page.Entry.{Entry}
 use Rattle.heap_file.specs.declared.page.HeapPage.{HeapPage}
@@ -30,6 +30,16 @@ field_of bytes small room =
       | inr le ↦ rw (get_or_past part i 0 (omega arith)) (omega arith)
     ] in
     be_bytes_2 part _ long fits (number_at-same 2 bytes part 0 0 (sym (take-take 2 2 bytes (omega arith))) ∙ omega arith)
+
+-- one more entry behind others
+pub length-push : (entries : List Entry) (entry : Entry) → length (entry_bytes (entries ++ entry ∷ [])) ≡ length (entry_bytes entries) + length (entry_code entry)
+length-push entries entry =
+    ap length (flat_map-append entry_code entries (entry ∷ [])) ∙ length-append (entry_bytes entries) (entry_code entry ++ []) ∙ ap (λ (bytes : List ℕ). length (entry_bytes entries) + length bytes) (append-nil (entry_code entry))
+
+-- the first of some entries take no more bytes than all
+pub length-taken : (entries : List Entry) (count : ℕ) → length (entry_bytes (take count entries)) ≤ length (entry_bytes entries)
+length-taken entries count =
+    omega (arith, ap (λ (es : List Entry). length (entry_bytes es)) (take-append-drop count entries), ap length (flat_map-append entry_code (take count entries) (drop count entries)), length-append (entry_bytes (take count entries)) (entry_bytes (drop count entries)))
 
 -- an entry and bytes behind it
 entry_front : (entry : Entry) (behind : List ℕ) → entry_code entry ++ behind ≡ field_bytes 2 (length (row_code entry.number entry.row)) ++ (row_code entry.number entry.row ++ behind)
@@ -229,6 +239,17 @@ short_entry entry is = record {
   some = is.lawful.some;
   few = is.lawful.few;
   short = omega (arith, row_length entry.number 0 entry.row, is.short);
+}
+
+-- a row that can be stored, under a number
+pub entry_is : (entry : Entry) → entry.number < 2 ^ 64 → IsRow entry.row → IsShort entry.row → IsEntry entry
+entry_is entry fits row is = record { fits = fits; lawful = row; code = refl; short = omega (arith, row_length entry.number 0 entry.row, is.short) }
+
+-- a page with one more entry at its end can be written where it fits
+pub pushed_fits : (page : HeapPage) (entry : Entry) → IsHeapPage page → IsEntry entry → length (entry_bytes (page.entries ++ entry ∷ [])) ≤ 1004 → IsHeapPage (record page { entries = page.entries ++ entry ∷ [] })
+pushed_fits page entry is one room = record {
+  lawful = recursion_from_All IsEntry (page.entries ++ entry ∷ []) (All-append IsEntry page.entries (entry ∷ []) (All-from_recursion IsEntry page.entries is.lawful) (All-from_recursion IsEntry (entry ∷ []) (one, tt)));
+  fits = room;
 }
 
 -- one of some entries

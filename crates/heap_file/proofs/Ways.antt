@@ -1,5 +1,5 @@
 -- Ways along chains, and refusals that are handed on.
-use Rattle.std.proofs.Common.{◌≡◌, ◌≢◌, ◌&&◌, not, ◌<◌, ◌++◌, ℕ, zero, suc, true, false, List, [], ◌∷◌, length, get_or, Option, Some, None, Result, Ok, Err, eqb, inl, inr, refl, sym, subst, arith}
+use Rattle.std.proofs.Common.{◌≡◌, ◌≢◌, ◌&&◌, not, ◌<◌, ◌++◌, ℕ, zero, suc, true, false, List, [], ◌∷◌, length, get_or, Some, None, Result, Ok, Err, eqb, inl, inr, refl, sym, subst, arith}
 use Rattle.std.proofs.lemmas.Bool.{lt-ltb, eq-eqb, ne_eqb}
 use Rattle.retro_base.specs.declared.refusal.Refusal.{Refusal}
 use Rattle.pager.specs.Pages.{Pages, written}

@@ -1,6 +1,6 @@
 //! The calls on a draft: no page is edited before the draft is written.
 
-ghost use Rattle.std.specs.Prelude.{◌≡◌, ◌≤◌, ◌<◌, ◌==◌, ◌&&◌, ◌++◌, ◌∷◌, [], not, IsTrue, IfErr, IfOk, OnOk, length};
+ghost use Rattle.std.specs.Prelude.{◌≡◌, ◌≤◌, ◌<◌, ◌^◌, ◌==◌, ◌&&◌, ◌++◌, ◌∷◌, [], not, IsTrue, IfErr, IfOk, OnOk, length};
 ghost use Rattle.retro_base.specs.declared.refusal.Refusal.TheVariants.{OutOfMemory};
 ghost use Rattle.pager.specs.Draft.{drafted, Drafts, Reads};
 ghost use Rattle.pager.specs.Pages.{Pages, written};
@@ -112,6 +112,7 @@ fn append<P: Pager>(
     entry: Entry,
 ) -> Result<u32, Stop<P::Fault>>
     requires size { draft.old.size ≡ P.size pager.old }
+    requires number { entry.number < 2 ^ 64 }
     requires entry { IsShort entry.row }
     ensures appended { Drafts (λ page. page) (P.tells pager.new) draft.old.list draft.new.list (λ pages. appended draft.old.size pages first entry) result }
     ensures only_reads { OnlyDrafts P.tells P.goes P.size P.faults pager.old pager.new result }
@@ -123,7 +124,7 @@ fn append<P: Pager>(
     if tail.next != 0 {
         return Err(Stop::Refused(broken(last)));
     }
-    if !has_room(alloc, tail.entries.as_slice(), &entry)? {
+    if !has_room(tail.entries.as_slice(), &entry) {
         return lengthen(alloc, pager, draft, first, last, tail, entry);
     }
     tail.entries.push(entry)?;
@@ -350,7 +351,7 @@ pub fn change<P: Pager>(
     let rest = without(held, place);
     let row = row.copy(alloc)?;
     let entry = Entry { number, row };
-    if !has_room(alloc, rest.entries.as_slice(), &entry)? {
+    if !has_room(rest.entries.as_slice(), &entry) {
         store(alloc, draft, page, &rest)?;
         return append(alloc, pager, draft, first, entry);
     }

@@ -12,4 +12,4 @@ mod tests;
 
 pub use calls::{add, change, get, make, next_number, remove, scan};
 pub use chain::Placed;
-pub use laws::{holds_one, written_holds, zero_is_empty};
+pub use laws::{answers_are_one, holds_one, written_holds, zero_is_empty};

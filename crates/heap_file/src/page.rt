@@ -1,14 +1,15 @@
 //! Heap pages and their bytes.
 
-ghost use Rattle.std.specs.Prelude.{◌≡◌, ◌++◌, ◌∷◌, [], IfErr, IfOk, IfSome, OnOk};
+ghost use Rattle.std.specs.Prelude.{◌≡◌, ◌≤◌, ◌++◌, ◌∷◌, [], IfErr, IfOk, IfSome, OnOk, length};
 ghost use Rattle.retro_base.specs.declared.refusal.Refusal.TheVariants.{OutOfMemory};
 ghost use Rattle.heap_file.specs.Work.{fits};
-ghost use Rattle.heap_file.specs.HeapPage.{IsEntry, IsHeapPage, IsHeld, IsShort, entry_bytes, entry_code, page_bytes};
+ghost use Rattle.heap_file.specs.HeapPage.{Fits, IsEntry, IsHeapPage, IsHeld, IsShort, entry_bytes, entry_code, page_bytes};
 ghost use Rattle.std.specs.List.{AllByRecursion};
+ghost use Rattle.row_codec.specs.RowCode.{IsRow};
 
 use crate::entries::first_entries;
 use retro_base::{PAGE_BYTES, Page, Refusal, get_u16, get_u32, get_u64};
-use row_codec::encode;
+use row_codec::{encode, encoded_length};
 use std::alloc::Global;
 use values::{Row, Seq};
 
@@ -74,16 +75,37 @@ pub fn page_of(alloc: Global, held: &HeapPage) -> Result<Page, Refusal>
 }
 
 /// Whether one more entry fits in a page with these.
-pub fn has_room(alloc: Global, entries: &[Entry], entry: &Entry) -> Result<bool, Refusal>
+pub fn has_room(entries: &[Entry], entry: &Entry) -> bool
     requires entries { AllByRecursion IsEntry entries.now }
+    requires fits { Fits entries.now }
     requires short { IsShort entry.now.row }
-    ensures room { IfOk result (λ room. room ≡ fits (entries.now ++ entry.now ∷ [])) }
-    ensures lawful { OnOk result (IsEntry entry.now) }
-    ensures memory { IfErr result (λ why. why ≡ OutOfMemory) }
+    ensures room { result ≡ fits (entries.now ++ entry.now ∷ []) }
+    ensures row { IsRow entry.now.row }
 {
-    let mut bytes = entry_bytes(alloc, entries)?;
-    push_entry(alloc, entry, &mut bytes)?;
-    Ok(bytes.len() <= PAGE_BYTES - HEADER_BYTES)
+    entries_length(entries) + entry_length(entry) <= PAGE_BYTES - HEADER_BYTES
+}
+
+// How many bytes entries take.
+fn entries_length(entries: &[Entry]) -> usize
+    requires entries { AllByRecursion IsEntry entries.now }
+    requires fits { Fits entries.now }
+    ensures { length (entry_bytes entries.now) ≡ result }
+{
+    let mut length = 0;
+    for entry in entries {
+        length += entry_length(entry);
+    }
+    length
+}
+
+// How many bytes an entry takes.
+fn entry_length(entry: &Entry) -> usize
+    requires { IsShort entry.now.row }
+    ensures length { length (entry_code entry.now) ≡ result }
+    ensures short { result ≤ 902 }
+    ensures row { IsRow entry.now.row }
+{
+    2 + encoded_length(&entry.row)
 }
 
 // The bytes that entries take.
@@ -92,7 +114,7 @@ fn entry_bytes(alloc: Global, entries: &[Entry]) -> Result<Vec<u8>, Refusal>
     ensures bytes { IfOk result (λ bytes. bytes.items ≡ entry_bytes entries.now) }
     ensures memory { IfErr result (λ why. why ≡ OutOfMemory) }
 {
-    let mut bytes = Vec::new(alloc);
+    let mut bytes = Vec::with_capacity(alloc, PAGE_BYTES)?;
     for entry in entries {
         push_entry(alloc, entry, &mut bytes)?;
     }

@@ -17,7 +17,7 @@ use Rattle.heap_file.specs.declared.chain.Link.{Link}
 use Rattle.heap_file.specs.declared.chain.Placed.{Placed}
 use Rattle.heap_file.specs.Chain.{InOrder, last_page, met, rows_of}
 use Rattle.heap_file.specs.HeapPage.{IsEntry, page_bytes}
-use Rattle.heap_file.specs.Work.{appended, changed, IsPlace, without}
+use Rattle.heap_file.specs.Work.{appended, IsPlace, without}
 use Rattle.heap_file.proofs.Packing.{with_fits, without_fits}
 use Rattle.heap_laws.specs.Laws.{Answers, ChangeLaw}
 use Rattle.heap_laws.specs.Store.{IsSized, WellFormed, end_of, next_free, times, times_numbered}
@@ -26,6 +26,7 @@ use Rattle.heap_laws.proofs.Adding.{IsPut, numbered-push, Put, put-answer, tail-
 use Rattle.heap_laws.proofs.Appending.{head-sized, storable-entry, update-head}
 use Rattle.heap_laws.proofs.Counts.{keyed, keyed-append, keyed-cons, keyed-gone, keyed-other, keyed-same, one_if, others, others-append, others-none, others-same, split_at}
 use Rattle.heap_laws.proofs.Editing.{edits-none, edits-write, finish, Finished, free-same}
+use Rattle.heap_laws.proofs.Meeting.{changed-met, changed_met, Meets, meets}
 use Rattle.heap_laws.proofs.Orders.{number_of}
 use Rattle.heap_laws.proofs.Reading.{ok-err, ok-one, Reads, reads, rows-numbered, rows-read}
 use Rattle.heap_laws.proofs.Removing.{place-there, rest-are, take-out}
@@ -236,7 +237,7 @@ moved-effect size pages out after first page last to false root edits (takes, pu
     next-same = rw root refl
 
 pub change_law : ChangeLaw
-change_law size pages firsts indexes first table placed row answer well has shows among_rows storable work = go answer work
+change_law size pages firsts indexes first table placed row answer well has shows among_rows storable work = go answer (changed-met size pages first placed.page (record { number = placed.number; row = row }) met_there answer work)
   where
     is : IsEntry (record { number = placed.number; row = row })
     is =
@@ -250,6 +251,9 @@ change_law size pages firsts indexes first table placed row answer well has show
         let read = reads size pages firsts indexes first well has in
         let rows = rows-read size pages first table read.one.chain.links read.one.lawful.head shows read.route.leads read.head_at in
         standing read.one.chain.links placed (Contains-permutation table.rows (rows_of read.one.chain.links) placed (IsPermutation-sym (rows_of read.one.chain.links) table.rows rows.permutation) among_rows)
+
+    met_there : Meets size pages first placed.page
+    met_there = let read = reads size pages firsts indexes first well has in meets size pages first read.one.chain.links placed read.route read.few stands
 
     out_of : (found : ℕ × HeapPage) (place : ℕ) → met size pages first placed.page (Ok found) → IsPlace placed.number found.1.entries (Some place) → Finished size pages (written pages placed.page (page_bytes (without found.1 place))) firsts indexes first (without_row table placed.number)
     out_of found place at here =
@@ -265,7 +269,7 @@ change_law size pages firsts indexes first table placed row answer well has show
     root_of_out : (found : ℕ × HeapPage) (place : ℕ) → met size pages first placed.page (Ok found) → IsPlace placed.number found.1.entries (Some place) → (written pages placed.page (page_bytes (without found.1 place))).at 0 ≡ pages.at 0
     root_of_out found place at here = written-other pages placed.page 0 (page_bytes (without found.1 place)) (λ e. absurd (omega (arith, e, there_of found place at here)))
 
-    go : (answer : Result (ℕ × Pages) Refusal) → changed size pages first placed.page (record { number = placed.number; row = row }) answer
+    go : (answer : Result (ℕ × Pages) Refusal) → changed_met size pages first placed.page (record { number = placed.number; row = row }) answer
         → Answers size (λ to after. Changes size pages firsts indexes first table placed.page (record { number = placed.number; row = row }) to after) (ChangeIsFull size pages first placed.page (record { number = placed.number; row = row })) answer
     go (Ok y) (found, at, (place, here, work)) = choose (has_room (without found.1 place) (record { number = placed.number; row = row })) refl work
       where

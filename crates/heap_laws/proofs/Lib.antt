@@ -6,6 +6,7 @@ pub mod Editing
 pub mod Fresh
 pub mod Indexing
 pub mod Making
+pub mod Meeting
 pub mod Ones
 pub mod Orders
 pub mod Reading
@@ -14,4 +15,5 @@ pub mod Roots
 pub mod Routes
 pub mod Rows
 pub mod Spotting
+pub mod Starting
 pub mod Stores

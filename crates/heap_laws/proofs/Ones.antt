@@ -147,7 +147,7 @@ chains-one size pages first links others a b = leads-one size size pages first l
 none-stands : (links : List Link) (page previous : ℕ) (held : HeapPage) → StandsIn links page previous held → ((k : ℕ) (d : Link) → k < length links → (get_or links k d).page ≡ page → ⊥) → ⊥
 none-stands links page previous held in_ none = none in_.place (link_of page held) in_.there (ap (λ (l : Link). l.page) (in_.here (link_of page held)))
 
-met-one : (size : ℕ) (pages : Pages) (first page : ℕ) → IsOne (met size pages first page)
+pub met-one : (size : ℕ) (pages : Pages) (first page : ℕ) → IsOne (met size pages first page)
 met-one size pages first page (Ok x) (Ok y) (links, whole, at) (others, also, there) =
     let same = stands-one others page x.0 y.0 x.1 y.1 (subst (λ (l : List Link). StandsIn l page x.0 x.1) (chains-one size pages first links others whole also) at) there in
     ap (λ (f : ℕ × HeapPage). Ok f) (pair same.0 same.1)
@@ -193,6 +193,7 @@ unlinked-one size pages first previous page next = next-one _ _ (page-one _ _ _)
 
 pub chain_answers_are_one : ChainAnswersAreOne
 chain_answers_are_one = record {
-  remove = λ size pages first page number. next-one _ _ (met-one size pages first page) (λ found. next-one _ _ (place-one page number found.1.entries) (λ place. either-one _ _ _ (unlinked-one size pages first found.0 page found.1.next) (only-one _)));
-  change = λ size pages first page entry. next-one _ _ (met-one size pages first page) (λ found. next-one _ _ (place-one page entry.number found.1.entries) (λ place. either-one _ _ _ (only-one _) (appended-one size _ first entry)));
+  remove = λ size pages first page number. next-one _ _ (page-one size pages page) (λ held. next-one _ _ (place-one page number held.entries) (λ place.
+      either-one _ _ _ (next-one _ _ (met-one size pages first page) (λ found. unlinked-one size pages first found.0 page held.next)) (only-one _)));
+  change = λ size pages first page entry. next-one _ _ (page-one size pages page) (λ held. next-one _ _ (place-one page entry.number held.entries) (λ place. either-one _ _ _ (only-one _) (appended-one size _ first entry)));
 }

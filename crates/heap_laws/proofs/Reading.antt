@@ -1,8 +1,9 @@
 -- What is read of a table of a well-formed store.
-use Rattle.std.proofs.Common.{◌≡◌, ◌<◌, ◌≤◌, ◌+◌, ◌∙◌, ℕ, suc, List, [], ◌∷◌, length, flat_map, Option, Some, Result, Ok, Err, inl, inr, refl, sym, ap, arith, subst, eq-eqb}
+use Rattle.std.proofs.Common.{◌≡◌, ◌<◌, ◌≤◌, ◌+◌, ◌∙◌, ℕ, zero, suc, List, [], ◌∷◌, length, get_or, flat_map, Option, Some, Result, Ok, Err, inl, inr, refl, sym, ap, arith, subst, eq-eqb}
 use Rattle.std.specs.List.{Contains}
 use Rattle.std.specs.List.Sorted.{IsPermutation, IsNonDecreasingBy}
 use Rattle.std.proofs.lemmas.List.Sorted.{Contains-permutation, IsPermutation-sym, IsPermutation-trans}
+use Rattle.std.proofs.lemmas.Bool.{cases_lt}
 use Rattle.retro_base.specs.declared.refusal.Refusal.{Refusal}
 use Rattle.values.specs.declared.value.Value.{Value}
 use Rattle.pager.specs.Pages.{Pages}
@@ -15,15 +16,15 @@ use Rattle.heap_file.specs.Chain.{chain, GoesOn, IsAt, last_page, Leads, rows_of
 use Rattle.heap_file.specs.Work.{got, next_of}
 use Rattle.heap_laws.specs.Laws.{ReadLaw}
 use Rattle.heap_laws.specs.Store.{Chain, WellFormed, end_of, pages_of, pages_held, root_at, times, times_numbered}
-use Rattle.heap_laws.specs.Table.{EndsAt, Table, IsTable}
+use Rattle.heap_laws.specs.Table.{EndsAt, Table, IsNumbered, IsTable}
 use Rattle.heap_laws.proofs.Appending.{end_link}
 use Rattle.heap_laws.proofs.Counts.{one_if, pigeons}
-use Rattle.heap_laws.proofs.Orders.{sorted-one}
+use Rattle.heap_laws.proofs.Orders.{number_of, sorted-one}
 use Rattle.heap_laws.proofs.Roots.{root-is}
 use Rattle.heap_laws.proofs.Routes.{at-one, around, first_link, IsRoute, leads-one, link_of, pages_on}
-use Rattle.heap_laws.proofs.Rows.{entries_numbered, entry_of, numbered-middle, numbered-on, numbered-permutation, row-of, standing}
+use Rattle.heap_laws.proofs.Rows.{entries_numbered, entry_of, keyed-at, numbered-middle, numbered-on, numbered-permutation, row-of, standing}
 use Rattle.heap_laws.proofs.Stores.{Among, among, times-chains}
-use Rattle.heap_laws.proofs.Counts.{keyed-middle}
+use Rattle.heap_laws.proofs.Counts.{keyed-cons, keyed-middle, keyed-same}
 
 -- a table of a store, singled out, with its way
 pub record Reads (size : ℕ) (pages : Pages) (firsts indexes : List ℕ) (first : ℕ) (well : WellFormed size pages firsts indexes) : Type 0 where
@@ -120,6 +121,29 @@ rows-numbered size pages firsts indexes first table well has shows number =
     let same = numbered-permutation number (rows_of read.one.chain.links) table.rows rows.permutation in
     (omega (arith, same, lawful.differ number), λ some. omega (arith, lawful.below number (omega (arith, some, same)), rows.next_number))
 
+-- a key that stands at two places
+keyed-two : (xs : List Placed) (i j : ℕ) (d : Placed) → i < j → j < length xs → (get_or xs i d).number ≡ (get_or xs j d).number → 2 ≤ times_numbered (get_or xs j d).number xs
+keyed-two [] i j d lt inside same = absurd (omega (arith, inside))
+keyed-two (x ∷ xs) i zero d lt inside same = absurd (omega (arith, lt))
+keyed-two (x ∷ xs) zero (suc j) d lt inside same =
+    omega (arith, keyed-same number_of (get_or xs j d).number x xs same, keyed-at number_of xs j d (omega (arith, inside)))
+keyed-two (x ∷ xs) (suc i) (suc j) d lt inside same =
+    omega (arith, keyed-two xs i j d (omega (arith, lt)) (omega (arith, inside)) same, keyed-cons number_of (get_or xs j d).number x xs)
+
+-- the row numbers rise, and lie below the next one
+numbered : (size : ℕ) (pages : Pages) (firsts indexes : List ℕ) (first : ℕ) (table : Table) → WellFormed size pages firsts indexes → Contains firsts first → IsTable size pages first table → IsNumbered table
+numbered size pages firsts indexes first table well has shows =
+    let all = rows-numbered size pages firsts indexes first table well has shows in
+    record {
+      rise = λ i j d lt inside. elim (cases_lt (get_or table.rows i d).number (get_or table.rows j d).number) [
+        | inl less ↦ less
+        | inr least ↦
+            let up : (get_or table.rows i d).number ≤ (get_or table.rows j d).number = shows.rows.2.1 i j d (omega (arith, lt)) inside in
+            absurd (omega (arith, (all (get_or table.rows j d).number).0, keyed-two table.rows i j d lt inside (omega (arith, up, least))))
+      ];
+      below = λ i d inside. (all (get_or table.rows i d).number).1 (keyed-at number_of table.rows i d inside);
+    }
+
 -- a row is found on its page
 pub row-got : (size : ℕ) (pages : Pages) (firsts indexes : List ℕ) (first : ℕ) (table : Table) (placed : Placed) (well : WellFormed size pages firsts indexes) → Contains firsts first → IsTable size pages first table
     → Contains table.rows placed → got size pages placed.page placed.number (Ok (Some placed.row))
@@ -178,6 +202,7 @@ read_law = record {
       let read = reads size pages firsts indexes first well has in
       next-never size pages first read.one.lawful.head why read.head_at refused;
   numbers = rows-numbered;
+  numbered = numbered;
   get = row-got;
   rows_one = rows-one;
   last = named-last;

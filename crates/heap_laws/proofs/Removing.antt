@@ -1,5 +1,5 @@
 -- A row is taken out of a table of a well-formed store.
-use Rattle.std.proofs.Common.{◌≡◌, ◌<◌, ◌≤◌, ◌+◌, ◌++◌, ◌∙◌, ◌&&◌, ◌||◌, ℕ, suc, Bool, true, false, not, cond, eqb, List, [], ◌∷◌, length, map, Result, Ok, Err, inl, inr, refl, sym, ap, arith, subst, eq-eqb, ne_eqb, append_assoc, append-nil, length-append}
+use Rattle.std.proofs.Common.{◌≡◌, ◌<◌, ◌≤◌, ◌+◌, ◌++◌, ◌∙◌, ◌&&◌, ◌||◌, ℕ, suc, Bool, true, false, not, cond, eqb, List, [], ◌∷◌, length, map, Some, Result, Ok, Err, inl, inr, refl, sym, ap, arith, subst, eq-eqb, ne_eqb, append_assoc, append-nil, length-append}
 use Rattle.std.specs.List.{Contains, list_any, remove}
 use Rattle.std.proofs.lemmas.Bool.{eqb-true}
 use Rattle.std.proofs.lemmas.Bool.Decides.{eqb_tells}
@@ -14,7 +14,8 @@ use Rattle.heap_file.specs.declared.chain.Link.{Link}
 use Rattle.heap_file.specs.declared.chain.Placed.{Placed}
 use Rattle.heap_file.specs.Chain.{heap_page, InOrder, IsAt, last_page, Leads, met, rows_of, rows_on}
 use Rattle.heap_file.specs.HeapPage.{page_bytes}
-use Rattle.heap_file.specs.Work.{last_field, removed, renamed, unlinked, without}
+use Rattle.heap_file.specs.Work.{IsPlace, last_field, place_in, removed, renamed, unlinked, without}
+use Rattle.heap_file.proofs.Ones.{differ}
 use Rattle.heap_file.proofs.Packing.{without_fits}
 use Rattle.heap_laws.specs.Laws.{Answers, RemoveLaw}
 use Rattle.heap_laws.specs.Store.{IsSized, WellFormed, end_of, times, times_numbered}
@@ -23,6 +24,8 @@ use Rattle.heap_laws.proofs.Adding.{not-broken}
 use Rattle.heap_laws.proofs.Appending.{first-there, head-sized, last-sized, next-sized, rehead, update-head}
 use Rattle.heap_laws.proofs.Counts.{keyed-gone, keyed-left, one_if, others}
 use Rattle.heap_laws.proofs.Editing.{edits-as, edits-none, edits-write, finish, Finished, free-same}
+use Rattle.heap_laws.proofs.Meeting.{Meets, meets}
+use Rattle.heap_laws.proofs.Ones.{met-one}
 use Rattle.heap_laws.proofs.Orders.{number_of, order-others}
 use Rattle.heap_laws.proofs.Reading.{ok-err, ok-one, Reads, reads, rows-read, Same}
 use Rattle.heap_laws.proofs.Roots.{freed-well}
@@ -514,8 +517,65 @@ unlinked-never size pages firsts indexes first table page number previous held p
         let free = freed-well size named.1 firsts indexes page past_.done.well in
         ok-err (sym free.1 ∙ freed_)
 
+-- a row is taken out of the page where it was met
+abbrev removed_on : ℕ → Pages → ℕ → ℕ → ℕ → HeapPage → Result (Unit {0} × Pages) Refusal → Type 0
+removed_on size pages first page number held =
+    place_in page number held.entries >>= λ place.
+    either (not (eqb page first) && eqb (length (without held place).entries) 0)
+    (met size pages first page >>= λ found. unlinked size pages first found.0 page held.next)
+    (only (Ok (tt, written pages page (page_bytes (without held place)))))
+
+abbrev removed_met : ℕ → Pages → ℕ → ℕ → ℕ → Result (Unit {0} × Pages) Refusal → Type 0
+removed_met size pages first page number =
+    met size pages first page >>= λ found.
+    place_in page number found.1.entries >>= λ place.
+    either (not (eqb found.0 0) && eqb (length (without found.1 place).entries) 0)
+    (unlinked size pages first found.0 page found.1.next)
+    (only (Ok (tt, written pages page (page_bytes (without found.1 place)))))
+
+removed-met : (size : ℕ) (pages : Pages) (first : ℕ) (links : List Link) (head : HeapPage) (page number : ℕ) (meets : Meets size pages first page) → IsRoute size pages first links → IsAt size pages first head
+    → (a : Result (Unit {0} × Pages) Refusal) → removed size pages first page number a → removed_met size pages first page number a
+removed-met size pages first links head page number meets route at_first a work = go a work
+  where
+    previous_is : (found : ℕ × HeapPage) → met size pages first page (Ok found) → found.0 ≡ meets.previous
+    previous_is found at = one (met-one size pages first page (Ok found) (Ok (meets.previous, meets.held)) at meets.found)
+      where
+        one : Same {A = ℕ × HeapPage} (Ok found) (Ok (meets.previous, meets.held)) → found.0 ≡ meets.previous
+        one e = cc
+
+    relink : (place : ℕ) (b : Bool) (a : Result (Unit {0} × Pages) Refusal)
+        → either b (met size pages first page >>= λ found. unlinked size pages first found.0 page meets.held.next) (only (Ok (tt, written pages page (page_bytes (without meets.held place))))) a
+        → either b (unlinked size pages first meets.previous page meets.held.next) (only (Ok (tt, written pages page (page_bytes (without meets.held place))))) a
+    relink place true (Ok y) (found, at, h) = subst (λ (p : ℕ). unlinked size pages first p page meets.held.next (Ok y)) (previous_is found at) h
+    relink place true (Err why) (inl refused) = differ (meets.previous, meets.held) why (met-one size pages first page (Ok (meets.previous, meets.held)) (Err why) meets.found refused)
+    relink place true (Err why) (inr (found, at, h)) = subst (λ (p : ℕ). unlinked size pages first p page meets.held.next (Err why)) (previous_is found at) h
+    relink place false a h = h
+
+    turned : (place : ℕ) → IsPlace number meets.held.entries (Some place) → (a : Result (Unit {0} × Pages) Refusal)
+        → either (not (eqb page first) && eqb (length (without meets.held place).entries) 0) (met size pages first page >>= λ found. unlinked size pages first found.0 page meets.held.next) (only (Ok (tt, written pages page (page_bytes (without meets.held place))))) a
+        → either (not (eqb meets.previous 0) && eqb (length (without meets.held place).entries) 0) (unlinked size pages first meets.previous page meets.held.next) (only (Ok (tt, written pages page (page_bytes (without meets.held place))))) a
+    turned place is a h =
+        let it = spot size pages first page number meets.previous place meets.held links route.leads meets.found is in
+        subst (λ (b : Bool). either (not b && eqb (length (without meets.held place).entries) 0) (unlinked size pages first meets.previous page meets.held.next) (only (Ok (tt, written pages page (page_bytes (without meets.held place))))) a)
+        (sym (first-page size pages first links head page number meets.previous meets.held place route at_first it))
+        (relink place (not (eqb page first) && eqb (length (without meets.held place).entries) 0) a h)
+
+    same : (held : HeapPage) → IsAt size pages page held → (a : Result (Unit {0} × Pages) Refusal) → removed_on size pages first page number held a → removed_on size pages first page number meets.held a
+    same held at a h = subst (λ (q : HeapPage). removed_on size pages first page number q a) (at-one size size pages page held meets.held at meets.at) h
+
+    go : (a : Result (Unit {0} × Pages) Refusal) → removed size pages first page number a → removed_met size pages first page number a
+    go (Ok y) (held, at, h) = let rest = same held at (Ok y) h in ((meets.previous, meets.held), meets.found, (rest.0, rest.1, turned rest.0 rest.1 (Ok y) rest.2))
+    go (Err why) (inl broken) = absurd (broken.1 meets.held meets.at)
+    go (Err why) (inr (held, at, h)) =
+        inr ((meets.previous, meets.held), meets.found, elim (same held at (Err why) h) [
+          | inl refused ↦ inl refused
+          | inr rest ↦ inr (rest.0, rest.1, turned rest.0 rest.1 (Err why) rest.2)
+        ])
+
 pub remove_law : RemoveLaw
-remove_law size pages firsts indexes first table placed answer well has shows among_rows work = go answer work
+remove_law size pages firsts indexes first table placed answer well has shows among_rows work =
+    let read = reads size pages firsts indexes first well has in
+    go answer (removed-met size pages first read.one.chain.links read.one.lawful.head placed.page placed.number (meets size pages first read.one.chain.links placed read.route read.few stands) read.route read.head_at answer work)
   where
     stands : Standing (reads size pages firsts indexes first well has).one.chain.links placed
     stands =
@@ -523,7 +583,7 @@ remove_law size pages firsts indexes first table placed answer well has shows am
         let rows = rows-read size pages first table read.one.chain.links read.one.lawful.head shows read.route.leads read.head_at in
         standing read.one.chain.links placed (Contains-permutation table.rows (rows_of read.one.chain.links) placed (IsPermutation-sym (rows_of read.one.chain.links) table.rows rows.permutation) among_rows)
 
-    go : (answer : Result (Unit {0} × Pages) Refusal) → removed size pages first placed.page placed.number answer → Answers size (λ u after. Removes size pages firsts indexes first table placed.page placed.number after) ⊥ answer
+    go : (answer : Result (Unit {0} × Pages) Refusal) → removed_met size pages first placed.page placed.number answer → Answers size (λ u after. Removes size pages firsts indexes first table placed.page placed.number after) ⊥ answer
     go (Ok y) (found, at, (place, is, work)) = choose (not (eqb found.0 0) && eqb (length (without found.1 place).entries) 0) refl work
       where
         it : Spot (reads size pages firsts indexes first well has).one.chain.links placed.page placed.number found.0 found.1 place

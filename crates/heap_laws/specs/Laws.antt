@@ -15,7 +15,7 @@ use Rattle.heap_file.specs.HeapPage.{Holds}
 use Rattle.heap_file.specs.Laws.{IsOne}
 use Rattle.heap_file.specs.Work.{added, changed, got, made, next_of, removed}
 use Rattle.heap_laws.specs.Store.{IsSized, WellFormed, end_of, free_pages, times_numbered}
-use Rattle.heap_laws.specs.Table.{AllStay, Edits, EndsAt, Table, Takes, IsTable, IsStorable, Adds, AddIsFull, Makes, Removes, Changes, ChangeIsFull}
+use Rattle.heap_laws.specs.Table.{AllStay, Edits, EndsAt, Table, Takes, IsNumbered, IsTable, IsStorable, Adds, AddIsFull, Makes, Removes, Changes, ChangeIsFull}
 
 -- an answer with the pages after it is this, and a refusal is want of pages, as this says
 abbrev pub Answers : {A : Type 0} → ℕ → (A → Pages → Type 0) → Type 0 → Result (A × Pages) Refusal → Type 0
@@ -62,21 +62,22 @@ pub record ReadLaw : Type 0 where
   pub next_number : (size : ℕ) (pages : Pages) (firsts indexes : List ℕ) (first : ℕ) (why : Refusal) → WellFormed size pages firsts indexes → Contains firsts first → next_of size pages first (Err why) → ⊥
   pub numbers : (size : ℕ) (pages : Pages) (firsts indexes : List ℕ) (first : ℕ) (table : Table) → WellFormed size pages firsts indexes → Contains firsts first → IsTable size pages first table
       → (number : ℕ) → (times_numbered number table.rows ≤ 1) × (0 < times_numbered number table.rows → number < table.next_number)
+  pub numbered : (size : ℕ) (pages : Pages) (firsts indexes : List ℕ) (first : ℕ) (table : Table) → WellFormed size pages firsts indexes → Contains firsts first → IsTable size pages first table → IsNumbered table
   pub get : (size : ℕ) (pages : Pages) (firsts indexes : List ℕ) (first : ℕ) (table : Table) (placed : Placed) → WellFormed size pages firsts indexes → Contains firsts first → IsTable size pages first table
       → Contains table.rows placed → got size pages placed.page placed.number (Ok (Some placed.row))
   pub rows_one : (size : ℕ) (pages : Pages) (firsts indexes : List ℕ) (first : ℕ) → WellFormed size pages firsts indexes → Contains firsts first → IsOne (scanned size pages first)
   pub last : (size : ℕ) (pages : Pages) (firsts indexes : List ℕ) (first last : ℕ) (tail : HeapPage) → WellFormed size pages firsts indexes → Contains firsts first → EndsAt size pages first last tail
       → (links : List Link) × chain size pages first (Ok links) × (end_of first links ≡ last) × (tail.next ≡ 0)
 
--- all pages zero, as in a store that was never written
-abbrev pub all_zero : Pages
-all_zero = record { at = λ page. replicate 1024 0; edited = λ page. false }
+-- every page of the store is zero, as where it was never written
+abbrev pub AreZero : ℕ → Pages → Type 0
+AreZero size pages = (page : ℕ) → page < size → pages.at page ≡ replicate 1024 0
 
 -- A store of zero pages is well-formed, without a table and also with the one that begins with page 1, which has no row.
 pub record FreshLaw : Type 0 where
-  pub none : (size : ℕ) → 2 ≤ size → size < 2 ^ 32 → WellFormed size all_zero [] []
-  pub catalog : (size : ℕ) → 2 ≤ size → size < 2 ^ 32 → WellFormed size all_zero (1 ∷ []) []
-  pub empty : (size : ℕ) → 2 ≤ size → IsTable size all_zero 1 (record { next_number = 0; rows = [] })
+  pub none : (size : ℕ) (pages : Pages) → AreZero size pages → 2 ≤ size → size < 2 ^ 32 → WellFormed size pages [] []
+  pub catalog : (size : ℕ) (pages : Pages) → AreZero size pages → 2 ≤ size → size < 2 ^ 32 → WellFormed size pages (1 ∷ []) []
+  pub empty : (size : ℕ) (pages : Pages) → AreZero size pages → 2 ≤ size → IsTable size pages 1 (record { next_number = 0; rows = [] })
 
 -- A page of bytes holds only what can be written again.
 abbrev pub SizedLaw : Type 0

@@ -1,5 +1,5 @@
 -- What a call does to a table as a whole, and to the store around it.
-use Rattle.std.specs.Prelude.{◌≡◌, ◌≢◌, ◌+◌, ◌++◌, ◌==◌, ◌||◌, ◌&&◌, not, ℕ, Bool, true, false, List, [], ◌∷◌, length, map, Some, Ok, if◌then◌else◌}
+use Rattle.std.specs.Prelude.{◌≡◌, ◌<◌, ◌≢◌, ◌+◌, ◌++◌, ◌==◌, ◌||◌, ◌&&◌, not, ℕ, Bool, true, false, List, [], ◌∷◌, length, slice_index_or, map, Some, Ok, if◌then◌else◌}
 use Rattle.std.specs.List.{Contains, filter, list_any}
 use Rattle.values.specs.declared.value.Value.{Value}
 use Rattle.row_codec.specs.RowCode.{row_code, IsEncoded}
@@ -21,6 +21,11 @@ pub record Table : Type 0 where
 pub record IsTable (size : ℕ) (pages : Pages) (first : ℕ) (table : Table) : Type 0 where
   pub next_number : next_of size pages first (Ok table.next_number)
   pub rows : scanned size pages first (Ok table.rows)
+
+-- the row numbers of a table rise, and lie below the next one
+pub record IsNumbered (table : Table) : Type 0 where
+  pub rise : (i j : ℕ) (d : Placed) → i < j → j < length table.rows → (slice_index_or table.rows i d).number < (slice_index_or table.rows j d).number
+  pub below : (i : ℕ) (d : Placed) → i < length table.rows → (slice_index_or table.rows i d).number < table.next_number
 
 -- a row that can be stored, whatever its number
 abbrev pub IsStorable : List Value → Type 0

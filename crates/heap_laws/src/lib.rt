@@ -1,6 +1,10 @@
 //! What the calls on heap tables do to a store of tables as a whole, over well-formed pages.
 #![tactic(auto)]
 
+mod store;
+
+pub use store::with_table;
+
 ghost use Rattle.heap_laws.specs.Laws.{AddLaw, ChainAnswersAreOne, ChangeLaw, FreshLaw, IndexLaw, MakeLaw, ReadLaw, RemoveLaw, SizedLaw};
 
 /// Any pages determine what `remove` and `change` answer, and the pages after them.

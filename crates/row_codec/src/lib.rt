@@ -10,4 +10,4 @@ mod writing;
 
 pub use laws::one_row;
 pub use reading::decode;
-pub use writing::encode;
+pub use writing::{encode, encoded_length};

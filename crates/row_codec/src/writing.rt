@@ -1,8 +1,8 @@
 //! From rows to bytes.
 
-ghost use Rattle.std.specs.Prelude.{◌≡◌, ◌≤◌, ◌++◌, ◌+◌, IfOk, OnOk, length};
+ghost use Rattle.std.specs.Prelude.{◌≡◌, ◌≤◌, ◌++◌, ◌+◌, IfOk, OnOk, ℕ, length};
 ghost use Rattle.retro_base.specs.Gives.{Gives};
-ghost use Rattle.row_codec.specs.RowCode.{encoded, value_code, IsEncoded, IsValue};
+ghost use Rattle.row_codec.specs.RowCode.{encoded, row_code, value_code, IsEncoded, IsRow, IsValue};
 
 use crate::value::{INT, TEXT};
 use retro_base::{ROW_BYTES, Refusal};
@@ -17,7 +17,8 @@ pub fn encode(alloc: Global, number: u64, row: &Row) -> Result<Vec<u8>, Refusal>
     ensures exact { Gives (λ bytes. bytes.items) result (encoded number row.now) }
     ensures lawful { IfOk result (λ bytes. IsEncoded bytes.items number row.now) }
 {
-    let mut bytes = number.to_be_bytes().to_vec(alloc)?;
+    let mut bytes = Vec::with_capacity(alloc, ROW_BYTES)?;
+    bytes.extend_from_slice(&number.to_be_bytes())?;
     bytes.push(row.len() as u8)?;
     for value in row.as_slice() {
         push_value(value, &mut bytes)?;
@@ -28,6 +29,34 @@ pub fn encode(alloc: Global, number: u64, row: &Row) -> Result<Vec<u8>, Refusal>
         });
     }
     Ok(bytes)
+}
+
+/// How many bytes the encoding of a row takes, whatever its number.
+#[tactic(auto, unfolding(retro_base::specs::Fields::field_bytes))]
+pub fn encoded_length(row: &Row) -> usize
+    requires some { 1 ≤ length row.now }
+    requires few { length row.now ≤ 16 }
+    ensures length { (number : ℕ) → length (row_code number row.now) ≡ result }
+    ensures lawful { IsRow row.now }
+{
+    let mut bytes = 9;
+    for value in row.as_slice() {
+        bytes += value_length(value);
+    }
+    bytes
+}
+
+// How many bytes a value's encoding takes.
+#[tactic(auto, unfolding(retro_base::specs::Fields::field_bytes))]
+fn value_length(value: &Value) -> usize
+    ensures length { result ≡ length (value_code value.now) }
+    ensures short { result ≤ 202 }
+    ensures lawful { IsValue value.now }
+{
+    match value {
+        Value::Int(number) => 1 + number.to_be_bytes().len(),
+        Value::Text(text) => 2 + text.bytes().len(),
+    }
 }
 
 // Appends a value's encoding.

@@ -1,4 +1,3 @@
-use Rattle.std.proofs.Common.{◌≡◌, ℕ}
 use Rattle.std.proofs.lemmas.Result.{err_from_is_err_and}
 use Rattle.pager.proofs.Makings.{makes-all, makes-none, makes-part}
 use Rattle.heap_file.specs.Work.{removed}

@@ -1,4 +1,4 @@
-use Rattle.std.proofs.Common.{◌≡◌, ◌∙◌, ◌^◌, ◌-◌, false, Ok, eqb, ap, sym, inl, inr}
+use Rattle.std.proofs.Common.{◌≡◌, ◌^◌, ◌-◌, false, Ok, eqb, ap, sym, inl, inr}
 use Rattle.std.proofs.lemmas.Bool.{ne_eqb}
 use Rattle.std.proofs.lemmas.Result.{err_from_is_err_and}
 use Rattle.pager.specs.Draft.{drafted}
