@@ -1,14 +1,11 @@
 -- Tables by name, rows by number, columns by place.
-use Rattle.std.proofs.Common.{◌≡◌, ◌∙◌, ap, ◌<◌, ◌+◌, ◌++◌, ℕ, zero, suc, List, [], ◌∷◌, length, get_or, Some, None, Ok, Err, refl, sym, arith, inl, inr}
-use Rattle.std.proofs.lemmas.Bool.{eq-eqb, ne_eqb, cases_lt}
+use Rattle.std.proofs.Common.{◌≡◌, ◌∙◌, ap, ◌<◌, ◌+◌, ◌++◌, ℕ, zero, suc, List, [], ◌∷◌, length, get_or, Some, None, refl, sym, arith, inl, inr}
+use Rattle.std.proofs.lemmas.Bool.{cases_lt}
 use Rattle.std.proofs.lemmas.List.{get_or_push, get_or_append_left, get_or_default}
 use Rattle.sql_tree.specs.declared.statement.Column.{Column as TableColumn}
-use Rattle.pager.specs.Pages.{broken}
-use Rattle.heap_file.specs.declared.chain.Placed.{Placed}
 use Rattle.relation.specs.declared.catalog.StoredTable.{StoredTable}
 use Rattle.relation.specs.declared.row.ColumnRow.{ColumnRow}
 use Rattle.relation.specs.Catalog.{AreColumnsOf, IsPlaceNamed, IsPlaceTold, IsTold, table_named}
-use Rattle.relation.specs.Work.{IsPlaceNumbered, page_of}
 
 -- the first table of a name
 pub named-found : (name : List ℕ) (tables : List StoredTable) (i : ℕ) (d : StoredTable) → IsPlaceNamed name tables (Some i) → table_named name tables ≡ Some (get_or tables i d)
@@ -23,20 +20,6 @@ pub named-none : (name : List ℕ) (tables : List StoredTable) → IsPlaceNamed 
 named-none name [] none = refl
 named-none name (table ∷ tables) none =
     rw (none 0 table (omega arith)) (named-none name tables (λ k d lt. none (suc k) d (omega arith)))
-
--- the page of the first row of a number
-pub page-found : (first number : ℕ) (rows : List Placed) (i : ℕ) (d : Placed) → IsPlaceNumbered number rows (Some i) → page_of first number rows ≡ Ok (get_or rows i d).page
-page-found first number [] i d is = absurd (omega (arith, is.0))
-page-found first number (row ∷ rows) zero d is = rw (eq-eqb row.number number (is.1 d)) refl
-page-found first number (row ∷ rows) (suc i) d is =
-    rw (ne_eqb row.number number (is.2 0 d (omega arith)))
-    (page-found first number rows i d (omega (arith, is.0), is.1, λ k e lt. is.2 (suc k) e (omega arith)))
-
--- no row of a number
-pub page-none : (first number : ℕ) (rows : List Placed) → IsPlaceNumbered number rows None → page_of first number rows ≡ Err (broken first)
-page-none first number [] none = refl
-page-none first number (row ∷ rows) none =
-    rw (ne_eqb row.number number (none 0 row (omega arith))) (page-none first number rows (λ k d lt. none (suc k) d (omega arith)))
 
 -- a place that no row tells
 pub none_told : (rows : List ColumnRow) (place : ℕ) → place < length rows → IsPlaceTold place rows None → AreColumnsOf rows None

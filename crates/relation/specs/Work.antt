@@ -85,6 +85,14 @@ rows_of_table name first columns = Table (record { name = name; first = first })
 abbrev pub all_added : ℕ → ℕ → List (List Value) → Pages → Result (Unit {0} × Pages) Refusal → Type 0
 all_added size first = in_turn (λ row pages. added size pages first row)
 
+-- rows of the table that begins with that page change, in order: each stands on its page under its number, and becomes this
+abbrev pub all_changed : ℕ → ℕ → List Placed → Pages → Result (Unit {0} × Pages) Refusal → Type 0
+all_changed size first = in_turn (λ (placed : Placed) pages. changed size pages first placed.page (record { number = placed.number; row = placed.row }))
+
+-- rows of the table that begins with that page are taken out, in order, each of the page where it stands
+abbrev pub all_removed : ℕ → ℕ → List Placed → Pages → Result (Unit {0} × Pages) Refusal → Type 0
+all_removed size first = in_turn (λ (placed : Placed) pages. removed size pages first placed.page placed.number)
+
 -- a table is made: a page is taken for it, and its rows are added to the catalog
 abbrev pub created : ℕ → Pages → List ℕ → List TableColumn → Result (Unit {0} × Pages) Refusal → Type 0
 created size pages name columns = do
@@ -96,13 +104,6 @@ abbrev pub inserted : ℕ → Pages → List ℕ → List (List Value) → Resul
 inserted size pages name rows = do
   table ← table_in size pages name
   all_added size table.first rows pages
-
--- the place of the first row of that number, or none where no row has it
-abbrev pub IsPlaceNumbered : ℕ → List Placed → Option ℕ → Type 0
-IsPlaceNumbered number rows None = (k : ℕ) (d : Placed) → k < length rows → (slice_index_or rows k d).number ≡ number → ⊥
-IsPlaceNumbered number rows (Some i) =
-    (i < length rows) × ((d : Placed) → (slice_index_or rows i d).number ≡ number)
-    × ((k : ℕ) (d : Placed) → k < i → (slice_index_or rows k d).number ≡ number → ⊥)
 
 -- the page where the row of that number stands; where none has it, the table's first page is told as broken
 abbrev pub page_of : ℕ → ℕ → List Placed → Result ℕ Refusal

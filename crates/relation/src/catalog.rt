@@ -41,6 +41,36 @@ pub struct Catalog {
     pub indexes: Seq<IndexSchema>,
 }
 
+impl Catalog {
+    /// The table of that name, if there is one.
+    pub fn table(&self, name: &Name) -> Option<&StoredTable>
+        ensures { MatchOption result (table_named name.now self.now.tables ≡ None) (λ table. table_named name.now self.now.tables ≡ Some table.now) }
+    {
+        let tables = self.tables.as_slice();
+        match find(tables, name) {
+            Some(place) => Some(&tables[place]),
+            None => None,
+        }
+    }
+
+    /// The tables and the indexes, without pages.
+    pub fn schema(&self, alloc: Global) -> Result<Schema, AllocError>
+        ensures { IfOk result (λ schema. schema ≡ schema_of self.now) }
+    {
+        let mut tables = Seq::new(alloc);
+        for table in self.tables.as_slice() {
+            tables.push(TableSchema {
+                name: table.name.copy(alloc)?,
+                columns: table.columns.copy(alloc)?,
+            })?;
+        }
+        Ok(Schema {
+            tables,
+            indexes: self.indexes.copy(alloc)?,
+        })
+    }
+}
+
 /// The tables and indexes of the catalog.
 pub fn read_catalog<P: Pager>(
     alloc: Global,
@@ -48,8 +78,8 @@ pub fn read_catalog<P: Pager>(
     draft: &Draft,
 ) -> Result<Catalog, Stop<P::Fault>>
     requires { draft.now.size ≡ P.size pager.old }
-    ensures read { Reads (λ catalog. catalog) (P.pages pager.old) draft.now.list (λ pages. catalog draft.now.size pages) result }
-    ensures only_reads { OnlyReads P.pages P.size P.faults pager.old pager.new result }
+    ensures read { Reads (λ catalog. catalog) (P.tells pager.new) draft.now.list (λ pages. catalog draft.now.size pages) result }
+    ensures only_reads { OnlyReads P.tells P.goes P.size P.faults pager.old pager.new result }
 {
     let rows = read_rows(alloc, pager, draft)?;
     let tables = tables_told(alloc, &rows)?;
@@ -67,8 +97,8 @@ fn read_rows<P: Pager>(
     draft: &Draft,
 ) -> Result<Vec<Told>, Stop<P::Fault>>
     requires { draft.now.size ≡ P.size pager.old }
-    ensures read { Reads (λ rows. rows.items) (P.pages pager.old) draft.now.list (λ pages. catalog_rows draft.now.size pages) result }
-    ensures only_reads { OnlyReads P.pages P.size P.faults pager.old pager.new result }
+    ensures read { Reads (λ rows. rows.items) (P.tells pager.new) draft.now.list (λ pages. catalog_rows draft.now.size pages) result }
+    ensures only_reads { OnlyReads P.tells P.goes P.size P.faults pager.old pager.new result }
 {
     let rows = drafting::scan(alloc, pager, draft, CATALOG)?;
     let next = drafting::next_number(alloc, pager, draft, CATALOG)?;
@@ -243,26 +273,9 @@ fn index_told(
     })
 }
 
-/// The place of the first table of that name.
-pub fn find(tables: &[StoredTable], name: &Name) -> Option<usize>
+// The place of the first table of that name.
+fn find(tables: &[StoredTable], name: &Name) -> Option<usize>
     ensures { IsPlaceNamed name.now tables.now result }
 {
     tables.iter().position(|table| table.name == *name)
-}
-
-/// The catalog without pages.
-pub fn schema_of(alloc: Global, catalog: &Catalog) -> Result<Schema, AllocError>
-    ensures { IfOk result (λ schema. schema ≡ schema_of catalog.now) }
-{
-    let mut tables = Seq::new(alloc);
-    for table in catalog.tables.as_slice() {
-        tables.push(TableSchema {
-            name: table.name.copy(alloc)?,
-            columns: table.columns.copy(alloc)?,
-        })?;
-    }
-    Ok(Schema {
-        tables,
-        indexes: catalog.indexes.copy(alloc)?,
-    })
 }

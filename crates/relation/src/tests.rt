@@ -1,8 +1,9 @@
 //! What no clause says: pages byte for byte by hand, which pages each call edits, and that calls succeed.
 //! Each call stands in a function without clauses of its own, so that the tests stay cheap to prove.
 
-ghost use Rattle.std.specs.Prelude.{◌≤◌, IfOk};
+ghost use Rattle.std.specs.Prelude.{◌≤◌, All, IfOk};
 ghost use Rattle.heap_file.specs.HeapPage.{IsShort};
+ghost use Rattle.heap_file.specs.declared.chain.Placed.{Placed};
 
 use super::*;
 use crate::row::is_name;
@@ -110,53 +111,71 @@ fn one_table(alloc: Global) -> Result<MemPager, Stop<Failed>> {
 
 // How many tables there are.
 fn tables_in(alloc: Global, pager: &mut MemPager) -> Result<usize, Stop<Failed>> {
-    Ok(schema(alloc, pager)?.tables.len())
+    Ok(open(alloc, pager)?.schema(alloc)?.tables.len())
+}
+
+// The table t of a catalog.
+fn t(alloc: Global, catalog: &Catalog) -> Result<&StoredTable, Stop<Failed>> {
+    match catalog.table(&name(alloc, b"t")?) {
+        Some(table) => Ok(table),
+        None => Err(Stop::Refused(Refusal::BadWords)),
+    }
+}
+
+// Adds rows to the table t.
+fn insert_rows(alloc: Global, pager: &mut MemPager, rows: &[Row]) -> Result<(), Stop<Failed>>
+    requires { All IsShort rows.now }
+{
+    let catalog = open(alloc, pager)?;
+    insert(alloc, pager, t(alloc, &catalog)?, rows)
 }
 
 // Adds a row of one integer to the table t.
 fn insert_integer(alloc: Global, pager: &mut MemPager, number: i64) -> Result<(), Stop<Failed>> {
-    let table = name(alloc, b"t")?;
     let row = integer(alloc, number)?;
-    insert(alloc, pager, &table, &[row])
+    insert_rows(alloc, pager, &[row])
 }
 
 // Adds a row of five texts to the table t.
 fn insert_texts(alloc: Global, pager: &mut MemPager, last: usize) -> Result<(), Stop<Failed>>
     requires { last ≤ 200 }
 {
-    let table = name(alloc, b"t")?;
     let row = five_texts(alloc, last)?;
-    insert(alloc, pager, &table, &[row])
+    insert_rows(alloc, pager, &[row])
 }
 
-// Changes a row of the table t to one integer.
+// Changes a row of the table t, which stands on page 2, to one integer.
 fn update_integer(
     alloc: Global,
     pager: &mut MemPager,
     number: u64,
     value: i64,
 ) -> Result<(), Stop<Failed>> {
-    let table = name(alloc, b"t")?;
     let row = integer(alloc, value)?;
-    update(alloc, pager, &table, &[(number, row)])
+    let page = 2;
+    let catalog = open(alloc, pager)?;
+    update(alloc, pager, t(alloc, &catalog)?, &[Placed { number, page, row }])
 }
 
-// Takes rows out of the table t.
+// Takes the rows of these numbers out of the table t.
 fn delete_rows(alloc: Global, pager: &mut MemPager, numbers: &[u64]) -> Result<(), Stop<Failed>> {
-    let table = name(alloc, b"t")?;
-    delete(alloc, pager, &table, numbers)
+    let catalog = open(alloc, pager)?;
+    let table = t(alloc, &catalog)?;
+    let mut rows = rows(alloc, pager, table)?;
+    rows.retain(|placed| numbers.contains(&placed.number));
+    delete(alloc, pager, table, &rows)
 }
 
 // The next row number of the table t.
 fn next_in_t(alloc: Global, pager: &mut MemPager) -> Result<u64, Stop<Failed>> {
-    let table = name(alloc, b"t")?;
-    next_number(alloc, pager, &table)
+    let catalog = open(alloc, pager)?;
+    next_number(alloc, pager, t(alloc, &catalog)?)
 }
 
 // The rows of the table t.
 fn rows_in_t(alloc: Global, pager: &mut MemPager) -> Result<Vec<Placed>, Stop<Failed>> {
-    let table = name(alloc, b"t")?;
-    rows(alloc, pager, &table)
+    let catalog = open(alloc, pager)?;
+    rows(alloc, pager, t(alloc, &catalog)?)
 }
 
 // How many rows the table t has.
@@ -247,6 +266,9 @@ fn the_fourteenth_table_needs_two_pages(rt: HostRuntime) -> Result<(), Fail> {
     Ok(())
 }
 
+// How many reads and edits an insert of one row makes: two of the catalog's page, and those of the table's.
+const CALLS_OF_INSERT: u64 = 6;
+
 // A store with t(a INT), which has the rows (0), (10) and (20).
 fn three_rows(alloc: Global) -> Result<MemPager, Stop<Failed>> {
     let mut pager = one_table(alloc)?;
@@ -298,6 +320,142 @@ fn the_second_longest_row_opens_a_page(rt: HostRuntime) -> Result<(), Fail> {
     assert!(rt; [made, first, second, deleted] == [Ok(()); 4]);
     assert!(rt; ([one, opened, closed], rows) == ([Ok(true); 3], Ok(1)));
     assert!(rt; long == Some(Refusal::RowTooLong { bytes: 901 }));
+    Ok(())
+}
+
+// Sixteen columns with names of 32 letters: twelve of integers, and four of texts.
+fn wide_columns(alloc: Global) -> Result<Vec<Column>, Refusal> {
+    let mut columns = Vec::new(alloc);
+    for letter in b'a'..=b'p' {
+        let mut letters = vec![in alloc; b'c'; 32]?;
+        letters[31] = letter;
+        let name = name(alloc, &letters)?;
+        let kind = if letter < b'm' { Kind::Int } else { Kind::Text };
+        columns.push(Column { name, kind })?;
+    }
+    Ok(columns)
+}
+
+// A store of 80 pages with two tables of sixteen columns, named t and u: their 34 rows take four pages of the catalog.
+fn wide_tables(alloc: Global) -> Result<MemPager, Stop<Failed>> {
+    let pages = vec![in alloc; Page::zero(); 80]?;
+    let mut pager = MemPager::new(alloc, pages, Vec::new(alloc));
+    let columns = wide_columns(alloc)?;
+    if columns.len() > 16 {
+        return Err(Stop::Refused(Refusal::BadSizes));
+    }
+    create_table(alloc, &mut pager, &name(alloc, b"t")?, &columns)?;
+    create_table(alloc, &mut pager, &name(alloc, b"u")?, &columns)?;
+    Ok(pager)
+}
+
+// A row of 900 encoded bytes: twelve integers, three texts of 200 letters and one of 175.
+fn long_row(alloc: Global, number: i64) -> Result<Row, Refusal>
+    ensures { IfOk result IsShort }
+{
+    let mut values = Vec::new(alloc);
+    for _ in 0..12 {
+        values.push(Value::Int(number))?;
+    }
+    for _ in 0..3 {
+        values.push(letters(alloc, 200)?)?;
+    }
+    values.push(letters(alloc, 175)?)?;
+    row_of(alloc, values)
+}
+
+fn long_rows(alloc: Global, count: u32, number: i64) -> Result<Vec<Row>, Refusal>
+    ensures { IfOk result (λ rows. All IsShort rows.items) }
+{
+    let mut rows = Vec::new(alloc);
+    'rows: for _ in 0..count {
+        let row = long_row(alloc, number)?;
+        rows.push(row)?;
+    }
+    Ok(rows)
+}
+
+// The rows, each of which becomes one of that number.
+fn changes_to(alloc: Global, rows: &[Placed], number: i64) -> Result<Vec<Placed>, Refusal>
+    ensures { IfOk result (λ changes. All (λ (placed : Placed). IsShort placed.row) changes.items) }
+{
+    let mut changes = Vec::new(alloc);
+    for placed in rows {
+        let row = long_row(alloc, number)?;
+        let number = placed.number;
+        let page = placed.page;
+        changes.push(Placed { number, page, row })?;
+    }
+    Ok(changes)
+}
+
+fn insert_forty(alloc: Global, pager: &mut MemPager, number: i64) -> Result<(), Stop<Failed>> {
+    let rows = long_rows(alloc, 40, number)?;
+    insert_rows(alloc, pager, &rows)
+}
+
+fn update_all(alloc: Global, pager: &mut MemPager, number: i64) -> Result<(), Stop<Failed>> {
+    let catalog = open(alloc, pager)?;
+    let table = t(alloc, &catalog)?;
+    let rows = rows(alloc, pager, table)?;
+    let changes = changes_to(alloc, &rows, number)?;
+    update(alloc, pager, table, &changes)
+}
+
+fn delete_all(alloc: Global, pager: &mut MemPager) -> Result<(), Stop<Failed>> {
+    let catalog = open(alloc, pager)?;
+    let table = t(alloc, &catalog)?;
+    let rows = rows(alloc, pager, table)?;
+    delete(alloc, pager, table, &rows)
+}
+
+// Whether the table t has forty rows, numbered from 0 on, of that integer and fifteen more values.
+fn forty_are(alloc: Global, pager: &mut MemPager, number: i64) -> Result<bool, Stop<Failed>> {
+    let rows = rows_in_t(alloc, pager)?;
+    Ok(
+        rows.len() == 40
+            && rows.iter().enumerate().all(|(i, placed)| {
+                placed.number == i as u64
+                    && placed.row.len() == 16
+                    && first_integer(&placed.row) == Some(number)
+            }),
+    )
+}
+
+#[test]
+fn forty_rows_of_900_bytes(rt: HostRuntime) -> Result<(), Fail> {
+    let alloc = rt.alloc();
+    let mut pager = wide_tables(alloc)?;
+    let tables = tables_in(alloc, &mut pager);
+    let inserted = insert_forty(alloc, &mut pager, 7);
+    let before = forty_are(alloc, &mut pager, 7);
+    let updated = update_all(alloc, &mut pager, -7);
+    let after = forty_are(alloc, &mut pager, -7);
+    let deleted = delete_all(alloc, &mut pager);
+    let left = count(alloc, &mut pager);
+    let next = next_in_t(alloc, &mut pager);
+    assert!(rt; (tables, left, next) == (Ok(2), Ok(0), Ok(40)));
+    assert!(rt; ([inserted, updated, deleted], [before, after]) == ([Ok(()); 3], [Ok(true); 2]));
+    Ok(())
+}
+
+// An insert into t(a INT) of three rows where that read or edit fails, and how many rows there are then.
+fn insert_failing(alloc: Global, nth: u64) -> Result<(bool, usize), Stop<Failed>> {
+    let pages = three_rows(alloc)?.pages().to_vec(alloc)?;
+    if pages.len() != 16 {
+        return Err(Stop::Refused(Refusal::BadSizes));
+    }
+    let mut pager = MemPager::new(alloc, pages, vec![in alloc; nth]?);
+    let failed = insert_integer(alloc, &mut pager, 30) == Err(Stop::Pager(Failed));
+    Ok((failed, count(alloc, &mut pager)?))
+}
+
+#[test]
+fn a_fault_at_each_read_and_edit_is_told(rt: HostRuntime) -> Result<(), Fail> {
+    let alloc = rt.alloc();
+    for nth in 1..=CALLS_OF_INSERT {
+        assert!(rt; insert_failing(alloc, nth) == Ok((true, 3)));
+    }
     Ok(())
 }
 

@@ -3,7 +3,7 @@ use Rattle.std.proofs.Common.{◌≡◌, ◌∙◌, ◌<◌, ◌≤◌, ◌^◌,
 use Rattle.std.specs.List.{AllZip, Contains}
 use Rattle.pager.specs.Pages.{Pages}
 use Rattle.heap_file.proofs.Ones.{answers_are_one}
-use Rattle.heap_laws.specs.Laws.{all_zero}
+use Rattle.heap_laws.specs.Laws.{AreZero}
 use Rattle.heap_laws.specs.Table.{IsTable}
 use Rattle.heap_laws.proofs.Fresh.{fresh_law}
 use Rattle.heap_laws.proofs.Reading.{ok-one, read_law}
@@ -47,8 +47,8 @@ tables-one size pages all other is of =
     let joined : record { tables = other.tables; indexes = other.indexes } ≡ record { tables = all.tables; indexes = all.indexes } = cc (tables, indexes) in
     joined
 
-fresh : (size : ℕ) → 2 ≤ size → size < 2 ^ 32 → IsStoreOf size all_zero no_tables
-fresh size some small = record {
+fresh : (size : ℕ) (pages : Pages) → AreZero size pages → 2 ≤ size → size < 2 ^ 32 → IsStoreOf size pages no_tables
+fresh size pages zero some small = record {
   store = record {
     placed = [];
     scan = empty.rows;
@@ -59,7 +59,7 @@ fresh size some small = record {
     read = ([], refl, ([], refl, refl));
     held = [];
     kept = tt;
-    heap = fresh_law.catalog size some small;
+    heap = fresh_law.catalog size pages zero some small;
     names = tt;
     columns = tt;
     tables = [];
@@ -68,10 +68,10 @@ fresh size some small = record {
   tables = record { found = record { tables = []; indexes = [] }; read = ([], rows, ([], refl, ([], refl, refl))); shown = tt; indexes = refl };
 }
   where
-    empty : IsTable size all_zero 1 (record { next_number = 0; rows = [] })
-    empty = fresh_law.empty size some
+    empty : IsTable size pages 1 (record { next_number = 0; rows = [] })
+    empty = fresh_law.empty size pages zero some
 
-    rows : catalog_rows size all_zero (Ok [])
+    rows : catalog_rows size pages (Ok [])
     rows = ([], empty.rows, (0, empty.next_number, refl))
 
 pub store_law : StoreLaw

@@ -1,40 +1,54 @@
 -- The pages that changed rows take.
-use Rattle.std.proofs.Common.{◌≡◌, ◌≢◌, ◌∙◌, ◌<◌, ◌≤◌, ◌+◌, ◌==◌, cond, ℕ, Bool, true, false, nat_le, List, [], ◌∷◌, length, Some, Ok, refl, sym, ap, subst, arith}
-use Rattle.std.specs.List.{AllByRecursion, Contains, insert}
+use Rattle.std.proofs.Common.{◌≡◌, ◌∙◌, ◌<◌, ◌+◌, ◌==◌, cond, ℕ, Bool, true, false, nat_le, List, [], ◌∷◌, length, Some, Ok, inl, inr, refl, sym, ap, subst, arith}
+use Rattle.std.specs.List.{Contains, insert}
 use Rattle.std.proofs.lemmas.Bool.{leb-true}
+use Rattle.std.proofs.lemmas.List.Sorted.{Contains-permutation, IsPermutation-sym}
 use Rattle.values.specs.declared.value.Value.{Value}
 use Rattle.pager.specs.Pages.{Pages, written}
 use Rattle.heap_file.specs.declared.chain.Placed.{Placed}
 use Rattle.heap_file.specs.declared.page.Entry.{Entry}
 use Rattle.heap_file.specs.declared.page.HeapPage.{HeapPage}
 use Rattle.heap_file.specs.Allows.{either, only}
-use Rattle.heap_file.specs.Chain.{IsAt, last_page, met}
+use Rattle.heap_file.specs.Chain.{IsAt, last_page, met, rows_of}
 use Rattle.heap_file.specs.HeapPage.{IsEntry, entry_bytes, page_bytes}
 use Rattle.heap_file.specs.Work.{IsPlace, appended, changed, without}
 use Rattle.heap_file.proofs.Packing.{with_fits, without_fits}
 use Rattle.heap_laws.specs.Store.{IsSized, WellFormed, free_pages, next_free, times}
-use Rattle.heap_laws.specs.Table.{ChangeIsFull, EndsAt, IsTable, Table, has_room, without_row}
+use Rattle.heap_laws.specs.Table.{ChangeIsFull, Edits, EndsAt, IsTable, Table, has_room, without_row}
 use Rattle.heap_laws.proofs.Adding.{IsPut, put-answer, tail-there}
 use Rattle.heap_laws.proofs.Appending.{update-head}
-use Rattle.heap_laws.proofs.Editing.{Finished, free-same}
-use Rattle.heap_laws.proofs.Reading.{ok-one, reads}
+use Rattle.heap_laws.proofs.Editing.{Finished, edits-none, edits-write, free-same}
+use Rattle.heap_laws.proofs.Meeting.{changed-met, changed_met, meets}
+use Rattle.heap_laws.proofs.Reading.{Reads, ok-one, reads, rows-read}
 use Rattle.heap_laws.proofs.Removing.{place-there, take-out, without-sized}
 use Rattle.heap_laws.proofs.Routes.{IsRoute, around, link_of, route-update, written-other}
+use Rattle.heap_laws.proofs.Rows.{Standing, standing}
 use Rattle.heap_laws.proofs.Spotting.{spot}
-use Rattle.relation_laws.specs.Needs.{ChangesNeed, Goes, bytes_on, has_room_for, moved_to, page_under, row_bytes}
+use Rattle.relation_laws.specs.Needs.{bytes_on, has_room_for, next_pages, row_bytes, taken_after}
+use Rattle.relation_laws.specs.Reach.{with_root}
+use Rattle.relation_laws.proofs.Drawing.{Draws, draws-then, next-first}
+use Rattle.relation_laws.proofs.Drawn.{RootStep, append-step, step-none, step-one}
 use Rattle.relation_laws.proofs.Filling.{put-ends}
 use Rattle.relation_laws.proofs.Needing.{bytes-push, ends-one, entry-length, last-one}
-use Rattle.relation_laws.proofs.Reaching.{all-imp, free-apart, own, own-last}
-use Rattle.relation_laws.proofs.Weighing.{on-last, on-page, rows-own}
+use Rattle.relation_laws.proofs.Reaching.{Touches, own, own-first, own-last, own-met, untouched, untouched-then}
+use Rattle.relation_laws.proofs.Weighing.{on-last, on-page}
 
--- where a changed row goes, and what the last page of its table is then
+-- Where a changed row goes: it stays on its page where that has room, else it goes to the last page where that has room, else to the next one, which is the last then.
+abbrev pub Goes : Bool → Bool → ℕ → ℕ → ℕ → ℕ → ℕ → ℕ → Type 0
+Goes true room page last next to end opens = (to ≡ page) × (end ≡ last) × (opens ≡ 0)
+Goes false true page last next to end opens = (to ≡ last) × (end ≡ last) × (opens ≡ 0)
+Goes false false page last next to end opens = (to ≡ next) × (end ≡ next) × (opens ≡ 1)
+
+-- where a changed row goes, what the last page of its table is then, and which pages are edited
 pub record Moves (size : ℕ) (pages after : Pages) (first last page : ℕ) (change : ℕ × List Value) (rows : List Placed) (to : ℕ) : Type 0 where
   pub end : ℕ
   pub opens : ℕ
   pub next : HeapPage
   pub ends : EndsAt size after first end next
-  pub goes : Goes (has_room_for change page rows) (has_room_for change last rows) page last rows to end opens
+  pub goes : Goes (has_room_for change page rows) (has_room_for change last rows) page last (taken_after pages 0) to end opens
   pub takes : opens + free_pages size after ≡ free_pages size pages
+  pub draws : Draws pages after opens
+  pub touches : Touches pages after (page ∷ first ∷ last ∷ with_root (next_pages pages opens))
 
 -- a page that is written leaves the last page of a chain, where it names the same one
 ends-after : (size : ℕ) (pages : Pages) (firsts indexes : List ℕ) (first last page : ℕ) (tail held now : HeapPage) → IsAt size pages page held → IsSized now → now.last ≡ held.last → now.next_number ≡ held.next_number → WellFormed size (written pages page (page_bytes now)) firsts indexes → Contains firsts first
@@ -107,9 +121,10 @@ next-same pages out same = ap (λ (bytes : List ℕ). next_free (record { at = �
 
 -- a changed row that goes to the end of its table
 moves-on : (size : ℕ) (pages : Pages) (firsts indexes : List ℕ) (first : ℕ) (table : Table) (placed : Placed) (row : List Value) (y : ℕ × Pages) (last : ℕ) (tail rest : HeapPage) → WellFormed size pages firsts indexes → Contains firsts first → IsTable size pages first table → IsEntry (record { number = placed.number; row = row }) → EndsAt size pages first last tail
+    → (has_own : Contains firsts first × ((well : WellFormed size pages firsts indexes) (has : Contains firsts first) → 0 < times placed.page (own size pages firsts indexes first well has)))
     → Out size pages firsts indexes first table placed last rest → has_room rest (record { number = placed.number; row = row }) ≡ false
     → appended size (written pages placed.page (page_bytes rest)) first (record { number = placed.number; row = row }) (Ok y) → Moves size pages y.1 first last placed.page (placed.number, row) table.rows y.0
-moves-on size pages firsts indexes first table placed row y last tail rest well has shows is ends out full h =
+moves-on size pages firsts indexes first table placed row y last tail rest well has shows is ends has_own out full h =
     let entry : Entry = record { number = placed.number; row = row } in
     let taken : Pages = written pages placed.page (page_bytes rest) in
     let put = put-answer size taken firsts indexes first entry (Ok y) out.finished.well has is h in
@@ -128,6 +143,21 @@ moves-on size pages firsts indexes first table placed row y last tail rest well 
     none : has_room_for (placed.number, row) placed.page table.rows ≡ false
     none = sym (room-is placed.page rest placed.number row (without_row table placed.number).rows out.weighs) ∙ full
 
+    step : RootStep size (written pages placed.page (page_bytes rest)) y.1
+    step = append-step size (written pages placed.page (page_bytes rest)) firsts indexes first (record { number = placed.number; row = row }) y out.finished.well h
+
+    out-edits : Edits pages (written pages placed.page (page_bytes rest)) (placed.page ∷ [])
+    out-edits = edits-write pages pages [] placed.page (page_bytes rest) (edits-none pages)
+
+    out-draws : Draws pages (written pages placed.page (page_bytes rest)) 0
+    out-draws = step-none size pages (written pages placed.page (page_bytes rest)) firsts indexes first well has (placed.page ∷ []) out-edits (has_own.1 well has, tt) (inl root) (free-same size pages (written pages placed.page (page_bytes rest)) root)
+
+    first_own : 0 < times first (own size (written pages placed.page (page_bytes rest)) firsts indexes first out.finished.well has)
+    first_own = own-first size (written pages placed.page (page_bytes rest)) firsts indexes first out.finished.well has
+
+    last_own : 0 < times last (own size (written pages placed.page (page_bytes rest)) firsts indexes first out.finished.well has)
+    last_own = own-last size (written pages placed.page (page_bytes rest)) firsts indexes first last out.tail out.finished.well has out.ends
+
     choose : (b : Bool) (to : ℕ) (next : HeapPage) → EndsAt size y.1 first to next → b ≡ has_room_for (placed.number, row) last table.rows → (b ≡ true → to ≡ last) → (b ≡ false → to ≡ y.0)
         → IsPut b size (written pages placed.page (page_bytes rest)) y.1 first last y.0 → Moves size pages y.1 first last placed.page (placed.number, row) table.rows y.0
     choose true to next ended room stays moves_ effect = record {
@@ -135,29 +165,29 @@ moves-on size pages firsts indexes first table placed row y last tail rest well 
       opens = 0;
       next = next;
       ends = subst (λ (p : ℕ). EndsAt size y.1 first p next) (stays refl) ended;
-      goes = subst (λ (b : Bool). Goes b (has_room_for (placed.number, row) last table.rows) placed.page last table.rows y.0 last 0) (sym none) (subst (λ (b : Bool). Goes false b placed.page last table.rows y.0 last 0) room (effect.0, refl, refl));
+      goes = subst (λ (b : Bool). Goes b (has_room_for (placed.number, row) last table.rows) placed.page last (taken_after pages 0) y.0 last 0) (sym none) (subst (λ (b : Bool). Goes false b placed.page last (taken_after pages 0) y.0 last 0) room (effect.0, refl, refl));
       takes = omega (arith, effect.1, free-same size pages (written pages placed.page (page_bytes rest)) root);
+      draws = draws-then pages (written pages placed.page (page_bytes rest)) y.1 0 0 out-draws (step-none size (written pages placed.page (page_bytes rest)) y.1 firsts indexes first out.finished.well has (last ∷ []) effect.2 (last_own, tt) step effect.1);
+      touches = λ q off. untouched-then pages (written pages placed.page (page_bytes rest)) y.1 q (untouched pages (written pages placed.page (page_bytes rest)) (placed.page ∷ []) q out-edits (off.0, tt)) (untouched (written pages placed.page (page_bytes rest)) y.1 (last ∷ []) q effect.2 (off.1.1.0, tt));
     }
     choose false to next ended room stays moves_ effect =
-        let fresh : y.0 ≡ next_free pages = effect.0.next ∙ next-same pages (written pages placed.page (page_bytes rest)) root in
+        let fresh : y.0 ≡ taken_after pages 0 = effect.0.next ∙ next-same pages (written pages placed.page (page_bytes rest)) root ∙ next-first pages in
         record {
           end = y.0;
           opens = 1;
           next = next;
           ends = subst (λ (p : ℕ). EndsAt size y.1 first p next) (moves_ refl) ended;
-          goes = subst (λ (b : Bool). Goes b (has_room_for (placed.number, row) last table.rows) placed.page last table.rows y.0 y.0 1) (sym none) (subst (λ (b : Bool). Goes false b placed.page last table.rows y.0 y.0 1) room (
-            (λ e. free-apart size pages firsts indexes first well has last (own-last size pages firsts indexes first last tail well has ends) (sym e ∙ fresh)),
-            all-imp (λ (p : Placed). 0 < times p.page (own size pages firsts indexes first well has)) (λ (p : Placed). p.page ≢ y.0) table.rows (λ p here e. free-apart size pages firsts indexes first well has p.page here (e ∙ fresh)) (rows-own size pages firsts indexes first table well has shows),
-            refl,
-            refl,
-          ));
+          goes = subst (λ (b : Bool). Goes b (has_room_for (placed.number, row) last table.rows) placed.page last (taken_after pages 0) y.0 y.0 1) (sym none) (subst (λ (b : Bool). Goes false b placed.page last (taken_after pages 0) y.0 y.0 1) room (fresh, fresh, refl));
           takes = omega (arith, effect.0.one_less, free-same size pages (written pages placed.page (page_bytes rest)) root);
+          draws = draws-then pages (written pages placed.page (page_bytes rest)) y.1 0 1 out-draws (step-one size (written pages placed.page (page_bytes rest)) y.1 firsts indexes first out.finished.well has (first ∷ last ∷ y.0 ∷ 0 ∷ []) effect.1 (inr (inl first_own), (inr (inl last_own), (inr (inr effect.0.next), (inl refl, tt)))) step effect.0.one_less);
+          touches = λ q off. untouched-then pages (written pages placed.page (page_bytes rest)) y.1 q (untouched pages (written pages placed.page (page_bytes rest)) (placed.page ∷ []) q out-edits (off.0, tt))
+              (untouched (written pages placed.page (page_bytes rest)) y.1 (first ∷ last ∷ y.0 ∷ 0 ∷ []) q effect.1 (off.1.0, (off.1.1.0, ((λ e. off.1.1.1.1.0 (e ∙ fresh)), (off.1.1.1.0, tt)))));
         }
 
 -- a changed row, wherever it goes
-pub moves : (size : ℕ) (pages : Pages) (firsts indexes : List ℕ) (first : ℕ) (table : Table) (placed : Placed) (row : List Value) (y : ℕ × Pages) (last : ℕ) (tail : HeapPage) → WellFormed size pages firsts indexes → Contains firsts first → IsTable size pages first table → IsEntry (record { number = placed.number; row = row })
-    → changed size pages first placed.page (record { number = placed.number; row = row }) (Ok y) → WellFormed size y.1 firsts indexes → EndsAt size pages first last tail → Moves size pages y.1 first last placed.page (placed.number, row) table.rows y.0
-moves size pages firsts indexes first table placed row y last tail well has shows is (found, at, (place, here, work)) well_after ends =
+moves-met : (size : ℕ) (pages : Pages) (firsts indexes : List ℕ) (first : ℕ) (table : Table) (placed : Placed) (row : List Value) (y : ℕ × Pages) (last : ℕ) (tail : HeapPage) → WellFormed size pages firsts indexes → Contains firsts first → IsTable size pages first table → IsEntry (record { number = placed.number; row = row })
+    → changed_met size pages first placed.page (record { number = placed.number; row = row }) (Ok y) → WellFormed size y.1 firsts indexes → EndsAt size pages first last tail → Moves size pages y.1 first last placed.page (placed.number, row) table.rows y.0
+moves-met size pages firsts indexes first table placed row y last tail well has shows is (found, at, (place, here, work)) well_after ends =
     go (has_room (without found.1 place) (record { number = placed.number; row = row })) refl (out-of size pages firsts indexes first table placed found place last tail well has shows at here ends) work
   where
     go : (b : Bool) → has_room (without found.1 place) (record { number = placed.number; row = row }) ≡ b → Out size pages firsts indexes first table placed last (without found.1 place)
@@ -169,16 +199,35 @@ moves size pages firsts indexes first table placed row y last tail well has show
         let page_at = found-at size pages firsts indexes first placed found place well has at here in
         let still : WellFormed size (written pages placed.page (page_bytes now)) firsts indexes = subst (λ (z : ℕ × Pages). WellFormed size z.1 firsts indexes) (sym (ok-one h)) well_after in
         let end = ends-after size pages firsts indexes first last placed.page tail found.1 now page_at sized refl refl still has ends in
+        let root : (written pages placed.page (page_bytes now)).at 0 ≡ pages.at 0 = written-other pages placed.page 0 (page_bytes now) (λ e. absurd (omega (arith, e, out.there.named))) in
+        let same = free-same size pages (written pages placed.page (page_bytes now)) root in
+        let edits = edits-write pages pages [] placed.page (page_bytes now) (edits-none pages) in
         let room : has_room_for (placed.number, row) placed.page table.rows ≡ true = sym (room-is placed.page (without found.1 place) placed.number row (without_row table placed.number).rows out.weighs) ∙ e in
         subst (λ (z : ℕ × Pages). Moves size pages z.1 first last placed.page (placed.number, row) table.rows z.0) (ok-one h) (record {
           end = last;
           opens = 0;
           next = end.0;
           ends = end.1;
-          goes = subst (λ (b : Bool). Goes b (has_room_for (placed.number, row) last table.rows) placed.page last table.rows placed.page last 0) (sym room) (refl, refl, refl);
-          takes = omega (arith, free-same size pages (written pages placed.page (page_bytes now)) (written-other pages placed.page 0 (page_bytes now) (λ e. absurd (omega (arith, e, out.there.named)))));
+          goes = subst (λ (b : Bool). Goes b (has_room_for (placed.number, row) last table.rows) placed.page last (taken_after pages 0) placed.page last 0) (sym room) (refl, refl, refl);
+          takes = omega (arith, same);
+          draws = step-none size pages (written pages placed.page (page_bytes now)) firsts indexes first well has (placed.page ∷ []) edits (own-met size pages firsts indexes first placed.page found.0 found.1 well has at, tt) (inl root) same;
+          touches = λ q off. untouched pages (written pages placed.page (page_bytes now)) (placed.page ∷ []) q edits (off.0, tt);
         })
-    go false e out h = moves-on size pages firsts indexes first table placed row y last tail (without found.1 place) well has shows is ends out e h
+    go false e out h = moves-on size pages firsts indexes first table placed row y last tail (without found.1 place) well has shows is ends (has, λ w c. own-met size pages firsts indexes first placed.page found.0 found.1 w c at) out e h
+
+-- the same where its page is known
+pub moves : (size : ℕ) (pages : Pages) (firsts indexes : List ℕ) (first : ℕ) (table : Table) (placed : Placed) (row : List Value) (y : ℕ × Pages) (last : ℕ) (tail : HeapPage) → WellFormed size pages firsts indexes → Contains firsts first → IsTable size pages first table → Contains table.rows placed → IsEntry (record { number = placed.number; row = row })
+    → changed size pages first placed.page (record { number = placed.number; row = row }) (Ok y) → WellFormed size y.1 firsts indexes → EndsAt size pages first last tail → Moves size pages y.1 first last placed.page (placed.number, row) table.rows y.0
+moves size pages firsts indexes first table placed row y last tail well has shows among_rows is change well_after ends =
+    moves-met size pages firsts indexes first table placed row y last tail well has shows is (changed-met size pages first placed.page (record { number = placed.number; row = row }) (meets size pages first read.one.chain.links placed read.route read.few stands) (Ok y) change) well_after ends
+  where
+    read : Reads size pages firsts indexes first well
+    read = reads size pages firsts indexes first well has
+
+    stands : Standing read.one.chain.links placed
+    stands =
+        let rows = rows-read size pages first table read.one.chain.links read.one.lawful.head shows read.route.leads read.head_at in
+        standing read.one.chain.links placed (Contains-permutation table.rows (rows_of read.one.chain.links) placed (IsPermutation-sym (rows_of read.one.chain.links) table.rows rows.permutation) among_rows)
 
 -- a change that is refused has room nowhere
 pub full-both : (size : ℕ) (pages : Pages) (firsts indexes : List ℕ) (first : ℕ) (table : Table) (placed : Placed) (row : List Value) (last : ℕ) (tail : HeapPage) → WellFormed size pages firsts indexes → Contains firsts first → IsTable size pages first table → EndsAt size pages first last tail
@@ -192,29 +241,3 @@ full-both size pages firsts indexes first table placed row last tail well has sh
       sym (room-is placed.page rest placed.number row (without_row table placed.number).rows out.weighs) ∙ subst (λ (h : HeapPage). has_room h (record { number = placed.number; row = row }) ≡ false) stands.rest_is full.room_here,
       sym (room-is last out.tail placed.number row (without_row table placed.number).rows out.weighs_last) ∙ subst (λ (h : HeapPage). has_room h (record { number = placed.number; row = row }) ≡ false) tails full.room_last,
     )
-
--- a page that no row stands on
-abbrev pub above : ℕ → List Placed → ℕ
-above last [] = last + 1
-above last (placed ∷ rows) = placed.page + above last rows
-
-pub above-last : (last : ℕ) (rows : List Placed) → last < above last rows
-above-last last [] = omega arith
-above-last last (placed ∷ rows) = omega (arith, above-last last rows)
-
-pub above-all : (last n : ℕ) (rows : List Placed) → above last rows ≤ n → AllByRecursion (λ (placed : Placed). placed.page ≢ n) rows
-above-all last n [] le = tt
-above-all last n (placed ∷ rows) le = ((λ e. absurd (omega (arith, e, le, above-last last rows))), above-all last n rows (omega (arith, le)))
-
--- changes need some number of pages
-pub some-needs : (last : ℕ) (rows : List Placed) (changes : List (ℕ × List Value)) → (needs : ℕ) × ChangesNeed last rows changes needs
-some-needs last rows [] = (0, refl)
-some-needs last rows (change ∷ changes) =
-    go (some-needs last (moved_to change (page_under change.0 rows) rows) changes) (some-needs last (moved_to change last rows) changes) (some-needs (above last rows) (moved_to change (above last rows) rows) changes)
-    (has_room_for change (page_under change.0 rows) rows) (has_room_for change last rows)
-  where
-    go : (needs : ℕ) × ChangesNeed last (moved_to change (page_under change.0 rows) rows) changes needs → (needs : ℕ) × ChangesNeed last (moved_to change last rows) changes needs → (needs : ℕ) × ChangesNeed (above last rows) (moved_to change (above last rows) rows) changes needs
-        → (here room : Bool) → (needs : ℕ) × ((to : ℕ) × (end : ℕ) × (opens : ℕ) × (behind : ℕ) × Goes here room (page_under change.0 rows) last rows to end opens × ChangesNeed end (moved_to change to rows) changes behind × (needs ≡ opens + behind))
-    go a b c true room = (0 + a.0, (page_under change.0 rows, last, 0, a.0, (refl, refl, refl), a.1, refl))
-    go a b c false true = (0 + b.0, (last, last, 0, b.0, (refl, refl, refl), b.1, refl))
-    go a b c false false = (1 + c.0, (above last rows, above last rows, 1, c.0, ((λ e. absurd (omega (arith, e, above-last last rows))), above-all last (above last rows) rows (omega arith), refl, refl), c.1, refl))

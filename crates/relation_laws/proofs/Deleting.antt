@@ -39,7 +39,7 @@ kept number placed (row ∷ rows) apart h = go (kept number placed rows apart) (
     go rest false e = contains-cases row placed rows h (λ same. subst (λ (p : Placed). Contains (row ∷ filter (λ (p : Placed). not (p.number == number)) rows) p) same (contains-head row _)) (λ there. contains-cons placed row _ (rest there))
 
 -- the first row of a number, which is the one whose page is told
-first_of : (first number : ℕ) (rows : List Placed) (placed : Placed) → placed.number ≡ number → Contains rows placed → (found : Placed) × (found.number ≡ number) × Contains rows found × (page_of first number rows ≡ Ok found.page)
+pub first_of : (first number : ℕ) (rows : List Placed) (placed : Placed) → placed.number ≡ number → Contains rows placed → (found : Placed) × (found.number ≡ number) × Contains rows found × (page_of first number rows ≡ Ok found.page)
 first_of first number [] placed is h = absurd (omega (arith, h.1))
 first_of first number (row ∷ rows) placed is h =
     elim (eqb_tells row.number number) [
@@ -66,14 +66,14 @@ still first table (number ∷ numbers) all apart =
     let placed = contains-of numbered_row table.rows row.0 row.1 in
     (first_of first number table.rows placed.0 (ap (λ (row : ℕ × List Value). row.0) placed.2 ∙ row.2) placed.1, apart.0, still first table numbers all.1 apart.1)
 
-still-without : (first : ℕ) (rows : List Placed) (table : Table) (number : ℕ) (numbers : List ℕ) → AllByRecursion (λ (other : ℕ). other ≢ number) numbers → StillThere first rows table numbers → StillThere first rows (without_row table number) numbers
+pub still-without : (first : ℕ) (rows : List Placed) (table : Table) (number : ℕ) (numbers : List ℕ) → AllByRecursion (λ (other : ℕ). other ≢ number) numbers → StillThere first rows table numbers → StillThere first rows (without_row table number) numbers
 still-without first rows table number [] apart h = tt
 still-without first rows table number (other ∷ numbers) apart h =
     let found = h.0.0 in
     ((found, h.0.1, kept number found table.rows (λ e. apart.0 (sym h.0.1 ∙ e)) h.0.2, h.0.3), h.1, still-without first rows table number numbers apart.1 h.2)
 
 -- the step that takes out one row
-taken_out : (size first : ℕ) (rows : List Placed) (found : Placed) (number : ℕ) (pages : Pages) (a : Result (Unit {0} × Pages) Refusal) → found.number ≡ number → page_of first number rows ≡ Ok found.page → row_removed size first rows number pages a → removed size pages first found.page found.number a
+pub taken_out : (size first : ℕ) (rows : List Placed) (found : Placed) (number : ℕ) (pages : Pages) (a : Result (Unit {0} × Pages) Refusal) → found.number ≡ number → page_of first number rows ≡ Ok found.page → row_removed size first rows number pages a → removed size pages first found.page found.number a
 taken_out size first rows found number pages a is page h =
     subst (λ (n : ℕ). removed size pages first found.page n a) (sym is)
     (goes-on _ (λ (p : ℕ). removed size pages first p number) found.page (λ b told. sym told ∙ page) a h)
@@ -143,7 +143,7 @@ left-next : (numbers : List ℕ) (table : Table) → (left numbers table).next_n
 left-next [] table = refl
 left-next (number ∷ numbers) table = left-next numbers (without_row table number)
 
-fitting-left : {A : Type 0} (P : A → Type 0) (test : A → Bool) (xs : List A) → AllByRecursion P xs → AllByRecursion P (filter test xs)
+pub fitting-left : {A : Type 0} (P : A → Type 0) (test : A → Bool) (xs : List A) → AllByRecursion P xs → AllByRecursion P (filter test xs)
 fitting-left P test [] all = tt
 fitting-left P test (x ∷ xs) all = go (fitting-left P test xs all.1) (test x)
   where

@@ -1,5 +1,5 @@
 -- The pages that added rows take.
-use Rattle.std.proofs.Common.{◌≡◌, ◌∙◌, ◌<◌, ◌≤◌, ◌+◌, ◌-◌, ◌++◌, ◌^◌, ◌||◌, cond, ℕ, pos, Bool, true, false, nat_le, List, [], ◌∷◌, ◌==◌, flat_map, length, map, Result, Ok, Err, inl, inr, refl, sym, ap, subst, arith, length-append, append-nil}
+use Rattle.std.proofs.Common.{◌≡◌, ◌∙◌, ◌<◌, ◌≤◌, ◌+◌, ◌-◌, ◌++◌, ◌^◌, ◌||◌, cond, ℕ, suc, pos, Bool, true, false, nat_le, List, [], ◌∷◌, ◌==◌, flat_map, length, map, Result, Ok, Err, inl, inr, refl, sym, ap, subst, arith, length-append, append-nil}
 use Rattle.std.specs.List.{AllByRecursion, Contains, list_any}
 use Rattle.std.proofs.lemmas.List.Concat.{flat_map-append, flat_map-cons}
 use Rattle.retro_base.specs.Fields.{field_bytes}
@@ -29,10 +29,12 @@ use Rattle.relation.specs.Work.{all_added, created, inserted, rows_of_columns, r
 use Rattle.relation.proofs.Fitting.{codes-cons, int-length, row-length as fixed-length}
 use Rattle.relation.proofs.Steps.{left_pages}
 use Rattle.relation_laws.specs.Laws.{AreTableColumns, EditsLaw, IsNewName, IsRowFor, IsStoreOf}
-use Rattle.relation_laws.specs.Needs.{CreateNeeds, InsertNeeds, TakesNeeded, opened, row_bytes}
+use Rattle.relation_laws.specs.Needs.{CreateNeeds, InsertNeeds, TakesNeeded, next_pages, opened, row_bytes, taken_after}
 use Rattle.relation_laws.specs.Reach.{with_root}
 use Rattle.relation_laws.specs.Tables.{PlainTable, PlainTables}
 use Rattle.relation_laws.proofs.Creating.{ready}
+use Rattle.relation_laws.proofs.Drawing.{Draws, draws-pages, draws-still, draws-then, next-first}
+use Rattle.relation_laws.proofs.Drawn.{add-draws, opens_of}
 use Rattle.relation_laws.proofs.Filling.{add-ends, entries_after}
 use Rattle.relation_laws.proofs.Inserting.{storable-rows}
 use Rattle.relation_laws.proofs.Lists.{contains-left}
@@ -137,6 +139,23 @@ record Steps (size : ℕ) (pages after : Pages) (first last : ℕ) (tail : HeapP
   opens : (rows : List (List Value)) → opened (length (entry_bytes tail.entries)) (row ∷ rows) ≡ length (opens_ room page) + opened (length (entry_bytes next.entries)) rows
   takes : length (opens_ room page) + free_pages size after ≡ free_pages size pages
   edits : Edits pages after (first ∷ last ∷ with_root (opens_ room page))
+  are : opens_ room page ≡ next_pages pages (length (opens_ room page))
+  draws : Draws pages after (length (opens_ room page))
+
+-- a page that is taken, and those behind it
+pub next-more : (pages mid : Pages) (count : ℕ) → Draws pages mid 1 → taken_after pages 0 ∷ next_pages mid count ≡ next_pages pages (1 + count)
+next-more pages mid count draws = ap (λ (l : List ℕ). taken_after pages 0 ∷ l) (draws-pages pages mid 1 0 count draws) ∙ ap (next_pages pages) more
+  where
+    more : suc count ≡ 1 + count
+    more = omega arith
+
+-- the pages that a row opens, before those that the rows behind it open
+open-join : (pages mid : Pages) (room : Bool) (page count : ℕ) → opens_ room page ≡ next_pages pages (length (opens_ room page)) → Draws pages mid (length (opens_ room page)) → opens_ room page ++ next_pages mid count ≡ next_pages pages (length (opens_ room page) + count)
+open-join pages mid true page count are draws = draws-pages pages mid 0 0 count draws ∙ ap (next_pages pages) same
+  where
+    same : count ≡ 0 + count
+    same = omega arith
+open-join pages mid false page count are draws = ap (λ (l : List ℕ). l ++ next_pages mid count) are ∙ next-more pages mid count draws
 
 steps : (size : ℕ) (pages : Pages) (firsts indexes : List ℕ) (first : ℕ) (table : Table) (row : List Value) (y : (ℕ × ℕ) × Pages) (last : ℕ) (tail : HeapPage) → WellFormed size pages firsts indexes → Contains firsts first → IsTable size pages first table → IsStorable row → table.next_number < 2 ^ 64 - 1
     → added size pages first row (Ok y) → Adds size pages firsts indexes first table row y.0 y.1 → EndsAt size pages first last tail → Steps size pages y.1 first last tail row
@@ -152,6 +171,7 @@ steps size pages firsts indexes first table row y last tail well has shows stora
     (λ room. put.stays (subst (λ (t : HeapPage). has_room t entry ≡ true) (sym tails) room) ∙ lasts)
     (λ room. put.moves (subst (λ (t : HeapPage). has_room t entry ≡ false) (sym tails) room))
     (subst (λ (l : ℕ). IsAdded (has_room tail entry) size pages y.1 first l y.0.1) (last-one size pages first adds.last last adds.tail tail adds.ends ends) (subst (λ (t : HeapPage). IsAdded (has_room t entry) size pages y.1 first adds.last y.0.1) others adds.effect))
+    (subst (λ (t : HeapPage). Draws pages y.1 (opens_of (has_room t entry))) others (add-draws size pages firsts indexes first table row y well has work adds))
   where
     turn : (f l n z : Bool) → (f || (l || (n || (z || false)))) ≡ (f || (l || (z || (n || false))))
     turn true l n z = refl
@@ -163,8 +183,8 @@ steps size pages firsts indexes first table row y last tail well has shows stora
 
     go : (b : Bool) (to : ℕ) (next : HeapPage) → EndsAt size y.1 first to next → b ≡ nat_le (length (entry_bytes tail.entries) + row_bytes row) 1004
         → next.entries ≡ entries_after b tail (record { number = table.next_number; row = row }) → (b ≡ true → to ≡ last) → (b ≡ false → to ≡ y.0.1)
-        → IsAdded b size pages y.1 first last y.0.1 → Steps size pages y.1 first last tail row
-    go true to next ended e are stays moves effect =
+        → IsAdded b size pages y.1 first last y.0.1 → Draws pages y.1 (opens_of b) → Steps size pages y.1 first last tail row
+    go true to next ended e are stays moves effect draws =
         let long : length (entry_bytes next.entries) ≡ length (entry_bytes tail.entries) + row_bytes row = ap (λ (es : List Entry). length (entry_bytes es)) are ∙ bytes-push tail.entries (record { number = table.next_number; row = row }) ∙ ap (λ (k : ℕ). length (entry_bytes tail.entries) + k) (entry-length table.next_number row) in
         record {
           room = true;
@@ -174,8 +194,10 @@ steps size pages firsts indexes first table row y last tail well has shows stora
           opens = λ rows. omega (arith, ap (λ (b : Bool). cond b (opened (length (entry_bytes tail.entries) + row_bytes row) rows) (1 + opened (row_bytes row) rows)) e, ap (λ (n : ℕ). opened n rows) long);
           takes = omega (arith, effect.1);
           edits = effect.2;
+          are = refl;
+          draws = draws;
         }
-    go false to next ended e are stays moves effect =
+    go false to next ended e are stays moves effect draws =
         let long : length (entry_bytes next.entries) ≡ row_bytes row = ap (λ (es : List Entry). length (entry_bytes es)) are ∙ bytes-one (record { number = table.next_number; row = row }) ∙ entry-length table.next_number row in
         record {
           room = false;
@@ -185,6 +207,8 @@ steps size pages firsts indexes first table row y last tail well has shows stora
           opens = λ rows. omega (arith, ap (λ (b : Bool). cond b (opened (length (entry_bytes tail.entries) + row_bytes row) rows) (1 + opened (row_bytes row) rows)) e, ap (λ (n : ℕ). opened n rows) long);
           takes = omega (arith, effect.0.one_less);
           edits = edits-as pages y.1 (first ∷ last ∷ y.0.1 ∷ 0 ∷ []) (first ∷ last ∷ 0 ∷ y.0.1 ∷ []) (λ p. turn (p == first) (p == last) (p == y.0.1) (p == 0)) effect.1;
+          are = ap (λ (p : ℕ). p ∷ []) (effect.0.next ∙ next-first pages);
+          draws = draws;
         }
 
 -- rows that are added take the pages that they open
@@ -198,21 +222,34 @@ rows-take size pages after firsts indexes first table (row ∷ rows) last tail w
     let opens = step.opens rows in
     omega (arith, rest, opens, step.takes)
 
+-- the pages that are taken behind those that added rows open
+pub rows-draw : (size : ℕ) (pages after : Pages) (firsts indexes : List ℕ) (first : ℕ) (table : Table) (rows : List (List Value)) (last : ℕ) (tail : HeapPage) → WellFormed size pages firsts indexes → Contains firsts first → IsTable size pages first table → AllByRecursion IsStorable rows → table.next_number + length rows < 2 ^ 64 → EndsAt size pages first last tail
+    → all_added size first rows pages (Ok (tt, after)) → Draws pages after (opened (length (entry_bytes tail.entries)) rows)
+rows-draw size pages after firsts indexes first table [] last tail well among is storable room ends h = subst (λ (p : Pages). Draws pages p 0) (left_pages pages after h) (draws-still pages)
+rows-draw size pages after firsts indexes first table (row ∷ rows) last tail well among is storable room ends h =
+    let one = add_law size pages firsts indexes first table row (Ok h.0) well among is storable.0 (omega (arith, room)) h.1 in
+    let step = steps size pages firsts indexes first table row h.0 last tail well among is storable.0 (omega (arith, room)) h.1 one ends in
+    let rest = rows-draw size h.0.1 after firsts indexes first (with_row table h.0.0.1 row) rows (end_in step.room last step.page) step.next one.well among one.shows storable.1 (omega (arith, room)) step.ends h.2 in
+    subst (Draws pages after) (sym (step.opens rows)) (draws-then pages h.0.1 after (length (opens_ step.room step.page)) (opened (length (entry_bytes step.next.entries)) rows) step.draws rest)
+
 -- the pages that added rows edit
-rows-edit : (size : ℕ) (pages after : Pages) (firsts indexes : List ℕ) (first : ℕ) (table : Table) (rows : List (List Value)) (last : ℕ) (tail : HeapPage) → WellFormed size pages firsts indexes → Contains firsts first → IsTable size pages first table → AllByRecursion IsStorable rows → table.next_number + length rows < 2 ^ 64 → EndsAt size pages first last tail → 1 ≤ length rows
-    → all_added size first rows pages (Ok (tt, after)) → (taken : List ℕ) × (length taken ≡ opened (length (entry_bytes tail.entries)) rows) × Edits pages after (first ∷ last ∷ with_root taken)
+pub rows-edit : (size : ℕ) (pages after : Pages) (firsts indexes : List ℕ) (first : ℕ) (table : Table) (rows : List (List Value)) (last : ℕ) (tail : HeapPage) → WellFormed size pages firsts indexes → Contains firsts first → IsTable size pages first table → AllByRecursion IsStorable rows → table.next_number + length rows < 2 ^ 64 → EndsAt size pages first last tail → 1 ≤ length rows
+    → all_added size first rows pages (Ok (tt, after)) → Edits pages after (first ∷ last ∷ with_root (next_pages pages (opened (length (entry_bytes tail.entries)) rows)))
 rows-edit size pages after firsts indexes first table [] last tail well among is storable room ends some h = absurd (omega (arith, some))
 rows-edit size pages after firsts indexes first table (row ∷ []) last tail well among is storable room ends some h =
     let one = add_law size pages firsts indexes first table row (Ok h.0) well among is storable.0 (omega (arith, room)) h.1 in
     let step = steps size pages firsts indexes first table row h.0 last tail well among is storable.0 (omega (arith, room)) h.1 one ends in
-    let opens = step.opens [] in
-    (opens_ step.room step.page, omega (arith, opens), subst (λ (p : Pages). Edits pages p (first ∷ last ∷ with_root (opens_ step.room step.page))) (left_pages h.0.1 after h.2) step.edits)
+    let count : length (opens_ step.room step.page) ≡ opened (length (entry_bytes tail.entries)) (row ∷ []) = omega (arith, step.opens []) in
+    subst (λ (n : ℕ). Edits pages after (first ∷ last ∷ with_root (next_pages pages n))) count
+    (subst (λ (l : List ℕ). Edits pages after (first ∷ last ∷ with_root l)) step.are (subst (λ (p : Pages). Edits pages p (first ∷ last ∷ with_root (opens_ step.room step.page))) (left_pages h.0.1 after h.2) step.edits))
 rows-edit size pages after firsts indexes first table (row ∷ next ∷ rows) last tail well among is storable room ends some h =
     let one = add_law size pages firsts indexes first table row (Ok h.0) well among is storable.0 (omega (arith, room)) h.1 in
     let step = steps size pages firsts indexes first table row h.0 last tail well among is storable.0 (omega (arith, room)) h.1 one ends in
+    let count = opened (length (entry_bytes step.next.entries)) (next ∷ rows) in
     let rest = rows-edit size h.0.1 after firsts indexes first (with_row table h.0.0.1 row) (next ∷ rows) (end_in step.room last step.page) step.next one.well among one.shows storable.1 (omega (arith, room)) step.ends (omega arith) h.2 in
-    let opens = step.opens (next ∷ rows) in
-    (opens_ step.room step.page ++ rest.0, omega (arith, opens, rest.1, length-append (opens_ step.room step.page) rest.0), rows-join pages h.0.1 after first last step.page step.room rest.0 step.edits rest.2)
+    let joined : opens_ step.room step.page ++ next_pages h.0.1 count ≡ next_pages pages (opened (length (entry_bytes tail.entries)) (row ∷ next ∷ rows)) =
+    open-join pages h.0.1 step.room step.page count step.are step.draws ∙ ap (next_pages pages) (sym (step.opens (next ∷ rows))) in
+    subst (λ (l : List ℕ). Edits pages after (first ∷ last ∷ with_root l)) joined (rows-join pages h.0.1 after first last step.page step.room (next_pages h.0.1 count) step.edits rest)
 
 -- rows that are refused open more pages than are free
 pub rows-full : (size : ℕ) (pages : Pages) (firsts indexes : List ℕ) (first : ℕ) (table : Table) (rows : List (List Value)) (why : Refusal) (last : ℕ) (tail : HeapPage) → WellFormed size pages firsts indexes → Contains firsts first → IsTable size pages first table → AllByRecursion IsStorable rows → table.next_number + length rows < 2 ^ 64 → EndsAt size pages first last tail
@@ -258,7 +295,7 @@ table-bytes name first other = omega (arith, two-more (row_values (TableOf (reco
     lengths : length (row_code 0 (row_values (TableOf (record { name = name; first = first })))) ≡ length (row_code 0 (row_values (TableOf (record { name = name; first = other }))))
     lengths = table-length name first ∙ sym (table-length name other)
 
-opened-same : (taken : ℕ) (name : List ℕ) (first other : ℕ) (columns : List TableColumn) → opened taken (map row_values (rows_of_table name first columns)) ≡ opened taken (map row_values (rows_of_table name other columns))
+pub opened-same : (taken : ℕ) (name : List ℕ) (first other : ℕ) (columns : List TableColumn) → opened taken (map row_values (rows_of_table name first columns)) ≡ opened taken (map row_values (rows_of_table name other columns))
 opened-same taken name first other columns =
     ap (λ (n : ℕ). cond (nat_le (taken + n) 1004) (opened (taken + n) (map row_values (rows_of_columns name 0 columns))) (1 + opened n (map row_values (rows_of_columns name 0 columns)))) (table-bytes name first other)
 
@@ -274,6 +311,18 @@ insert-needs size pages all table rows answer is has fit room work =
     go one last tail ends (Ok y) h = rows-take size pages y.1 (firsts_of is.store.found) (pages_in is.store.held) one.stored.first (record { next_number = table.next_number; rows = one.shows.placed }) rows last tail is.store.heap (has-first is.store.found one.stored one.has) one.shows.is_table (storable-rows table rows fit) room ends h
     go one last tail ends (Err why) h = rows-full size pages (firsts_of is.store.found) (pages_in is.store.held) one.stored.first (record { next_number = table.next_number; rows = one.shows.placed }) rows why last tail is.store.heap (has-first is.store.found one.stored one.has) one.shows.is_table (storable-rows table rows fit) room ends h
 
+-- the catalog ends where it did once a table's first page is made
+pub ends-made : {all : PlainTables} (size : ℕ) (pages : Pages) (is : IsStoreOf size pages all) (table : ℕ × Pages) → Makes size pages (firsts_of is.store.found) (pages_in is.store.held) table.0 table.1 → (last : ℕ) (tail : HeapPage) → EndsAt size pages CATALOG last tail → EndsAt size table.1 CATALOG last tail
+ends-made size pages is table makes last tail ends =
+    let read = reads size pages (firsts_of is.store.found) (pages_in is.store.held) CATALOG is.store.heap (has-catalog is.store.found) in
+    let same = made-spares size pages table.1 (firsts_of is.store.found) (pages_in is.store.held) table.0 is.store.heap makes CATALOG (has-catalog is.store.found) read.one.chain.links read.route.leads in
+    record {
+      head = ends.head;
+      at_first = at-same size pages table.1 CATALOG ends.head (same CATALOG (own-first size pages (firsts_of is.store.found) (pages_in is.store.held) CATALOG is.store.heap (has-catalog is.store.found))).0 ends.at_first;
+      named = ends.named;
+      at_last = at-same size pages table.1 last tail (same last (own-last size pages (firsts_of is.store.found) (pages_in is.store.held) CATALOG last tail is.store.heap (has-catalog is.store.found) ends)).0 ends.at_last;
+    }
+
 pub create-needs : (size : ℕ) (pages : Pages) (all : PlainTables) (name : List ℕ) (columns : List TableColumn) (answer : Result (Unit {0} × Pages) Refusal)
     → IsStoreOf size pages all → IsNewName all name → AreTableColumns columns
     → created size pages name columns answer → (needs : ℕ) × CreateNeeds size pages name columns needs × TakesNeeded size pages needs answer
@@ -282,22 +331,11 @@ create-needs size pages all name columns answer is new_name are work =
     let behind = opened (length (entry_bytes end.1.entries)) (map row_values (rows_of_table name 0 columns)) in
     (1 + behind, (behind, (end.0, end.1, end.2, refl), refl), go end.0 end.1 end.2 answer work)
   where
-    ends_after : (table : ℕ × Pages) → Makes size pages (firsts_of is.store.found) (pages_in is.store.held) table.0 table.1 → (last : ℕ) (tail : HeapPage) → EndsAt size pages CATALOG last tail → EndsAt size table.1 CATALOG last tail
-    ends_after table makes last tail ends =
-        let read = reads size pages (firsts_of is.store.found) (pages_in is.store.held) CATALOG is.store.heap (has-catalog is.store.found) in
-        let same = made-spares size pages table.1 (firsts_of is.store.found) (pages_in is.store.held) table.0 is.store.heap makes CATALOG (has-catalog is.store.found) read.one.chain.links read.route.leads in
-        record {
-          head = ends.head;
-          at_first = at-same size pages table.1 CATALOG ends.head (same CATALOG (own-first size pages (firsts_of is.store.found) (pages_in is.store.held) CATALOG is.store.heap (has-catalog is.store.found))).0 ends.at_first;
-          named = ends.named;
-          at_last = at-same size pages table.1 last tail (same last (own-last size pages (firsts_of is.store.found) (pages_in is.store.held) CATALOG last tail is.store.heap (has-catalog is.store.found) ends)).0 ends.at_last;
-        }
-
     go : (last : ℕ) (tail : HeapPage) → EndsAt size pages CATALOG last tail → (answer : Result (Unit {0} × Pages) Refusal) → created size pages name columns answer → TakesNeeded size pages (1 + opened (length (entry_bytes tail.entries)) (map row_values (rows_of_table name 0 columns))) answer
     go last tail ends (Ok y) (table, make, add) =
         let makes = make_law size pages (firsts_of is.store.found) (pages_in is.store.held) (Ok table) is.store.heap make in
         let base = ready size pages is.store name columns table.0 table.1 new_name.is_name are makes in
-        let took = rows-take size table.1 y.1 (firsts_of is.store.found ++ table.0 ∷ []) (pages_in is.store.held) CATALOG (record { next_number = length is.store.placed; rows = is.store.placed }) (map row_values (rows_of_table name table.0 columns)) last tail makes.well (contains-left (firsts_of is.store.found) (table.0 ∷ []) CATALOG (has-catalog is.store.found)) base.is_table base.storable base.room (ends_after table makes last tail ends) add in
+        let took = rows-take size table.1 y.1 (firsts_of is.store.found ++ table.0 ∷ []) (pages_in is.store.held) CATALOG (record { next_number = length is.store.placed; rows = is.store.placed }) (map row_values (rows_of_table name table.0 columns)) last tail makes.well (contains-left (firsts_of is.store.found) (table.0 ∷ []) CATALOG (has-catalog is.store.found)) base.is_table base.storable base.room (ends-made size pages is table makes last tail ends) add in
         omega (arith, took, makes.takes.one_less, opened-same (length (entry_bytes tail.entries)) name 0 table.0 columns)
     go last tail ends (Err why) (inl refused) =
         let full = make_law size pages (firsts_of is.store.found) (pages_in is.store.held) (Err why) is.store.heap refused in
@@ -305,7 +343,7 @@ create-needs size pages all name columns answer is new_name are work =
     go last tail ends (Err why) (inr (table, make, add)) =
         let makes = make_law size pages (firsts_of is.store.found) (pages_in is.store.held) (Ok table) is.store.heap make in
         let base = ready size pages is.store name columns table.0 table.1 new_name.is_name are makes in
-        let full = rows-full size table.1 (firsts_of is.store.found ++ table.0 ∷ []) (pages_in is.store.held) CATALOG (record { next_number = length is.store.placed; rows = is.store.placed }) (map row_values (rows_of_table name table.0 columns)) why last tail makes.well (contains-left (firsts_of is.store.found) (table.0 ∷ []) CATALOG (has-catalog is.store.found)) base.is_table base.storable base.room (ends_after table makes last tail ends) add in
+        let full = rows-full size table.1 (firsts_of is.store.found ++ table.0 ∷ []) (pages_in is.store.held) CATALOG (record { next_number = length is.store.placed; rows = is.store.placed }) (map row_values (rows_of_table name table.0 columns)) why last tail makes.well (contains-left (firsts_of is.store.found) (table.0 ∷ []) CATALOG (has-catalog is.store.found)) base.is_table base.storable base.room (ends-made size pages is table makes last tail ends) add in
         omega (arith, full, makes.takes.one_less, opened-same (length (entry_bytes tail.entries)) name 0 table.0 columns)
 
 pub edits_law : EditsLaw
@@ -314,4 +352,4 @@ edits_law size pages after all table rows is has fit room some work =
     let end = ends-there size pages (firsts_of is.store.found) (pages_in is.store.held) one.stored.first is.store.heap (has-first is.store.found one.stored one.has) in
     let edited = rows-edit size pages after (firsts_of is.store.found) (pages_in is.store.held) one.stored.first (record { next_number = table.next_number; rows = one.shows.placed }) rows end.0 end.1 is.store.heap (has-first is.store.found one.stored one.has) one.shows.is_table (storable-rows table rows fit) room end.2 some
     (by-name size pages all table is one (λ stored. all_added size stored.first rows pages) (Ok (tt, after)) work) in
-    record { table = one.stored; named = named-here size pages all table is one; last = end.0; tail = end.1; ends = end.2; taken = edited.0; needed = edited.1; edits = edited.2 }
+    record { table = one.stored; named = named-here size pages all table is one; last = end.0; tail = end.1; ends = end.2; edits = edited }

@@ -23,7 +23,7 @@ use Rattle.relation_laws.proofs.Lists.{contains-cases, contains-head}
 pages-cons : (p : ℕ) (chain : Chain) (chains : List Chain) → times p (flat_map pages_of (chain ∷ chains)) ≡ times p (pages_of chain) + times p (flat_map pages_of chains)
 pages-cons p chain chains = ap (times p) (flat_map-cons pages_of chain chains) ∙ times-append p (pages_of chain) (flat_map pages_of chains)
 
-one-chain : (p : ℕ) (chains : List Chain) (c : Chain) → Contains chains c → times p (pages_of c) ≤ times p (flat_map pages_of chains)
+pub one-chain : (p : ℕ) (chains : List Chain) (c : Chain) → Contains chains c → times p (pages_of c) ≤ times p (flat_map pages_of chains)
 one-chain p [] c has = absurd (omega (arith, has.1))
 one-chain p (e ∷ chains) c has =
     contains-cases e c chains has
@@ -50,10 +50,10 @@ own-links size pages firsts indexes first well has links leads p =
     let read = reads size pages firsts indexes first well has in
     ap (λ (l : List Link). times p (pages_on l)) (leads-one size size pages first links read.one.chain.links leads read.route.leads)
 
-held-count : (size : ℕ) (pages : Pages) (firsts indexes : List ℕ) (well : WellFormed size pages firsts indexes) (p : ℕ) → times p (pages_held well.chains indexes well.free) ≡ times p (flat_map pages_of well.chains) + (times p indexes + times p well.free)
+pub held-count : (size : ℕ) (pages : Pages) (firsts indexes : List ℕ) (well : WellFormed size pages firsts indexes) (p : ℕ) → times p (pages_held well.chains indexes well.free) ≡ times p (flat_map pages_of well.chains) + (times p indexes + times p well.free)
 held-count size pages firsts indexes well p = times-append p (flat_map pages_of well.chains) (indexes ++ well.free) ∙ ap (λ (k : ℕ). times p (flat_map pages_of well.chains) + k) (times-append p indexes well.free)
 
-among-chains : (size : ℕ) (pages : Pages) (firsts indexes : List ℕ) (first : ℕ) (well : WellFormed size pages firsts indexes) (has : Contains firsts first) → Contains well.chains (reads size pages firsts indexes first well has).one.chain
+pub among-chains : (size : ℕ) (pages : Pages) (firsts indexes : List ℕ) (first : ℕ) (well : WellFormed size pages firsts indexes) (has : Contains firsts first) → Contains well.chains (reads size pages firsts indexes first well has).one.chain
 among-chains size pages firsts indexes first well has =
     let one = (reads size pages firsts indexes first well has).one in
     subst (λ (l : List Chain). Contains l one.chain) (sym one.is) (Contains-append_right one.before (one.chain ∷ one.behind) one.chain (contains-head one.chain one.behind))
@@ -97,7 +97,7 @@ within-apart size pages firsts indexes first other well has also differ p q ther
 within-apart size pages firsts indexes first other well has also differ p q there (inr (inl here)) e = apart size pages firsts indexes first other well has also differ p (subst (λ (k : ℕ). 0 < times k (own size pages firsts indexes first well has)) (sym e) here) there
 within-apart size pages firsts indexes first other well has also differ p q there (inr (inr taken)) e = free-apart size pages firsts indexes other well also p there (e ∙ taken)
 
-not-any : (p : ℕ) (list : List ℕ) → AllByRecursion (λ q. p ≡ q → ⊥) list → list_any (λ other. p == other) list ≡ false
+pub not-any : (p : ℕ) (list : List ℕ) → AllByRecursion (λ q. p ≡ q → ⊥) list → list_any (λ other. p == other) list ≡ false
 not-any p [] all = refl
 not-any p (q ∷ list) all = rw (ne_eqb p q all.0) (not-any p list all.1)
 
@@ -105,6 +105,13 @@ pub untouched : (pages after : Pages) (list : List ℕ) (p : ℕ) → Edits page
 untouched pages after list p edits all =
     let none = not-any p list all in
     (edits.same p none, edits.edited p ∙ ap (λ (b : Bool). b || pages.edited p) none)
+
+-- each page but these is untouched
+abbrev pub Touches : Pages → Pages → List ℕ → Type 0
+Touches pages after list = (page : ℕ) → AllByRecursion (λ q. page ≡ q → ⊥) list → IsUntouched pages after page
+
+pub untouched-then : (pages mid after : Pages) (page : ℕ) → IsUntouched pages mid page → IsUntouched mid after page → IsUntouched pages after page
+untouched-then pages mid after page one two = (two.0 ∙ one.0, two.1 ∙ one.1)
 
 pub all-imp : {A : Type 0} (P Q : A → Type 0) (xs : List A) → ((x : A) → P x → Q x) → AllByRecursion P xs → AllByRecursion Q xs
 all-imp P Q [] go all = tt
@@ -197,15 +204,22 @@ own-met size pages firsts indexes first page previous held well has stood =
     let one = met-one size pages first page previous held read.one.chain.links read.route.leads stood in
     omega (arith, ap (λ (l : List Link). times page (pages_on l)) one.links_are, times-links page one.before (link_of page held) one.behind, ap one_if (eq-eqb page page refl))
 
-previous-within : (size : ℕ) (pages : Pages) (firsts indexes : List ℕ) (first page previous : ℕ) (held : HeapPage) (well : WellFormed size pages firsts indexes) (has : Contains firsts first) → met size pages first page (Ok (previous, held)) → Within size pages firsts indexes first well has previous
-previous-within size pages firsts indexes first page previous held well has stood =
+-- the page before a page of a table is the table's own, if there is one
+pub previous-own : (size : ℕ) (pages : Pages) (firsts indexes : List ℕ) (first page previous : ℕ) (held : HeapPage) (well : WellFormed size pages firsts indexes) (has : Contains firsts first) → met size pages first page (Ok (previous, held)) → (previous ≡ 0) ⊎ (0 < times previous (own size pages firsts indexes first well has))
+previous-own size pages firsts indexes first page previous held well has stood =
     elim one.previous_is [
       | inl start ↦ inl start.1
-      | inr later ↦ inr (inl (omega (arith, ap (λ (l : List Link). times previous (pages_on l)) one.links_are, times-links previous one.before (link_of page held) one.behind, ap (λ (l : List Link). times previous (pages_on l)) later.2, times-links previous later.0 later.1 [], ap one_if (eq-eqb later.1.page previous later.3))))
+      | inr later ↦ inr (omega (arith, ap (λ (l : List Link). times previous (pages_on l)) one.links_are, times-links previous one.before (link_of page held) one.behind, ap (λ (l : List Link). times previous (pages_on l)) later.2, times-links previous later.0 later.1 [], ap one_if (eq-eqb later.1.page previous later.3)))
     ]
   where
     one : Met (reads size pages firsts indexes first well has).one.chain.links page previous held
     one = met-one size pages first page previous held (reads size pages firsts indexes first well has).one.chain.links (reads size pages firsts indexes first well has).route.leads stood
+
+previous-within : (size : ℕ) (pages : Pages) (firsts indexes : List ℕ) (first page previous : ℕ) (held : HeapPage) (well : WellFormed size pages firsts indexes) (has : Contains firsts first) → met size pages first page (Ok (previous, held)) → Within size pages firsts indexes first well has previous
+previous-within size pages firsts indexes first page previous held well has stood = elim (previous-own size pages firsts indexes first page previous held well has stood) [
+  | inl none ↦ inl none
+  | inr here ↦ inr (inl here)
+]
 
 -- a row that is added
 pub added-spares : (size : ℕ) (pages after : Pages) (firsts indexes : List ℕ) (first : ℕ) (table : Table) (row : List Value) (placed : ℕ × ℕ) → WellFormed size pages firsts indexes → Contains firsts first → Adds size pages firsts indexes first table row placed after → Spares false size pages after firsts first

@@ -14,6 +14,7 @@ use Rattle.relation.specs.Work.{rows_at}
 use Rattle.relation_laws.specs.Laws.{IsRead, ReadLaw, without_contents}
 use Rattle.relation_laws.specs.Tables.{PlainTable, Shows, numbered_row}
 use Rattle.relation_laws.proofs.Catalogs.{goes-on}
+use Rattle.relation_laws.proofs.Placing.{numbered}
 use Rattle.relation_laws.proofs.Singling.{by-name, rows-read, shown-here, single, store-catalog}
 
 is-read : {A : Type 0} (P : A → Type 0) (answer : Result A Refusal) (x : A) → answer ≡ Ok x → P x → IsRead P answer
@@ -38,6 +39,7 @@ read_law = record {
   rows = λ size pages all table answer is has h.
       let one = single size pages all table is has in
       is-read (λ (rows : List Placed). map numbered_row rows ≡ table.rows) answer one.shows.placed (rows-read size pages all table is one answer (by-name size pages all table is one (rows_at size pages) answer h)) (sym one.shows.rows);
+  numbered = numbered;
   next_number = λ size pages all table answer is has h.
       let one = single size pages all table is has in
       is-read (λ (number : ℕ). number ≡ table.next_number) answer table.next_number

@@ -1,5 +1,5 @@
 -- What the calls on tables by name do to the tables of well-formed pages.
-use Rattle.std.specs.Prelude.{◌≡◌, ◌≢◌, ◌<◌, ◌≤◌, ◌+◌, ◌++◌, ◌^◌, ◌==◌, not, ℕ, List, [], ◌∷◌, length, map, true, Result, Ok, Err, if◌then◌else◌}
+use Rattle.std.specs.Prelude.{◌≡◌, ◌≢◌, ◌<◌, ◌≤◌, ◌+◌, ◌++◌, ◌^◌, ◌==◌, not, ℕ, List, [], ◌∷◌, length, map, slice_index_or, true, Result, Ok, Err, if◌then◌else◌}
 use Rattle.std.specs.List.{AllByRecursion, Contains, filter, list_any}
 use Rattle.retro_base.specs.declared.refusal.Refusal.{Refusal}
 use Rattle.retro_base.specs.declared.refusal.Refusal.TheVariants.{PagesFull}
@@ -11,10 +11,12 @@ use Rattle.sql_tree.specs.declared.schema.TableSchema.{TableSchema}
 use Rattle.sql_tree.specs.declared.statement.Column.{Column as TableColumn}
 use Rattle.pager.specs.Pages.{Pages}
 use Rattle.heap_file.specs.declared.chain.Placed.{Placed}
-use Rattle.heap_laws.specs.Laws.{Answers, all_zero}
+use Rattle.heap_laws.specs.Laws.{Answers, AreZero}
 use Rattle.heap_laws.specs.Table.{IsStorable}
+use Rattle.relation.specs.declared.catalog.StoredTable.{StoredTable}
 use Rattle.relation.specs.Catalog.{same_name}
-use Rattle.relation.specs.Work.{created, deleted, fits, inserted, next_in, rows_in, schema_in, updated}
+use Rattle.relation.specs.Each.{in_turn}
+use Rattle.relation.specs.Work.{all_changed, all_removed, created, deleted, fits, inserted, next_in, page_of, row_changed, row_removed, rows_at, rows_in, schema_in, table_in, updated}
 use Rattle.relation_laws.specs.Needs.{CreateNeeds, InsertNeeds, TakesNeeded, UpdateNeeds}
 use Rattle.relation_laws.specs.Reach.{EditsEnds, Reaches, ReachesCatalog}
 use Rattle.relation_laws.specs.Tables.{AreDifferent, IsStore, PlainTable, PlainTables, TablesOf, numbered, numbered_row}
@@ -42,14 +44,19 @@ IsRead is (Err why) = ⊥
 abbrev pub no_tables : PlainTables
 no_tables = record { tables = []; indexes = [] }
 
--- Pages hold one list of tables. A store that was never written holds none.
+-- Pages hold one list of tables. Zero pages, as in a store that was never written, hold none.
 pub record StoreLaw : Type 0 where
   pub one : (size : ℕ) (pages : Pages) (all other : PlainTables) → IsStoreOf size pages all → TablesOf size pages other → other ≡ all
-  pub fresh : (size : ℕ) → 2 ≤ size → size < 2 ^ 32 → IsStoreOf size all_zero no_tables
+  pub fresh : (size : ℕ) (pages : Pages) → AreZero size pages → 2 ≤ size → size < 2 ^ 32 → IsStoreOf size pages no_tables
 
 -- a table without what it holds
 abbrev pub without_contents : PlainTable → TableSchema
 without_contents table = record { name = table.name; columns = table.columns }
+
+-- the row numbers rise, and lie below the next one
+pub record IsNumbered (table : PlainTable) : Type 0 where
+  pub rise : (i j : ℕ) (d : ℕ × List Value) → i < j → j < length table.rows → (slice_index_or table.rows i d).0 < (slice_index_or table.rows j d).0
+  pub below : (i : ℕ) (d : ℕ × List Value) → i < length table.rows → (slice_index_or table.rows i d).0 < table.next_number
 
 -- what is read of the tables: the schema, and the rows and the next row number of each table
 pub record ReadLaw : Type 0 where
@@ -59,6 +66,7 @@ pub record ReadLaw : Type 0 where
   pub rows : (size : ℕ) (pages : Pages) (all : PlainTables) (table : PlainTable) (answer : Result (List Placed) Refusal)
       → IsStoreOf size pages all → Contains all.tables table → rows_in size pages table.name answer
       → IsRead (λ (rows : List Placed). map numbered_row rows ≡ table.rows) answer
+  pub numbered : (size : ℕ) (pages : Pages) (all : PlainTables) (table : PlainTable) → IsStoreOf size pages all → Contains all.tables table → IsNumbered table
   pub next_number : (size : ℕ) (pages : Pages) (all : PlainTables) (table : PlainTable) (answer : Result ℕ Refusal)
       → IsStoreOf size pages all → Contains all.tables table → next_in size pages table.name answer
       → IsRead (λ (number : ℕ). number ≡ table.next_number) answer
@@ -167,3 +175,15 @@ pub record NeedsLaw : Type 0 where
       → IsStoreOf size pages all → IsNewName all name → AreTableColumns columns
       → created size pages name columns answer
       → (needs : ℕ) × CreateNeeds size pages name columns needs × TakesNeeded size pages needs answer
+
+-- Rows that are changed or taken out where they stand, as reading their table told, are so under their numbers.
+pub record PlacedLaw : Type 0 where
+  pub told : (size : ℕ) (pages : Pages) (all : PlainTables) (table : PlainTable) (stored : StoredTable) (rows : List Placed) (placed : Placed)
+      → IsStoreOf size pages all → Contains all.tables table → table_in size pages table.name (Ok stored) → rows_at size pages stored (Ok rows)
+      → Contains rows placed → page_of stored.first placed.number rows ≡ Ok placed.page
+  pub changes : (size first : ℕ) (rows changes : List Placed) (pages : Pages) (answer : Result (Unit {0} × Pages) Refusal)
+      → AllByRecursion (λ (placed : Placed). page_of first placed.number rows ≡ Ok placed.page) changes → all_changed size first changes pages answer
+      → in_turn (row_changed size first rows) (map numbered_row changes) pages answer
+  pub removes : (size first : ℕ) (rows gone : List Placed) (pages : Pages) (answer : Result (Unit {0} × Pages) Refusal)
+      → AllByRecursion (λ (placed : Placed). page_of first placed.number rows ≡ Ok placed.page) gone → all_removed size first gone pages answer
+      → in_turn (row_removed size first rows) (map (λ (placed : Placed). placed.number) gone) pages answer

@@ -2,3 +2,4 @@ pub mod Laws
 pub mod Needs
 pub mod Reach
 pub mod Tables
+pub mod Work

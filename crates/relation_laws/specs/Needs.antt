@@ -1,6 +1,7 @@
 -- The pages that a call takes.
-use Rattle.std.specs.Prelude.{◌≡◌, ◌≢◌, ◌<◌, ◌+◌, ◌==◌, not, ℕ, Bool, true, false, List, [], ◌∷◌, length, map, nat_le, Result, Ok, Err, if◌then◌else◌}
-use Rattle.std.specs.List.{AllByRecursion, filter, sum_by}
+use Rattle.std.specs.Prelude.{◌≡◌, ◌<◌, ◌+◌, ◌-◌, ◌==◌, not, ℕ, zero, suc, Bool, true, false, List, [], ◌∷◌, length, map, nat_le, nat_lt, Result, Ok, Err, if◌then◌else◌}
+use Rattle.std.specs.List.{filter, range_with_len, sum_by}
+use Rattle.retro_base.specs.Fields.{number_at}
 use Rattle.retro_base.specs.declared.refusal.Refusal.{Refusal}
 use Rattle.values.specs.declared.value.Value.{Value}
 use Rattle.sql_tree.specs.declared.statement.Column.{Column as TableColumn}
@@ -8,7 +9,7 @@ use Rattle.pager.specs.Pages.{Pages}
 use Rattle.heap_file.specs.declared.page.HeapPage.{HeapPage}
 use Rattle.heap_file.specs.declared.chain.Placed.{Placed}
 use Rattle.heap_file.specs.HeapPage.{entry_bytes, entry_code}
-use Rattle.heap_laws.specs.Store.{free_pages}
+use Rattle.heap_laws.specs.Store.{free_pages, root_at}
 use Rattle.heap_laws.specs.Table.{EndsAt}
 use Rattle.relation.specs.declared.catalog.StoredTable.{StoredTable}
 use Rattle.relation.specs.declared.catalog.TheConstants.{CATALOG}
@@ -24,6 +25,20 @@ abbrev pub opened : ℕ → List (List Value) → ℕ
 opened taken [] = 0
 opened taken (row ∷ rows) =
     if nat_le (taken + row_bytes row) 1004 then opened (taken + row_bytes row) rows else 1 + opened (row_bytes row) rows
+
+-- the page so many places behind a page of the free list
+abbrev pub free_behind : Pages → ℕ → ℕ → ℕ
+free_behind pages page zero = page
+free_behind pages page (suc places) = free_behind pages (number_at 4 (pages.at page) 4) places
+
+-- the page that is taken after so many others: those of the free list in its order, and then those that were never used
+abbrev pub taken_after : Pages → ℕ → ℕ
+taken_after pages others =
+    if nat_lt others (root_at pages).free then free_behind pages (root_at pages).first_free others else 2 + (root_at pages).used + (others - (root_at pages).free)
+
+-- so many pages that are taken next
+abbrev pub next_pages : Pages → ℕ → List ℕ
+next_pages pages count = map (taken_after pages) (range_with_len 0 count)
 
 -- how many pages rows need that are added to the table that begins with that page
 abbrev pub RowsNeed : ℕ → Pages → ℕ → List (List Value) → ℕ → Type 0
@@ -62,23 +77,17 @@ abbrev pub moved_to : ℕ × List Value → ℕ → List Placed → List Placed
 moved_to change page rows =
     map (λ (placed : Placed). if placed.number == change.0 then record { number = change.0; page = page; row = change.1 } else placed) rows
 
--- Where a changed row goes: it stays on its page where that has room, else it goes to the last page where that has room, else to a new one, which is the last then.
-abbrev pub Goes : Bool → Bool → ℕ → ℕ → List Placed → ℕ → ℕ → ℕ → Type 0
-Goes true room page last rows to end opens = (to ≡ page) × (end ≡ last) × (opens ≡ 0)
-Goes false true page last rows to end opens = (to ≡ last) × (end ≡ last) × (opens ≡ 0)
-Goes false false page last rows to end opens =
-    (to ≢ last) × AllByRecursion (λ (placed : Placed). placed.page ≢ to) rows × (end ≡ to) × (opens ≡ 1)
-
--- how many pages changes open, one after the other, in a table with these rows and that last page
-abbrev pub ChangesNeed : ℕ → List Placed → List (ℕ × List Value) → ℕ → Type 0
-ChangesNeed last rows [] needs = needs ≡ 0
-ChangesNeed last rows (change ∷ changes) needs =
-    (to : ℕ) × (end : ℕ) × (opens : ℕ) × (behind : ℕ)
-    × Goes (has_room_for change (page_under change.0 rows) rows) (has_room_for change last rows) (page_under change.0 rows) last rows to end opens
-    × ChangesNeed end (moved_to change to rows) changes behind × (needs ≡ opens + behind)
+-- The pages that changes open, one after the other, in a table with these rows and that last page: a changed row stays on its page where that has room,
+-- else it goes to the last page where that has room, else to a new one, which is the last then. The pages that are taken next are those.
+abbrev pub changes_open : (ℕ → ℕ) → ℕ → List Placed → List (ℕ × List Value) → ℕ
+changes_open next last rows [] = 0
+changes_open next last rows (change ∷ changes) =
+    if has_room_for change (page_under change.0 rows) rows then changes_open next last (moved_to change (page_under change.0 rows) rows) changes
+    else (if has_room_for change last rows then changes_open next last (moved_to change last rows) changes
+    else 1 + changes_open (λ place. next (1 + place)) (next 0) (moved_to change (next 0) rows) changes)
 
 -- how many pages an update of the table of that name needs
 abbrev pub UpdateNeeds : ℕ → Pages → List ℕ → List (ℕ × List Value) → ℕ → Type 0
 UpdateNeeds size pages name changes needs =
     (table : StoredTable) × table_in size pages name (Ok table) × (rows : List Placed) × rows_at size pages table (Ok rows)
-    × (last : ℕ) × (tail : HeapPage) × EndsAt size pages table.first last tail × ChangesNeed last rows changes needs
+    × (last : ℕ) × (tail : HeapPage) × EndsAt size pages table.first last tail × (needs ≡ changes_open (taken_after pages) last rows changes)

@@ -14,7 +14,7 @@ use Rattle.relation.specs.declared.catalog.StoredTable.{StoredTable}
 use Rattle.relation.specs.declared.catalog.TheConstants.{CATALOG}
 use Rattle.relation.specs.Catalog.{catalog}
 use Rattle.relation.specs.Work.{table_in}
-use Rattle.relation_laws.specs.Needs.{opened}
+use Rattle.relation_laws.specs.Needs.{next_pages, opened}
 
 -- a page of the table that begins with a page
 abbrev pub IsPageOf : ℕ → Pages → ℕ → ℕ → Type 0
@@ -43,9 +43,7 @@ pub record EditsEnds (size : ℕ) (pages : Pages) (name : List ℕ) (rows : List
   pub last : ℕ
   pub tail : HeapPage
   pub ends : EndsAt size pages table.first last tail
-  pub taken : List ℕ
-  pub needed : length taken ≡ opened (length (entry_bytes tail.entries)) rows
-  pub edits : Edits pages after (table.first ∷ last ∷ with_root taken)
+  pub edits : Edits pages after (table.first ∷ last ∷ with_root (next_pages pages (opened (length (entry_bytes tail.entries)) rows)))
 
 -- what making a table leaves alone: the pages of all tables
 pub record ReachesCatalog (size : ℕ) (pages : Pages) (after : Pages) : Type 0 where

@@ -1,7 +1,8 @@
 //! What the calls on tables by name do to the tables of well-formed pages.
 #![tactic(auto)]
 
-ghost use Rattle.relation_laws.specs.Laws.{CreateLaw, DeleteLaw, EditsLaw, InsertLaw, NeedsLaw, ReadLaw, StoreLaw, UpdateLaw};
+ghost use Rattle.relation_laws.specs.Work.{WorkLaw};
+ghost use Rattle.relation_laws.specs.Laws.{CreateLaw, DeleteLaw, EditsLaw, InsertLaw, NeedsLaw, PlacedLaw, ReadLaw, StoreLaw, UpdateLaw};
 
 /// Well-formed pages hold one list of tables, and zero pages hold none.
 pub fn store_law()
@@ -48,4 +49,15 @@ pub fn edits_law()
 /// refused exactly where fewer are free.
 pub fn needs_law()
     ensures { NeedsLaw }
+{}
+
+/// A piece of work needs one number of pages, leaves the tables behind it, and edits only pages of its reach; it is refused
+/// exactly where it needs more pages than can be taken. So do several, one after the other.
+pub fn work_law()
+    ensures { WorkLaw }
+{}
+
+/// Rows that are changed or taken out where they stand, as reading their table told, are so under their numbers.
+pub fn placed_law()
+    ensures { PlacedLaw }
 {}

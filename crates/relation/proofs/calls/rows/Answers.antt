@@ -1,5 +1,5 @@
 use Rattle.relation.proofs.calls.rows.Goals as goal
 
 pub returns-clause-rows : goal.returns-clause-rows
-returns-clause-rows g c = λ shown told.
-    rw (c.new-draft.ensures, c.size.ensures) at (c.rows.ensures.rows shown told)
+returns-clause-rows g c = λ base shown told.
+    rw (c.new-draft.ensures, c.size.ensures) at (c.rows.ensures.rows base shown told)

@@ -1,15 +1,15 @@
-use Rattle.std.proofs.Common.{◌∙◌}
-use Rattle.pager.specs.Draft.{drafted}
-use Rattle.heap_file.proofs.Ways.{allowed_on}
-use Rattle.relation.specs.Work.{rows_at, rows_in, table_in}
-use Rattle.relation.proofs.Steps.{next_step}
+use Rattle.std.proofs.Common.{inr}
+use Rattle.std.proofs.lemmas.Result.{err_from_is_err_and}
+use Rattle.relation.proofs.Steps.{handed_to}
 use Rattle.relation.proofs.drafting.rows.Goals as goal
 
+pub returns-in_err-check_rows-clause-rows : goal.returns-in_err-check_rows-clause-rows
+returns-in_err-check_rows-clause-rows g c = λ base shown told.
+    let p = err_from_is_err_and c.from_residual-in_err-check_rows.result c.from_residual-in_err-check_rows.ensures.1 in
+    rw (p.1, p.2)
+    (handed_to (λ h. inr (c.in_ok-rows.rows.items, c.in_ok-rows.ensures.scanned base shown told, h))
+    (rw (c.deref.ensures.value, c.as_slice.ensures) at c.in_err-check_rows.ensures))
+
 pub returns-clause-rows : goal.returns-clause-rows
-returns-clause-rows g c = λ shown told.
-    let size = c.args.draft.now.size in
-    let pages = drafted shown c.args.draft.now.list in
-    let table = c.in_ok-table.table in
-    allowed_on (λ rows. rows.items) (rows_at size pages table) (rows_in size pages c.args.name.now) c.rows_at.result
-    (next_step (table_in size pages c.args.name.now) (rows_at size pages) table (c.in_ok-table.ensures.read shown told))
-    (c.rows_at.ensures.rows shown (c.in_ok-table.ensures.only_reads.pages_stay ∙ told))
+returns-clause-rows g c = λ base shown told.
+    (c.in_ok-rows.rows.items, c.in_ok-rows.ensures.scanned base shown told, rw (c.deref.ensures.value, c.as_slice.ensures) at c.in_ok-check_rows.ensures)

@@ -1,29 +1,30 @@
-use Rattle.std.proofs.Common.{◌∙◌, inl, inr}
+use Rattle.std.proofs.Common.{◌∙◌, List}
 use Rattle.std.proofs.lemmas.Result.{err_from_is_err_and}
-use Rattle.pager.specs.Draft.{drafted}
-use Rattle.heap_file.proofs.Ways.{allowed_on, allowed_stop}
-use Rattle.heap_file.specs.Allows.{◌>>=◌}
-use Rattle.relation.specs.declared.catalog.StoredTable.{StoredTable}
-use Rattle.relation.specs.Each.{in_turn}
-use Rattle.relation.specs.Work.{row_changed, rows_at, table_in, updated}
-use Rattle.relation.proofs.Steps.{next_step}
+use Rattle.pager.specs.Pages.{Pages}
+use Rattle.heap_file.specs.declared.chain.Placed.{Placed}
+use Rattle.heap_file.specs.Work.{changed}
+use Rattle.heap_file.proofs.Ways.{allowed_stop}
+use Rattle.relation.proofs.Steps.{in_turn-next, in_turn-ended}
 use Rattle.relation.proofs.drafting.update.Goals as goal
 
-pub returns-in_err-rows-clause-updated : goal.returns-in_err-rows-clause-updated
-returns-in_err-rows-clause-updated g c = λ shown told.
-    let p = err_from_is_err_and c.from_residual-in_err-rows.result c.from_residual-in_err-rows.ensures.1 in
+pub returns-in_err-change-clause-changed : goal.returns-in_err-change-clause-changed
+returns-in_err-change-clause-changed g c = λ base shown told.
+    let p = err_from_is_err_and c.from_residual.result c.from_residual.ensures.1 in
     rw (p.1, p.2)
-    (allowed_stop c.in_err-rows.field-0.0 (λ why h. inr (c.in_ok-table.table, c.in_ok-table.ensures.read shown told, inl h))
-    (c.in_err-rows.ensures.rows shown (c.in_ok-table.ensures.only_reads.pages_stay ∙ told)))
+    (allowed_stop c.in_err-change.field-0.0
+    (λ why h. in_turn-ended (λ (placed : Placed) (pages : Pages). changed c.args.draft.now.size pages c.args.first placed.page (record { number = placed.number; row = placed.row })) c.args.changes.now c.loop-change.change-index c.change-item.result _ _ why c.loop-change-test.true c.change-item.is (c.loop-change.invariant.done base shown (c.in_err-change.ensures.only_reads.narrows base shown told)) h)
+    (rw c.loop-change.invariant.draft_size at (c.in_err-change.ensures.changed base shown told)))
 
-pub returns-clause-updated : goal.returns-clause-updated
-returns-clause-updated g c = λ shown told.
-    let size = c.args.draft.now.size in
-    let pages = drafted shown c.args.draft.now.list in
-    let table = c.in_ok-table.table in
-    let rows = c.in_ok-rows.rows.items in
-    let told2 = c.in_ok-table.ensures.only_reads.pages_stay ∙ told in
-    allowed_on (λ u. (u, drafted shown c.change_all.new.draft.list)) (in_turn (row_changed size table.first rows) c.args.changes.now pages) (updated size pages c.args.name.now c.args.changes.now) c.change_all.result
-    (λ a h. next_step (table_in size pages c.args.name.now) (λ (found : StoredTable). rows_at size pages found >>= (λ rows. in_turn (row_changed size found.first rows) c.args.changes.now pages)) table (c.in_ok-table.ensures.read shown told) a
-    (next_step (rows_at size pages table) (λ found. in_turn (row_changed size table.first found) c.args.changes.now pages) rows (c.in_ok-rows.ensures.rows shown told2) a h))
-    (rw c.deref.ensures.value at (c.change_all.ensures.changed shown (c.in_ok-rows.ensures.only_reads.pages_stay ∙ told2)))
+pub loop-change-preserved : goal.loop-change-preserved
+loop-change-preserved g c =
+    let drafts = c.in_ok-change.ensures.only_reads in
+    record {
+      done = λ base shown told.
+          in_turn-next (λ (placed : Placed) (pages : Pages). changed c.args.draft.now.size pages c.args.first placed.page (record { number = placed.number; row = placed.row })) c.args.changes.now c.loop-change.change-index c.change-item.result c.in_ok-change.field-0 _ _ _ c.loop-change-test.true c.change-item.is (c.loop-change.invariant.done base shown (drafts.narrows base shown told))
+          (rw c.loop-change.invariant.draft_size at (c.in_ok-change.ensures.changed base shown told));
+      draft_size = c.in_ok-change.ensures.size ∙ c.loop-change.invariant.draft_size;
+      narrows = λ base shown told. c.loop-change.invariant.narrows base shown (drafts.narrows base shown told);
+      goes = g.met.P.Pager.goes_on _ _ _ c.loop-change.invariant.goes drafts.goes_on;
+      size = drafts.size_stays ∙ c.loop-change.invariant.size;
+      steady = drafts.cause ∙ c.loop-change.invariant.steady;
+    }

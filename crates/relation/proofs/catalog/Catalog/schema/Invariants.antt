@@ -1,7 +1,7 @@
 use Rattle.std.proofs.Common.{◌≡◌, map, take}
 use Rattle.sql_tree.specs.declared.schema.TableSchema.{TableSchema}
 use Rattle.relation.specs.declared.catalog.StoredTable.{StoredTable}
-use Rattle.relation.proofs.catalog.schema_of.Given as goal
+use Rattle.relation.proofs.catalog.Catalog.schema.Given as goal
 
 abbrev pub invariant-loop-table : goal.invariant-loop-table
 invariant-loop-table l =

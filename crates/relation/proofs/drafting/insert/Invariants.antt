@@ -1,0 +1,15 @@
+use Rattle.std.proofs.Common.{◌≡◌, Ok, take}
+use Rattle.pager.specs.Draft.{drafted}
+use Rattle.pager.specs.Pages.{Pages, Narrows}
+use Rattle.relation.specs.Work.{all_added}
+use Rattle.relation.proofs.drafting.insert.Given as goal
+
+abbrev pub invariant-loop-row : goal.invariant-loop-row
+invariant-loop-row g l = record {
+  done : (base shown : Pages) → g.P.Pager.tells l.pager base shown → all_added l.fn.draft.size l.first (take l.row-index l.rows) (drafted shown l.fn.draft.list) (Ok (tt, drafted shown l.draft.list));
+  draft_size : l.draft.size ≡ l.fn.draft.size;
+  narrows : Narrows (g.P.Pager.tells l.fn.pager) (g.P.Pager.tells l.pager);
+  goes : g.P.Pager.goes l.fn.pager l.pager;
+  size : g.P.Pager.size l.pager ≡ g.P.Pager.size l.fn.pager;
+  steady : g.P.Pager.faults l.pager ≡ g.P.Pager.faults l.fn.pager;
+}
