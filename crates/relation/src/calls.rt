@@ -17,10 +17,7 @@ use std::alloc::Global;
 use values::Row;
 
 /// The catalog, read once for all calls that follow until a table is made.
-pub fn open<P: Pager>(
-    alloc: Global,
-    pager: &mut P,
-) -> Result<Catalog, Stop<P::Fault>>
+pub fn open<P: Pager>(alloc: Global, pager: &mut P) -> Result<Catalog, Stop<P::Fault>>
     ensures catalog { Answers (λ catalog. catalog) (P.tells pager.new) (λ pages. catalog (P.size pager.old) pages) result }
     ensures only_reads { OnlyReads P.tells P.goes P.size P.faults pager.old pager.new result }
 {

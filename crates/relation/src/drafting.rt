@@ -136,7 +136,15 @@ pub fn update<P: Pager>(
     ensures size { draft.new.size ≡ draft.old.size }
 {
     for change in changes {
-        drafting::change(alloc, pager, draft, first, change.page, change.number, &change.row)?;
+        drafting::change(
+            alloc,
+            pager,
+            draft,
+            first,
+            change.page,
+            change.number,
+            &change.row,
+        )?;
     }
     Ok(())
 }

@@ -154,7 +154,12 @@ fn update_integer(
     let row = integer(alloc, value)?;
     let page = 2;
     let catalog = open(alloc, pager)?;
-    update(alloc, pager, t(alloc, &catalog)?, &[Placed { number, page, row }])
+    update(
+        alloc,
+        pager,
+        t(alloc, &catalog)?,
+        &[Placed { number, page, row }],
+    )
 }
 
 // Takes the rows of these numbers out of the table t.
