@@ -32,7 +32,8 @@ impl Model for AreaLog {
 
     ghost Value = { Area };
 
-    ghost view = { λ a. record { log = a.log; generation = a.generation; is_other_open = a.is_other_open; fault = a.fault } };
+    ghost view = { λ a.
+        record { log = a.log; generation = a.generation; is_other_open = a.is_other_open; fault = a.fault } };
 
     ghost invariant = { λ a. (a.log.place ≤ a.log.size) × (17 ≤ a.log.size) × (2 * a.log.size < 2 ^ 64) };
 }
