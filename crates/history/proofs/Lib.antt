@@ -7,4 +7,5 @@ pub mod Lines
 pub mod MarkLaws
 pub mod PageLists
 pub mod RightLaws
+pub mod Searches
 pub mod SoundLaws
