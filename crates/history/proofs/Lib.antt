@@ -5,6 +5,7 @@ pub mod Consistent
 pub mod Journals
 pub mod Lines
 pub mod MarkLaws
+pub mod Merging
 pub mod PageLists
 pub mod RightLaws
 pub mod Searches
