@@ -5,6 +5,8 @@ pub mod Consistent
 pub mod Journals
 pub mod Lines
 pub mod MarkLaws
+pub mod Merging
 pub mod PageLists
 pub mod RightLaws
+pub mod Searches
 pub mod SoundLaws
