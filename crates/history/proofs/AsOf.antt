@@ -77,7 +77,7 @@ over-met f g (x ∷ xs) page e = go (eqb x.page page) (over-met f g xs page) e w
   go false again k = again k
 
 -- a page that is not written stays
-unwritten : (pages : ℕ → List ℕ) (writes : List PageImage) (page : ℕ) → is_among page (pages_of writes) ≡ false → written pages writes page ≡ pages page
+pub unwritten : (pages : ℕ → List ℕ) (writes : List PageImage) (page : ℕ) → is_among page (pages_of writes) ≡ false → written pages writes page ≡ pages page
 unwritten pages [] page e = refl
 unwritten pages (write ∷ writes) page e = go (eqb write.page page) refl e (unwritten (with_write pages write) writes page) where
   go : (b : Bool) → eqb write.page page ≡ b → (b || is_among page (pages_of writes)) ≡ false → (is_among page (pages_of writes) ≡ false → written (with_write pages write) writes page ≡ with_write pages write page) → written (with_write pages write) writes page ≡ pages page

@@ -3,6 +3,8 @@ pub mod BaseStays
 pub mod Captures
 pub mod Consistent
 pub mod Journals
+pub mod Effects
+pub mod Items
 pub mod Lines
 pub mod MarkLaws
 pub mod Merging

@@ -1,8 +1,8 @@
 -- What one line more tells.
-use Rattle.std.proofs.Common.{◌≡◌, ◌≤◌, ◌+◌, ◌∙◌, ℕ, Bool, true, false, cond, eqb, List, [], ◌∷◌, ◌++◌, Option, Some, None, refl, sym, ap, subst, arith, append_assoc}
+use Rattle.std.proofs.Common.{◌≡◌, ◌≤◌, ◌+◌, ◌∙◌, ℕ, Bool, true, false, cond, eqb, List, [], ◌∷◌, ◌++◌, drop, Option, Some, None, refl, sym, ap, subst, arith, append_assoc}
 use Rattle.std.specs.List.{AllByRecursion}
 use Rattle.std.specs.Option.{option_or, option_to_list}
-use Rattle.std.proofs.lemmas.List.{append-nil}
+use Rattle.std.proofs.lemmas.List.{append-nil, drop-append-le}
 use Rattle.retro_base.specs.declared.device.Device.{Device}
 use Rattle.retro_base.specs.declared.who.Who.{Who}
 use Rattle.history.specs.declared.entry.Base.{Base}
@@ -14,7 +14,7 @@ use Rattle.history.specs.declared.journal.What.TheVariants.{Began, Done, Overlap
 use Rattle.history.specs.History.{bases_after, base_after, State, History, now, with_change, with_changes, pages_as_of}
 use Rattle.history.specs.Journal.{change_of, changes_of, base_behind, after_journal}
 use Rattle.history.specs.Laws.{AllKeepNewest}
-use Rattle.history.specs.LineLaws.{BaseOfOneMore, PinsOfOneMore, LinesOfOneMore, ImagesInOneMore, OpenInOneMore, LastChangeInOneMore, FirstStopInOneMore, FaultsOfOneMore, FaultsDifferInOneMore, FaultsOfFrontDiffer, PageOfTheDeclaringLine, PagesAsOfStay}
+use Rattle.history.specs.LineLaws.{BaseOfOneMore, PinsOfOneMore, LinesOfOneMore, ImagesInOneMore, OpenInOneMore, LastChangeInOneMore, ChangedSinceInOneMore, FirstStopInOneMore, FaultsOfOneMore, FaultsDifferInOneMore, FaultsOfFrontDiffer, PageOfTheDeclaringLine, PagesAsOfStay}
 use Rattle.history.specs.Lines.{base_of, lines_of, open_behind, open_from, change_by, last_change, DeviceFault, same_device, fault_of, faults_of, IsNewer, AreNewer, stop_of, first_stop}
 use Rattle.history.specs.Marks.{newest, is_retained}
 use Rattle.history.specs.Sound.{Pin, pins_behind, pins_of}
@@ -55,7 +55,7 @@ pub images_in_one_more : ImagesInOneMore
 images_in_one_more [] line = omega arith
 images_in_one_more (first ∷ lines) line = omega (arith, images_in_one_more lines line)
 
-open-append : (items : List Who) (lines more : List Line) → open_from items (lines ++ more) ≡ open_from (open_from items lines) more
+pub open-append : (items : List Who) (lines more : List Line) → open_from items (lines ++ more) ≡ open_from (open_from items lines) more
 open-append items [] more = refl
 open-append items (line ∷ lines) more = open-append (open_behind items line) lines more
 
@@ -74,6 +74,9 @@ pub last_change_in_one_more : LastChangeInOneMore
 last_change_in_one_more who page [] line = sym (or-none (change_by who page line))
 last_change_in_one_more who page (first ∷ lines) line =
     ap (λ (o : Option Who). option_or o (change_by who page first)) (last_change_in_one_more who page lines line) ∙ or-assoc (change_by who page line) (last_change who page lines) (change_by who page first)
+
+pub changed_since_in_one_more : ChangedSinceInOneMore
+changed_since_in_one_more who page place lines line le = ap (last_change who page) (drop-append-le place lines (line ∷ []) le) ∙ last_change_in_one_more who page (drop place lines) line
 
 pub first_stop_in_one_more : FirstStopInOneMore
 first_stop_in_one_more [] line = or-none (stop_of line.what)

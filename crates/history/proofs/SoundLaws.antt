@@ -121,7 +121,7 @@ has_all who number (mark ∷ marks) is = elim (or_cases (eqb mark.number number)
   | inr later ↦ inr (has_all who number marks later)
 ]
 
-items_are : (who other : Who) → same_item who other ≡ true → who ≡ other
+pub items_are : (who other : Who) → same_item who other ≡ true → who ≡ other
 items_are who other is =
     let first = and_parts (eqb who.phase other.phase && eqb who.session other.session) (eqb who.item other.item) is in
     let rest = and_parts (eqb who.phase other.phase) (eqb who.session other.session) first.0 in

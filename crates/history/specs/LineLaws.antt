@@ -1,21 +1,23 @@
 -- What one line more tells, behind the lines before it.
-use Rattle.std.specs.Prelude.{◌↔◌, ◌≡◌, ◌≤◌, ◌<◌, ◌+◌, ◌==◌, ℕ, Bool, true, false, List, [], ◌∷◌, ◌++◌, length, Some, if◌then◌else◌}
+use Rattle.std.specs.Prelude.{◌⊎◌, ◌↔◌, ◌≡◌, ◌≤◌, ◌<◌, ◌+◌, ◌==◌, nat_le, ℕ, Bool, true, false, List, [], ◌∷◌, ◌++◌, length, map, filter, Option, Some, None, if◌then◌else◌}
 use Rattle.std.specs.Option.{option_or}
 use Rattle.std.specs.List.{AllByRecursion}
 use Rattle.retro_base.specs.declared.device.Device.{Device}
 use Rattle.retro_base.specs.declared.who.Who.{Who}
 use Rattle.history.specs.declared.entry.Base.{Base}
+use Rattle.history.specs.declared.entry.Change.TheVariants.{Commit}
 use Rattle.history.specs.declared.journal.Line.{Line}
 use Rattle.history.specs.declared.journal.What.{What}
-use Rattle.history.specs.declared.journal.What.TheVariants.{Done, Looked, LookedAll, Unlooked, Dropped, Refused, Fault}
+use Rattle.history.specs.declared.journal.What.TheVariants.{Began, Done, Looked, LookedAll, Unlooked, Dropped, Refused, Fault}
 use Rattle.history.specs.declared.writes.PageImage.{PageImage}
-use Rattle.history.specs.Journal.{base_behind, changes_of, after_journal}
+use Rattle.history.specs.Journal.{base_behind, changes_of, pages_after_journal, after_journal}
 use Rattle.history.specs.Laws.{IsConsistent}
-use Rattle.history.specs.Lines.{base_of, lines_of, images_of, images_in, open_behind, open_in, change_by, last_change, DeviceFault, fault_of, faults_of, IsNewer, FaultsDiffer, stop_of, first_stop}
-use Rattle.history.specs.Marks.{newest, is_retained}
+use Rattle.history.specs.Lines.{base_of, lines_of, pinned_by, images_of, images_in, open_behind, open_in, is_open, change_by, last_change, changed_since, DeviceFault, fault_of, faults_of, IsNewer, FaultsDiffer, stop_of, first_stop}
+use Rattle.history.specs.Marks.{oldest, newest, is_retained}
 use Rattle.history.specs.History.{History, now, pages_as_of}
-use Rattle.history.specs.Right.{IsBase, AllMayFollow}
+use Rattle.history.specs.Right.{IsBase, MayFollow, AllMayFollow}
 use Rattle.history.specs.Sound.{Pin, pins_behind, KeepsRules, pins_of, IsSound}
+use Rattle.history.specs.Writes.{pages_of, is_among}
 
 -- One line more is sound where there is room for it and it keeps the rules.
 abbrev pub SoundWithOneMore : Type 0
@@ -34,6 +36,18 @@ BaseStaysRight = (base : Base) (lines : List Line) → IsSound base lines → Is
 abbrev pub DropsAreBelowPins : Type 0
 DropsAreBelowPins = (base : Base) (lines : List Line) (line : Line) (below : ℕ) → IsSound base (lines ++ line ∷ []) → line.what ≡ Dropped below →
     (0 < below) × (below ≤ newest (base_of base lines).marks) × AllByRecursion (λ (pin : Pin). below ≤ pin.snapshot) (pins_of base [] lines)
+
+-- Behind a drop exactly the retained snapshots from its number on are left. One that is below none of them changes nothing.
+abbrev pub DropLeaves : Type 0
+DropLeaves = (base : Base) (lines : List Line) (line : Line) (below : ℕ) → IsSound base (lines ++ line ∷ []) → line.what ≡ Dropped below →
+    let before : Base = base_of base lines in
+    let behind : Base = base_of base (lines ++ line ∷ []) in
+    (behind.marks ≡ filter (λ mark. nat_le below mark.number) before.marks) × (below ≤ oldest before.marks → behind ≡ before)
+
+-- A commit that may follow a sound journal, with room for a line, makes a sound line.
+abbrev pub CommitsAreSound : Type 0
+CommitsAreSound = (base : Base) (lines : List Line) (line : Line) (label : Option (List ℕ)) (writes : List PageImage) → IsSound base lines → length lines < 65536 →
+    MayFollow (base_of base lines) (Commit label writes) → line.what ≡ Done label writes → IsSound base (lines ++ line ∷ [])
 
 -- whether a line ends a look
 abbrev pub ends_look : What → Bool
@@ -55,6 +69,23 @@ LookedAtStays = (base : Base) (before more : List Line) (look : Line) (number : 
     AllByRecursion (λ (line : Line). line.who ≡ look.who → ends_look line.what ≡ false) more →
     is_retained number (base_of base (before ++ look ∷ more)).marks ≡ true
 
+-- Behind a line that ends a look its item pins nothing.
+abbrev pub EndedPinsNothing : Type 0
+EndedPinsNothing = (base : Base) (lines : List Line) (line : Line) → ends_look line.what ≡ true → pinned_by line.who (pins_of base [] (lines ++ line ∷ [])) ≡ []
+
+-- No line changes what other items pin.
+abbrev pub OthersPinsStay : Type 0
+OthersPinsStay = (base : Base) (lines : List Line) (line : Line) (who : Who) → (who ≡ line.who → ⊥) →
+    pinned_by who (pins_of base [] (lines ++ line ∷ [])) ≡ pinned_by who (pins_of base [] lines)
+
+-- A look pins its snapshot, and a look at all of them each that is retained there, beside what its item pinned before.
+abbrev pub LooksPin : Type 0
+LooksPin = (base : Base) (lines : List Line) (line : Line) →
+    let before : List ℕ = pinned_by line.who (pins_of base [] lines) in
+    let behind : List ℕ = pinned_by line.who (pins_of base [] (lines ++ line ∷ [])) in
+    ((snapshot : ℕ) → line.what ≡ Looked snapshot → behind ≡ snapshot ∷ before)
+    × (line.what ≡ LookedAll → behind ≡ map (λ mark. mark.number) (base_of base lines).marks ++ before)
+
 abbrev pub BaseOfOneMore : Type 0
 BaseOfOneMore = (base : Base) (lines : List Line) (line : Line) → base_of base (lines ++ line ∷ []) ≡ base_behind (base_of base lines) line
 
@@ -70,11 +101,69 @@ ImagesInOneMore = (lines : List Line) (line : Line) → images_in (lines ++ line
 abbrev pub OpenInOneMore : Type 0
 OpenInOneMore = (lines : List Line) (line : Line) → open_in (lines ++ line ∷ []) ≡ open_behind (open_in lines) line
 
+-- A commit adds as many images as it writes.
+abbrev pub CommitsHoldImages : Type 0
+CommitsHoldImages = (lines : List Line) (line : Line) (label : Option (List ℕ)) (writes : List PageImage) → line.what ≡ Done label writes →
+    images_in (lines ++ line ∷ []) ≡ images_in lines + length writes
+
+-- No other line adds one.
+abbrev pub OthersHoldNoImages : Type 0
+OthersHoldNoImages = (lines : List Line) (line : Line) → ((label : Option (List ℕ)) (writes : List PageImage) → line.what ≡ Done label writes → ⊥) →
+    images_in (lines ++ line ∷ []) ≡ images_in lines
+
+-- what begins an item: a transaction, a look at a snapshot, or one at all of them
+abbrev pub IsBeginning : What → Type 0
+IsBeginning what = (what ≡ Began) ⊎ ((snapshot : ℕ) × (what ≡ Looked snapshot)) ⊎ (what ≡ LookedAll)
+
+-- no line is of this item
+abbrev pub NoLineOf : Who → List Line → Type 0
+NoLineOf who lines = AllByRecursion (λ (line : Line). line.who ≡ who → ⊥) lines
+
+-- An item is open exactly where its last line begins it.
+abbrev pub OpenWhereLastBegins : Type 0
+OpenWhereLastBegins = (before more : List Line) (line : Line) → NoLineOf line.who more → (is_open line.who (open_in (before ++ line ∷ more)) ≡ true) ↔ IsBeginning line.what
+
+-- An item without a line is not open.
+abbrev pub OpenByALine : Type 0
+OpenByALine = (who : Who) (lines : List Line) → NoLineOf who lines → is_open who (open_in lines) ≡ false
+
 abbrev pub LastChangeInOneMore : Type 0
 LastChangeInOneMore = (who : Who) (page : ℕ) (lines : List Line) (line : Line) → last_change who page (lines ++ line ∷ []) ≡ option_or (change_by who page line) (last_change who page lines)
 
 abbrev pub FirstStopInOneMore : Type 0
 FirstStopInOneMore = (lines : List Line) (line : Line) → first_stop (lines ++ line ∷ []) ≡ option_or (first_stop lines) (stop_of line.what)
+
+-- So it is since a place among the lines before.
+abbrev pub ChangedSinceInOneMore : Type 0
+ChangedSinceInOneMore = (who : Who) (page place : ℕ) (lines : List Line) (line : Line) → place ≤ length lines →
+    changed_since who page place (lines ++ line ∷ []) ≡ option_or (change_by who page line) (changed_since who page place lines)
+
+-- A commit of another item that writes the page is its last change.
+abbrev pub CommitIsLastChange : Type 0
+CommitIsLastChange = (who : Who) (page : ℕ) (lines : List Line) (line : Line) (label : Option (List ℕ)) (writes : List PageImage) →
+    (line.who ≡ who → ⊥) → line.what ≡ Done label writes → is_among page (pages_of writes) ≡ true → last_change who page (lines ++ line ∷ []) ≡ Some line.who
+
+-- no line is a commit of this item
+abbrev pub NoCommitOf : Who → List Line → Type 0
+NoCommitOf who lines = AllByRecursion (λ (line : Line). (label : Option (List ℕ)) (writes : List PageImage) → line.who ≡ who → line.what ≡ Done label writes → ⊥) lines
+
+-- A page that neither another item nor a commit of this one changed is as it was.
+abbrev pub UnchangedStays : Type 0
+UnchangedStays = (pages : ℕ → List ℕ) (who : Who) (page : ℕ) (more : List Line) → last_change who page more ≡ None → NoCommitOf who more →
+    pages_after_journal pages more page ≡ pages page
+
+-- no line tells a fault that a write or a sync met
+abbrev pub NoStop : List Line → Type 0
+NoStop lines = AllByRecursion (λ (line : Line). (device : Device) (count : ℕ) → line.what ≡ Fault device count true → ⊥) lines
+
+-- There is no first such fault exactly where no line tells one.
+abbrev pub NoneStops : Type 0
+NoneStops = (lines : List Line) → (first_stop lines ≡ None) ↔ NoStop lines
+
+-- It is the one behind lines that tell none, by its device and its count.
+abbrev pub FirstStops : Type 0
+FirstStops = (before more : List Line) (line : Line) (device : Device) (count : ℕ) → NoStop before → line.what ≡ Fault device count true →
+    first_stop (before ++ line ∷ more) ≡ Some (device, count)
 
 abbrev pub FaultsOfOneMore : Type 0
 FaultsOfOneMore = (device : Device) (lines : List Line) (line : Line) → faults_of device (lines ++ line ∷ []) ≡ faults_of device lines ++ fault_of device line.who line.what

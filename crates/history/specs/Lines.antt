@@ -1,7 +1,7 @@
 -- What the lines of a journal tell, line by line.
-use Rattle.std.specs.Prelude.{◌≡◌, ◌<◌, ◌-◌, ◌^◌, ◌+◌, ◌==◌, ◌&&◌, ℕ, Bool, true, false, not, List, [], ◌∷◌, ◌++◌, length, map, filter, Option, Some, None, if◌then◌else◌}
+use Rattle.std.specs.Prelude.{◌≡◌, ◌<◌, ◌-◌, ◌^◌, ◌+◌, ◌==◌, ◌&&◌, ℕ, Bool, true, false, not, List, [], ◌∷◌, ◌++◌, length, map, filter, drop, Option, Some, None, if◌then◌else◌}
 use Rattle.std.specs.Option.{option_or}
-use Rattle.std.specs.List.{AllByRecursion}
+use Rattle.std.specs.List.{AllByRecursion, list_any}
 use Rattle.retro_base.specs.declared.device.Device.{Device}
 use Rattle.retro_base.specs.declared.device.Device.TheVariants.{Log, Pages, Pagelog, Maplog, Cabinet}
 use Rattle.retro_base.specs.declared.who.Who.{Who}
@@ -27,9 +27,9 @@ horizon_of base lines = (oldest (base_of base lines).marks, newest (base_of base
 abbrev pub lines_of : ℕ → List Line → List Line
 lines_of session lines = filter (λ line. line.who.session == session) lines
 
--- the snapshots that the open looks of one session keep from being dropped
-abbrev pub pinned_by : ℕ → List Pin → List ℕ
-pinned_by session pins = map (λ pin. pin.snapshot) (filter (λ pin. pin.who.session == session) pins)
+-- the snapshots that the open looks of one item keep from being dropped
+abbrev pub pinned_by : Who → List Pin → List ℕ
+pinned_by who pins = map (λ pin. pin.snapshot) (filter (λ pin. same_item pin.who who) pins)
 
 -- how many page images a line holds
 abbrev pub images_of : What → ℕ
@@ -57,6 +57,10 @@ open_from items (line ∷ lines) = open_from (open_behind items line) lines
 abbrev pub open_in : List Line → List Who
 open_in lines = open_from [] lines
 
+-- whether an item is among these
+abbrev pub is_open : Who → List Who → Bool
+is_open who items = list_any (λ other. same_item other who) items
+
 -- whether a committed item writes the page
 abbrev pub changes_page : ℕ → What → Bool
 changes_page page (Done label writes) = is_among page (pages_of writes)
@@ -70,6 +74,10 @@ change_by who page line = if changes_page page line.what && not (same_item line.
 abbrev pub last_change : Who → ℕ → List Line → Option Who
 last_change who page [] = None
 last_change who page (line ∷ lines) = option_or (last_change who page lines) (change_by who page line)
+
+-- the other item that changed the page last behind so many lines
+abbrev pub changed_since : Who → ℕ → ℕ → List Line → Option Who
+changed_since who page place lines = last_change who page (drop place lines)
 
 abbrev pub same_device : Device → Device → Bool
 same_device Log Log = true

@@ -1,7 +1,7 @@
 //! What follows from the definitions.
 
 ghost use Rattle.history.specs.Laws.{AsOfStays, AsOfTheDeclaration, CapturedByTheRule, CapturesAreCounted, CapturesGrow, FrontIsSound, HorizonRises, JournalCapturesGrow, JournalPages, MadeIsConsistent, NothingTwice, OneMoreLine, PinnedAreRetained, StartsCount, StaysConsistent, StaysRight};
-ghost use Rattle.history.specs.LineLaws.{BaseOfOneMore, BaseStaysRight, ChangesMayFollow, DropsAreBelowPins, FaultsDifferInOneMore, FaultsOfFrontDiffer, FaultsOfOneMore, FirstStopInOneMore, ImagesInOneMore, LastChangeInOneMore, LinesOfOneMore, LookedAtStays, OpenInOneMore, PageOfTheDeclaringLine, PagesAsOfStay, PinsOfOneMore, SoundWithOneMore};
+ghost use Rattle.history.specs.LineLaws.{BaseOfOneMore, BaseStaysRight, ChangedSinceInOneMore, ChangesMayFollow, CommitIsLastChange, CommitsAreSound, CommitsHoldImages, DropLeaves, DropsAreBelowPins, EndedPinsNothing, FaultsDifferInOneMore, FaultsOfFrontDiffer, FaultsOfOneMore, FirstStopInOneMore, FirstStops, ImagesInOneMore, LastChangeInOneMore, LinesOfOneMore, LookedAtStays, LooksPin, NoneStops, OpenByALine, OpenInOneMore, OpenWhereLastBegins, OthersHoldNoImages, OthersPinsStay, PageOfTheDeclaringLine, PagesAsOfStay, PinsOfOneMore, SoundWithOneMore, UnchangedStays};
 
 /// Of the captures of a consistent history.
 pub fn laws_of_captures()
@@ -49,6 +49,8 @@ pub fn laws_of_sound_journals()
     ensures front { FrontIsSound }
     // One line more is sound where there is room for it and it keeps the rules.
     ensures one_more { SoundWithOneMore }
+    // So it is with a commit that may follow.
+    ensures commits { CommitsAreSound }
     // The changes that a sound journal leaves are right, each at its place.
     ensures follow { ChangesMayFollow }
     // Behind it the base is right.
@@ -57,6 +59,8 @@ pub fn laws_of_sound_journals()
     ensures pinned { PinnedAreRetained }
     // No drop is below nothing, of the newest snapshot, or of one that is pinned.
     ensures drops { DropsAreBelowPins }
+    // Behind a drop the retained snapshots from its number on are left.
+    ensures drop_leaves { DropLeaves }
     // While a look has no end, what it looked at stays retained.
     ensures looks { LookedAtStays }
     // As a sound journal goes on, the oldest and the newest snapshot and the oldest start do not fall.
@@ -71,12 +75,51 @@ pub fn laws_of_lines()
     ensures images { ImagesInOneMore }
     ensures open_items { OpenInOneMore }
     ensures changes { LastChangeInOneMore }
+    ensures since { ChangedSinceInOneMore }
     ensures stops { FirstStopInOneMore }
     ensures faults { FaultsOfOneMore }
     // The faults differ as before, and the line's is newer than each of its device.
     ensures differ { FaultsDifferInOneMore }
     // In a front of a journal the faults differ too.
     ensures front { FaultsOfFrontDiffer }
+{}
+
+/// Of the pins of open looks, item by item.
+pub fn laws_of_pins()
+    // A look pins its snapshot, and a look at all of them each that is retained there.
+    ensures looks { LooksPin }
+    // Behind a line that ends a look its item pins nothing.
+    ensures ended { EndedPinsNothing }
+    // No line changes what other items pin.
+    ensures others { OthersPinsStay }
+{}
+
+/// Of the items that are open.
+pub fn laws_of_open_items()
+    // An item is open exactly where its last line begins it.
+    ensures last { OpenWhereLastBegins }
+    // An item without a line is not open.
+    ensures no_line { OpenByALine }
+{}
+
+/// Of the changes of pages.
+pub fn laws_of_page_changes()
+    // A commit adds as many images as it writes.
+    ensures images { CommitsHoldImages }
+    // No other line adds one.
+    ensures no_images { OthersHoldNoImages }
+    // A commit of another item that writes the page is its last change.
+    ensures last { CommitIsLastChange }
+    // A page that neither another item nor a commit of this one changed is as it was.
+    ensures unchanged { UnchangedStays }
+{}
+
+/// Of the first fault that a write or a sync met.
+pub fn laws_of_stops()
+    // There is none exactly where no line tells one.
+    ensures no_stop { NoneStops }
+    // It is the one behind lines that tell none.
+    ensures first { FirstStops }
 {}
 
 /// Of bases.
