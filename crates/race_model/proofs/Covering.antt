@@ -1,13 +1,13 @@
 -- What a failed call may leave covers what the devices might hold before the call and what they may hold behind it.
-use Rattle.std.proofs.Common.{◌≡◌, ◌⊎◌, inl, inr, ◌∙◌, ℕ, Bool, true, false, eqb, List, [], refl, sym, subst, arith}
+use Rattle.std.proofs.Common.{◌≡◌, ◌⊎◌, inl, inr, ◌∙◌, ℕ, suc, Bool, true, false, eqb, List, [], ◌∷◌, map, refl, sym, ap, subst, arith}
 use Rattle.std.specs.Prelude.{Contains}
 use Rattle.std.proofs.lemmas.Bool.{cases_eq, eq-eqb, ne_eqb, cond-true, cond-false, both_ways}
 use Rattle.history.specs.declared.log.Log.{Log}
 use Rattle.race_model.specs.Desk.{Doubt, Sure, Desk, IsInDoubt, IsLogOf, log_from}
 use Rattle.race_model.specs.Vault.{Maplog, listing, trim_to, enter_into}
 use Rattle.race_model.specs.Machine.{with_page, changed, cut}
-use Rattle.race_model.specs.Laws.{FailuresCover}
-use Rattle.race_model.proofs.Grows.{contains_none}
+use Rattle.race_model.specs.Laws.{FailuresCover, MaplogInVersion, in_version}
+use Rattle.race_model.proofs.Grows.{contains_cons, contains_none}
 
 -- a log in no doubt is its list
 surely : (desk : Desk) (log : Log) → desk.doubt ≡ Sure → IsLogOf desk log → log ≡ log_from desk.version desk.history desk.past desk.rest
@@ -51,6 +51,8 @@ failures_cover = record {
     λ contents i. record { log = i.log; pages = i.pages; version = i.version; maplog = i.maplog; slots = i.slots },
     λ contents i. record { log = i.log; pages = λ q firm. i.pages q refl; version = i.version; maplog = i.maplog; slots = i.slots },
   );
+  cut_in_version = λ m version sure.
+      λ contents i. record { log = inr (surely (in_version version (cut m.desk)) contents.log sure i.log); pages = i.pages; version = i.version; maplog = i.maplog; slots = i.slots };
   cut = λ m sure. (
     λ contents i. record { log = inl (surely m.desk contents.log sure i.log); pages = i.pages; version = i.version; maplog = i.maplog; slots = i.slots },
     λ contents i. record { log = inr (surely (cut m.desk) contents.log sure i.log); pages = i.pages; version = i.version; maplog = i.maplog; slots = i.slots },
@@ -83,3 +85,15 @@ failures_cover = record {
     λ contents i. record { log = i.log; pages = i.pages; version = i.version; maplog = inr (0, omega arith, sym (only (record { version = i.version; mappings = contents.mappings }) (listing m.vault (trim_to m.vault.mappings low)) m.vault.others none i.maplog)); slots = i.slots },
   );
 }
+
+-- ---- the version of a Maplog
+
+pub maplog_in_version : MaplogInVersion
+maplog_in_version vault maplog (inl e) = inl (ap (λ (m : Maplog). m.version) e)
+maplog_in_version vault maplog (inr is) = inr (versions vault.others is) where
+  versions : (others : List Maplog) → Contains others maplog → Contains (map (λ (other : Maplog). other.version) others) maplog.version
+  versions [] never = absurd (contains_none maplog never)
+  versions (other ∷ others) is = elim (contains_cons other maplog others is) [
+    | inl e ↦ (0, omega arith, ap (λ (m : Maplog). m.version) (sym e))
+    | inr later ↦ let there = versions others later in (suc there.0, omega (arith, there.1), there.2)
+  ]

@@ -1,5 +1,5 @@
 -- Each step of the desk keeps what holds of it.
-use Rattle.std.proofs.Common.{◌≡◌, ◌⊎◌, inl, inr, ◌≤◌, ◌+◌, ◌∙◌, ℕ, true, false, eqb, List, [], ◌∷◌, ◌++◌, length, get_or, refl, sym, ap, subst, arith}
+use Rattle.std.proofs.Common.{◌≡◌, ◌⊎◌, inl, inr, ◌≤◌, ◌<◌, ◌+◌, ◌∙◌, ℕ, true, false, eqb, List, [], ◌∷◌, ◌++◌, length, get_or, refl, sym, ap, subst, arith}
 use Rattle.std.proofs.lemmas.Bool.{cases_lt, cases_eq, eq-eqb, ne_eqb, cond-true, cond-false, or_parts, or_cases, both_ways}
 use Rattle.std.proofs.lemmas.List.{append-nil}
 use Rattle.history.specs.declared.entry.Change.{Change}
@@ -9,7 +9,7 @@ use Rattle.history.specs.History.{State, now, captures_of, with_change}
 use Rattle.history.proofs.Captures.{now-with}
 use Rattle.history.specs.declared.log.Log.{Log}
 use Rattle.replay.specs.Opened.{Contents, forgotten}
-use Rattle.race_model.specs.Desk.{Doubt, Sure, OneMore, NewBase, Desk, behind, log_from, IsInDoubt, IsLogOf, ArePagesOf, writes_page}
+use Rattle.race_model.specs.Desk.{Doubt, Sure, OneMore, NewBase, Desk, behind, captured, log_from, IsInDoubt, IsLogOf, ArePagesOf, writes_page}
 use Rattle.race_model.specs.Fits.{WasSent, DoubtFits, DeskFits}
 use Rattle.race_model.specs.Machine.{changed, change_failed, acked_to, MayWrite, with_page, written, write_failed, settled, stopped, MayCut, cut, cut_failed}
 use Rattle.race_model.specs.Images.{Holds, OpenTo, OpenInDoubt}
@@ -203,6 +203,21 @@ module _ (desk : Desk) (f : DeskFits desk) where
     doubt = (λ page. ((can.clean page).1, f.clean page (can.clean page).0), omega arith, refl);
   }
 
+  -- ---- what it may do
+
+  pub may_write_back : (page : ℕ) → desk.stopped ≡ false → desk.dirty page ≡ true
+      → ((number : ℕ) → desk.acked ≤ number → number < (now desk.history).base.captures → (captured desk.history number).page ≡ page → ⊥) → MayWrite desk page desk.acked
+  may_write_back page goes soiled none = record {
+    goes = goes;
+    soiled = soiled;
+    below = λ number lt is. elim (cases_lt number desk.acked) [ inl below ↦ below | inr from ↦ absurd (none number from lt is) ];
+    up = f.needed;
+    acked = omega arith;
+  }
+
+  pub may_cut_settled : desk.stopped ≡ false → ((page : ℕ) → desk.dirty page ≡ false) → (now desk.history).base.captures ≤ desk.acked → MayCut (settled desk)
+  may_cut_settled goes clean all = record { goes = goes; clean = λ page. (clean page, refl); acked = omega (arith, all, f.pending) }
+
   -- ---- its images
 
   module _ (contents : Contents) (is_log : IsLogOf desk contents.log) (are_pages : ArePagesOf desk contents.pages) (holds : Holds desk.history desk.floor desk.need contents.mappings contents.slots) where
@@ -212,26 +227,26 @@ module _ (desk : Desk) (f : DeskFits desk) where
     with_log : Log → Contents
     with_log log = record { log = log; pages = contents.pages; mappings = contents.mappings; slots = contents.slots }
 
-    surely : contents.log ≡ log_from desk.version desk.history desk.past desk.rest → OpenTo contents desk.history
+    surely : contents.log ≡ log_from desk.version desk.history desk.past desk.rest → OpenTo contents desk.version desk.history
     unfolding with_log
     surely e =
-        subst (λ (log : Log). OpenTo (with_log log) desk.history) (sym e)
+        subst (λ (log : Log). OpenTo (with_log log) desk.version desk.history) (sym e)
         (opens desk.version desk.history desk.floor desk.past desk.rest desk.need contents.pages contents.mappings contents.slots f.history f.log f.known f.based here holds)
 
-    pub desk_opens : OpenInDoubt contents desk.history desk.doubt
+    pub desk_opens : OpenInDoubt contents desk desk.doubt
     unfolding with_log
     desk_opens = go desk.doubt f.doubt is_log where
-      go : (doubt : Doubt) → DoubtFits desk doubt → (contents.log ≡ log_from desk.version desk.history desk.past desk.rest) ⊎ IsInDoubt desk doubt contents.log → OpenInDoubt contents desk.history doubt
+      go : (doubt : Doubt) → DoubtFits desk doubt → (contents.log ≡ log_from desk.version desk.history desk.past desk.rest) ⊎ IsInDoubt desk doubt contents.log → OpenInDoubt contents desk doubt
       go Sure h (inl e) = surely e
       go Sure h (inr never) = absurd never
-      go (NewBase version) h (inl e) = surely e
+      go (NewBase version) h (inl e) = inl (surely e)
       go (NewBase version) h (inr e) =
-          subst (λ (log : Log). OpenTo (with_log log) desk.history) (sym e)
+          inr (subst (λ (log : Log). OpenTo (with_log log) version desk.history) (sym e)
           (opens version desk.history desk.floor desk.history.changes [] desk.need contents.pages contents.mappings contents.slots f.history (log_cut desk.history desk.floor f.history) f.known h.1
-          (λ page. inl (are_pages page (h.0 page).0 ∙ (h.0 page).1)) holds)
+          (λ page. inl (are_pages page (h.0 page).0 ∙ (h.0 page).1)) holds))
       go (OneMore change) h (inl e) = inl (surely e)
       go (OneMore change) h (inr e) =
-          inr (subst (λ (log : Log). OpenTo (with_log log) (with_change desk.history change)) (sym e)
+          inr (subst (λ (log : Log). OpenTo (with_log log) desk.version (with_change desk.history change)) (sym e)
           (opens desk.version (with_change desk.history change) desk.floor desk.past (desk.rest ++ change ∷ []) desk.need contents.pages contents.mappings contents.slots (fits_with desk.history desk.floor f.history change h.0)
           (log_with desk.history desk.floor f.history desk.past desk.rest f.log change h.0) f.known f.based
           (λ page. elim (here page) [ inl same ↦ inl same | inr sent ↦ inr (sent_with desk.history change desk.past desk.rest desk.need page sent) ])

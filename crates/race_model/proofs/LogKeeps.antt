@@ -7,14 +7,13 @@ use Rattle.history.specs.declared.entry.Change.{Change}
 use Rattle.history.specs.declared.writes.PageImage.{PageImage}
 use Rattle.history.specs.Marks.{newest_start}
 use Rattle.history.specs.Writes.{pages_of}
-use Rattle.history.specs.Right.{IsBase, IsRight, MayFollow, WritesRise}
+use Rattle.history.specs.Right.{IsBase, IsRight, AreRight, MayFollow, WritesRise}
 use Rattle.history.specs.History.{State, base_after, bases_after, run, captured_by, captures_of, History, now, captures, with_change}
 use Rattle.history.specs.Laws.{captured_since}
 use Rattle.history.proofs.Captures.{run-append, run-base}
 use Rattle.history.proofs.BaseStays.{stays_right}
 use Rattle.skippy.specs.Mappings.{end_of}
 use Rattle.replay.specs.Joined.{differ, are_among, mapped_since}
-use Rattle.history.specs.Right.{AreRight}
 use Rattle.replay.specs.Opened.{Contents, opened, slot_images}
 use Rattle.replay.proofs.Belonging.{opened_captures, opened_is_consistent}
 use Rattle.race_model.specs.Desk.{behind}

@@ -253,8 +253,9 @@ module _ (version : Version) (history : History) (floor : ℕ) (past rest : List
         ∙ sym (captured_behind history past rest fits.consistent.counted log.split number (omega (arith, counted, later)) (omega (arith, known, holds.enough, later)))
   ]
 
-  pub opens : OpenTo contents history
+  pub opens : OpenTo contents version history
   opens = record {
+    in_version = refl;
     store = of_store;
     same = record {
       base = same_base;

@@ -13,11 +13,11 @@ use Rattle.records.specs.Entries.{ChangeFits}
 use Rattle.records.specs.InTurn.{InTurn}
 use Rattle.records.specs.Log.{IsChangeBody}
 use Rattle.records.proofs.Logs.{in_turn_right}
-use Rattle.history.specs.History.{base_after, captures_of, History}
+use Rattle.history.specs.History.{base_after, captures_of}
 use Rattle.skippy.specs.Mappings.{end_of}
 use Rattle.replay.specs.Opened.{Contents, opened}
 use Rattle.replay.proofs.Belonging.{held_long}
-use Rattle.race_model.specs.Desk.{Doubt, Sure, OneMore, NewBase}
+use Rattle.race_model.specs.Desk.{Doubt, Sure, OneMore, NewBase, Desk}
 use Rattle.race_model.specs.Fits.{AreOfStore}
 use Rattle.race_model.specs.Machine.{Machine}
 use Rattle.race_model.specs.Images.{OpenInDoubt, AreImagesOf}
@@ -109,19 +109,20 @@ made_fits version page_count capacity pages slots few many small large = opened_
   rises = tt;
 })
 
-of_store : (contents : Contents) (history : History) (doubt : Doubt) → OpenInDoubt contents history doubt → AreOfStore contents
-of_store contents history Sure o = o.store
-of_store contents history (NewBase version) o = o.store
-of_store contents history (OneMore change) (inl o) = o.store
-of_store contents history (OneMore change) (inr o) = o.store
+of_store : (contents : Contents) (desk : Desk) (doubt : Doubt) → OpenInDoubt contents desk doubt → AreOfStore contents
+of_store contents desk Sure o = o.store
+of_store contents desk (NewBase version) (inl o) = o.store
+of_store contents desk (NewBase version) (inr o) = o.store
+of_store contents desk (OneMore change) (inl o) = o.store
+of_store contents desk (OneMore change) (inr o) = o.store
 
 pub lives_keep : (first last : Machine) → Life first last → Fits first → Fits last
 lives_keep first last (Runs run) f = run_keeps first last run f
 lives_keep first last (Crashes {next = next} contents life images run) f =
     let fits : Fits next = lives_keep first next life f in
-    run_keeps (opened_machine images.version contents) last run (opened_fits images.version contents (of_store contents next.desk.history next.desk.doubt (images_open next contents fits images)))
+    run_keeps (opened_machine images.version contents) last run (opened_fits images.version contents (of_store contents next.desk next.desk.doubt (images_open next contents fits images)))
 
-pub lives_open : (first last : Machine) (contents : Contents) → Life first last → Fits first → AreImagesOf last contents → OpenInDoubt contents last.desk.history last.desk.doubt
+pub lives_open : (first last : Machine) (contents : Contents) → Life first last → Fits first → AreImagesOf last contents → OpenInDoubt contents last.desk last.desk.doubt
 lives_open first last contents life f images = images_open last contents (lives_keep first last life f) images
 
 pub both_at_once : BothAtOnce

@@ -13,10 +13,12 @@ use Rattle.history.specs.Right.{AreRight}
 use Rattle.race_model.specs.Desk.{Desk, behind, capacity_of}
 use Rattle.race_model.specs.Fits.{DeskFits, BatchFits}
 use Rattle.race_model.specs.Machine.{MayTake, batch_of}
-use Rattle.race_model.specs.Apart.{BatchesFit}
+use Rattle.race_model.specs.Vault.{Vault, Batch}
+use Rattle.race_model.specs.Apart.{BatchesFit, MaySend}
 use Rattle.race_model.proofs.Lists.{pages_of-append, pages_of-drop, drop-to}
 use Rattle.race_model.proofs.Histories.{page_count_after, captures_of-append, run_count, count, room, capacity_stays}
 use Rattle.race_model.proofs.LogKeeps.{base_whole}
+use Rattle.race_model.proofs.VaultKeeps.{enter_end}
 
 all_append : (P : ℕ → Type 0) (xs ys : List ℕ) → AllByRecursion P xs → AllByRecursion P ys → AllByRecursion P (xs ++ ys)
 all_append P [] ys all more = more
@@ -85,11 +87,15 @@ module _ (desk : Desk) (f : DeskFits desk) where
       (subst (AllByRecursion (λ page. page < (behind desk.history desk.past).base.page_count)) (sym (ap pages_of pending_is ∙ pages_of-drop (desk.acked - first) late))
       (all_drop (λ page. page < (behind desk.history desk.past).base.page_count) (desk.acked - first) (pages_of late) (captured_in (behind desk.history desk.past) desk.rest f.log.right)))
 
+  taken : (n : ℕ) → MayTake desk n → length (batch_of desk n).images ≡ n
+  taken n may =
+      let total : length (captures desk.history) ≡ (now desk.history).base.captures = count desk.history f.history.consistent in
+      length-take-le n (drop desk.acked (captures desk.history)) (omega (arith, total, may.there, length-drop desk.acked (captures desk.history)))
+
   pub batch_fits : (n : ℕ) → MayTake desk n → BatchFits desk.history (batch_of desk n)
   batch_fits n may =
       let images : List PageImage = drop desk.acked (captures desk.history) in
-      let total : length (captures desk.history) ≡ (now desk.history).base.captures = count desk.history f.history.consistent in
-      let len : length (take n images) ≡ n = length-take-le n images (omega (arith, total, may.there, length-drop desk.acked (captures desk.history))) in
+      let len : length (take n images) ≡ n = taken n may in
       let slots : (now desk.history).base.capacity ≡ capacity_of desk.history = capacity_stays desk.history.origin desk.history.changes in
       record {
         low = omega arith;
@@ -103,3 +109,14 @@ module _ (desk : Desk) (f : DeskFits desk) where
 
 pub batches_fit : BatchesFit
 batches_fit desk n f some few there = let may : MayTake desk n = record { some = some; few = omega (arith, few); there = there } in (may, batch_fits desk f n may)
+
+pub may_send : MaySend
+may_send desk vault n f may knows =
+    let batch : Batch = batch_of desk n in
+    let fits : BatchFits desk.history batch = batch_fits desk f n may in
+    record {
+      lay = record { first = knows };
+      enter = λ slots loose. record { first = knows; laid = omega arith };
+      holds = enter_end desk.history desk.floor vault.mappings batch fits knows ∙ omega (arith, taken desk f n may, knows);
+      known = fits.within;
+    }

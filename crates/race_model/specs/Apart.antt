@@ -1,5 +1,5 @@
 -- What holds of the desk, of the vault, and of what goes between them, where nobody holds both: each was seen at its own place of one history.
-use Rattle.std.specs.Prelude.{◌≡◌, ◌+◌, ◌≤◌, ◌++◌, true, ℕ, List, Contains}
+use Rattle.std.specs.Prelude.{◌≡◌, ◌+◌, ◌≤◌, ◌<◌, ◌++◌, true, false, ℕ, Bool, List, Contains}
 use Rattle.history.specs.declared.entry.Change.{Change}
 use Rattle.history.specs.declared.journal.Line.{Line}
 use Rattle.history.specs.Journal.{after_journal}
@@ -9,10 +9,10 @@ use Rattle.history.specs.Right.{AllMayFollow}
 use Rattle.history.specs.Sound.{IsSound}
 use Rattle.history.specs.History.{History, now, with_changes, pages_as_of}
 use Rattle.skippy.specs.Mappings.{Mappings, end_of, first_in}
-use Rattle.race_model.specs.Desk.{Desk, capacity_of}
-use Rattle.race_model.specs.Vault.{Maplog, Vault, Batch, IsMaplogOf}
+use Rattle.race_model.specs.Desk.{Desk, captured, capacity_of}
+use Rattle.race_model.specs.Vault.{Maplog, Vault, Batch, batch_end, IsMaplogOf}
 use Rattle.race_model.specs.Fits.{HistoryFits, DeskFits, VaultFits, BatchFits}
-use Rattle.race_model.specs.Machine.{Machine, MayTake, batch_of, trimmed}
+use Rattle.race_model.specs.Machine.{Machine, MayTake, MayWrite, MayCut, MayLay, MayEnter, batch_of, settled, laid, entered, trimmed}
 use Rattle.race_model.specs.Invariant.{ToldFits, Fits}
 use Rattle.race_model.specs.Reading.{Told, told_of, found}
 
@@ -86,3 +86,24 @@ BatchesFit = (desk : Desk) (count : ℕ) → DeskFits desk → 1 ≤ count → c
 abbrev pub TrimLeaves : Type 0
 TrimLeaves = (vault : Vault) (low : ℕ) → low ≤ end_of vault.mappings → let left : Mappings = (trimmed vault low).mappings in
     (end_of left ≡ end_of vault.mappings) × ((start upto page : ℕ) → left.low ≤ start → first_in left start upto page ≡ first_in vault.mappings start upto page)
+
+-- ---- what a desk and a vault that go on may do
+
+-- A dirty page may be written back once each of its captures is acknowledged: the desk needs no more of the archive than that.
+abbrev pub MayWriteBack : Type 0
+MayWriteBack = (desk : Desk) (page : ℕ) → DeskFits desk → desk.stopped ≡ false → desk.dirty page ≡ true →
+    ((number : ℕ) → desk.acked ≤ number → number < (now desk.history).base.captures → (captured desk.history number).page ≡ page → ⊥) → MayWrite desk page desk.acked
+
+-- With no dirty page, and all captures acknowledged, the log may be cut behind a settling of the pages' device.
+abbrev pub MayCutSettled : Type 0
+MayCutSettled = (desk : Desk) → DeskFits desk → desk.stopped ≡ false → ((page : ℕ) → desk.dirty page ≡ false) → (now desk.history).base.captures ≤ desk.acked → MayCut (settled desk)
+
+-- A batch of a desk that knows of all that the vault holds may be laid, and then entered. Then the vault holds the batch's captures too, and the desk may be told so.
+pub record MayBeSent (vault : Vault) (batch : Batch) (count captures : ℕ) : Type 0 where
+  pub lay : MayLay vault batch
+  pub enter : (slots : ℕ → List ℕ) (loose : ℕ → Bool) → MayEnter (laid vault batch slots loose) batch
+  pub holds : end_of (entered vault batch).mappings ≡ end_of vault.mappings + count
+  pub known : batch_end batch ≤ captures
+
+abbrev pub MaySend : Type 0
+MaySend = (desk : Desk) (vault : Vault) (count : ℕ) → DeskFits desk → MayTake desk count → desk.acked ≡ end_of vault.mappings → MayBeSent vault (batch_of desk count) count (now desk.history).base.captures

@@ -7,10 +7,9 @@ use Rattle.history.specs.Marks.{oldest_start}
 use Rattle.history.specs.Writes.{pages_of}
 use Rattle.history.specs.History.{History, now, captures, captures_of}
 use Rattle.history.specs.Laws.{IsConsistent}
-use Rattle.history.specs.Right.{IsBase, WritesRise, MayFollow}
+use Rattle.history.specs.Right.{IsBase, AreRight, WritesRise, MayFollow}
 use Rattle.skippy.specs.Mappings.{Mappings, end_of}
 use Rattle.replay.specs.Joined.{differ, are_among, mapped_since}
-use Rattle.history.specs.Right.{AreRight}
 use Rattle.replay.specs.Laws.{AreRightContents}
 use Rattle.replay.specs.Opened.{Contents, forgotten}
 use Rattle.race_model.specs.Desk.{Doubt, Sure, OneMore, NewBase, Desk, behind, captured, capacity_of, is_written}

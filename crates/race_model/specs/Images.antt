@@ -5,7 +5,7 @@ use Rattle.history.specs.Marks.{oldest_start}
 use Rattle.history.specs.History.{History, now, captures, with_change}
 use Rattle.skippy.specs.Mappings.{Mappings, end_of}
 use Rattle.replay.specs.Opened.{Contents, opened}
-use Rattle.race_model.specs.Desk.{Doubt, Sure, OneMore, NewBase, captured, capacity_of, IsLogOf, ArePagesOf}
+use Rattle.race_model.specs.Desk.{Doubt, Sure, OneMore, NewBase, Desk, captured, capacity_of, IsLogOf, ArePagesOf}
 use Rattle.race_model.specs.Vault.{IsMaplogOf, AreSlotsOf}
 use Rattle.race_model.specs.Fits.{MappingsFit, AreOfStore}
 use Rattle.race_model.specs.Machine.{Machine}
@@ -24,16 +24,17 @@ pub record IsSameWorld (history other : History) : Type 0 where
   pub pages : (page : ℕ) → (now history).pages page ≡ (now other).pages page
   pub captures : drop (oldest_start (now other).base.marks) (captures history) ≡ drop (oldest_start (now other).base.marks) (captures other)
 
--- contents that belong together and open to the world of the history
-pub record OpenTo (contents : Contents) (history : History) : Type 0 where
+-- contents that belong together, their log in records of the version, and open to the world of the history
+pub record OpenTo (contents : Contents) (version : Version) (history : History) : Type 0 where
+  pub in_version : contents.log.version ≡ version
   pub store : AreOfStore contents
   pub same : IsSameWorld (opened contents) history
 
--- to the history, or to it with the change that is in doubt
-abbrev pub OpenInDoubt : Contents → History → Doubt → Type 0
-OpenInDoubt contents history Sure = OpenTo contents history
-OpenInDoubt contents history (NewBase version) = OpenTo contents history
-OpenInDoubt contents history (OneMore change) = OpenTo contents history ⊎ OpenTo contents (with_change history change)
+-- to the desk's history, or to it with the change that is in doubt; in the desk's version, or in that of the new base that is in doubt
+abbrev pub OpenInDoubt : Contents → Desk → Doubt → Type 0
+OpenInDoubt contents desk Sure = OpenTo contents desk.version desk.history
+OpenInDoubt contents desk (NewBase version) = OpenTo contents desk.version desk.history ⊎ OpenTo contents version desk.history
+OpenInDoubt contents desk (OneMore change) = OpenTo contents desk.version desk.history ⊎ OpenTo contents desk.version (with_change desk.history change)
 
 -- an image of the archive that holds at least so many captures
 pub record Holds (history : History) (floor count : ℕ) (mappings : Mappings) (slots : ℕ → List ℕ) : Type 0 where

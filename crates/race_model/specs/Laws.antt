@@ -1,5 +1,5 @@
 -- What holds of every list of steps and every crash.
-use Rattle.std.specs.Prelude.{◌≡◌, ◌≤◌, true, false, ℕ, Bool, List, []}
+use Rattle.std.specs.Prelude.{◌≡◌, ◌⊎◌, ◌≤◌, true, false, ℕ, Bool, List, [], map, Contains}
 use Rattle.retro_base.specs.declared.limits.TheConstants.{MIN_PAGES, MAX_PAGES, MIN_CAPACITY, MAX_CAPACITY}
 use Rattle.history.specs.declared.entry.Change.{Change}
 use Rattle.history.specs.declared.log.Version.{Version}
@@ -9,7 +9,7 @@ use Rattle.skippy.specs.Mappings.{end_of}
 use Rattle.records.specs.Log.{IsLog}
 use Rattle.replay.specs.Joined.{AreJoined}
 use Rattle.replay.specs.Opened.{Contents}
-use Rattle.race_model.specs.Desk.{Sure, Desk, capacity_of, IsLogOf, ArePagesOf}
+use Rattle.race_model.specs.Desk.{Doubt, Sure, NewBase, Desk, capacity_of, IsLogOf, ArePagesOf}
 use Rattle.race_model.specs.Vault.{Maplog, Vault, Batch, IsMaplogOf, AreSlotsOf, IsSlotOf, LeavesOthers}
 use Rattle.race_model.specs.Fits.{HistoryFits, DeskFits, VaultFits, AreOfStore}
 use Rattle.race_model.specs.Images.{AreImagesOf, IsSameWorld, OpenInDoubt, Holds}
@@ -39,20 +39,20 @@ LivesKeep = (first last : Machine) → Life first last → Fits first → Fits l
 
 -- whatever the four devices may hold opens to the history, or to it with the one change whose call failed
 abbrev pub ImagesOpen : Type 0
-ImagesOpen = (machine : Machine) (contents : Contents) → Fits machine → AreImagesOf machine contents → OpenInDoubt contents machine.desk.history machine.desk.doubt
+ImagesOpen = (machine : Machine) (contents : Contents) → Fits machine → AreImagesOf machine contents → OpenInDoubt contents machine.desk machine.desk.doubt
 
 -- so it is whatever steps there were, and whatever crashes
 abbrev pub LivesOpen : Type 0
-LivesOpen = (first last : Machine) (contents : Contents) → Life first last → Fits first → AreImagesOf last contents → OpenInDoubt contents last.desk.history last.desk.doubt
+LivesOpen = (first last : Machine) (contents : Contents) → Life first last → Fits first → AreImagesOf last contents → OpenInDoubt contents last.desk last.desk.doubt
 
 -- a crash in a call of the desk and in one of the vault at once leaves what the failings of both leave, one behind the other
 abbrev pub BothAtOnce : Type 0
-BothAtOnce = (machine first both : Machine) (contents : Contents) → Fits machine → Step machine first → Step first both → AreImagesOf both contents → OpenInDoubt contents both.desk.history both.desk.doubt
+BothAtOnce = (machine first both : Machine) (contents : Contents) → Fits machine → Step machine first → Step first both → AreImagesOf both contents → OpenInDoubt contents both.desk both.desk.doubt
 
 -- so it is of the desk alone, beside any image of an archive that holds what the desk needs
 abbrev pub DeskImagesOpen : Type 0
 DeskImagesOpen = (desk : Desk) (contents : Contents) → DeskFits desk → IsLogOf desk contents.log → ArePagesOf desk contents.pages → Holds desk.history desk.floor desk.need contents.mappings contents.slots →
-    OpenInDoubt contents desk.history desk.doubt
+    OpenInDoubt contents desk desk.doubt
 
 -- and each image of a vault holds the captures up to its count
 abbrev pub VaultImagesHold : Type 0
@@ -62,7 +62,11 @@ VaultImagesHold = (history : History) (floor : ℕ) (vault : Vault) (maplog : Ma
 -- together, beside a vault that holds what the desk needs
 abbrev pub ApartOpen : Type 0
 ApartOpen = (desk : Desk) (vault : Vault) (version : Version) (contents : Contents) → DeskFits desk → VaultFits desk.history desk.floor vault → desk.need ≤ end_of vault.mappings → IsLogOf desk contents.log → ArePagesOf desk contents.pages →
-    IsMaplogOf vault (record { version = version; mappings = contents.mappings }) → AreSlotsOf vault contents.slots → OpenInDoubt contents desk.history desk.doubt
+    IsMaplogOf vault (record { version = version; mappings = contents.mappings }) → AreSlotsOf vault contents.slots → OpenInDoubt contents desk desk.doubt
+
+-- each image's Maplog is in records of the vault's version, or of the version of one that a failed call may have left
+abbrev pub MaplogInVersion : Type 0
+MaplogInVersion = (vault : Vault) (maplog : Maplog) → IsMaplogOf vault maplog → (maplog.version ≡ vault.version) ⊎ Contains (map (λ (other : Maplog). other.version) vault.others) maplog.version
 
 -- in the same world each page as of a retained snapshot is the same
 abbrev pub SamePast : Type 0
@@ -72,15 +76,22 @@ SamePast = (history other : History) (floor : ℕ) → HistoryFits other floor �
 abbrev pub Covers : Machine → Machine → Type 0
 Covers machine other = (contents : Contents) → AreImagesOf machine contents → AreImagesOf other contents
 
+abbrev pub in_version : Version → Desk → Desk
+in_version version desk = record desk { version = version }
+
+abbrev pub doubted : Doubt → Desk → Desk
+doubted doubt desk = record desk { doubt = doubt }
+
 -- the slots that may differ are loose
 abbrev pub LoosensBatch : ℕ → Vault → Batch → (ℕ → Bool) → Type 0
 LoosensBatch capacity vault batch loose = (slot : ℕ) → loose slot ≡ false → (IsSlotOf capacity batch slot → ⊥) × (vault.loose slot ≡ false)
 
--- A call's failing leaves all that the devices might hold before the call, and all that they may hold behind it, where none failed before; and of a call that enters a batch also what they hold between the low mark, or the rewrite, and the batch's run.
+-- A call's failing leaves all that the devices might hold before the call, and all that they may hold behind it, where none failed before; and of a call that enters a batch also what they hold between the low mark, or the rewrite, and the batch's run. So it is of a cut to a base in records of another version.
 pub record FailuresCover : Type 0 where
   pub change : (m : Machine) (change : Change) → m.desk.doubt ≡ Sure → let failed : Machine = record m { desk = change_failed m.desk change } in Covers m failed × Covers (record m { desk = changed m.desk change }) failed
   pub write : (m : Machine) (page need : ℕ) (left : List ℕ) → let failed : Machine = record m { desk = write_failed m.desk page need left } in Covers m failed × Covers (record m { desk = written m.desk page need }) failed
   pub settle : (m : Machine) → let failed : Machine = record m { desk = stopped m.desk } in Covers m failed × Covers (record m { desk = settled m.desk }) failed
+  pub cut_in_version : (m : Machine) (version : Version) → m.desk.doubt ≡ Sure → Covers (record m { desk = in_version version (cut m.desk) }) (record m { desk = doubted (NewBase version) (cut_failed m.desk) })
   pub cut : (m : Machine) → m.desk.doubt ≡ Sure → let failed : Machine = record m { desk = cut_failed m.desk } in Covers m failed × Covers (record m { desk = cut m.desk }) failed
   pub lay : (m : Machine) (batch : Batch) (slots left : ℕ → List ℕ) (loose sure : ℕ → Bool) → LoosensBatch (capacity_of m.desk.history) m.vault batch loose → LeavesOthers (capacity_of m.desk.history) m.vault batch left loose →
       LeavesOthers (capacity_of m.desk.history) m.vault batch slots sure → let failed : Machine = record m { vault = lay_failed m.vault left loose } in Covers m failed × Covers (record m { vault = laid m.vault batch slots sure }) failed

@@ -29,7 +29,8 @@ impl Model for Batch {
 
     ghost view = { λ b. record { first = b.first; low = b.low; images = vault.images_of b.pages.items b.bytes.items } };
 
-    ghost invariant = { λ b. (length b.bytes.items ≡ length b.pages.items) × (BATCH ≤ vec_capacity b.pages) × (BATCH ≤ vec_capacity b.bytes) };
+    ghost invariant = { λ b. (length b.bytes.items ≡ length b.pages.items)
+        × (BATCH ≤ vec_capacity b.pages) × (BATCH ≤ vec_capacity b.bytes) };
 }
 
 impl Batch {
@@ -60,7 +61,11 @@ impl Batch {
     #[tactic(auto, using(crate::proofs::Batches::images_more, crate::proofs::Batches::images_length))]
     pub fn add(&mut self, page: u32, bytes: &Page)
         requires room { length self.old.images < BATCH }
-        ensures { self.new ≡ record { first = self.old.first; low = self.old.low; images = self.old.images ++ record { page = page; bytes = bytes.now } ∷ [] } }
+        ensures { self.new ≡ record {
+            first = self.old.first;
+            low = self.old.low;
+            images = self.old.images ++ record { page = page; bytes = bytes.now } ∷ [];
+        } }
     {
         let (Ok(()), Ok(())) = (self.pages.push(page), self.bytes.push(*bytes)) else {
             unreachable!()

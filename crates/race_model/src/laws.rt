@@ -1,7 +1,7 @@
 //! What holds of every list of steps and every crash.
 
-ghost use Rattle.race_model.specs.Apart.{AllOutlive, BatchesFit, FindAfterPeek, FindsAlike, HistoryOutlives, HistoryOutlivesLines, Outlives, OutlivesLines, PastIsRight, PastOverLines, PeekTells, TrimLeaves, VaultFinds};
-ghost use Rattle.race_model.specs.Laws.{ApartOpen, BothAtOnce, DeskImagesOpen, FailuresCover, ImagesOpen, LivesKeep, LivesOpen, MadeFits, OpenedFits, ReadFits, SamePast, StepsKeep, VaultImagesHold};
+ghost use Rattle.race_model.specs.Apart.{AllOutlive, BatchesFit, FindAfterPeek, FindsAlike, HistoryOutlives, HistoryOutlivesLines, MayCutSettled, MaySend, MayWriteBack, Outlives, OutlivesLines, PastIsRight, PastOverLines, PeekTells, TrimLeaves, VaultFinds};
+ghost use Rattle.race_model.specs.Laws.{ApartOpen, BothAtOnce, DeskImagesOpen, FailuresCover, ImagesOpen, LivesKeep, LivesOpen, MadeFits, MaplogInVersion, OpenedFits, ReadFits, SamePast, StepsKeep, VaultImagesHold};
 
 /// Of the machine's invariant.
 pub fn steps_keep()
@@ -19,8 +19,11 @@ pub fn steps_keep()
 
 /// Of crashes.
 pub fn crashes_open()
-    // Whatever the devices may hold opens to the history, or to it with the one change whose call failed.
+    // Whatever the devices may hold opens to the history, or to it with the one change whose call failed, its log in
+    // the desk's version or that of a new base whose call failed.
     ensures images { ImagesOpen }
+    // Its Maplog is in the vault's version, or that of one whose call failed.
+    ensures maplog { MaplogInVersion }
     // So it is behind every list of steps and crashes.
     ensures lives { LivesOpen }
     // So it is where the calls of two sides fail at once.
@@ -61,6 +64,16 @@ pub fn batches_go_between()
     ensures batches { BatchesFit }
     // A trim up to what is held leaves what is held, and what is found from the new lowest on.
     ensures trim { TrimLeaves }
+{}
+
+/// A desk and a vault that go on are never stuck.
+pub fn work_goes_on()
+    // A dirty page may be written back once each of its captures is acknowledged.
+    ensures write { MayWriteBack }
+    // With no dirty page, and all captures acknowledged, a settled desk may cut its log.
+    ensures cut { MayCutSettled }
+    // A batch of a desk that knows of all that the vault holds may be laid and entered, and then acknowledged.
+    ensures send { MaySend }
 {}
 
 /// A reader asks the desk and later the vault, whatever is done between: it finds the page as of the pinned snapshot.

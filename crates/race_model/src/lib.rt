@@ -13,6 +13,6 @@ pub use batch::Batch;
 pub use fault::Fault;
 pub use laws::{
     a_failing_covers_its_call, batches_go_between, crashes_open, histories_go_on, images_apart,
-    readers_find_the_past, steps_keep,
+    readers_find_the_past, steps_keep, work_goes_on,
 };
 pub use receipt::Receipt;

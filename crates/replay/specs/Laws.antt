@@ -4,11 +4,10 @@ use Rattle.retro_base.specs.FirstMet.{first_met}
 use Rattle.history.specs.History.{History, now, captures, pages_as_of}
 use Rattle.history.specs.Laws.{IsConsistent}
 use Rattle.history.specs.Marks.{is_retained, start_of}
-use Rattle.history.specs.Right.{IsBase}
+use Rattle.history.specs.Right.{IsBase, AreRight}
 use Rattle.history.specs.Writes.{pages_of}
 use Rattle.skippy.specs.Mappings.{end_of}
 use Rattle.replay.specs.Joined.{AreJoined}
-use Rattle.history.specs.Right.{AreRight}
 use Rattle.replay.specs.Opened.{Contents, opened}
 
 -- a right log, and mappings that belong to it

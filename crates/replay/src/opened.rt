@@ -3,10 +3,9 @@
 ghost use Rattle.std.specs.Prelude.{◌≡◌, ◌++◌, ◌≤◌, ◌<◌, ◌↔◌, length, drop, IfOk, IfSome, IsSome};
 ghost use Rattle.history.specs.History.{run, captures_of};
 ghost use Rattle.history.specs.Replayed.{page_in, state_of};
-ghost use Rattle.history.specs.Right.{IsBase};
+ghost use Rattle.history.specs.Right.{IsBase, AreRight};
 ghost use Rattle.history.specs.Writes.{pages_of};
 ghost use Rattle.replay.specs.Joined.{AreJoined};
-ghost use Rattle.history.specs.Right.{AreRight};
 ghost use Rattle.replay.specs.Opened.{contents_of, slot_images, Opens};
 
 use crate::joining::{holds_base, holds_changes};
