@@ -6,7 +6,9 @@ ghost use Rattle.heap_file.specs.HeapPage.{IsShort};
 ghost use Rattle.heap_file.specs.declared.chain.Placed.{Placed};
 
 use pager::{MemPager, Stop};
-use relation::{Catalog, Placed, StoredTable, create_table, delete, insert, is_name, open, rows, update};
+use relation::{
+    Catalog, Placed, StoredTable, create_table, delete, insert, is_name, open, rows, update,
+};
 use retro_base::{Failed, Page, Refusal};
 use sql_tree::{Column, Name};
 use std::alloc::Global;

@@ -1,6 +1,6 @@
 -- The pages that are taken next, once a row was added or changed, or a table made.
 use Rattle.std.proofs.Common.{◌≡◌, ◌≢◌, ◌∙◌, ◌<◌, ◌+◌, ◌-◌, ◌++◌, ◌^◌, ◌⊎◌, ◌==◌, ℕ, Bool, true, false, List, [], ◌∷◌, Result, Ok, Err, inl, inr, refl, sym, ap, subst, arith}
-use Rattle.std.specs.List.{AllByRecursion, Contains, flat_map}
+use Rattle.std.specs.List.{AllByRecursion, Contains}
 use Rattle.retro_base.specs.declared.refusal.Refusal.{Refusal}
 use Rattle.values.specs.declared.value.Value.{Value}
 use Rattle.pager.specs.Pages.{Pages, broken, written}
@@ -40,8 +40,12 @@ append-step size pages firsts indexes first entry y well (head, at, (tail, at_la
         let one = written next.1 next.0 (page_bytes (page_with entry)) in
         let two = written one (last_page first head) (page_bytes (record tail { next = next.0 })) in
         let behind = (take-answer size pages firsts indexes (Ok next) well take).behind in
-        inr (next, take, ap (λ (z : ℕ × Pages). z.1.at 0) (sym (ok-one h)) ∙ written-other two first 0 (page_bytes (record found { last = next.0 })) (λ e. absurd (omega (arith, e, at.named)))
-          ∙ written-other one (last_page first head) 0 (page_bytes (record tail { next = next.0 })) (λ e. absurd (omega (arith, e, at_last.named))) ∙ written-other next.1 next.0 0 (page_bytes (page_with entry)) (λ e. absurd (omega (arith, e, behind))))
+        inr (
+          next,
+          take,
+          ap (λ (z : ℕ × Pages). z.1.at 0) (sym (ok-one h)) ∙ written-other two first 0 (page_bytes (record found { last = next.0 })) (λ e. absurd (omega (arith, e, at.named)))
+              ∙ written-other one (last_page first head) 0 (page_bytes (record tail { next = next.0 })) (λ e. absurd (omega (arith, e, at_last.named))) ∙ written-other next.1 next.0 0 (page_bytes (page_with entry)) (λ e. absurd (omega (arith, e, behind))),
+        )
 
     whole : (b : Bool) → either b (either (fits (tail.entries ++ entry ∷ [])) (only (Ok (last_page first head, written pages (last_page first head) (page_bytes (record tail { entries = tail.entries ++ entry ∷ [] }))))) (lengthened size pages first (last_page first head) tail entry)) (only (Err (broken (last_page first head)))) (Ok y) → RootStep size pages y.1
     whole true h = room (fits (tail.entries ++ entry ∷ [])) h
