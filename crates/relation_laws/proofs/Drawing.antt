@@ -1,23 +1,22 @@
 -- The pages that are taken next, once one was taken.
-use Rattle.std.proofs.Common.{◌≡◌, ◌≢◌, ◌∙◌, ◌<◌, ◌≤◌, ◌+◌, ◌-◌, ◌⊎◌, ◌&&◌, cond, ℕ, zero, suc, Bool, true, false, eqb, ◌==◌, ltb, nat_lt, List, [], ◌∷◌, length, map, get_or, Result, Ok, Err, inl, inr, refl, sym, ap, subst, arith, eq-eqb, ne_eqb}
-use Rattle.std.specs.List.{AllByRecursion, Contains, flat_map, list_any, range_with_len}
+use Rattle.std.proofs.Common.{◌≡◌, ◌≢◌, ◌∙◌, ◌<◌, ◌≤◌, ◌+◌, ◌-◌, ◌&&◌, cond, ℕ, zero, suc, Bool, true, false, eqb, ◌==◌, ltb, nat_lt, List, [], ◌∷◌, length, map, get_or, Result, Ok, Err, inl, inr, refl, sym, ap, subst, arith, eq-eqb}
+use Rattle.std.specs.List.{AllByRecursion, range_with_len}
 use Rattle.std.proofs.lemmas.Bool.{eqb-true, le-ltb, lt-ltb, ltb-true, ltb-false}
 use Rattle.std.proofs.lemmas.Bool.Decides.{eqb_tells}
 use Rattle.retro_base.specs.Fields.{number_at}
 use Rattle.retro_base.specs.Gives.{◌>>=◌}
 use Rattle.retro_base.specs.declared.refusal.Refusal.{Refusal}
 use Rattle.retro_base.specs.declared.refusal.Refusal.TheVariants.{PagesFull}
-use Rattle.pager.specs.Pages.{Pages, broken, written}
-use Rattle.pager.specs.Root.{IsFreeList, behind_first, first_free, is_root, never_used, next_page, page_in, root_of, taken}
+use Rattle.pager.specs.Pages.{Pages, broken}
+use Rattle.pager.specs.Root.{IsFreeList, behind_first, first_free, is_root, never_used, next_page, root_of, taken}
 use Rattle.pager.specs.declared.root.Root.{Root}
-use Rattle.heap_laws.specs.Store.{WellFormed, free_pages, next_free, pages_held, pages_of, root_at, times}
-use Rattle.heap_laws.specs.Table.{Edits}
+use Rattle.heap_laws.specs.Store.{WellFormed, next_free, root_at, times}
 use Rattle.heap_laws.proofs.Counts.{one_if}
-use Rattle.heap_laws.proofs.Reading.{ok-one, reads}
+use Rattle.heap_laws.proofs.Reading.{ok-one}
 use Rattle.heap_laws.proofs.Roots.{IsRoot, root-written, rooted, true-root}
-use Rattle.heap_laws.proofs.Routes.{pages_on, times-here, times-cons}
-use Rattle.relation_laws.specs.Needs.{free_behind, next_pages, taken_after}
-use Rattle.relation_laws.proofs.Reaching.{Within, among-chains, held-count, not-any, one-chain, own}
+use Rattle.heap_laws.proofs.Routes.{times-here, times-cons}
+use Rattle.relation_laws.specs.Needs.{free_behind, taken_after}
+use Rattle.relation_laws.proofs.Reaching.{held-count}
 
 -- the root page once a page was taken
 abbrev pub root_behind : Pages → Root

@@ -1,6 +1,6 @@
 -- Taking rows out of a table never leads its chain out of its pages.
-use Rattle.std.proofs.Common.{◌≡◌, ◌≢◌, ◌∙◌, ◌<◌, ◌≤◌, ◌+◌, ◌-◌, ◌++◌, ◌^◌, ◌⊎◌, ◌&&◌, ◌==◌, not, cond, ℕ, Bool, true, false, List, [], ◌∷◌, length, map, get_or, replicate, Result, Ok, Err, inl, inr, refl, sym, ap, subst, arith, eq-eqb, ne_eqb, append_assoc, length-append}
-use Rattle.std.specs.List.{AllByRecursion, Contains}
+use Rattle.std.proofs.Common.{◌≡◌, ◌≢◌, ◌∙◌, ◌<◌, ◌≤◌, ◌-◌, ◌++◌, ◌^◌, ◌⊎◌, ◌&&◌, ◌==◌, not, cond, ℕ, Bool, true, false, List, [], ◌∷◌, length, map, get_or, replicate, Result, Ok, Err, inl, inr, refl, sym, ap, subst, arith, append_assoc}
+use Rattle.std.specs.List.{Contains}
 use Rattle.std.proofs.lemmas.Bool.Decides.{eqb_tells}
 use Rattle.retro_base.specs.Fields.{field_bytes, number_at}
 use Rattle.retro_base.specs.Gives.{◌>>=◌}
@@ -15,10 +15,9 @@ use Rattle.heap_file.specs.Allows.{either, only}
 use Rattle.heap_file.specs.Allows as allows
 use Rattle.heap_file.specs.Chain.{IsAt, Leads, heap_page, met}
 use Rattle.heap_file.specs.HeapPage.{Holds, entry_bytes, page_bytes}
-use Rattle.heap_file.specs.Work.{last_field, removed, renamed, unlinked, without}
+use Rattle.heap_file.specs.Work.{last_field, removed, unlinked, without}
 use Rattle.heap_laws.proofs.Reading.{ok-one}
 use Rattle.heap_laws.proofs.Routes.{at-one, at-same, written-other}
-use Rattle.relation_laws.proofs.Drawing.{ok-no}
 use Rattle.relation_laws.proofs.Lists.{contains-cases, contains-cons, contains-head}
 
 -- a page of links

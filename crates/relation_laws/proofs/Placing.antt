@@ -1,5 +1,5 @@
 -- Rows where they stand, and under their numbers.
-use Rattle.std.proofs.Common.{◌≡◌, ◌∙◌, ◌<◌, ℕ, zero, suc, List, [], ◌∷◌, length, get_or, map, Result, Ok, Err, inl, inr, refl, sym, ap, subst, arith}
+use Rattle.std.proofs.Common.{◌≡◌, ◌∙◌, ◌<◌, ℕ, zero, suc, List, [], ◌∷◌, length, get_or, map, Result, Ok, Err, inl, inr, refl, ap, subst, arith}
 use Rattle.std.specs.List.{AllByRecursion, Contains}
 use Rattle.retro_base.specs.declared.refusal.Refusal.{Refusal}
 use Rattle.values.specs.declared.value.Value.{Value}
@@ -7,7 +7,6 @@ use Rattle.pager.specs.Pages.{Pages}
 use Rattle.heap_file.specs.declared.chain.Placed.{Placed}
 use Rattle.heap_file.specs.Allows.{only}
 use Rattle.heap_file.specs.Work.{changed, removed}
-use Rattle.heap_laws.specs.Table.{Table}
 use Rattle.heap_laws.proofs.Orders.{number_of}
 use Rattle.heap_laws.proofs.Reading.{ok-one, read_law, rows-numbered}
 use Rattle.relation.specs.declared.catalog.StoredTable.{StoredTable}

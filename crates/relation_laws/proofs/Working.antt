@@ -2,7 +2,6 @@
 use Rattle.std.proofs.Common.{◌≡◌, ◌∙◌, ◌<◌, ◌≤◌, ◌+◌, ◌++◌, ◌^◌, ◌⊎◌, cond, ℕ, Bool, true, false, List, [], ◌∷◌, length, map, Result, Ok, Err, inl, inr, refl, sym, ap, subst, arith}
 use Rattle.std.specs.List.{AllByRecursion, AllZip, Contains}
 use Rattle.retro_base.specs.declared.refusal.Refusal.{Refusal}
-use Rattle.retro_base.specs.declared.refusal.Refusal.TheVariants.{PagesFull}
 use Rattle.values.specs.declared.value.Value.{Value}
 use Rattle.sql_tree.specs.declared.statement.Column.{Column as TableColumn}
 use Rattle.pager.specs.Pages.{Pages}
@@ -20,13 +19,13 @@ use Rattle.relation.specs.declared.catalog.TheConstants.{CATALOG}
 use Rattle.relation.specs.Catalog.{same_name}
 use Rattle.relation.specs.CatalogRow.{row_values}
 use Rattle.relation.specs.Each.{in_turn}
-use Rattle.relation.specs.Work.{all_added, created, deleted, inserted, row_changed, row_removed, rows_at, rows_of_table, table_in, updated}
+use Rattle.relation.specs.Work.{all_added, created, deleted, inserted, row_changed, row_removed, rows_at, rows_of_table, updated}
 use Rattle.relation.proofs.Steps.{left_pages}
 use Rattle.relation_laws.specs.Laws.{AreChangesOf, AreNumbersOf, AreTableColumns, IsNewName, IsRowFor, IsStoreOf, with_changes, with_rows, with_table, without_rows}
 use Rattle.relation_laws.specs.Needs.{InsertNeeds, RowsNeed, UpdateNeeds, changes_open, next_pages, opened, taken_after}
 use Rattle.relation_laws.specs.Reach.{with_root}
 use Rattle.relation_laws.specs.Tables.{AreDifferent, PlainTable, PlainTables, Shows, names_of}
-use Rattle.relation_laws.specs.Work.{AreAllowed, AreWorked, Changes, Creates, EditsWithin, Inserts, IsAllowed, IsFullAtOne, IsInReach, IsInReachOf, IsOfTable, IsWorked, Leaves, Needs, OfTable, Removes, Work, WorkLaw, all_worked, tables_behind, tables_behind_all, where_named, worked}
+use Rattle.relation_laws.specs.Work.{AreAllowed, AreWorked, Changes, Creates, EditsWithin, Inserts, IsAllowed, IsInReach, IsInReachOf, IsOfTable, IsWorked, Needs, Removes, Work, WorkLaw, all_worked, tables_behind, where_named, worked}
 use Rattle.relation_laws.proofs.Catalogs.{goes-on}
 use Rattle.relation_laws.proofs.Counting.{needs_law}
 use Rattle.relation_laws.proofs.Creating.{create_law, ready}
