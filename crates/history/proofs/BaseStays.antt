@@ -73,13 +73,13 @@ all-with_pages limit (page ∷ more) pages new all = all-with_pages limit more (
 
 -- ---- the pages that a commit captures
 
-pub rises-higher : (least more : ℕ) (pages : List ℕ) → least ≤ more → rises more pages ≡ true → rises least pages ≡ true
+rises-higher : (least more : ℕ) (pages : List ℕ) → least ≤ more → rises more pages ≡ true → rises least pages ≡ true
 rises-higher least more [] le up = refl
 rises-higher least more (page ∷ pages) le up =
     let both = and_parts (leb more page) (rises (page + 1) pages) up in
     and_from _ _ (le-leb least page (omega (arith, le, leb-true more page both.0))) both.1
 
-pub capturing-rises : (base : Base) (least : ℕ) (writes : List PageImage) → rises least (pages_of writes) ≡ true → rises least (pages_of (capturing base writes)) ≡ true
+capturing-rises : (base : Base) (least : ℕ) (writes : List PageImage) → rises least (pages_of writes) ≡ true → rises least (pages_of (capturing base writes)) ≡ true
 capturing-rises base least [] up = refl
 capturing-rises base least (write ∷ writes) up =
     let both = and_parts (leb least write.page) (rises (write.page + 1) (pages_of writes)) up in

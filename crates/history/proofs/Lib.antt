@@ -7,7 +7,6 @@ pub mod Effects
 pub mod Items
 pub mod Lines
 pub mod MarkLaws
-pub mod Merging
 pub mod PageLists
 pub mod RightLaws
 pub mod Searches

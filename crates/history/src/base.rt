@@ -1,16 +1,16 @@
 //! What the log says behind a change.
 
-ghost use Rattle.std.specs.Prelude.{◌≡◌, ◌<◌, ◌+◌, ◌^◌, nat_lt, nat_le, length, take, drop, IfOk, OnOk, IsSome, IsTrue, Some};
-ghost use Rattle.std.specs.List.{position, position_or_len};
+ghost use Rattle.std.specs.Prelude.{◌≡◌, ◌<◌, ◌+◌, ◌^◌, nat_lt, nat_le, length, IfOk, OnOk, IsSome, Some};
+ghost use Rattle.std.specs.List.{position};
 ghost use Rattle.history.specs.declared.entry.Change.TheVariants.{Drop};
 ghost use Rattle.history.specs.Marks.{newest, kept_marks};
-ghost use Rattle.history.specs.Writes.{pages_of, rises};
-ghost use Rattle.history.specs.History.{capturing, with_pages, declared, behind_commit, base_after};
+ghost use Rattle.history.specs.Writes.{pages_of};
+ghost use Rattle.history.specs.History.{capturing, with_page, with_pages, declared, behind_commit, base_after};
 ghost use Rattle.history.specs.Right.{IsRight};
 
 use crate::entry::{Base, Change, Mark, newest};
 use crate::label::Label;
-use crate::right::{captured_rise, captures};
+use crate::right::captures_page;
 use crate::writes::PageImage;
 use std::alloc::{AllocError, Global};
 use values::{Duplicate, Seq};
@@ -19,10 +19,9 @@ use values::{Duplicate, Seq};
 fn captured_pages(alloc: Global, base: &Base, writes: &[PageImage]) -> Result<Vec<u32>, AllocError>
     ensures { IfOk result (λ pages. pages.items ≡ pages_of (capturing base.now writes.now)) }
 {
-    let rising = captured_rise(base);
     let mut pages = Vec::new(alloc);
     for write in writes {
-        if captures(base, rising, write.page) {
+        if captures_page(base, write.page) {
             pages.push(write.page)?;
         }
     }
@@ -36,29 +35,22 @@ fn first_greater(page: u32, pages: &[u32]) -> Option<usize>
     pages.iter().position(|other| page < *other)
 }
 
-// The pages before the first that is greater than this one, and those from it on.
-fn split_before(page: u32, pages: &[u32]) -> (&[u32], &[u32])
-    ensures before { result.0.now ≡ take (position_or_len (λ other. nat_lt page other) pages.now) pages.now }
-    ensures behind { result.1.now ≡ drop (position_or_len (λ other. nat_lt page other) pages.now) pages.now }
+// Puts a page into its place among pages that rise.
+fn put_page(pages: &mut Vec<u32>, page: u32) -> Result<(), AllocError>
+    ensures { OnOk result (pages.new.items ≡ with_page page pages.old.items) }
 {
-    pages.split_at(first_greater(page, pages).unwrap_or(pages.len()))
+    let place = first_greater(page, pages).unwrap_or(pages.len());
+    pages.insert(place, page)?;
+    Ok(())
 }
 
-// Pages with others that rise, each in its place, in one pass.
-fn merged(alloc: Global, pages: &[u32], more: &[u32]) -> Result<Vec<u32>, AllocError>
-    requires { IsTrue (rises 0 more.now) }
-    ensures { IfOk result (λ merged. merged.items ≡ with_pages more.now pages.now) }
+fn put_pages(pages: &mut Vec<u32>, more: &[u32]) -> Result<(), AllocError>
+    ensures { OnOk result (pages.new.items ≡ with_pages more.now pages.old.items) }
 {
-    let mut merged = Vec::with_capacity(alloc, pages.len() + more.len())?;
-    let mut rest = pages;
     for page in more {
-        let (before, behind) = split_before(*page, rest);
-        merged.extend_from_slice(before)?;
-        merged.push(*page)?;
-        rest = behind;
+        put_page(pages, *page)?;
     }
-    merged.extend_from_slice(rest)?;
-    Ok(merged)
+    Ok(())
 }
 
 // The place of the first mark that is not below this number.
@@ -105,14 +97,13 @@ fn behind_commit(
 ) -> Result<Base, AllocError>
     requires room { base.captures + length captured.now < 2 ^ 64 }
     requires number { IsSome label.now → newest base.marks + 1 < 2 ^ 32 }
-    requires rising { IsTrue (rises 0 captured.now) }
     ensures { IfOk result (λ made. made ≡ behind_commit base label.now captured.now) }
 {
     let captures = base.captures + captured.len() as u64;
     let mut marks = Vec::from(base.marks);
     let mut pages = Vec::from(base.captured);
     match label {
-        None => pages = merged(alloc, &pages, captured)?,
+        None => put_pages(&mut pages, captured)?,
         Some(label) => {
             declare(alloc, &mut marks, label, captures)?;
             pages = Vec::new(alloc);

@@ -9,7 +9,7 @@ ghost use Rattle.history.specs.Replayed.{page_in, state_of};
 
 use crate::base::base_after;
 use crate::entry::{Base, Change};
-use crate::right::{captured_rise, captures, is_right};
+use crate::right::{captures_page, is_right};
 use crate::writes::PageImage;
 use retro_base::Page;
 use std::alloc::{AllocError, Global};
@@ -33,10 +33,9 @@ fn pre_states(
     requires { AllByRecursion (λ write. write.page < length pages.now) writes.now }
     ensures { IfOk result (λ images. images.items ≡ map (before_write (page_in pages.now)) (capturing base.now writes.now)) }
 {
-    let rising = captured_rise(base);
     let mut images = Vec::new(alloc);
     for write in writes {
-        if captures(base, rising, write.page) {
+        if captures_page(base, write.page) {
             images.push(PageImage {
                 page: write.page,
                 bytes: pages[write.page as usize],
