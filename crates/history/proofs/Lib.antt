@@ -9,5 +9,4 @@ pub mod Lines
 pub mod MarkLaws
 pub mod PageLists
 pub mod RightLaws
-pub mod Searches
 pub mod SoundLaws

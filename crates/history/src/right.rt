@@ -21,14 +21,6 @@ fn is_among(page: u32, pages: &[u32]) -> bool
     pages.iter().any(|other| *other == page)
 }
 
-// The same of pages that rise, by halves.
-fn is_found(page: u32, pages: &[u32]) -> bool
-    requires { IsTrue (rises 0 pages.now) }
-    ensures { result ≡ is_among page pages.now }
-{
-    pages.binary_search(&page).is_ok()
-}
-
 /// Whether the write of a page captures it: a snapshot was declared, and the page has no capture since the newest.
 pub fn captures_page(base: &Base, page: u32) -> bool
     ensures { result ≡ captures_page base.now page }
@@ -36,38 +28,14 @@ pub fn captures_page(base: &Base, page: u32) -> bool
     !base.marks.is_empty() && !is_among(page, base.captured.as_slice())
 }
 
-/// Whether the captured pages rise, as those of a right base do.
-pub(crate) fn captured_rise(base: &Base) -> bool
-    ensures { result ≡ rises 0 base.now.captured }
-{
-    rise(base.captured.as_slice())
-}
-
-/// Whether the write of a page captures it, for many pages in turn: where the captured pages rise, a page is looked
-/// up among them by halves.
-pub(crate) fn captures(base: &Base, rising: bool, page: u32) -> bool
-    requires { rising ≡ rises 0 base.now.captured }
-    ensures { result ≡ captures_page base.now page }
-{
-    if rising {
-        !base.marks.is_empty() && !is_found(page, base.captured.as_slice())
-    } else {
-        captures_page(base, page)
-    }
-}
-
 // How many pages these writes capture.
 fn captured_count(base: &Base, writes: &[PageImage]) -> usize
     ensures { result ≡ length (capturing base.now writes.now) }
 {
-    let rising = captured_rise(base);
-    let mut count = 0;
-    for write in writes {
-        if captures(base, rising, write.page) {
-            count += 1;
-        }
-    }
-    count
+    writes
+        .iter()
+        .filter(|write| captures_page(base, write.page))
+        .count()
 }
 
 fn rise(pages: &[u32]) -> bool
