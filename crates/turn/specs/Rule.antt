@@ -71,13 +71,13 @@ module _ {O W A B : Type 0} (o : OpeningMeaning O) (a : DeskMeaning O W A) (b : 
   abbrev pub count_now : A → B → Device → ℕ
   count_now desk vault = count_of (a.counts desk) (b.counts vault)
 
-  -- the two values, and the words that tell of them
-  pub record Agree (desk : A) (vault : B) (w : Words) : Type 0 where
+  -- the two values, and the two words that tell of them
+  pub record Agree (desk : A) (vault : B) (shown held : ℕ) : Type 0 where
     pub lawful : o.Lawful (a.opening desk) (a.journal desk)
     pub desk_fits : a.Fits desk
     pub vault_fits : b.Fits vault (a.opening desk) (a.journal desk)
-    pub horizon : IsHorizon w.horizon (horizon_of (o.base (a.opening desk)) (a.journal desk))
-    pub held : w.held ≡ b.held vault
+    pub horizon : IsHorizon shown (horizon_of (o.base (a.opening desk)) (a.journal desk))
+    pub held_is : held ≡ b.held vault
     pub acked : a.acked desk ≤ b.held vault
     pub counts : (d : Device) → o.counts (a.opening desk) d ≤ count_now desk vault d
 
@@ -111,7 +111,7 @@ module _ {O W A B : Type 0} (o : OpeningMeaning O) (a : DeskMeaning O W A) (b : 
     pub vault_slot : maybe.Option (Option (Kept A B))
     pub words_are : s.words ≡ words_of words
     pub homes_are : s.homes ≡ desk_slot ∷ vault_slot ∷ []
-    pub agree : Agree desk vault words
+    pub agree : Agree desk vault words.horizon words.held
     pub desk_lock : Lock words.desk_ticket words.desk_serving (Desk desk) desk_slot (map desk_of s.views)
     pub vault_lock : Lock words.vault_ticket words.vault_serving (Vault vault) vault_slot (map vault_of s.views)
     pub seats : AreSeats limit desk vault s.views

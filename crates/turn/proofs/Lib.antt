@@ -1,0 +1,6 @@
+pub mod Faults
+pub mod Fronts
+pub mod Locks
+pub mod Seating
+pub mod Steps
+pub mod Totals
