@@ -1,5 +1,5 @@
 -- Beginnings of one list, and the lines of one number.
-use Rattle.std.proofs.Common.{◌≡◌, ◌≢◌, ℕ, zero, suc, ◌≤◌, List, [], ◌∷◌, ◌++◌, length, refl, ap, sym, ◌∙◌, arith, append_assoc, append-nil, length-append, ne_eqb, cond, ltb, Bool, true, false, ◌<◌, subst}
+use Rattle.std.proofs.Common.{◌≡◌, ◌≢◌, ℕ, zero, suc, ◌≤◌, List, [], ◌∷◌, ◌++◌, length, refl, ap, sym, ◌∙◌, arith, append_assoc, append-nil, length-append, ne_eqb, eqb, cond, ltb, Bool, true, false, ◌<◌, subst}
 use Rattle.std.proofs.lemmas.Bool.Decides.{nat_tests}
 use Rattle.std.proofs.lemmas.List.Elements.{filter-append}
 use mathlib.Core.List.{IsPrefix}
@@ -63,3 +63,17 @@ prefix_whole (x ∷ xs) (y ∷ ys) p le =
 
 pub prefix_both : {A : Type 0} (xs ys : List A) → IsPrefix xs ys → IsPrefix ys xs → xs ≡ ys
 prefix_both xs ys p q = prefix_whole xs ys p (prefix_length ys xs q)
+
+-- the lines of one number in a front begin those in the whole
+pub lines_front : (n : ℕ) (xs ys : List Line) → IsPrefix xs ys → IsPrefix (lines_of n xs) (lines_of n ys)
+lines_front n xs ys p = (lines_of n p.0, sym (filter-append (λ (line : Line). eqb line.who.session n) xs p.0) ∙ ap (lines_of n) p.1)
+
+longer_most : (a b : List Line) (t : Bool) → length a ≤ length b → length (cond t b a) ≤ length b
+longer_most a b true le = omega arith
+longer_most a b false le = le
+
+-- what a second seat then sees is what the first does
+pub meets : (a b c : List Line) → IsPrefix a b → IsPrefix b c → c ≡ longer a b → c ≡ b
+meets a b c p q is =
+    let le = longer_most a b (ltb (length a) (length b)) (prefix_length a b p) in
+    let e = ap length is in sym (prefix_whole b c q (omega arith))

@@ -1,5 +1,8 @@
+pub mod Cuts
+pub mod Ends
 pub mod Faults
 pub mod Fronts
+pub mod Handing
 pub mod Locks
 pub mod Raising
 pub mod Recording

@@ -135,9 +135,9 @@ module _ {O W A B : Type 0} (o : OpeningMeaning O) (a : DeskMeaning O W A) (b : 
     }
 
   module _ (outlives : (y : B) (x : O) (lines more : List Line) → b.Fits y x lines → o.Lawful x (lines ++ more) → b.Fits y x (lines ++ more)) where
-    pub raise_held : (slots id n word : ℕ) (old new : B) (x : O) (h : Holding W) (m : Sat O W A B) (st : At A B) → m.0.vault ≡ Inside n old → m.1 ≡ (1, Some (Vault new)) ∷ [] → m.0.holds ≡ h ∷ [] → 0 < h.parts
-        → m.0.opening ≡ Some x → MayLeaveVault b m.0.opening m.0.seen old new → word ≡ b.held new → Allows (IsRuled o a b limit) slots id m 5 (λ _. word) (λ _. raises b st m word)
-    raise_held slots id n word old new x h m st inside carried one part opened may shown s r deep at small =
+    pub raise_held : (first : O) (slots id n word : ℕ) (old new : B) (x : O) (h : Holding W) (m : Sat O W A B) (st : At A B) → m.0.vault ≡ Inside n old → m.1 ≡ (1, Some (Vault new)) ∷ [] → m.0.holds ≡ h ∷ [] → 0 < h.parts
+        → m.0.opening ≡ Some x → MayLeaveVault b m.0.opening m.0.seen old new → word ≡ b.held new → Allows (IsRuled o a b first limit) slots id m 5 (λ _. word) (λ _. raises b st m word)
+    raise_held first slots id n word old new x h m st inside carried one part opened may shown s r deep at small =
         let k = r.seats.known id m.0 at in
         let here : old ≡ r.vault = (k.in_vault n old inside).0 in
         let may' : MayLeaveVault b m.0.opening m.0.seen r.vault new = subst (λ (y : B). MayLeaveVault b m.0.opening m.0.seen y new) here may in
@@ -159,6 +159,7 @@ module _ {O W A B : Type 0} (o : OpeningMeaning O) (a : DeskMeaning O W A) (b : 
             vault_slot = r.vault_slot;
             words_are = ap (λ (ws : List ℕ). set ws 5 word) r.words_are;
             homes_are = r.homes_are;
+            opened = r.opened;
             agree = record {
               lawful = r.agree.lawful;
               desk_fits = r.agree.desk_fits;

@@ -245,9 +245,9 @@ module _ {O W A B : Type 0} (o : OpeningMeaning O) (a : DeskMeaning O W A) (b : 
     pub fits_longer : (y : B) (x : O) (lines longer : List Line) → IsPrefix lines longer → b.Fits y x lines → o.Lawful x longer → b.Fits y x longer
     fits_longer y x lines longer p fits lawful = subst (b.Fits y x) p.1 (outlives y x lines p.0 fits (subst (o.Lawful x) (sym p.1) lawful))
 
-    pub record_desk : (slots id n word : ℕ) (old new : A) (h : Holding W) (m : Sat O W A B) (st : At A B) → m.0.desk ≡ Inside n old → m.1 ≡ (0, Some (Desk new)) ∷ [] → m.0.holds ≡ h ∷ [] → 0 < h.parts
-        → MayLeave a o m.0.held h old new → IsHorizon word (horizon_of (o.base (a.opening new)) (a.journal new)) → Allows (IsRuled o a b limit) slots id m 2 (λ _. word) (λ _. records a st m word)
-    record_desk slots id n word old new h m st inside carried one part may shown s r deep at small =
+    pub record_desk : (first : O) (slots id n word : ℕ) (old new : A) (h : Holding W) (m : Sat O W A B) (st : At A B) → m.0.desk ≡ Inside n old → m.1 ≡ (0, Some (Desk new)) ∷ [] → m.0.holds ≡ h ∷ [] → 0 < h.parts
+        → MayLeave a o m.0.held h old new → IsHorizon word (horizon_of (o.base (a.opening new)) (a.journal new)) → Allows (IsRuled o a b first limit) slots id m 2 (λ _. word) (λ _. records a st m word)
+    record_desk first slots id n word old new h m st inside carried one part may shown s r deep at small =
         let k = r.seats.known id m.0 at in
         let here : old ≡ r.desk = (k.in_desk n old inside).0 in
         let may' : MayLeave a o m.0.held h r.desk new = subst (λ (x : A). MayLeave a o m.0.held h x new) here may in
@@ -268,6 +268,7 @@ module _ {O W A B : Type 0} (o : OpeningMeaning O) (a : DeskMeaning O W A) (b : 
             vault_slot = r.vault_slot;
             words_are = ap (λ (ws : List ℕ). set ws 2 word) r.words_are;
             homes_are = r.homes_are;
+            opened = may'.opening ∙ r.opened;
             agree = record {
               lawful = may'.lawful;
               desk_fits = may'.fits;

@@ -27,12 +27,12 @@ use Rattle.turn.proofs.Seating.{same_value, same_ticket, same_places, new_places
 abbrev M : ℕ
 M = 18446744073709551616
 
-module _ {O W A B : Type 0} (o : OpeningMeaning O) (a : DeskMeaning O W A) (b : VaultMeaning O B) (limit : ℕ) where
+module _ {O W A B : Type 0} (o : OpeningMeaning O) (a : DeskMeaning O W A) (b : VaultMeaning O B) (first : O) (limit : ℕ) where
   abbrev St : Type 0
   St = State (Option (Kept A B)) (View O W A B)
 
   abbrev Rule : St → Type 0
-  Rule = IsRuled o a b limit
+  Rule = IsRuled o a b first limit
 
   -- the words as they were, at a load
   pub loaded : (s : St) (i : ℕ) (homes : List (maybe.Option (Option (Kept A B)))) (views : List (View O W A B)) → Rule record { words = s.words; homes = homes; views = views }
@@ -58,6 +58,7 @@ module _ {O W A B : Type 0} (o : OpeningMeaning O) (a : DeskMeaning O W A) (b : 
           vault_slot = r.vault_slot;
           words_are = ap (λ (ws : List ℕ). set ws 0 ((get_or ws 0 0 + 1) % M)) r.words_are;
           homes_are = r.homes_are;
+          opened = r.opened;
           agree = r.agree;
           desk_lock = subst (Lock ((t + 1) % M) r.words.desk_serving (Desk r.desk) r.desk_slot) (sym (new_places desk_of s.views id w (Waits n) refl)) lock;
           vault_lock = subst (Lock r.words.vault_ticket r.words.vault_serving (Vault r.vault) r.vault_slot) (sym (same_places vault_of s.views id v w at refl)) r.vault_lock;
@@ -95,6 +96,7 @@ module _ {O W A B : Type 0} (o : OpeningMeaning O) (a : DeskMeaning O W A) (b : 
           vault_slot = r.vault_slot;
           words_are = ap (λ (ws : List ℕ). set ws 3 ((get_or ws 3 0 + 1) % M)) r.words_are;
           homes_are = r.homes_are;
+          opened = r.opened;
           agree = r.agree;
           desk_lock = subst (Lock r.words.desk_ticket r.words.desk_serving (Desk r.desk) r.desk_slot) (sym (same_places desk_of s.views id v w at refl)) r.desk_lock;
           vault_lock = subst (Lock ((t + 1) % M) r.words.vault_serving (Vault r.vault) r.vault_slot) (sym (new_places vault_of s.views id w (Waits n) refl)) lock;
@@ -150,6 +152,7 @@ module _ {O W A B : Type 0} (o : OpeningMeaning O) (a : DeskMeaning O W A) (b : 
             vault_slot = r.vault_slot;
             words_are = r.words_are;
             homes_are = ap (λ (hs : List (maybe.Option (Option (Kept A B)))). set hs 0 none) r.homes_are;
+            opened = r.opened;
             agree = r.agree;
             desk_lock = subst (Lock r.words.desk_ticket r.words.desk_serving (Desk r.desk) none) (sym (new_places desk_of s.views id w (Inside n r.desk) refl)) (got.1 r.desk);
             vault_lock = subst (Lock r.words.vault_ticket r.words.vault_serving (Vault r.vault) r.vault_slot) (sym (same_places vault_of s.views id m.0 w at refl)) r.vault_lock;
@@ -221,6 +224,7 @@ module _ {O W A B : Type 0} (o : OpeningMeaning O) (a : DeskMeaning O W A) (b : 
             vault_slot = none;
             words_are = r.words_are;
             homes_are = ap (λ (hs : List (maybe.Option (Option (Kept A B)))). set hs 1 none) r.homes_are;
+            opened = r.opened;
             agree = r.agree;
             desk_lock = subst (Lock r.words.desk_ticket r.words.desk_serving (Desk r.desk) r.desk_slot) (sym (same_places desk_of s.views id m.0 w at refl)) r.desk_lock;
             vault_lock = subst (Lock r.words.vault_ticket r.words.vault_serving (Vault r.vault) none) (sym (new_places vault_of s.views id w (Inside n r.vault) refl)) (got.1 r.vault);
@@ -278,6 +282,7 @@ module _ {O W A B : Type 0} (o : OpeningMeaning O) (a : DeskMeaning O W A) (b : 
           vault_slot = r.vault_slot;
           words_are = ap (λ (ws : List ℕ). set ws 1 ((get_or ws 1 0 + 1) % M)) r.words_are;
           homes_are = ap (put_back s.homes) carried' ∙ ap (λ (hs : List (maybe.Option (Option (Kept A B)))). set hs 0 slot) r.homes_are;
+          opened = r.opened;
           agree = r.agree;
           desk_lock = subst (Lock r.words.desk_ticket u (Desk r.desk) slot) (sym (new_places desk_of s.views id w Outside refl)) lock;
           vault_lock = subst (Lock r.words.vault_ticket r.words.vault_serving (Vault r.vault) r.vault_slot) (sym (same_places vault_of s.views id m.0 w at refl)) r.vault_lock;
@@ -317,6 +322,7 @@ module _ {O W A B : Type 0} (o : OpeningMeaning O) (a : DeskMeaning O W A) (b : 
           vault_slot = slot;
           words_are = ap (λ (ws : List ℕ). set ws 4 ((get_or ws 4 0 + 1) % M)) r.words_are;
           homes_are = ap (put_back s.homes) carried' ∙ ap (λ (hs : List (maybe.Option (Option (Kept A B)))). set hs 1 slot) r.homes_are;
+          opened = r.opened;
           agree = r.agree;
           desk_lock = subst (Lock r.words.desk_ticket r.words.desk_serving (Desk r.desk) r.desk_slot) (sym (same_places desk_of s.views id m.0 w at refl)) r.desk_lock;
           vault_lock = subst (Lock r.words.vault_ticket y (Vault r.vault) slot) (sym (new_places vault_of s.views id w Outside refl)) lock;
@@ -346,6 +352,7 @@ module _ {O W A B : Type 0} (o : OpeningMeaning O) (a : DeskMeaning O W A) (b : 
     vault_slot = r.vault_slot;
     words_are = r.words_are;
     homes_are = r.homes_are;
+    opened = r.opened;
     agree = r.agree;
     desk_lock = subst (Lock r.words.desk_ticket r.words.desk_serving (Desk r.desk) r.desk_slot) (sym (same_places desk_of s.views id v w at same)) r.desk_lock;
     vault_lock = subst (Lock r.words.vault_ticket r.words.vault_serving (Vault r.vault) r.vault_slot) (sym (same_places vault_of s.views id v w at same')) r.vault_lock;

@@ -102,8 +102,8 @@ module _ {O W A B : Type 0} (o : OpeningMeaning O) (a : DeskMeaning O W A) (b : 
     pub faults : (d : Device) (c : ℕ) → IsCounted (o.counts (a.opening desk) d) (count_now desk vault d) c (fault_lines d c (a.journal desk) + total (told_times d c) views)
     pub known : (i : ℕ) (v : View O W A B) → get_elem? views i ≡ some v → Knows desk vault v
 
-  -- `desk` and `vault` are the two values as they were last recorded.
-  pub record IsRuled (limit : ℕ) (s : State (Option (Kept A B)) (View O W A B)) : Type 0 where
+  -- `desk` and `vault` are the two values as they were last recorded, `first` the opening.
+  pub record IsRuled (first : O) (limit : ℕ) (s : State (Option (Kept A B)) (View O W A B)) : Type 0 where
     pub desk : A
     pub vault : B
     pub words : Words
@@ -111,6 +111,7 @@ module _ {O W A B : Type 0} (o : OpeningMeaning O) (a : DeskMeaning O W A) (b : 
     pub vault_slot : maybe.Option (Option (Kept A B))
     pub words_are : s.words ≡ words_of words
     pub homes_are : s.homes ≡ desk_slot ∷ vault_slot ∷ []
+    pub opened : a.opening desk ≡ first
     pub agree : Agree desk vault words.horizon words.held
     pub desk_lock : Lock words.desk_ticket words.desk_serving (Desk desk) desk_slot (map desk_of s.views)
     pub vault_lock : Lock words.vault_ticket words.vault_serving (Vault vault) vault_slot (map vault_of s.views)

@@ -11,7 +11,7 @@ use Rattle.turn.specs.declared.view.View.{View}
 use Rattle.turn.specs.Faults.{LAST, desk_faults, fault_lines, fault_times, line_fault}
 use Rattle.turn.specs.Meanings.{OpeningMeaning, DeskMeaning, VaultMeaning, lines_of}
 use Rattle.turn.specs.Queue.{ticket_of}
-use Rattle.turn.specs.Rule.{count_now}
+use Rattle.turn.specs.Rule.{Knows, count_now}
 use Rattle.turn.specs.Views.{PARTS, first_of, fresh}
 
 module _ {O W A B : Type 0} where
@@ -111,14 +111,37 @@ pub record MayLeaveVault {O B : Type 0} (b : VaultMeaning O B) (opening : Option
   pub counts : (d : Device) → b.counts old d ≤ b.counts new d
   pub fits : (x : O) → opening ≡ Some x → b.Fits new x seen
 
--- what a seat has is what the desk has of its number, at the end
+-- what a seat has is what the desk has of its number
 pub record IsRight {O W A B : Type 0} (a : DeskMeaning O W A) (desk : A) (s : SeatOver O W A B) : Type 0 where
   pub front : IsPrefix (seen s) (a.journal desk)
   pub lines : (mine s).lines ≡ lines_of s.number (a.journal desk)
   pub work : (mine s).work ≡ a.work_of desk s.number
-  pub opening : opening s ≡ Some (a.opening desk)
 
--- each fault that a line tells stands once, above the count at the opening and not above that at the end
-abbrev pub FaultsAreTold : {O W A B : Type 0} → OpeningMeaning O → DeskMeaning O W A → VaultMeaning O B → A → B → Type 0
-FaultsAreTold o a b desk vault = (d : Device) (c : ℕ) → c < LAST → 0 < fault_lines d c (a.journal desk) →
-    (fault_lines d c (a.journal desk) ≡ 1) × (o.counts (a.opening desk) d < c) × (c ≤ count_now o a b desk vault d)
+abbrev pub AreRight : {O W A B : Type 0} → DeskMeaning O W A → A → List (SeatOver O W A B) → Type 0
+AreRight {O = O} {W = W} {A = A} {B = B} a desk seats = (k : ℕ) (s : SeatOver O W A B) → slice_get seats k ≡ Some s → IsRight a desk s
+
+-- what is so of the two values at the start
+pub record MayOpen {O W A B : Type 0} (o : OpeningMeaning O) (a : DeskMeaning O W A) (b : VaultMeaning O B) (desk : A) (vault : B) : Type 0 where
+  pub empty : a.journal desk ≡ []
+  pub idle : (n : ℕ) → a.work_of desk n ≡ None
+  pub lawful : o.Lawful (a.opening desk) (a.journal desk)
+  pub desk_fits : a.Fits desk
+  pub vault_fits : b.Fits vault (a.opening desk) (a.journal desk)
+  pub acked : a.acked desk ≤ b.held vault
+  pub counts : (d : Device) → o.counts (a.opening desk) d ≤ count_now o a b desk vault d
+
+-- what is so of the two values at the end, of a table with so many seats
+pub record AreClosed {O W A B : Type 0} (o : OpeningMeaning O) (a : DeskMeaning O W A) (b : VaultMeaning O B) (limit : ℕ) (desk : A) (vault : B) : Type 0 where
+  pub lawful : o.Lawful (a.opening desk) (a.journal desk)
+  pub desk_fits : a.Fits desk
+  pub vault_fits : b.Fits vault (a.opening desk) (a.journal desk)
+  pub acked : a.acked desk ≤ b.held vault
+  -- no line and no work is of another number
+  pub foreign : (n : ℕ) → limit ≤ n → (lines_of n (a.journal desk) ≡ []) × (a.work_of desk n ≡ None)
+  -- each fault that a line tells stands once, above the count at the opening and not above that at the end
+  pub faults : (d : Device) (c : ℕ) → c < LAST → 0 < fault_lines d c (a.journal desk) →
+      (fault_lines d c (a.journal desk) ≡ 1) × (o.counts (a.opening desk) d < c) × (c ≤ count_now o a b desk vault d)
+
+-- what is right of a gathered view is right of each of these seats
+abbrev pub Covers : {O W A B : Type 0} → OpeningMeaning O → DeskMeaning O W A → VaultMeaning O B → View O W A B → List (SeatOver O W A B) → Type 0
+Covers {A = A} {B = B} o a b v seats = (desk : A) (vault : B) → Knows o a b desk vault v → AreRight a desk seats
