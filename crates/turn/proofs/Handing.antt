@@ -42,6 +42,12 @@ same_desk k l x y e f g = ap (desk_or x) (sym f ∙ (e ∙ g))
 pub same_vault : {A B : Type 0} (k l : Option (Kept A B)) (x y : B) → k ≡ l → k ≡ Some (Vault x) → l ≡ Some (Vault y) → x ≡ y
 same_vault k l x y e f g = ap (vault_or x) (sym f ∙ (e ∙ g))
 
+-- the own lines that a seat has seen begin its lines
+pub own_front : {W : Type 0} (journal : List Line) (works : ℕ → Option W) (front : List Line) (hs : List (Holding W)) (g : Holding W) (n : ℕ) → IsPrefix front journal → AreOwn journal works hs → hs ≡ g ∷ [] → 0 < g.parts → g.number ≡ n → IsPrefix (lines_of n front) g.lines
+own_front {W = W} journal works front hs g n begins own one part same =
+    let lines : g.lines ≡ lines_of n journal = (own 0 g (ap (λ (xs : List (Holding W)). get_elem? xs 0) one) part).0 ∙ ap (λ (k : ℕ). lines_of k journal) same in
+    subst (IsPrefix (lines_of n front)) (sym lines) (lines_front n front journal begins)
+
 module _ {O W A B : Type 0} where
   pub parts_here : (z : TableId) (s : SeatOver O W A B) → IsSeat z s → 0 < parts_of (view_of s)
   parts_here z s i = let e = ap (total (λ (h : Holding W). h.parts)) i.one in let p = i.part in omega arith
@@ -73,9 +79,3 @@ module _ {O W A B : Type 0} where
   pub left_vault : (b : VaultMeaning O B) (n : ℕ) (old new : B) (v v1 v2 v3 : View O W A B) → v1 ≡ v → v2 ≡ record v1 { vault = Inside n new; held = b.held new; holds = map (behind_vault b old new) v1.holds } → v3 ≡ record v2 { vault = Outside }
       → v3 ≡ record v { vault = Outside; held = b.held new; holds = map (behind_vault b old new) v.holds }
   left_vault b n old new v v1 v2 v3 x y z = z ∙ ap (λ (u : View O W A B). record u { vault = Outside }) (y ∙ ap (λ (u : View O W A B). record u { vault = Inside n new; held = b.held new; holds = map (behind_vault b old new) u.holds }) x)
-
-  -- the own lines that a seat has seen begin its lines
-  pub own_front : (J : List Line) (works : ℕ → Option W) (front : List Line) (hs : List (Holding W)) (g : Holding W) (n : ℕ) → IsPrefix front J → AreOwn J works hs → hs ≡ g ∷ [] → 0 < g.parts → g.number ≡ n → IsPrefix (lines_of n front) g.lines
-  own_front J works front hs g n begins own one part same =
-      let lines : g.lines ≡ lines_of n J = (own 0 g (ap (λ (xs : List (Holding W)). get_elem? xs 0) one) part).0 ∙ ap (λ (k : ℕ). lines_of k J) same in
-      subst (IsPrefix (lines_of n front)) (sym lines) (lines_front n front J begins)

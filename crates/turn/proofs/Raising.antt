@@ -17,7 +17,7 @@ use Rattle.turn.specs.declared.view.Place.TheVariants.{Inside}
 use Rattle.turn.specs.declared.view.View.{View}
 use Rattle.turn.specs.Faults.{LAST, fault_lines, fault_times, is_of_desk, vault_faults}
 use Rattle.turn.specs.Meanings.{OpeningMeaning, DeskMeaning, VaultMeaning}
-use Rattle.turn.specs.Plays.{Sat, At, raises}
+use Rattle.turn.specs.Plays.{Sat, raises}
 use Rattle.turn.specs.Queue.{Lock, total, is_inside, ticket_of}
 use Rattle.turn.specs.Rule.{AreNewer, AreOwn, AreParts, AreSeats, IsCounted, IsNewer, IsOwn, IsRuled, Knows, count_now, told_times}
 use Rattle.turn.specs.Seats.{MayLeaveVault}
@@ -26,6 +26,7 @@ use Rattle.turn.proofs.Faults.{lines_within, times_append, vault_told}
 use Rattle.turn.proofs.Locks.{lock_alone, lock_changes}
 use Rattle.turn.proofs.Recording.{counted_after, fits_longer, only_one}
 use Rattle.turn.proofs.Seating.{keep_total, moved, new_places, place_at, same_places, same_value}
+use Rattle.turn.proofs.Steps.{no_step}
 use Rattle.turn.proofs.Totals.{total_map, total_set}
 
 abbrev vault_or : {A B : Type 0} → B → Option (Kept A B) → B
@@ -135,9 +136,9 @@ module _ {O W A B : Type 0} (o : OpeningMeaning O) (a : DeskMeaning O W A) (b : 
     }
 
   module _ (outlives : (y : B) (x : O) (lines more : List Line) → b.Fits y x lines → o.Lawful x (lines ++ more) → b.Fits y x (lines ++ more)) where
-    pub raise_held : (first : O) (slots id n word : ℕ) (old new : B) (x : O) (h : Holding W) (m : Sat O W A B) (st : At A B) → m.0.vault ≡ Inside n old → m.1 ≡ (1, Some (Vault new)) ∷ [] → m.0.holds ≡ h ∷ [] → 0 < h.parts
-        → m.0.opening ≡ Some x → MayLeaveVault b m.0.opening m.0.seen old new → word ≡ b.held new → Allows (IsRuled o a b first limit) slots id m 5 (λ _. word) (λ _. raises b st m word)
-    raise_held first slots id n word old new x h m st inside carried one part opened may shown s r deep at small =
+    pub raise_held : (first : O) (slots id n word : ℕ) (old new : B) (x : O) (h : Holding W) (m : Sat O W A B) → m.0.vault ≡ Inside n old → m.1 ≡ (1, Some (Vault new)) ∷ [] → m.0.holds ≡ h ∷ [] → 0 < h.parts
+        → m.0.opening ≡ Some x → MayLeaveVault b m.0.opening m.0.seen old new → word ≡ b.held new → Allows (IsRuled o a b first limit) slots id m 5 (λ _. word) (λ _. raises b no_step m word)
+    raise_held first slots id n word old new x h m inside carried one part opened may shown s r deep at small =
         let k = r.seats.known id m.0 at in
         let here : old ≡ r.vault = (k.in_vault n old inside).0 in
         let may' : MayLeaveVault b m.0.opening m.0.seen r.vault new = subst (λ (y : B). MayLeaveVault b m.0.opening m.0.seen y new) here may in

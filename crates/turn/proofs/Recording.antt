@@ -17,7 +17,7 @@ use Rattle.turn.specs.declared.view.Place.TheVariants.{Inside}
 use Rattle.turn.specs.declared.view.View.{View}
 use Rattle.turn.specs.Faults.{LAST, desk_faults, fault_lines, fault_times, is_of_desk, line_fault}
 use Rattle.turn.specs.Meanings.{OpeningMeaning, DeskMeaning, VaultMeaning, lines_of, horizon_of}
-use Rattle.turn.specs.Plays.{Sat, At, records}
+use Rattle.turn.specs.Plays.{Sat, records}
 use Rattle.turn.specs.Queue.{Lock, total, is_inside, ticket_of}
 use Rattle.turn.specs.Rule.{AreOwn, AreParts, AreSeats, IsCounted, IsHorizon, IsNewer, AreNewer, IsOwn, IsRuled, Knows, count_now, told_times}
 use Rattle.turn.specs.Seats.{AddsLine, IsOwnChange, IsQuiet, MayLeave}
@@ -26,6 +26,7 @@ use Rattle.turn.proofs.Faults.{desk_told, fault_most, lines_append, lines_within
 use Rattle.turn.proofs.Fronts.{other_line, prefix_self, prefix_trans}
 use Rattle.turn.proofs.Locks.{lock_alone, lock_changes}
 use Rattle.turn.proofs.Seating.{keep_total, moved, new_places, place_at, same_places, same_value}
+use Rattle.turn.proofs.Steps.{no_step}
 use Rattle.turn.proofs.Totals.{total_at, total_map, total_set, total_two}
 
 -- how a fault is counted behind a step that tells it to a seat, where the count rose to it
@@ -245,9 +246,9 @@ module _ {O W A B : Type 0} (o : OpeningMeaning O) (a : DeskMeaning O W A) (b : 
     pub fits_longer : (y : B) (x : O) (lines longer : List Line) → IsPrefix lines longer → b.Fits y x lines → o.Lawful x longer → b.Fits y x longer
     fits_longer y x lines longer p fits lawful = subst (b.Fits y x) p.1 (outlives y x lines p.0 fits (subst (o.Lawful x) (sym p.1) lawful))
 
-    pub record_desk : (first : O) (slots id n word : ℕ) (old new : A) (h : Holding W) (m : Sat O W A B) (st : At A B) → m.0.desk ≡ Inside n old → m.1 ≡ (0, Some (Desk new)) ∷ [] → m.0.holds ≡ h ∷ [] → 0 < h.parts
-        → MayLeave a o m.0.held h old new → IsHorizon word (horizon_of (o.base (a.opening new)) (a.journal new)) → Allows (IsRuled o a b first limit) slots id m 2 (λ _. word) (λ _. records a st m word)
-    record_desk first slots id n word old new h m st inside carried one part may shown s r deep at small =
+    pub record_desk : (first : O) (slots id n word : ℕ) (old new : A) (h : Holding W) (m : Sat O W A B) → m.0.desk ≡ Inside n old → m.1 ≡ (0, Some (Desk new)) ∷ [] → m.0.holds ≡ h ∷ [] → 0 < h.parts
+        → MayLeave a o m.0.held h old new → IsHorizon word (horizon_of (o.base (a.opening new)) (a.journal new)) → Allows (IsRuled o a b first limit) slots id m 2 (λ _. word) (λ _. records a no_step m word)
+    record_desk first slots id n word old new h m inside carried one part may shown s r deep at small =
         let k = r.seats.known id m.0 at in
         let here : old ≡ r.desk = (k.in_desk n old inside).0 in
         let may' : MayLeave a o m.0.held h r.desk new = subst (λ (x : A). MayLeave a o m.0.held h x new) here may in

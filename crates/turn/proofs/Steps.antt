@@ -7,7 +7,7 @@ use mathlib.Core.List.{IsPrefix}
 use native.Mathlib.Decide.{ℕ_discrete}
 use lib.ListN.{get_elem?}
 use lib.Seq.{set-get_or}
-use Rattle.atomic_table.specs.Table.{State, Act, keeps, takes, gives, Valid, carried_after, put_back, rest, stepped, Allows}
+use Rattle.atomic_table.specs.Table.{State, Step, step, Act, keeps, takes, gives, Valid, carried_after, put_back, rest, stepped, Allows}
 use Rattle.atomic_table.proofs.Lists.{set_again}
 use Rattle.history.specs.declared.journal.Line.{Line}
 use Rattle.turn.specs.declared.view.Kept.{Kept}
@@ -16,7 +16,7 @@ use Rattle.turn.specs.declared.view.Place.{Place}
 use Rattle.turn.specs.declared.view.Place.TheVariants.{Outside, Waits, Inside}
 use Rattle.turn.specs.declared.view.View.{View}
 use Rattle.turn.specs.Meanings.{OpeningMeaning, DeskMeaning, VaultMeaning, horizon_of}
-use Rattle.turn.specs.Plays.{Sat, At, draws_desk, draws_vault, reads_desk, reads_vault, serves_desk, serves_vault, sees_horizon, settles}
+use Rattle.turn.specs.Plays.{Sat, draws_desk, draws_vault, reads_desk, reads_vault, serves_desk, serves_vault, sees_horizon, settles}
 use Rattle.turn.specs.Queue.{Lock, tickets_in}
 use Rattle.turn.specs.Rule.{IsHorizon, IsRuled, Knows}
 use Rattle.turn.specs.Views.{desk_of, vault_of, parts_of, longest}
@@ -26,6 +26,10 @@ use Rattle.turn.proofs.Seating.{same_value, same_ticket, same_places, new_places
 
 abbrev M : ℕ
 M = 18446744073709551616
+
+-- no play reads its step
+abbrev pub no_step : {S : Type 0} → Step S
+no_step = step 0 0 0 0 none
 
 module _ {O W A B : Type 0} (o : OpeningMeaning O) (a : DeskMeaning O W A) (b : VaultMeaning O B) (first : O) (limit : ℕ) where
   abbrev St : Type 0
@@ -39,8 +43,8 @@ module _ {O W A B : Type 0} (o : OpeningMeaning O) (a : DeskMeaning O W A) (b : 
       → Rule record { words = set s.words i (get_or s.words i 0); homes = homes; views = views }
   loaded s i homes views = subst (λ (ws : List ℕ). Rule record { words = ws; homes = homes; views = views }) (sym (set-get_or s.words i 0))
 
-  pub draw_desk : (slots id : ℕ) (m : Sat O W A B) (st : At A B) → m.0.desk ≡ Outside → 0 < parts_of m.0 → Allows Rule slots id m 0 (λ n. (n + 1) % M) (draws_desk st m)
-  draw_desk slots id m st out part s r deep at small =
+  pub draw_desk : (slots id : ℕ) (m : Sat O W A B) → m.0.desk ≡ Outside → 0 < parts_of m.0 → Allows Rule slots id m 0 (λ n. (n + 1) % M) (draws_desk no_step m)
+  draw_desk slots id m out part s r deep at small =
       let v : View O W A B = m.0 in
       let n : ℕ = r.desk_lock.queue.next in
       let w : View O W A B = record v { desk = Waits n } in
@@ -77,8 +81,8 @@ module _ {O W A B : Type 0} (o : OpeningMeaning O) (a : DeskMeaning O W A) (b : 
         (refl, (n, ap (λ (ws : List ℕ). get_or ws 0 0) r.words_are ∙ r.desk_lock.queue.ticket_is, refl)),
       )
 
-  pub draw_vault : (slots id : ℕ) (m : Sat O W A B) (st : At A B) → m.0.vault ≡ Outside → 0 < parts_of m.0 → Allows Rule slots id m 3 (λ n. (n + 1) % M) (draws_vault st m)
-  draw_vault slots id m st out part s r deep at small =
+  pub draw_vault : (slots id : ℕ) (m : Sat O W A B) → m.0.vault ≡ Outside → 0 < parts_of m.0 → Allows Rule slots id m 3 (λ n. (n + 1) % M) (draws_vault no_step m)
+  draw_vault slots id m out part s r deep at small =
       let v : View O W A B = m.0 in
       let n : ℕ = r.vault_lock.queue.next in
       let w : View O W A B = record v { vault = Waits n } in
@@ -119,14 +123,14 @@ module _ {O W A B : Type 0} (o : OpeningMeaning O) (a : DeskMeaning O W A) (b : 
   waits_on : (s : St) (i id : ℕ) (v : View O W A B) → get_elem? s.views id ≡ some v → Rule s → Rule record { words = set s.words i (get_or s.words i 0); homes = s.homes; views = set s.views id v }
   waits_on s i id v at r = loaded s i s.homes (set s.views id v) (subst (λ (vs : List (View O W A B)). Rule record { words = s.words; homes = s.homes; views = vs }) (sym (set_again s.views id v at)) r)
 
-  abbrev ReadingDesk : ℕ → Sat O W A B → At A B → St → Type 0
-  ReadingDesk id m st s = (w : View O W A B) × (act : Act (Option (Kept A B))) × Valid s.homes m.1 act × Rule (stepped s 1 (get_or s.words 1 0) id m.1 w act)
-      × reads_desk o a st m (get_or s.words 1 0) (w, carried_after m.1 act)
+  abbrev ReadingDesk : ℕ → Sat O W A B → St → Type 0
+  ReadingDesk id m s = (w : View O W A B) × (act : Act (Option (Kept A B))) × Valid s.homes m.1 act × Rule (stepped s 1 (get_or s.words 1 0) id m.1 w act)
+      × reads_desk o a no_step m (get_or s.words 1 0) (w, carried_after m.1 act)
 
-  pub read_desk : (slots id n : ℕ) (m : Sat O W A B) (st : At A B) → m.0.desk ≡ Waits n → Allows Rule slots id m 1 (λ x. x) (reads_desk o a st m)
-  read_desk slots id n m st waits s r deep at small = dite (ℕ_discrete (get_or s.words 1 0) (n % M)) hit miss
+  pub read_desk : (slots id n : ℕ) (m : Sat O W A B) → m.0.desk ≡ Waits n → Allows Rule slots id m 1 (λ x. x) (reads_desk o a no_step m)
+  read_desk slots id n m waits s r deep at small = dite (ℕ_discrete (get_or s.words 1 0) (n % M)) hit miss
     where
-      miss : get_or s.words 1 0 ≢ n % M → ReadingDesk id m st s
+      miss : get_or s.words 1 0 ≢ n % M → ReadingDesk id m s
       miss ne = (
         m.0,
         keeps,
@@ -135,7 +139,7 @@ module _ {O W A B : Type 0} (o : OpeningMeaning O) (a : DeskMeaning O W A) (b : 
         λ k is. ((λ e. absurd (ne (e ∙ ap (λ (x : ℕ). x % M) (sym (same_ticket n k m.0.desk waits is))))), (λ _. refl)),
       )
 
-      hit : get_or s.words 1 0 ≡ n % M → ReadingDesk id m st s
+      hit : get_or s.words 1 0 ≡ n % M → ReadingDesk id m s
       hit found =
           let k = r.seats.known id m.0 at in
           let serving : get_or s.words 1 0 ≡ r.words.desk_serving = ap (λ (ws : List ℕ). get_or ws 1 0) r.words_are in
@@ -190,15 +194,15 @@ module _ {O W A B : Type 0} (o : OpeningMeaning O) (a : DeskMeaning O W A) (b : 
             ),
           )
 
-  abbrev ReadingVault : ℕ → Sat O W A B → At A B → St → Type 0
-  ReadingVault id m st s = (w : View O W A B) × (act : Act (Option (Kept A B))) × Valid s.homes m.1 act × Rule (stepped s 4 (get_or s.words 4 0) id m.1 w act)
-      × reads_vault o b st m (get_or s.words 4 0) (w, carried_after m.1 act)
+  abbrev ReadingVault : ℕ → Sat O W A B → St → Type 0
+  ReadingVault id m s = (w : View O W A B) × (act : Act (Option (Kept A B))) × Valid s.homes m.1 act × Rule (stepped s 4 (get_or s.words 4 0) id m.1 w act)
+      × reads_vault o b no_step m (get_or s.words 4 0) (w, carried_after m.1 act)
 
   -- the seat must not be in the desk, whose journal it would forget
-  pub read_vault : (slots id n : ℕ) (m : Sat O W A B) (st : At A B) → m.0.vault ≡ Waits n → m.0.desk ≡ Outside → Allows Rule slots id m 4 (λ x. x) (reads_vault o b st m)
-  read_vault slots id n m st waits out s r deep at small = dite (ℕ_discrete (get_or s.words 4 0) (n % M)) hit miss
+  pub read_vault : (slots id n : ℕ) (m : Sat O W A B) → m.0.vault ≡ Waits n → m.0.desk ≡ Outside → Allows Rule slots id m 4 (λ x. x) (reads_vault o b no_step m)
+  read_vault slots id n m waits out s r deep at small = dite (ℕ_discrete (get_or s.words 4 0) (n % M)) hit miss
     where
-      miss : get_or s.words 4 0 ≢ n % M → ReadingVault id m st s
+      miss : get_or s.words 4 0 ≢ n % M → ReadingVault id m s
       miss ne = (
         m.0,
         keeps,
@@ -207,7 +211,7 @@ module _ {O W A B : Type 0} (o : OpeningMeaning O) (a : DeskMeaning O W A) (b : 
         λ k is. ((λ e. absurd (ne (e ∙ ap (λ (x : ℕ). x % M) (sym (same_ticket n k m.0.vault waits is))))), (λ _. refl)),
       )
 
-      hit : get_or s.words 4 0 ≡ n % M → ReadingVault id m st s
+      hit : get_or s.words 4 0 ≡ n % M → ReadingVault id m s
       hit found =
           let k = r.seats.known id m.0 at in
           let serving : get_or s.words 4 0 ≡ r.words.vault_serving = ap (λ (ws : List ℕ). get_or ws 4 0) r.words_are in
@@ -261,8 +265,8 @@ module _ {O W A B : Type 0} (o : OpeningMeaning O) (a : DeskMeaning O W A) (b : 
           )
 
   -- the seat gives the desk's value back, and serves the next
-  pub serve_desk : (slots id n : ℕ) (value : A) (m : Sat O W A B) (st : At A B) → m.0.desk ≡ Inside n value → m.1 ≡ (0, Some (Desk value)) ∷ [] → Allows Rule slots id m 1 (λ q. (q + 1) % M) (serves_desk st m)
-  serve_desk slots id n value m st inside carried s r deep at small =
+  pub serve_desk : (slots id n : ℕ) (value : A) (m : Sat O W A B) → m.0.desk ≡ Inside n value → m.1 ≡ (0, Some (Desk value)) ∷ [] → Allows Rule slots id m 1 (λ q. (q + 1) % M) (serves_desk no_step m)
+  serve_desk slots id n value m inside carried s r deep at small =
       let k = r.seats.known id m.0 at in
       let here : value ≡ r.desk = (k.in_desk n value inside).0 in
       let w : View O W A B = record m.0 { desk = Outside } in
@@ -301,8 +305,8 @@ module _ {O W A B : Type 0} (o : OpeningMeaning O) (a : DeskMeaning O W A) (b : 
         (ap rest carried, refl),
       )
 
-  pub serve_vault : (slots id n : ℕ) (value : B) (m : Sat O W A B) (st : At A B) → m.0.vault ≡ Inside n value → m.1 ≡ (1, Some (Vault value)) ∷ [] → Allows Rule slots id m 4 (λ q. (q + 1) % M) (serves_vault st m)
-  serve_vault slots id n value m st inside carried s r deep at small =
+  pub serve_vault : (slots id n : ℕ) (value : B) (m : Sat O W A B) → m.0.vault ≡ Inside n value → m.1 ≡ (1, Some (Vault value)) ∷ [] → Allows Rule slots id m 4 (λ q. (q + 1) % M) (serves_vault no_step m)
+  serve_vault slots id n value m inside carried s r deep at small =
       let k = r.seats.known id m.0 at in
       let here : value ≡ r.vault = (k.in_vault n value inside).0 in
       let w : View O W A B = record m.0 { vault = Outside } in
@@ -360,8 +364,8 @@ module _ {O W A B : Type 0} (o : OpeningMeaning O) (a : DeskMeaning O W A) (b : 
   }
 
   -- the horizon is seen, and the journal behind which it stands
-  pub see_horizon : (slots id : ℕ) (m : Sat O W A B) (st : At A B) → m.0.desk ≡ Outside → Allows Rule slots id m 2 (λ q. q) (sees_horizon o a st m)
-  see_horizon slots id m st out s r deep at small =
+  pub see_horizon : (slots id : ℕ) (m : Sat O W A B) → m.0.desk ≡ Outside → Allows Rule slots id m 2 (λ q. q) (sees_horizon o a no_step m)
+  see_horizon slots id m out s r deep at small =
       let k = r.seats.known id m.0 at in
       let w : View O W A B = record m.0 { seen = a.journal r.desk } in
       let word : get_or s.words 2 0 ≡ r.words.horizon = ap (λ (ws : List ℕ). get_or ws 2 0) r.words_are in (
@@ -393,8 +397,8 @@ module _ {O W A B : Type 0} (o : OpeningMeaning O) (a : DeskMeaning O W A) (b : 
       )
 
   -- the seat takes the longest front of which it heard
-  pub settle : (slots id : ℕ) (m : Sat O W A B) (st : At A B) → Allows Rule slots id m 2 (λ n. n) (settles o a st m)
-  settle slots id m st s r deep at small =
+  pub settle : (slots id : ℕ) (m : Sat O W A B) → Allows Rule slots id m 2 (λ n. n) (settles o a no_step m)
+  settle slots id m s r deep at small =
       let k = r.seats.known id m.0 at in
       let J : List Line = a.journal r.desk in
       let l = longest_of J m.0.seen m.0.heard k.front k.heard in

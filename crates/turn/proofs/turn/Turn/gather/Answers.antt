@@ -6,12 +6,12 @@ use Rattle.turn.proofs.Cuts.{enters, gathers}
 use Rattle.turn.proofs.Ends.{covers_one, parts_joined, parts_whole, whole_front, whole_last}
 use Rattle.turn.proofs.turn.Turn.gather.Goals as goal
 
-pub load_new_seat-requires : goal.load_new_seat-requires
-load_new_seat-requires g c = (search rules, enters _ _ _ _ _ _ _)
+pub load_new_seat-all-requires : goal.load_new_seat-all-requires
+load_new_seat-all-requires g c = (search rules, enters _ _ _ _ _ _ _)
 
 pub gather-init : goal.gather-init
 gather-init g c =
-    let new = c.load_new_seat.ensures in
+    let new = c.load_new_seat-all.ensures in
     record {
       seated = new.0;
       outside = (ap (λ (v : View _ _ _ _). v.desk) new.2, ap (λ (v : View _ _ _ _). v.vault) new.2, new.1);

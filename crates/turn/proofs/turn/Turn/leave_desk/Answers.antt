@@ -18,7 +18,7 @@ store-requires g c =
     let was : c.exchange-left.new.seat.me.0 ≡ c.args.seat.now.seat.me.0 = ap (λ m. m.0) x.3 in (
       x.0 ∙ q.seat.table,
       search rules,
-      record_desk _ _ _ _ g.met.B.VaultValue.outlives _ _ _ _ _ c.requires.0 c.args.desk (mine c.args.seat.now) c.exchange-left.new.seat.me _ (ap (λ v. v.desk) was ∙ q.desk)
+      record_desk _ _ _ _ g.met.B.VaultValue.outlives _ _ _ _ _ c.requires.0 c.args.desk (mine c.args.seat.now) c.exchange-left.new.seat.me (ap (λ v. v.desk) was ∙ q.desk)
           (ap (λ m. m.1) x.3 ∙ ap (λ cs. (0, Some (Desk c.args.desk)) ∷ rest cs) q.slots) (ap (λ v. v.holds) was ∙ q.seat.one) q.seat.part
           (subst (λ k. MayLeave g.A.DeskValue.meaning g.A.Opening.Opening.meaning k (mine c.args.seat.now) c.requires.0 c.args.desk) (sym (ap (λ v. v.held) was)) c.requires.2)
           (subst (IsHorizon c.word_of-word.result) c.horizon.ensures c.word_of-word.ensures),
@@ -32,7 +32,7 @@ fetch_add-requires g c =
     let was : c.exchange-left.new.seat.me.0 ≡ c.args.seat.now.seat.me.0 = ap (λ m. m.0) x.3 in
     let carried = ap (λ m. m.1) x.3 ∙ ap (λ cs. (0, Some (Desk c.args.desk)) ∷ rest cs) q.slots in
     let now = y.2.1 _ c.requires.0 c.args.desk (ap (λ v. v.desk) was ∙ q.desk) carried in
-    (y.0 ∙ (x.0 ∙ q.seat.table), search rules, serve_desk _ _ _ _ _ _ _ _ c.args.desk c.store.new.seat.me _ (ap (λ v. v.desk) now) (y.2.0 ∙ carried))
+    (y.0 ∙ (x.0 ∙ q.seat.table), search rules, serve_desk _ _ _ _ _ _ _ _ c.args.desk c.store.new.seat.me (ap (λ v. v.desk) now) (y.2.0 ∙ carried))
 
 pub returns-clause-rests : goal.returns-clause-rests
 returns-clause-rests g c =

@@ -18,7 +18,7 @@ store-requires g c =
     let o = some_of c.args.seat.now.seat.me.0.opening q.seat.opened in (
       x.0 ∙ q.seat.table,
       search rules,
-      raise_held _ _ _ _ g.met.B.VaultValue.outlives _ _ _ _ _ c.requires.0 c.args.vault o.0 (mine c.args.seat.now) c.exchange-left.new.seat.me _ (ap (λ v. v.vault) was ∙ q.vault)
+      raise_held _ _ _ _ g.met.B.VaultValue.outlives _ _ _ _ _ c.requires.0 c.args.vault o.0 (mine c.args.seat.now) c.exchange-left.new.seat.me (ap (λ v. v.vault) was ∙ q.vault)
           (ap (λ m. m.1) x.3 ∙ ap (λ cs. (1, Some (Vault c.args.vault)) ∷ rest cs) q.slots) (ap (λ v. v.holds) was ∙ q.seat.one) q.seat.part (ap (λ v. v.opening) was ∙ o.1)
           (subst (λ (v : View _ _ _ _). MayLeaveVault g.B.VaultValue.meaning v.opening v.seen c.requires.0 c.args.vault) (sym was) c.requires.2) c.held-held.ensures,
     )
@@ -31,7 +31,7 @@ fetch_add-requires g c =
     let was : c.exchange-left.new.seat.me.0 ≡ c.args.seat.now.seat.me.0 = ap (λ m. m.0) x.3 in
     let carried = ap (λ m. m.1) x.3 ∙ ap (λ cs. (1, Some (Vault c.args.vault)) ∷ rest cs) q.slots in
     let now = y.2.1 _ c.requires.0 c.args.vault (ap (λ v. v.vault) was ∙ q.vault) carried in
-    (y.0 ∙ (x.0 ∙ q.seat.table), search rules, serve_vault _ _ _ _ _ _ _ _ c.args.vault c.store.new.seat.me _ (ap (λ v. v.vault) now) (y.2.0 ∙ carried))
+    (y.0 ∙ (x.0 ∙ q.seat.table), search rules, serve_vault _ _ _ _ _ _ _ _ c.args.vault c.store.new.seat.me (ap (λ v. v.vault) now) (y.2.0 ∙ carried))
 
 pub returns-clause-rests : goal.returns-clause-rests
 returns-clause-rests g c =

@@ -24,7 +24,7 @@ join_seat-requires g c = let r = c.requires.rests in (
     )
 
 pub load-requires : goal.load-requires
-load-requires g c = (c.join_seat.ensures.0 ∙ c.requires.rests.0.seat.table, search rules, settle _ _ _ _ _ _ _ c.join_seat.new.seat.me _)
+load-requires g c = (c.join_seat.ensures.0 ∙ c.requires.rests.0.seat.table, search rules, settle _ _ _ _ _ _ _ c.join_seat.new.seat.me)
 
 pub returns-clause-fronts : goal.returns-clause-fronts
 returns-clause-fronts g c =
