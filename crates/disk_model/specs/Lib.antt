@@ -1,4 +1,5 @@
 pub mod Cause
 pub mod Disk
 pub mod Moments
+pub mod Runs
 pub mod Sizes

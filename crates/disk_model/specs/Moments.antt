@@ -13,9 +13,10 @@ pub record Elapses (remembers : Type 0) (before now : Clock) (IsImage : List ℕ
   pub nothing_else : (t : ℕ) (image : List ℕ) → t ≤ before.moment → now.left_since t image → before.left_since t image ⊎ IsImage image
   pub kept : remembers → (t : ℕ) (image : List ℕ) → t ≤ before.moment → before.left_since t image → now.left_since t image
 
--- a crash at any moment from old to new leaves an image that has P
-pub record LeavesOnly (old new : Clock) (P : List ℕ → Type 0) : Type 0 where
+-- A crash at any moment from old to new leaves an image that has P. Where the device remembers, what a crash might have left before is still counted.
+pub record LeavesOnly (remembers : Type 0) (old new : Clock) (P : List ℕ → Type 0) : Type 0 where
   pub later : old.moment ≤ new.moment
   pub each : (image : List ℕ) → new.left_since old.moment image → P image
   -- for a run that began earlier
   pub before : (t : ℕ) (image : List ℕ) → t ≤ old.moment → new.left_since t image → old.left_since t image ⊎ P image
+  pub kept : remembers → (t : ℕ) (image : List ℕ) → t ≤ old.moment → old.left_since t image → new.left_since t image

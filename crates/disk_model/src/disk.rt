@@ -8,7 +8,7 @@ ghost use Rattle.disk_model.specs.Moments.{Clock, Elapses};
 pub struct Failed;
 
 /// A device of a fixed size. A write is loose until the next successful sync: a crash may leave any bytes in
-/// its place. A failed write leaves any bytes in its range, loose as well; a failed sync makes nothing durable.
+/// its place. A failed write leaves any bytes in its range, loose as well; a failed sync makes nothing loose.
 pub trait Disk {
     // How many bytes it has.
     ghost extent: { Self → ℕ };

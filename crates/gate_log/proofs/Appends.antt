@@ -139,14 +139,14 @@ module _ (log : Region) (bodies : List (List ℕ)) (body bytes : List ℕ) (gate
       }
 
   -- a run that writes the body behind the gate
-  pub staged : (start next : Clock) → LeavesOnly start next (SameOutside (LooseOrIn old (gate + 1) (length bytes)) old.seen) → LeavesOnly start next (Appending log bodies body old)
-  staged start next run = weaker start next _ _ behind_gate run
+  pub staged : (remembers : Type 0) (start next : Clock) → LeavesOnly remembers start next (SameOutside (LooseOrIn old (gate + 1) (length bytes)) old.seen) → LeavesOnly remembers start next (Appending log bodies body old)
+  staged remembers start next run = weaker remembers start next _ _ behind_gate run
 
   -- and then opens the gate
-  pub opened : (start next last : Clock) (mid : State) → IsDurable mid → mid.seen ≡ written (gate + 1) bytes old.seen → LeavesOnly start next (SameOutside (LooseOrIn old (gate + 1) (length bytes)) old.seen)
-      → LeavesOnly next last (SameOutside (LooseOrIn mid gate 1) mid.seen) → LeavesOnly start last (Appending log bodies body old)
-  opened start next last mid durable is_mid first second =
-      joined start next last _ (staged start next first) (weaker next last _ _ (λ image same. at_gate mid.seen is_mid image (outside_alone mid gate 1 mid.seen image durable same)) second)
+  pub opened : (remembers : Type 0) (start next last : Clock) (mid : State) → IsDurable mid → mid.seen ≡ written (gate + 1) bytes old.seen → LeavesOnly remembers start next (SameOutside (LooseOrIn old (gate + 1) (length bytes)) old.seen)
+      → LeavesOnly remembers next last (SameOutside (LooseOrIn mid gate 1) mid.seen) → LeavesOnly remembers start last (Appending log bodies body old)
+  opened remembers start next last mid durable is_mid first second =
+      joined remembers start next last _ (staged remembers start next first) (weaker remembers next last _ _ (λ image same. at_gate mid.seen is_mid image (outside_alone mid gate 1 mid.seen image durable same)) second)
 
   -- at the end the log holds the body too
   pub holds_more : (mid new : State) → mid.seen ≡ written (gate + 1) bytes old.seen → new.seen ≡ written gate (OPEN_GATE ∷ []) mid.seen → IsDurable new → Holds (after_append log body true) (bodies ++ body ∷ []) new

@@ -1,13 +1,14 @@
 -- What a filled region holds.
 use Rattle.std.proofs.Common.{◌≡◌, ◌∙◌, ◌+◌, ◌-◌, ◌≤◌, ◌<◌, ◌^◌, ℕ, List, [], ◌∷◌, ◌++◌, length, get_or, replicate, refl, sym, ap, arith, append_assoc, length-append}
-use Rattle.std.proofs.lemmas.List.{get_or_append_left, get_or-append_right, get_or_at}
-use Rattle.disk_model.specs.Disk.{written}
+use Rattle.std.proofs.lemmas.List.{get_or-replicate, get_or_append_left, get_or-append_right, get_or_at}
+use Rattle.disk_model.specs.Disk.{State, InRange, SameOutside, written}
 use Rattle.disk_model.proofs.Written as put
 use Rattle.retro_base.specs.Fields.{number_at, field_bytes}
 use Rattle.retro_base.specs.Framing.{records_of}
 use Rattle.retro_base.proofs.FieldLaws.{number_at-field, length-field_bytes}
 use Rattle.gate_log.specs.Log.{region_tail, Fills, IsPrepared}
-use Rattle.gate_log.specs.Region.{gate_behind}
+use Rattle.gate_log.specs.Calls.{IsPut}
+use Rattle.gate_log.specs.Region.{gate_behind, generation_at}
 use Rattle.retro_base.proofs.Numbers.{number_at-bytes}
 use Rattle.gate_log.proofs.Regions.{Stands, lists}
 
@@ -63,16 +64,33 @@ module _ (place size generation : ℕ) (bodies : List (List ℕ)) (bytes old new
     short = prepared.short;
   }
 
-  pub fills : Fills place size generation bodies old new
-  fills = record {
-    lists = lists place size new (omega (arith, fits, length-new)) bodies stands;
-    under =
-        number_at-bytes 8 (place + 8) 7 new (region_tail generation bodies) (omega (arith, fits, length-new, room, length-bytes)) (omega (arith, length-region_tail generation bodies)) (λ i lt.
-        let e : place + 8 + i ≡ place + 1 + (7 + i) = omega arith in
-        ap (λ (k : ℕ). get_or new k 0) e ∙ new_at (7 + i) (omega (arith, lt, length-bytes)))
-        ∙ tail_generation generation bodies prepared.small;
-    same = record {
-      size = length-new;
-      kept = λ i out. ap (λ (l : List ℕ). get_or l i 0) is_new ∙ (put.same_outside (place + 1) bytes old inside_fits).kept i (λ r. out (r.0, omega (arith, r.1, room)));
-    };
+  blank : (i : ℕ) → place < i → i < place + 8 → get_or new i 0 ≡ 0
+  blank i low high =
+      let e : i ≡ place + 1 + (i - (place + 1)) = omega arith in
+      ap (λ (k : ℕ). get_or new k 0) e ∙ new_at (i - (place + 1)) (omega (arith, high, length-bytes))
+      ∙ get_or_append_left (replicate 7 0 ++ field_bytes 8 generation) (records_of bodies ++ 0 ∷ []) 0 (i - (place + 1)) (omega (arith, high, low, length-header generation))
+      ∙ get_or_append_left (replicate 7 0) (field_bytes 8 generation) 0 (i - (place + 1)) (omega (arith, high, low))
+      ∙ get_or-replicate {A = ℕ} 7 (i - (place + 1)) 0 0 (omega (arith, high, low))
+
+  under : generation_at place new ≡ generation
+  under =
+      number_at-bytes 8 (place + 8) 7 new (region_tail generation bodies) (omega (arith, fits, length-new, room, length-bytes)) (omega (arith, length-region_tail generation bodies)) (λ i lt.
+      let e : place + 8 + i ≡ place + 1 + (7 + i) = omega arith in
+      ap (λ (k : ℕ). get_or new k 0) e ∙ new_at (7 + i) (omega (arith, lt, length-bytes)))
+      ∙ tail_generation generation bodies prepared.small
+
+  same_outside : SameOutside (InRange (place + 1) (size - 1)) old new
+  same_outside = record {
+    size = length-new;
+    kept = λ i out. ap (λ (l : List ℕ). get_or l i 0) is_new ∙ (put.same_outside (place + 1) bytes old inside_fits).kept i (λ r. out (r.0, omega (arith, r.1, room)));
   }
+
+-- a region that is filled from a state, and then has nothing loose
+pub fills : (place size generation : ℕ) (bodies : List (List ℕ)) (bytes : List ℕ) (old new : State) → IsPrepared bytes generation bodies → IsPut (place + 1) bytes old new → place + size ≤ length old.seen → length bytes + 1 ≤ size → Fills place size generation bodies old new
+fills place size generation bodies bytes old new prepared put fits room = record {
+  lists = lists place size new.seen (omega (arith, fits, length-new place size generation bodies bytes old.seen new.seen prepared put.written fits room)) bodies (stands place size generation bodies bytes old.seen new.seen prepared put.written fits room);
+  under = under place size generation bodies bytes old.seen new.seen prepared put.written fits room;
+  blank = blank place size generation bodies bytes old.seen new.seen prepared put.written fits room;
+  same = same_outside place size generation bodies bytes old.seen new.seen prepared put.written fits room;
+  durable = put.durable;
+}

@@ -3,5 +3,6 @@ pub mod Fills
 pub mod Framing
 pub mod Ranges
 pub mod Regions
+pub mod Results
 pub mod Splits
 pub mod Unique

@@ -13,9 +13,9 @@ outside_alone state from count old image durable same = record {
 }
 
 -- in a range that reaches further
-pub wider : (start next : Clock) (state : State) (from count more : ℕ) (old : List ℕ) → count ≤ more → LeavesOnly start next (SameOutside (LooseOrIn state from count) old) → LeavesOnly start next (SameOutside (LooseOrIn state from more) old)
-wider start next state from count more old le run =
-    weaker start next _ _ (λ image same. record {
+pub wider : (remembers : Type 0) (start next : Clock) (state : State) (from count more : ℕ) (old : List ℕ) → count ≤ more → LeavesOnly remembers start next (SameOutside (LooseOrIn state from count) old) → LeavesOnly remembers start next (SameOutside (LooseOrIn state from more) old)
+wider remembers start next state from count more old le run =
+    weaker remembers start next _ _ (λ image same. record {
       size = same.size;
       kept = λ i out. same.kept i (λ there. elim there [ inl l ↦ out (inl l) | inr r ↦ out (inr (r.0, omega (arith, r.1, le))) ]);
     }) run

@@ -1,5 +1,6 @@
 pub mod Appending
 pub mod Bodies
+pub mod Calls
 pub mod Cause
 pub mod Framed
 pub mod Laws

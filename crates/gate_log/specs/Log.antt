@@ -1,6 +1,6 @@
 -- What a log knows of its region, and what the region holds.
-use Rattle.std.specs.Prelude.{◌≡◌, ◌+◌, ◌-◌, ◌^◌, ◌<◌, ℕ, List, [], ◌∷◌, ◌++◌, replicate}
-use Rattle.disk_model.specs.Disk.{State, InRange, SameOutside}
+use Rattle.std.specs.Prelude.{◌≡◌, ◌+◌, ◌-◌, ◌^◌, ◌<◌, ℕ, List, [], ◌∷◌, ◌++◌, replicate, slice_index}
+use Rattle.disk_model.specs.Disk.{State, InRange, IsDurable, SameOutside}
 use Rattle.retro_base.specs.declared.device.Device.{Device}
 use Rattle.retro_base.specs.Fields.{field_bytes}
 use Rattle.retro_base.specs.Framing.{records_of, AreBodies}
@@ -29,8 +29,10 @@ pub record IsPrepared (bytes : List ℕ) (generation : ℕ) (bodies : List (List
   pub small : generation < 2 ^ 64
   pub short : AreBodies bodies
 
--- The region was filled with these bodies under that generation. Its header's gate and all that stands outside the region are as before.
-pub record Fills (place size generation : ℕ) (bodies : List (List ℕ)) (old new : List ℕ) : Type 0 where
-  pub lists : Lists place size bodies new
-  pub under : generation_at place new ≡ generation
-  pub same : SameOutside (InRange (place + 1) (size - 1)) old new
+-- The region was filled with these bodies under that generation, and nothing is loose. Its header's gate and all that stands outside the region are as before.
+pub record Fills (place size generation : ℕ) (bodies : List (List ℕ)) (old new : State) : Type 0 where
+  pub lists : Lists place size bodies new.seen
+  pub under : generation_at place new.seen ≡ generation
+  pub blank : (i : ℕ) → place < i → i < place + 8 → slice_index new.seen i ≡ 0
+  pub same : SameOutside (InRange (place + 1) (size - 1)) old.seen new.seen
+  pub durable : IsDurable new

@@ -1,5 +1,5 @@
 -- A region of a device: a header of 16 bytes, which begins with a gate and ends with a generation, and then the records of a list.
-use Rattle.std.specs.Prelude.{◌≡◌, ◌+◌, ℕ, List, length, slice_index, take, drop}
+use Rattle.std.specs.Prelude.{◌≡◌, ◌+◌, ◌<◌, ◌≤◌, ℕ, List, length, slice_index, take, drop}
 use Rattle.retro_base.specs.Fields.{number_at}
 use Rattle.retro_base.specs.Framing.{records_of, AreRecords, BreaksAt}
 use Rattle.retro_base.specs.declared.limits.TheConstants.{OPEN_GATE}
@@ -19,6 +19,10 @@ region_records place size bytes = drop 16 (take size (drop place bytes))
 -- the region of that size at that place lists these bodies
 abbrev pub Lists : ℕ → ℕ → List (List ℕ) → List ℕ → Type 0
 Lists place size bodies bytes = AreRecords bodies (region_records place size bytes)
+
+-- a record of the region of that size at that place may stand there
+abbrev pub InRecords : ℕ → ℕ → ℕ → Type 0
+InRecords place size at = (place + 16 ≤ at) × (at < place + size)
 
 -- where in its region the gate behind these records stands
 abbrev pub gate_behind : List (List ℕ) → ℕ

@@ -1,8 +1,10 @@
-ghost use Rattle.std.specs.Prelude.{◌≡◌, ◌≤◌, ◌+◌, ◌↔◌, length, OnOk};
+ghost use Rattle.std.specs.Prelude.{◌≡◌, ◌≤◌, ◌+◌, length, OnOk};
 ghost use Rattle.disk_model.specs.Cause.{HasCause};
-ghost use Rattle.disk_model.specs.Disk.{IsDurable, SameOutside, written};
+ghost use Rattle.disk_model.specs.Disk.{IsDurable, SameOutside};
 ghost use Rattle.disk_model.specs.Moments.{LeavesOnly};
+ghost use Rattle.disk_model.specs.Runs.{SameDevice, WritesNothing};
 ghost use Rattle.gate_log.specs.Appending.{LooseOrIn};
+ghost use Rattle.gate_log.specs.Calls.{IsPut};
 ghost use Rattle.retro_base.specs.Cause.{FaultsAlone};
 ghost use Rattle.retro_base.specs.declared.refusal.Refusal.TheVariants.{DiskFault};
 
@@ -18,12 +20,10 @@ pub fn put_durably<D: Disk>(
     bytes: &[u8],
 ) -> Result<(), Refusal>
     requires { place + length bytes.now ≤ D.extent disk.old }
-    ensures extent { D.extent disk.new ≡ D.extent disk.old }
-    ensures honest { D.is_honest disk.old ↔ D.is_honest disk.new }
+    ensures same { SameDevice D.extent D.is_honest disk.old disk.new }
     ensures cause { FaultsAlone device (D.faults disk.old) (D.faults disk.new) result }
-    ensures written { D.is_honest disk.old → OnOk result ((D.state disk.new).seen ≡ written place bytes.now (D.state disk.old).seen) }
-    ensures durable { D.is_honest disk.old → OnOk result (IsDurable (D.state disk.new)) }
-    ensures any_moment { D.is_honest disk.old → LeavesOnly (D.clock disk.old) (D.clock disk.new)
+    ensures put { D.is_honest disk.old → OnOk result (IsPut place bytes.now (D.state disk.old) (D.state disk.new)) }
+    ensures any_moment { D.is_honest disk.old → LeavesOnly D.remembers (D.clock disk.old) (D.clock disk.new)
         (SameOutside (LooseOrIn (D.state disk.old) place (length bytes.now)) (D.state disk.old).seen) }
 {
     match write_and_sync(disk, place, bytes) {
@@ -34,16 +34,27 @@ pub fn put_durably<D: Disk>(
 
 fn write_and_sync<D: Disk>(disk: &mut D, place: u64, bytes: &[u8]) -> Result<(), Failed>
     requires { place + length bytes.now ≤ D.extent disk.old }
-    ensures extent { D.extent disk.new ≡ D.extent disk.old }
-    ensures honest { D.is_honest disk.old ↔ D.is_honest disk.new }
+    ensures same { SameDevice D.extent D.is_honest disk.old disk.new }
     ensures cause { HasCause (D.faults disk.old) (D.faults disk.new) result }
-    ensures written { D.is_honest disk.old → OnOk result ((D.state disk.new).seen ≡ written place bytes.now (D.state disk.old).seen) }
-    ensures durable { D.is_honest disk.old → OnOk result (IsDurable (D.state disk.new)) }
-    ensures any_moment { D.is_honest disk.old → LeavesOnly (D.clock disk.old) (D.clock disk.new)
+    ensures put { D.is_honest disk.old → OnOk result (IsPut place bytes.now (D.state disk.old) (D.state disk.new)) }
+    ensures any_moment { D.is_honest disk.old → LeavesOnly D.remembers (D.clock disk.old) (D.clock disk.new)
         (SameOutside (LooseOrIn (D.state disk.old) place (length bytes.now)) (D.state disk.old).seen) }
 {
     disk.write_at(place, bytes)?;
     disk.sync()
+}
+
+/// Makes all that was written durable. A fault leaves what was loose as loose as before.
+pub fn settle<D: Disk>(disk: &mut D, device: Device) -> Result<(), Refusal>
+    ensures same { SameDevice D.extent D.is_honest disk.old disk.new }
+    ensures cause { FaultsAlone device (D.faults disk.old) (D.faults disk.new) result }
+    ensures settled { D.is_honest disk.old → OnOk result (IsDurable (D.state disk.new)) }
+    ensures quiet { D.is_honest disk.old → WritesNothing D.remembers D.state D.clock disk.old disk.new }
+{
+    match disk.sync() {
+        Ok(()) => Ok(()),
+        Err(Failed) => Err(fault_of(disk, device)),
+    }
 }
 
 /// The refusal that tells the device's last fault.

@@ -1,4 +1,4 @@
-ghost use Rattle.std.specs.Prelude.{◌≡◌, ◌<◌, ◌^◌, ◌++◌, [], ◌∷◌, length, IfOk, IfErr};
+ghost use Rattle.std.specs.Prelude.{◌≡◌, ◌<◌, ◌≤◌, ◌^◌, ◌++◌, [], ◌∷◌, length, OnOk, IfOk, OnErr, IfErr, drop};
 ghost use Rattle.retro_base.specs.Framing.{sized};
 ghost use Rattle.retro_base.specs.declared.refusal.Refusal.TheVariants.{OutOfMemory};
 
@@ -34,8 +34,9 @@ impl Framed {
         ensures ok { IfOk result (λ framed. framed ≡ body.now) }
         ensures err { IfErr result (λ refusal. refusal ≡ OutOfMemory) }
     {
-        let bytes = framed_bytes(alloc, body)?;
-        Ok(Framed { bytes })
+        let mut builder = FramedBuilder::new(alloc)?;
+        builder.extend_from_slice(body)?;
+        builder.finish()
     }
 
     /// How many bytes the body has.
@@ -54,29 +55,103 @@ impl Framed {
     }
 }
 
-fn framed_bytes(alloc: Global, body: &[u8]) -> Result<Vec<u8>, Refusal>
-    requires { length body.now < 2 ^ 32 }
-    ensures ok { IfOk result (λ bytes. bytes.items ≡ sized body.now ++ 0 ∷ []) }
-    ensures err { IfErr result (λ refusal. refusal ≡ OutOfMemory) }
+/// A body while it is written, behind room for its length, so that it is framed where it stands. Contracts see the
+/// bytes of the body so far.
+#[derive(Drop)]
+pub struct FramedBuilder {
+    bytes: Vec<u8>,
+}
+
+impl Model for FramedBuilder {
+    ghost use Rattle.std.specs.Prelude.{◌≤◌, ℕ, List, length, drop};
+    ghost use Rattle.std.specs.Coded.{coded_ℕ, coded_list};
+
+    ghost Value = { List ℕ };
+
+    ghost coded = { coded_list coded_ℕ };
+
+    ghost view = { λ builder. drop 4 builder.bytes.items };
+
+    ghost invariant = { λ builder. 4 ≤ length builder.bytes.items };
+}
+
+impl FramedBuilder {
+    /// An empty body. The only refusal is want of memory.
+    pub fn new(alloc: Global) -> Result<FramedBuilder, Refusal>
+        ensures ok { IfOk result (λ builder. builder ≡ []) }
+        ensures err { IfErr result (λ refusal. refusal ≡ OutOfMemory) }
+    {
+        let bytes = [0; 4].to_vec(alloc)?;
+        Ok(FramedBuilder { bytes })
+    }
+
+    /// Adds a byte. The only refusal is want of memory, and then the body is as it was.
+    pub fn push(&mut self, byte: u8) -> Result<(), Refusal>
+        ensures ok { OnOk result (self.new ≡ self.old ++ byte ∷ []) }
+        ensures err { IfErr result (λ refusal. refusal ≡ OutOfMemory) }
+        ensures same { OnErr result (self.new ≡ self.old) }
+    {
+        self.extend_from_slice(&[byte])
+    }
+
+    /// Adds these bytes. The only refusal is want of memory, and then the body is as it was.
+    pub fn extend_from_slice(&mut self, bytes: &[u8]) -> Result<(), Refusal>
+        ensures ok { OnOk result (self.new ≡ self.old ++ bytes.now) }
+        ensures err { IfErr result (λ refusal. refusal ≡ OutOfMemory) }
+        ensures same { OnErr result (self.new ≡ self.old) }
+    {
+        self.bytes.extend_from_slice(bytes)?;
+        Ok(())
+    }
+
+    /// Frames the body. The only refusal is want of memory.
+    pub fn finish(self) -> Result<Framed, Refusal>
+        requires { length self < 2 ^ 32 }
+        ensures ok { IfOk result (λ framed. framed ≡ self) }
+        ensures err { IfErr result (λ refusal. refusal ≡ OutOfMemory) }
+    {
+        let mut bytes = self.bytes;
+        put_length(&mut bytes);
+        bytes.push(0)?;
+        Ok(Framed { bytes })
+    }
+}
+
+// Puts the length of the body that stands behind the first four bytes into them.
+fn put_length(bytes: &mut Vec<u8>)
+    requires room { 4 ≤ length bytes.old.items }
+    requires short { length (drop 4 bytes.old.items) < 2 ^ 32 }
+    ensures { bytes.new.items ≡ sized (drop 4 bytes.old.items) }
 {
-    let mut bytes = Vec::new(alloc);
-    let mut count = [0; 4];
-    put_u32(&mut count, 0, body.len() as u32);
-    bytes.extend_from_slice(&count)?;
-    bytes.extend_from_slice(body)?;
-    bytes.push(0)?;
-    Ok(bytes)
+    let count = bytes.len() - 4;
+    put_u32(bytes, 0, count as u32);
 }
 
 #[cfg(test)]
 mod tests {
-    use super::Framed;
+    use super::{Framed, FramedBuilder};
+    use retro_base::Refusal;
+    use std::alloc::Global;
     use std::test::Fail;
 
     #[test]
     fn a_body_is_framed(rt: HostRuntime) -> Result<(), Fail> {
         let framed = Framed::new(rt.alloc(), &[3, 4, 5])?;
         assert_eq!(rt; framed.len(), 3);
+        assert_eq!(rt; framed.as_bytes(), [0, 0, 0, 3, 3, 4, 5, 0].as_slice());
+        Ok(())
+    }
+
+    fn built(alloc: Global) -> Result<Framed, Refusal> {
+        let mut builder = FramedBuilder::new(alloc)?;
+        builder.push(3)?;
+        builder.extend_from_slice(&[4, 5])?;
+        builder.finish()
+    }
+
+    #[test]
+    fn a_body_is_framed_where_it_was_written(rt: HostRuntime) -> Result<(), Fail> {
+        let framed = built(rt.alloc())?;
         assert_eq!(rt; framed.as_bytes(), [0, 0, 0, 3, 3, 4, 5, 0].as_slice());
         Ok(())
     }

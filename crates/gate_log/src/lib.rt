@@ -8,9 +8,12 @@ mod laws;
 mod log;
 mod prepared;
 mod records;
+mod unread;
 
-pub use durable::{fault_of, put_durably};
-pub use framed::Framed;
+pub use durable::{fault_of, put_durably, settle};
+pub use framed::{Framed, FramedBuilder};
 pub use laws::records_are_read_one_way;
 pub use log::GateLog;
 pub use prepared::Prepared;
+pub use records::read_bytes;
+pub use unread::Unread;

@@ -1,18 +1,19 @@
-ghost use Rattle.std.specs.Prelude.{◌≡◌, ◌≤◌, ◌<◌, ◌+◌, ◌-◌, ◌^◌, ◌↔◌, ◌∷◌, [], ◌++◌, ℕ, List, length, take, drop, is_ok, OnOk, IfOk, IfErr, IfSome, MatchOption, MatchResult};
-ghost use Rattle.disk_model.specs.Disk.{IsDurable, IsImage, SameOutside, Unchanged};
+ghost use Rattle.std.specs.Prelude.{◌≡◌, ◌≤◌, ◌<◌, ◌+◌, ◌-◌, ◌^◌, ℕ, List, length, is_ok, OnOk, IfOk, IfErr, IfSome, MatchOption, MatchResult};
+ghost use Rattle.disk_model.specs.Disk.{SameOutside};
 ghost use Rattle.disk_model.specs.Moments.{LeavesOnly};
-ghost use Rattle.gate_log.specs.Appending.{after_append, Appending, LooseOrIn};
+ghost use Rattle.disk_model.specs.Runs.{OnlyReads, SameDevice};
+ghost use Rattle.gate_log.specs.Appending.{after_append, Appends, LooseOrIn};
 ghost use Rattle.gate_log.specs.Bodies.{bodies_of};
 ghost use Rattle.gate_log.specs.Cause.{Fit, HasRoom, IsAppendRefusal, IsDiskFault, IsFillRefusal, IsReadRefusal};
-ghost use Rattle.gate_log.specs.Log.{Fills, Holds};
-ghost use Rattle.gate_log.specs.Region.{Breaks, gate_behind, IsOpen, Lists};
+ghost use Rattle.gate_log.specs.Log.{Fills};
+ghost use Rattle.gate_log.specs.Region.{Breaks, gate_behind, InRecords, IsOpen, Lists};
 ghost use Rattle.retro_base.specs.Framing.{AreBodies};
 
-use crate::durable::{fault_of, put_durably};
+use crate::durable::put_durably;
 use crate::framed::Framed;
 use crate::prepared::Prepared;
-use crate::records::read_records;
-use disk_model::{Disk, Failed};
+use crate::records::{read_bytes, read_records};
+use disk_model::Disk;
 use retro_base::{Device, OPEN_GATE, Refusal};
 use std::alloc::Global;
 use std::marker::Model;
@@ -70,8 +71,7 @@ impl GateLog {
         requires fits { place + size < 2 ^ 64 }
         requires first { 1 ≤ generation }
         requires short { AreBodies (bodies_of bodies.now) }
-        ensures extent { D.extent disk.new ≡ D.extent disk.old }
-        ensures honest { D.is_honest disk.old ↔ D.is_honest disk.new }
+        ensures same { SameDevice D.extent D.is_honest disk.old disk.new }
         ensures cause { MatchResult result
             (λ _. Fit size (bodies_of bodies.now) × (D.faults disk.new ≡ D.faults disk.old))
             (IsFillRefusal size (bodies_of bodies.now) device (D.faults disk.old) (D.faults disk.new)) }
@@ -79,9 +79,8 @@ impl GateLog {
         ensures log { IfOk result (λ log.
             log ≡ record { device = device; place = place; size = size; gate = gate_behind (bodies_of bodies.now) }) }
         ensures filled { D.is_honest disk.old
-            → OnOk result (Fills place size generation (bodies_of bodies.now) (D.state disk.old).seen (D.state disk.new).seen) }
-        ensures durable { D.is_honest disk.old → OnOk result (IsDurable (D.state disk.new)) }
-        ensures any_moment { D.is_honest disk.old → LeavesOnly (D.clock disk.old) (D.clock disk.new)
+            → OnOk result (Fills place size generation (bodies_of bodies.now) (D.state disk.old) (D.state disk.new)) }
+        ensures any_moment { D.is_honest disk.old → LeavesOnly D.remembers (D.clock disk.old) (D.clock disk.new)
             (SameOutside (LooseOrIn (D.state disk.old) (place + 1) (size - 1)) (D.state disk.old).seen) }
     {
         let prepared = Prepared::new(alloc, size, generation, bodies)?;
@@ -101,19 +100,19 @@ impl GateLog {
         requires inside { place + size ≤ D.extent disk.old }
         requires least { 17 ≤ size }
         requires fits { place + size < 2 ^ 64 }
-        ensures extent { D.extent disk.new ≡ D.extent disk.old }
-        ensures honest { D.is_honest disk.old ↔ D.is_honest disk.new }
+        ensures same { SameDevice D.extent D.is_honest disk.old disk.new }
         ensures cause { MatchResult result
             (λ _. D.faults disk.new ≡ D.faults disk.old)
-            (IsReadRefusal (λ broken. D.is_honest disk.old → Breaks place size (D.state disk.old).seen broken)
+            (IsReadRefusal
+            (λ at. InRecords place size at × (D.is_honest disk.old → Breaks place size (D.state disk.old).seen at))
             device (D.faults disk.old) (D.faults disk.new)) }
         ensures log { IfOk result (λ r. IfSome r (λ p.
             p.0 ≡ record { device = device; place = place; size = size; gate = gate_behind (bodies_of p.1.items) })) }
         ensures read { D.is_honest disk.old → IfOk result (λ r. MatchOption r
             (IsOpen place (D.state disk.old).seen → ⊥)
-            (λ p. IsOpen place (D.state disk.old).seen × Lists place size (bodies_of p.1.items) (D.state disk.old).seen)) }
-        ensures unchanged { D.is_honest disk.old → Unchanged (D.state disk.old) (D.state disk.new) }
-        ensures any_moment { D.is_honest disk.old → LeavesOnly (D.clock disk.old) (D.clock disk.new) (IsImage (D.state disk.old)) }
+            (λ p. IsOpen place (D.state disk.old).seen
+            × Lists place size (bodies_of p.1.items) (D.state disk.old).seen)) }
+        ensures reads { D.is_honest disk.old → OnlyReads D.remembers D.state D.clock disk.old disk.new }
     {
         let region = read_bytes(alloc, disk, device, place, size)?;
         if region[0] != OPEN_GATE {
@@ -165,20 +164,14 @@ impl GateLog {
     /// exactly where a call of the device failed, and then the log is to be read anew.
     pub fn append<D: Disk>(&mut self, disk: &mut D, framed: &Framed) -> Result<(), Refusal>
         requires { self.old.place + self.old.size ≤ D.extent disk.old }
-        ensures extent { D.extent disk.new ≡ D.extent disk.old }
-        ensures honest { D.is_honest disk.old ↔ D.is_honest disk.new }
+        ensures same { SameDevice D.extent D.is_honest disk.old disk.new }
         ensures log { self.new ≡ after_append self.old framed.now (is_ok result) }
-
         ensures cause { MatchResult result
             (λ _. HasRoom self.old (length framed.now) × (D.faults disk.new ≡ D.faults disk.old))
             (IsAppendRefusal self.old (length framed.now) (D.faults disk.old) (D.faults disk.new)) }
-        ensures full { self.old.size - self.old.gate < length framed.now + 6 → disk.new ≡ disk.old }
-
-        ensures appended { (bodies : List (List ℕ)) → D.is_honest disk.old → Holds self.old bodies (D.state disk.old)
-            → OnOk result (Holds self.new (bodies ++ framed.now ∷ []) (D.state disk.new)) }
-        ensures durable { D.is_honest disk.old → OnOk result (IsDurable (D.state disk.new)) }
-        ensures any_moment { (bodies : List (List ℕ)) → D.is_honest disk.old → Holds self.old bodies (D.state disk.old)
-            → LeavesOnly (D.clock disk.old) (D.clock disk.new) (Appending self.old bodies framed.now (D.state disk.old)) }
+        ensures untouched { IfErr result (λ refusal. (IsDiskFault refusal → ⊥) → disk.new ≡ disk.old) }
+        ensures appends { D.is_honest disk.old
+            → Appends self.old self.new framed.now D.remembers D.state D.clock disk.old disk.new result }
     {
         let needed = framed.len() + 6;
         let free = self.free();
@@ -192,31 +185,5 @@ impl GateLog {
         put_durably(disk, device, gate, &[OPEN_GATE])?;
         self.gate += framed.len() + 5;
         Ok(())
-    }
-}
-
-// Reads that many bytes into memory of their own.
-fn read_bytes<D: Disk>(
-    alloc: Global,
-    disk: &mut D,
-    device: Device,
-    place: u64,
-    size: u64,
-) -> Result<Vec<u8>, Refusal>
-    requires { place + size ≤ D.extent disk.old }
-    ensures extent { D.extent disk.new ≡ D.extent disk.old }
-    ensures honest { D.is_honest disk.old ↔ D.is_honest disk.new }
-    ensures cause { MatchResult result
-        (λ _. D.faults disk.new ≡ D.faults disk.old)
-        (IsReadRefusal (λ _. ⊥) device (D.faults disk.old) (D.faults disk.new)) }
-    ensures whole { IfOk result (λ bytes. length bytes.items ≡ size) }
-    ensures read { D.is_honest disk.old → IfOk result (λ bytes. bytes.items ≡ take size (drop place (D.state disk.old).seen)) }
-    ensures unchanged { D.is_honest disk.old → Unchanged (D.state disk.old) (D.state disk.new) }
-    ensures any_moment { D.is_honest disk.old → LeavesOnly (D.clock disk.old) (D.clock disk.new) (IsImage (D.state disk.old)) }
-{
-    let mut bytes = vec![in alloc; 0; size as usize]?;
-    match disk.read_at(place, &mut bytes) {
-        Ok(()) => Ok(bytes),
-        Err(Failed) => Err(fault_of(disk, device)),
     }
 }

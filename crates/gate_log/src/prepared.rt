@@ -1,6 +1,7 @@
-ghost use Rattle.std.specs.Prelude.{◌≡◌, ◌≤◌, ◌<◌, ◌+◌, ◌-◌, ◌^◌, ◌++◌, ◌↔◌, ℕ, List, length, OnOk, IfOk, IfErr};
-ghost use Rattle.disk_model.specs.Disk.{IsDurable, SameOutside};
+ghost use Rattle.std.specs.Prelude.{◌≡◌, ◌≤◌, ◌<◌, ◌+◌, ◌-◌, ◌^◌, ◌++◌, ℕ, List, length, OnOk, IfOk, IfErr};
+ghost use Rattle.disk_model.specs.Disk.{SameOutside};
 ghost use Rattle.disk_model.specs.Moments.{LeavesOnly};
+ghost use Rattle.disk_model.specs.Runs.{SameDevice};
 ghost use Rattle.gate_log.specs.Appending.{LooseOrIn};
 ghost use Rattle.gate_log.specs.Bodies.{bodies_of};
 ghost use Rattle.retro_base.specs.Cause.{FaultsAlone};
@@ -70,15 +71,14 @@ impl Prepared {
         requires inside { place + size ≤ D.extent disk.old }
         requires room { length self.now + 1 ≤ size }
         requires fits { place + size < 2 ^ 64 }
-        ensures extent { D.extent disk.new ≡ D.extent disk.old }
-        ensures honest { D.is_honest disk.old ↔ D.is_honest disk.new }
+        ensures same { SameDevice D.extent D.is_honest disk.old disk.new }
         ensures cause { FaultsAlone device (D.faults disk.old) (D.faults disk.new) result }
-        ensures log { IfOk result (λ log. log ≡ record { device = device; place = place; size = size; gate = length self.now }) }
+        ensures log { IfOk result (λ log.
+            log ≡ record { device = device; place = place; size = size; gate = length self.now }) }
         ensures filled { (generation : ℕ) (bodies : List (List ℕ))
             → IsPrepared self.now generation bodies → D.is_honest disk.old
-            → OnOk result (Fills place size generation bodies (D.state disk.old).seen (D.state disk.new).seen) }
-        ensures durable { D.is_honest disk.old → OnOk result (IsDurable (D.state disk.new)) }
-        ensures any_moment { D.is_honest disk.old → LeavesOnly (D.clock disk.old) (D.clock disk.new)
+            → OnOk result (Fills place size generation bodies (D.state disk.old) (D.state disk.new)) }
+        ensures any_moment { D.is_honest disk.old → LeavesOnly D.remembers (D.clock disk.old) (D.clock disk.new)
             (SameOutside (LooseOrIn (D.state disk.old) (place + 1) (size - 1)) (D.state disk.old).seen) }
     {
         put_durably(disk, device, place + 1, &self.bytes)?;

@@ -1,11 +1,40 @@
-ghost use Rattle.std.specs.Prelude.{◌≡◌, ◌<◌, ◌≤◌, ◌+◌, ◌^◌, ◌++◌, length, drop, slice_index, IfOk, IfErr, IfSome, IfNone};
+ghost use Rattle.std.specs.Prelude.{◌≡◌, ◌<◌, ◌≤◌, ◌+◌, ◌^◌, ◌++◌, length, take, drop, slice_index, IfOk, IfErr, IfSome, IfNone, MatchResult};
+ghost use Rattle.disk_model.specs.Runs.{OnlyReads, SameDevice};
 ghost use Rattle.gate_log.specs.Bodies.{bodies_of};
-ghost use Rattle.gate_log.specs.Cause.{IsRecordsRefusal};
+ghost use Rattle.gate_log.specs.Cause.{IsReadRefusal, IsRecordsRefusal};
 ghost use Rattle.retro_base.specs.Fields.{number_at};
 ghost use Rattle.retro_base.specs.Framing.{record_of, records_of, AreRecords};
 
+use crate::durable::fault_of;
+use disk_model::{Disk, Failed};
 use retro_base::{Device, OPEN_GATE, Refusal, get_u32};
 use std::alloc::Global;
+
+/// Reads that many bytes into memory of their own. It is refused for want of memory, and exactly where a call of
+/// the device failed.
+pub fn read_bytes<D: Disk>(
+    alloc: Global,
+    disk: &mut D,
+    device: Device,
+    place: u64,
+    size: u64,
+) -> Result<Vec<u8>, Refusal>
+    requires { place + size ≤ D.extent disk.old }
+    ensures same { SameDevice D.extent D.is_honest disk.old disk.new }
+    ensures cause { MatchResult result
+        (λ _. D.faults disk.new ≡ D.faults disk.old)
+        (IsReadRefusal (λ _. ⊥) device (D.faults disk.old) (D.faults disk.new)) }
+    ensures whole { IfOk result (λ bytes. length bytes.items ≡ size) }
+    ensures read { D.is_honest disk.old
+        → IfOk result (λ bytes. bytes.items ≡ take size (drop place (D.state disk.old).seen)) }
+    ensures reads { D.is_honest disk.old → OnlyReads D.remembers D.state D.clock disk.old disk.new }
+{
+    let mut bytes = vec![in alloc; 0; size as usize]?;
+    match disk.read_at(place, &mut bytes) {
+        Ok(()) => Ok(bytes),
+        Err(Failed) => Err(fault_of(disk, device)),
+    }
+}
 
 // The bodies of the records up to the first closed gate, and how many bytes stand before it. The bytes stand
 // from that place of the device on.

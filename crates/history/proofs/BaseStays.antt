@@ -1,17 +1,16 @@
 -- The base behind a right change is right.
-use Rattle.std.proofs.Common.{◌≡◌, ◌<◌, ◌≤◌, ◌+◌, ◌∙◌, ◌||◌, not, ℕ, Bool, true, false, cond, eqb, leb, ltb, List, [], ◌∷◌, ◌++◌, length, Some, None, refl, sym, ap, subst, arith}
+use Rattle.std.proofs.Common.{◌≡◌, ◌<◌, ◌≤◌, ◌+◌, ◌∙◌, ◌||◌, not, ℕ, Bool, true, false, cond, eqb, leb, ltb, List, [], ◌∷◌, ◌++◌, length, Some, None, refl, ap, arith}
 use Rattle.std.specs.List.{AllByRecursion}
 use Rattle.std.proofs.lemmas.Bool.{and_parts, and_from, or_parts, ltb-true, ltb-false, leb-true, le-leb, eqb-false, ne_eqb, not-true}
 use Rattle.history.specs.declared.entry.Base.{Base}
 use Rattle.history.specs.declared.entry.Mark.{Mark}
 use Rattle.history.specs.declared.entry.Change.TheVariants.{Commit, Drop}
 use Rattle.history.specs.declared.writes.PageImage.{PageImage}
-use Rattle.history.specs.Marks.{is_retained, oldest, newest, kept_marks, IsNumberedFrom}
+use Rattle.history.specs.Marks.{oldest, newest, kept_marks}
 use Rattle.history.specs.Writes.{pages_of, rises, is_among}
 use Rattle.history.specs.History.{is_declared, captures_page, capturing, with_page, with_pages}
-use Rattle.history.specs.Laws.{RetainedBetween, StaysRight}
-use Rattle.history.proofs.Spelling.{newest-numbered}
-use Rattle.history.proofs.MarkLaws.{retained-oldest, retained-newest, numbered-retained, newest_start-push, kept-newest, newest_start-within}
+use Rattle.history.specs.Laws.{StaysRight}
+use Rattle.history.proofs.MarkLaws.{newest_start-push, kept-newest, newest_start-within}
 use Rattle.history.proofs.Captures.{among-with_page, undeclared-none}
 use Rattle.history.proofs.Journals.{base_marks, kept-oldest}
 
@@ -103,22 +102,7 @@ capturing-below base limit (write ∷ writes) all = go (captures_page base write
   go true again = (all.0, again)
   go false again = again
 
--- ---- marks without gaps
-
-numbered-push : (number : ℕ) (marks : List Mark) (mark : Mark) → IsNumberedFrom number marks → mark.number ≡ number + length marks → IsNumberedFrom number (marks ++ mark ∷ [])
-numbered-push number [] mark h e = (omega (arith, e), tt)
-numbered-push number (first ∷ marks) mark h e = (h.0, numbered-push (number + 1) marks mark h.1 (omega (arith, e)))
-
-next_numbered : (marks : List Mark) (mark : Mark) → IsNumberedFrom (oldest marks) marks → mark.number ≡ newest marks + 1 → IsNumberedFrom (oldest (marks ++ mark ∷ [])) (marks ++ mark ∷ [])
-next_numbered [] mark h e = (refl, tt)
-next_numbered (first ∷ marks) mark h e = numbered-push first.number (first ∷ marks) mark h (omega (arith, e, newest-numbered first.number first marks h))
-
-numbered-kept : (number below : ℕ) (marks : List Mark) → IsNumberedFrom number marks → IsNumberedFrom (oldest (kept_marks below marks)) (kept_marks below marks)
-numbered-kept number below [] h = tt
-numbered-kept number below (mark ∷ marks) h = go (leb below mark.number) (numbered-kept (number + 1) below marks h.1) where
-  go : (b : Bool) → IsNumberedFrom (oldest (kept_marks below marks)) (kept_marks below marks) → IsNumberedFrom (oldest (cond b (mark ∷ marks) (kept_marks below marks))) (cond b (mark ∷ marks) (kept_marks below marks))
-  go true again = (refl, subst (λ n. IsNumberedFrom (n + 1) marks) (sym h.0) h.1)
-  go false again = again
+-- ---- marks
 
 kept-fewer : (below : ℕ) (marks : List Mark) → length (kept_marks below marks) ≤ length marks
 kept-fewer below [] = omega arith
@@ -147,7 +131,6 @@ stays_right base (Commit None writes) right rise may =
       capacity = right.capacity;
       limits = may.2;
       marks = base_marks base (Commit None writes) tt right.marks;
-      numbered = right.numbered;
       undeclared = λ none. omega (arith, right.undeclared none, ap (λ (ws : List PageImage). length (pages_of ws)) (undeclared-none base writes (ap is_declared none)));
       rising = rises-with_pages 0 new base.captured (capturing-rises base 0 writes rise) (capturing-new base writes) right.rising;
       in_store = all-with_pages base.page_count new base.captured (capturing-below base base.page_count writes may.0) right.in_store;
@@ -161,7 +144,6 @@ stays_right base (Commit (Some label) writes) right rise may =
       capacity = right.capacity;
       limits = may.2;
       marks = base_marks base (Commit (Some label) writes) tt right.marks;
-      numbered = next_numbered base.marks mark right.numbered refl;
       undeclared = λ none. absurd (push_some base.marks mark none);
       rising = refl;
       in_store = tt;
@@ -175,21 +157,8 @@ stays_right base (Drop below) right rise may =
       capacity = right.capacity;
       limits = record { total = right.limits.total; room = omega (arith, right.limits.room, up.1); retained = omega (arith, right.limits.retained, kept-fewer below base.marks); newest = omega (arith, right.limits.newest, kept.0) };
       marks = base_marks base (Drop below) may.1 right.marks;
-      numbered = numbered-kept (oldest base.marks) below base.marks right.numbered;
       undeclared = λ none. absurd (none_declared (kept_marks below base.marks) (kept.2 ∙ some_declared base.marks below may.0 may.1) none);
       rising = right.rising;
       in_store = right.in_store;
       captured = omega (arith, right.captured, kept.1);
     }
-
-between : (base : Base) (number : ℕ) → IsNumberedFrom (oldest base.marks) base.marks → oldest base.marks ≤ number → number ≤ newest base.marks → is_retained number base.marks ≡ true
-between base number numbered le up = go base.marks numbered le up where
-  go : (marks : List Mark) → IsNumberedFrom (oldest marks) marks → oldest marks ≤ number → number ≤ newest marks → is_retained number marks ≡ true
-  go [] h a b = absurd (omega (arith, a, b))
-  go (mark ∷ marks) h a b = numbered-retained mark.number number (mark ∷ marks) h a (omega (arith, b, newest-numbered mark.number mark marks h))
-
-pub retained_between : RetainedBetween
-retained_between base number right = (
-  λ kept. (retained-oldest base.captures 0 0 number base.marks right.marks kept, retained-newest base.captures 0 0 number base.marks right.marks kept),
-  λ inside. between base number right.numbered inside.0 inside.1,
-)

@@ -18,18 +18,18 @@ use Rattle.history.specs.Marks.{oldest, newest, oldest_start, is_retained, kept_
 use Rattle.history.specs.Writes.{pages_of}
 use Rattle.history.specs.History.{capturing, base_after, bases_after, State, run, History, now, captures, captured_by, with_change, with_changes}
 use Rattle.history.specs.Journal.{change_of, changes_of, base_behind, pages_behind, pages_after_journal, after_journal}
-use Rattle.history.specs.Sound.{Pin, same_item, pins_behind, KeepsSnapshots, AllKeepSnapshots, pins_of}
+use Rattle.history.specs.Sound.{Pin, same_item, pins_behind, KeepsRules, AllKeepRules, pins_of}
 use Rattle.history.specs.Laws.{IsConsistent, KeepsNewest, AllKeepNewest, OneMoreLine, JournalPages, JournalCapturesGrow, FrontIsSound, PinnedAreRetained, HorizonRises}
 use Rattle.history.proofs.MarkLaws.{retained-append}
 use Rattle.history.proofs.Captures.{run-append, run-base, with_changes-step, with_changes-none, captures-grow}
 use Rattle.history.proofs.Consistent.{step_consistent, stays_consistent, next_keeps, marks_after}
 use Rattle.history.proofs.AsOf.{newest_rises, base_behind_all}
 
-bases-append : (base : Base) (xs ys : List Change) → bases_after base (xs ++ ys) ≡ bases_after (bases_after base xs) ys
+pub bases-append : (base : Base) (xs ys : List Change) → bases_after base (xs ++ ys) ≡ bases_after (bases_after base xs) ys
 bases-append base [] ys = refl
 bases-append base (x ∷ xs) ys = bases-append (base_after base x) xs ys
 
-changes-append : (base : Base) (lines more : List Line) → changes_of base (lines ++ more) ≡ changes_of base lines ++ changes_of (bases_after base (changes_of base lines)) more
+pub changes-append : (base : Base) (lines more : List Line) → changes_of base (lines ++ more) ≡ changes_of base lines ++ changes_of (bases_after base (changes_of base lines)) more
 changes-append base [] more = refl
 changes-append base (line ∷ lines) more =
     let first : List Change = option_to_list (change_of base line.what) in
@@ -75,18 +75,18 @@ journal_pages history lines page = ap (λ (s : State). s.pages page) (run-append
 
 -- ---- sound journals
 
-keeps_front : (base : Base) (pins : List Pin) (lines more : List Line) → AllKeepSnapshots base pins (lines ++ more) → AllKeepSnapshots base pins lines
+keeps_front : (base : Base) (pins : List Pin) (lines more : List Line) → AllKeepRules base pins (lines ++ more) → AllKeepRules base pins lines
 keeps_front base pins [] more all = tt
 keeps_front base pins (line ∷ lines) more all = (all.0, keeps_front (base_behind base line) (pins_behind base pins line.who line.what) lines more all.1)
 
 pub front_is_sound : FrontIsSound
-front_is_sound base lines more sound = record { short = omega (arith, sound.short, length-append lines more); marks = sound.marks; keeps = keeps_front base [] lines more sound.keeps }
+front_is_sound base lines more sound = record { short = omega (arith, sound.short, length-append lines more); right = sound.right; keeps = keeps_front base [] lines more sound.keeps }
 
 newest-append : (base : Base) (xs ys : List Change) → AllKeepNewest base xs → AllKeepNewest (bases_after base xs) ys → AllKeepNewest base (xs ++ ys)
 newest-append base [] ys p q = q
 newest-append base (x ∷ xs) ys p q = (p.0, newest-append (base_after base x) xs ys p.1 q)
 
-line_keeps : (base : Base) (pins : List Pin) (what : What) → KeepsSnapshots base pins what → AllKeepNewest base (option_to_list (change_of base what))
+line_keeps : (base : Base) (pins : List Pin) (what : What) → KeepsRules base pins what → AllKeepNewest base (option_to_list (change_of base what))
 line_keeps base pins Began k = tt
 line_keeps base pins (Done None []) k = tt
 line_keeps base pins (Done None (w ∷ ws)) k = (tt, tt)
@@ -103,12 +103,12 @@ line_keeps base pins (Dropped below) k = go (ltb (oldest base.marks) below) wher
 line_keeps base pins (Refused why) k = tt
 line_keeps base pins (Fault device count wrote) k = tt
 
-pub journal_keeps : (base : Base) (pins : List Pin) (lines : List Line) → AllKeepSnapshots base pins lines → AllKeepNewest base (changes_of base lines)
+pub journal_keeps : (base : Base) (pins : List Pin) (lines : List Line) → AllKeepRules base pins lines → AllKeepNewest base (changes_of base lines)
 journal_keeps base pins [] all = tt
 journal_keeps base pins (line ∷ lines) all =
     newest-append base (option_to_list (change_of base line.what)) (changes_of (base_behind base line) lines) (line_keeps base pins line.what all.0) (journal_keeps (base_behind base line) (pins_behind base pins line.who line.what) lines all.1)
 
-newest-split : (base : Base) (xs ys : List Change) → AllKeepNewest base (xs ++ ys) → AllKeepNewest base xs × AllKeepNewest (bases_after base xs) ys
+pub newest-split : (base : Base) (xs ys : List Change) → AllKeepNewest base (xs ++ ys) → AllKeepNewest base xs × AllKeepNewest (bases_after base xs) ys
 newest-split base [] ys all = (tt, all)
 newest-split base (x ∷ xs) ys all = let rest = newest-split (base_after base x) xs ys all.1 in ((all.0, rest.0), rest.1)
 
@@ -126,7 +126,7 @@ begins history (change ∷ more) fine all =
           ∙ append_assoc (captures history) (captured_by (now history) change) rest.0,
     )
 
-with_changes-append : (history : History) (xs ys : List Change) → with_changes history (xs ++ ys) ≡ with_changes (with_changes history xs) ys
+pub with_changes-append : (history : History) (xs ys : List Change) → with_changes history (xs ++ ys) ≡ with_changes (with_changes history xs) ys
 with_changes-append history xs ys = ap (λ (t : List Change). let h : History = record { origin = history.origin; held = history.held; changes = t } in h) (sym (append_assoc history.changes xs ys))
 
 pub journal_captures_grow : JournalCapturesGrow
@@ -183,7 +183,7 @@ pins_stay : (marks : List Mark) (below : ℕ) (pins : List Pin) → AllByRecursi
 pins_stay marks below [] above all = tt
 pins_stay marks below (pin ∷ pins) above all = (retained-stays pin.snapshot below marks above.0 all.0, pins_stay marks below pins above.1 all.1)
 
-line_pins : (base : Base) (pins : List Pin) (who : Who) (what : What) → KeepsSnapshots base pins what → PinsAreRetained base.marks pins → PinsAreRetained (bases_after base (option_to_list (change_of base what))).marks (pins_behind base pins who what)
+line_pins : (base : Base) (pins : List Pin) (who : Who) (what : What) → KeepsRules base pins what → PinsAreRetained base.marks pins → PinsAreRetained (bases_after base (option_to_list (change_of base what))).marks (pins_behind base pins who what)
 line_pins base pins who Began k all = all
 line_pins base pins who (Done None []) k all = all
 line_pins base pins who (Done None (w ∷ ws)) k all = all
@@ -200,7 +200,7 @@ line_pins base pins who (Dropped below) k all = go (ltb (oldest base.marks) belo
 line_pins base pins who (Refused why) k all = pins-filter base.marks (λ (pin : Pin). not (same_item pin.who who)) pins all
 line_pins base pins who (Fault device count wrote) k all = pins-filter base.marks (λ (pin : Pin). not (same_item pin.who who)) pins all
 
-all_pins_retained : (base : Base) (pins : List Pin) (lines : List Line) → AllKeepSnapshots base pins lines → PinsAreRetained base.marks pins → PinsAreRetained (bases_after base (changes_of base lines)).marks (pins_of base pins lines)
+all_pins_retained : (base : Base) (pins : List Pin) (lines : List Line) → AllKeepRules base pins lines → PinsAreRetained base.marks pins → PinsAreRetained (bases_after base (changes_of base lines)).marks (pins_of base pins lines)
 all_pins_retained base pins [] keeps all = all
 all_pins_retained base pins (line ∷ lines) keeps all =
     let first : List Change = option_to_list (change_of base line.what) in
@@ -266,6 +266,6 @@ horizon_rises base lines more sound =
     let second : List Change = changes_of middle more in
     let keeps : AllKeepNewest base (first ++ second) = subst (AllKeepNewest base) (changes-append base lines more) (journal_keeps base [] (lines ++ more) sound.keeps) in
     let both = newest-split base first second keeps in
-    let up = all_rise middle second (all_marks base first sound.marks both.0) both.1 in
+    let up = all_rise middle second (all_marks base first sound.right.marks both.0) both.1 in
     let last : bases_after base (changes_of base (lines ++ more)) ≡ bases_after middle second = ap (bases_after base) (changes-append base lines more) ∙ bases-append base first second in
     rw last (up.oldest_up, up.newest_up, up.start_up)

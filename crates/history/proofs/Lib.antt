@@ -1,12 +1,10 @@
 pub mod AsOf
 pub mod BaseStays
-pub mod Bytes
 pub mod Captures
 pub mod Consistent
-pub mod Fields
 pub mod Journals
-pub mod Lists
+pub mod Lines
 pub mod MarkLaws
 pub mod PageLists
 pub mod RightLaws
-pub mod Spelling
+pub mod SoundLaws

@@ -1,8 +1,8 @@
 -- The oldest and the newest of the marks.
-use Rattle.std.proofs.Common.{◌≡◌, ◌<◌, ◌≤◌, ◌+◌, ◌-◌, ◌∙◌, ◌||◌, inl, inr, ℕ, suc, Bool, true, false, cond, eqb, leb, List, [], ◌∷◌, ◌++◌, length, get_or, refl, sym, ap, arith}
-use Rattle.std.proofs.lemmas.Bool.{leb-false, eqb-true, eq-eqb, ne_eqb, or_cases, or_left, or_right, cond-true, cond-false, cases_eq}
+use Rattle.std.proofs.Common.{◌≡◌, ◌<◌, ◌≤◌, ◌-◌, ◌∙◌, ◌||◌, inl, inr, ℕ, suc, Bool, true, false, cond, eqb, leb, List, [], ◌∷◌, ◌++◌, length, get_or, refl, sym, ap, arith}
+use Rattle.std.proofs.lemmas.Bool.{leb-false, eqb-true, eq-eqb, ne_eqb, or_cases, or_left, or_right, cond-true, cond-false}
 use Rattle.history.specs.declared.entry.Mark.{Mark}
-use Rattle.history.specs.Marks.{oldest, newest, newest_start, oldest_start, IsNumberedFrom, kept_marks, MarksRise, start_of, is_retained}
+use Rattle.history.specs.Marks.{oldest, newest, newest_start, oldest_start, kept_marks, MarksRise, start_of, is_retained}
 use Rattle.history.specs.History.{is_declared}
 
 last_place : (mark next : Mark) (marks : List Mark) (d : Mark) → get_or (mark ∷ next ∷ marks) (length (mark ∷ next ∷ marks) - 1) d ≡ get_or (next ∷ marks) (length (next ∷ marks) - 1) d
@@ -195,11 +195,4 @@ retained-newest captures n s number (mark ∷ []) h e = elim (or_cases (eqb mark
 retained-newest captures n s number (mark ∷ next ∷ marks) h e = elim (or_cases (eqb mark.number number) (is_retained number (next ∷ marks)) e) [
   | inl here ↦ omega (arith, eqb-true mark.number number here, h.2.0, retained-newest captures mark.number mark.start next.number (next ∷ marks) h.2 (first_retained next marks))
   | inr later ↦ retained-newest captures mark.number mark.start number (next ∷ marks) h.2 later
-]
-
-pub numbered-retained : (first number : ℕ) (marks : List Mark) → IsNumberedFrom first marks → first ≤ number → number < first + length marks → is_retained number marks ≡ true
-numbered-retained first number [] h le lt = absurd (omega (arith, le, lt))
-numbered-retained first number (mark ∷ marks) h le lt = elim (cases_eq first number) [
-  | inl is ↦ or_left (eqb mark.number number) (is_retained number marks) (eq-eqb mark.number number (h.0 ∙ is))
-  | inr other ↦ or_right (eqb mark.number number) (is_retained number marks) (numbered-retained (first + 1) number marks h.1 (omega (arith, le, other)) (omega (arith, lt)))
 ]

@@ -1,20 +1,17 @@
 -- What follows from these definitions, in the words of the subject.
-use Rattle.std.specs.Prelude.{◌↔◌, ◌≡◌, ◌≤◌, ◌++◌, ◌+◌, ◌&&◌, ℕ, true, not, IsTrue, List, [], ◌∷◌, length, map, filter, take, drop, Option, Some}
+use Rattle.std.specs.Prelude.{◌≡◌, ◌≤◌, ◌++◌, ◌+◌, ◌&&◌, ℕ, true, not, List, [], ◌∷◌, length, map, filter, take, drop, Option, Some}
 use Rattle.std.specs.List.{AllByRecursion}
 use Rattle.std.specs.Option.{option_to_list}
 use Rattle.history.specs.declared.entry.Base.{Base}
 use Rattle.history.specs.declared.entry.Change.{Change}
 use Rattle.history.specs.declared.entry.Change.TheVariants.{Commit, Drop}
-use Rattle.history.specs.declared.entry.Entry.{Entry}
-use Rattle.history.specs.declared.entry.Version.{Version}
 use Rattle.history.specs.declared.journal.Line.{Line}
 use Rattle.history.specs.declared.writes.PageImage.{PageImage}
-use Rattle.history.specs.Entries.{entry_bytes, EntryFits}
 use Rattle.history.specs.Marks.{oldest, newest, is_retained, start_of, oldest_start, newest_start, AreMarks}
-use Rattle.history.specs.Writes.{pages_of, rises, is_among}
+use Rattle.history.specs.Writes.{pages_of, is_among}
 use Rattle.history.specs.History.{History, now, captures, with_change, with_changes, is_declared, before_write, base_after, bases_after, captured_by, pages_as_of}
 use Rattle.history.specs.Journal.{change_of, changes_of, pages_after_journal, after_journal}
-use Rattle.history.specs.Right.{IsBase, IsRight}
+use Rattle.history.specs.Right.{IsBase, IsRight, WritesRise}
 use Rattle.history.specs.Sound.{Pin, pins_of, IsSound}
 
 -- the pages of the captures since the newest snapshot was declared
@@ -86,22 +83,9 @@ AsOfStays = (history : History) (more : List Change) (number : ℕ) → IsConsis
     number ≤ newest (now history).base.marks → is_retained number (now (with_changes history more)).base.marks ≡ true → (page : ℕ) →
     pages_as_of (with_changes history more) number page ≡ pages_as_of history number page
 
--- the writes of a commit rise, as the type of writes keeps them
-abbrev pub WritesRise : Change → Type 0
-WritesRise (Commit label writes) = IsTrue (rises 0 (pages_of writes))
-WritesRise (Drop below) = Unit {0}
-
 -- the base behind a right change is right
 abbrev pub StaysRight : Type 0
 StaysRight = (base : Base) (change : Change) → IsBase base → WritesRise change → IsRight base change → IsBase (base_after base change)
-
--- behind a right base the retained snapshots are those from the oldest to the newest
-abbrev pub RetainedBetween : Type 0
-RetainedBetween = (base : Base) (number : ℕ) → IsBase base → (is_retained number base.marks ≡ true) ↔ ((oldest base.marks ≤ number) × (number ≤ newest base.marks))
-
--- bytes are those of one entry
-abbrev pub OneEntry : Type 0
-OneEntry = (version : Version) (entry other : Entry) → EntryFits version entry → EntryFits version other → entry_bytes version entry ≡ entry_bytes version other → entry ≡ other
 
 -- one line more leaves its own change behind those of the lines before it
 abbrev pub OneMoreLine : Type 0

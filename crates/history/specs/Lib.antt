@@ -1,10 +1,11 @@
-pub mod Entries
 pub mod History
 pub mod Journal
 pub mod Label
 pub mod Laws
+pub mod LineLaws
+pub mod Lines
+pub mod Log
 pub mod Marks
-pub mod Reading
 pub mod Replayed
 pub mod Right
 pub mod Sound

@@ -1,5 +1,5 @@
 -- The retained snapshots: a list of marks, in rising number.
-use Rattle.std.specs.Prelude.{◌+◌, ◌<◌, ◌≤◌, ◌≡◌, ◌==◌, nat_le, ℕ, Bool, List, [], ◌∷◌, map, if◌then◌else◌}
+use Rattle.std.specs.Prelude.{◌<◌, ◌≤◌, ◌==◌, nat_le, ℕ, Bool, List, [], ◌∷◌, map, if◌then◌else◌}
 use Rattle.history.specs.declared.entry.Mark.{Mark}
 use Rattle.history.specs.Writes.{is_among}
 
@@ -47,8 +47,3 @@ MarksRise captures number start (mark ∷ marks) = (number < mark.number) × (st
 -- what marks are at a place with this count of captures
 abbrev pub AreMarks : ℕ → List Mark → Type 0
 AreMarks captures marks = MarksRise captures 0 0 marks
-
--- no number is left out, from this one on
-abbrev pub IsNumberedFrom : ℕ → List Mark → Type 0
-IsNumberedFrom number [] = Unit {0}
-IsNumberedFrom number (mark ∷ marks) = (mark.number ≡ number) × IsNumberedFrom (number + 1) marks

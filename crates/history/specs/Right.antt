@@ -1,5 +1,5 @@
 -- Which records are right at their place.
-use Rattle.std.specs.Prelude.{◌≡◌, ◌≤◌, ◌<◌, ◌-◌, ◌^◌, ℕ, IsTrue, List, [], length, Option, None}
+use Rattle.std.specs.Prelude.{◌≡◌, ◌≤◌, ◌<◌, ◌-◌, ◌^◌, ℕ, IsTrue, List, [], ◌∷◌, length, Option, None}
 use Rattle.std.specs.List.{AllByRecursion}
 use Rattle.retro_base.specs.declared.limits.TheConstants.{MIN_PAGES, MAX_PAGES, MIN_CAPACITY, MAX_CAPACITY, MAX_CAPTURES, RETAINED_SNAPSHOTS}
 use Rattle.history.specs.declared.entry.Base.{Base}
@@ -7,8 +7,8 @@ use Rattle.history.specs.declared.entry.Mark.{Mark}
 use Rattle.history.specs.declared.entry.Change.{Change}
 use Rattle.history.specs.declared.entry.Change.TheVariants.{Commit, Drop}
 use Rattle.history.specs.declared.writes.PageImage.{PageImage}
-use Rattle.history.specs.Marks.{oldest, newest, oldest_start, newest_start, AreMarks, IsNumberedFrom}
-use Rattle.history.specs.Writes.{rises}
+use Rattle.history.specs.Marks.{oldest, newest, oldest_start, newest_start, AreMarks}
+use Rattle.history.specs.Writes.{pages_of, rises}
 use Rattle.history.specs.History.{base_after}
 
 -- the limits that hold at each place of a log, of these captures and marks
@@ -24,7 +24,6 @@ pub record IsBase (base : Base) : Type 0 where
   pub capacity : (MIN_CAPACITY ≤ base.capacity) × (base.capacity ≤ MAX_CAPACITY)
   pub limits : IsWithinLimits base.capacity base.captures base.marks
   pub marks : AreMarks base.captures base.marks
-  pub numbered : IsNumberedFrom (oldest base.marks) base.marks
   pub undeclared : base.marks ≡ [] → base.captures ≡ 0
   pub rising : IsTrue (rises 0 base.captured)
   pub in_store : AllByRecursion (λ page. page < base.page_count) base.captured
@@ -41,3 +40,23 @@ IsRight base (Commit label writes) =
     let after : Base = base_after base (Commit label writes) in
     AllByRecursion (λ write. write.page < base.page_count) writes × DoesSomething label writes × IsWithinLimits after.capacity after.captures after.marks
 IsRight base (Drop below) = (oldest base.marks < below) × (below ≤ newest base.marks)
+
+-- each change is right behind those before it
+abbrev pub AreRight : Base → List Change → Type 0
+AreRight base [] = Unit {0}
+AreRight base (change ∷ changes) = IsRight base change × AreRight (base_after base change) changes
+
+-- the writes of a commit rise, as the type of writes keeps them
+abbrev pub WritesRise : Change → Type 0
+WritesRise (Commit label writes) = IsTrue (rises 0 (pages_of writes))
+WritesRise (Drop below) = Unit {0}
+
+-- a change that may follow what the log says
+pub record MayFollow (base : Base) (change : Change) : Type 0 where
+  pub right : IsRight base change
+  pub rises : WritesRise change
+
+-- each change may follow what the log says behind those before it
+abbrev pub AllMayFollow : Base → List Change → Type 0
+AllMayFollow base [] = Unit {0}
+AllMayFollow base (change ∷ changes) = MayFollow base change × AllMayFollow (base_after base change) changes

@@ -1,31 +1,12 @@
-//! The log's records as values.
+//! What the log says of a store, and the changes of a store.
 
 ghost use Rattle.std.specs.Prelude.{◌≡◌, List};
-ghost use Rattle.history.specs.Entries.{version_number};
-ghost use Rattle.history.specs.Marks.{oldest, newest};
+ghost use Rattle.history.specs.Marks.{oldest, newest, oldest_start, newest_start};
 
 use crate::label::Label;
 use crate::writes::Writes;
-use values::Seq;
-
-/// The version of a log's records: a page's number takes two bytes in the first, four in the second.
-#[derive(Clone, Copy, Debug, PartialEq, Eq)]
-pub enum Version {
-    One,
-    Two,
-}
-
-impl Version {
-    /// The number by which a base tells its version.
-    pub fn number(self) -> u16
-        ensures { result ≡ version_number self }
-    {
-        match self {
-            Version::One => 1,
-            Version::Two => 2,
-        }
-    }
-}
+use std::alloc::{AllocError, Global};
+use values::{Duplicate, Seq};
 
 /// A retained snapshot: its number, its label, and how many captures there were when it was declared,
 /// those of the commit that declared it among them.
@@ -34,6 +15,16 @@ pub struct Mark {
     pub number: u32,
     pub label: Label,
     pub start: u64,
+}
+
+impl Duplicate for Mark {
+    fn copy(&self, alloc: Global) -> Result<Mark, AllocError> {
+        Ok(Mark {
+            number: self.number,
+            label: self.label.copy(alloc)?,
+            start: self.start,
+        })
+    }
 }
 
 /// The number of the oldest retained snapshot, or 1 where none was declared.
@@ -56,6 +47,26 @@ pub fn newest(marks: &[Mark]) -> u32
     }
 }
 
+/// The start of the oldest retained snapshot, or 0 where none was declared.
+pub fn oldest_start(marks: &[Mark]) -> u64
+    ensures { result ≡ oldest_start marks.now }
+{
+    match marks {
+        [] => 0,
+        [first, ..] => first.start,
+    }
+}
+
+/// The start of the newest snapshot, or 0 where none was declared.
+pub fn newest_start(marks: &[Mark]) -> u64
+    ensures { result ≡ newest_start marks.now }
+{
+    match marks {
+        [] => 0,
+        [.., last] => last.start,
+    }
+}
+
 /// What the log says of a store at one place of its history.
 #[derive(Debug, Drop)]
 pub struct Base {
@@ -73,6 +84,19 @@ pub struct Base {
     pub captured: Seq<u32>,
 }
 
+impl Duplicate for Base {
+    fn copy(&self, alloc: Global) -> Result<Base, AllocError> {
+        Ok(Base {
+            page_count: self.page_count,
+            capacity: self.capacity,
+            changes: self.changes,
+            captures: self.captures,
+            marks: self.marks.copy(alloc)?,
+            captured: Seq::from(Vec::from_slice(alloc, self.captured.as_slice())?),
+        })
+    }
+}
+
 /// What changes a store: a commit, which declares a snapshot where it has a label, or a drop of the
 /// snapshots below a number.
 #[derive(Debug, Drop)]
@@ -84,11 +108,4 @@ pub enum Change {
     Drop {
         below: u32,
     },
-}
-
-/// A record of the log.
-#[derive(Debug, Drop)]
-pub enum Entry {
-    Base(Base),
-    Change(Change),
 }

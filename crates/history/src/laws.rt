@@ -1,6 +1,7 @@
 //! What follows from the definitions.
 
-ghost use Rattle.history.specs.Laws.{AsOfStays, AsOfTheDeclaration, CapturedByTheRule, CapturesAreCounted, CapturesGrow, FrontIsSound, HorizonRises, JournalCapturesGrow, JournalPages, MadeIsConsistent, NothingTwice, OneEntry, OneMoreLine, PinnedAreRetained, RetainedBetween, StartsCount, StaysConsistent, StaysRight};
+ghost use Rattle.history.specs.Laws.{AsOfStays, AsOfTheDeclaration, CapturedByTheRule, CapturesAreCounted, CapturesGrow, FrontIsSound, HorizonRises, JournalCapturesGrow, JournalPages, MadeIsConsistent, NothingTwice, OneMoreLine, PinnedAreRetained, StartsCount, StaysConsistent, StaysRight};
+ghost use Rattle.history.specs.LineLaws.{BaseOfOneMore, BaseStaysRight, ChangesMayFollow, DropsAreBelowPins, FaultsDifferInOneMore, FaultsOfFrontDiffer, FaultsOfOneMore, FirstStopInOneMore, ImagesInOneMore, LastChangeInOneMore, LinesOfOneMore, LookedAtStays, OpenInOneMore, PageOfTheDeclaringLine, PagesAsOfStay, PinsOfOneMore, SoundWithOneMore};
 
 /// Of the captures of a consistent history.
 pub fn laws_of_captures()
@@ -27,6 +28,9 @@ pub fn laws_of_the_past()
     ensures declared { AsOfTheDeclaration }
     // While a snapshot is retained, no page as of it changes.
     ensures stays { AsOfStays }
+    // So it is over the lines of a sound journal.
+    ensures declaring_line { PageOfTheDeclaringLine }
+    ensures more_lines { PagesAsOfStay }
 {}
 
 /// Of journals, and of the changes that they leave in the log.
@@ -37,20 +41,46 @@ pub fn laws_of_journals()
     ensures pages { JournalPages }
     // As a sound journal goes on, what it captured stays.
     ensures captures { JournalCapturesGrow }
+{}
+
+/// Of sound journals.
+pub fn laws_of_sound_journals()
     // The front of a sound journal is sound.
     ensures front { FrontIsSound }
-    // Behind a sound journal each pinned snapshot is retained.
+    // One line more is sound where there is room for it and it keeps the rules.
+    ensures one_more { SoundWithOneMore }
+    // The changes that a sound journal leaves are right, each at its place.
+    ensures follow { ChangesMayFollow }
+    // Behind it the base is right.
+    ensures right { BaseStaysRight }
+    // Each pinned snapshot is retained.
     ensures pinned { PinnedAreRetained }
+    // No drop is below nothing, of the newest snapshot, or of one that is pinned.
+    ensures drops { DropsAreBelowPins }
+    // While a look has no end, what it looked at stays retained.
+    ensures looks { LookedAtStays }
     // As a sound journal goes on, the oldest and the newest snapshot and the oldest start do not fall.
     ensures horizon { HorizonRises }
 {}
 
-/// Of the log's records.
-pub fn laws_of_entries()
-    // Bytes are those of one entry.
-    ensures one_entry { OneEntry }
+/// Of what the lines of a journal tell: what one line more adds.
+pub fn laws_of_lines()
+    ensures base { BaseOfOneMore }
+    ensures pins { PinsOfOneMore }
+    ensures lines { LinesOfOneMore }
+    ensures images { ImagesInOneMore }
+    ensures open_items { OpenInOneMore }
+    ensures changes { LastChangeInOneMore }
+    ensures stops { FirstStopInOneMore }
+    ensures faults { FaultsOfOneMore }
+    // The faults differ as before, and the line's is newer than each of its device.
+    ensures differ { FaultsDifferInOneMore }
+    // In a front of a journal the faults differ too.
+    ensures front { FaultsOfFrontDiffer }
+{}
+
+/// Of bases.
+pub fn right_bases_stay()
     // The base behind a right change is right.
-    ensures stays_right { StaysRight }
-    // Behind a right base the retained snapshots are those from the oldest to the newest.
-    ensures retained { RetainedBetween }
+    ensures { StaysRight }
 {}

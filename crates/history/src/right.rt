@@ -2,13 +2,13 @@
 
 ghost use Rattle.std.specs.Prelude.{◌≡◌, ◌≤◌, ◌<◌, ◌-◌, ◌^◌, ◌↔◌, nat_lt, IsTrue, length};
 ghost use Rattle.std.specs.List.{AllByRecursion, list_all};
-ghost use Rattle.history.specs.Marks.{oldest, oldest_start, newest_start, AreMarks, IsNumberedFrom};
+ghost use Rattle.history.specs.Marks.{newest_start, oldest_start, AreMarks};
 ghost use Rattle.history.specs.Writes.{rises, is_among};
 ghost use Rattle.history.specs.History.{captures_page, capturing, declared};
 ghost use Rattle.history.specs.declared.entry.Change.TheVariants.{Commit};
 ghost use Rattle.history.specs.Right.{IsWithinLimits, IsBase, DoesSomething, IsRight};
 
-use crate::entry::{Base, Change, Mark, newest, oldest};
+use crate::entry::{Base, Change, Mark, newest, newest_start, oldest, oldest_start};
 use crate::label::Label;
 use crate::writes::PageImage;
 use retro_base::{
@@ -75,24 +75,6 @@ fn are_in_store(page_count: u32, writes: &[PageImage]) -> bool
     are_written_below(page_count, writes)
 }
 
-fn oldest_start(marks: &[Mark]) -> u64
-    ensures { result ≡ oldest_start marks.now }
-{
-    match marks {
-        [] => 0,
-        [first, ..] => first.start,
-    }
-}
-
-fn newest_start(marks: &[Mark]) -> u64
-    ensures { result ≡ newest_start marks.now }
-{
-    match marks {
-        [] => 0,
-        [.., last] => last.start,
-    }
-}
-
 // Whether the numbers rise, and the starts do not fall, up to this count of captures.
 fn are_marks(captures: u64, marks: &[Mark]) -> bool
     ensures { IsTrue result ↔ AreMarks captures marks.now }
@@ -107,20 +89,6 @@ fn are_marks(captures: u64, marks: &[Mark]) -> bool
         start = mark.start;
     }
     start <= captures
-}
-
-// Whether no number is left out between the oldest and the newest.
-fn are_numbered(marks: &[Mark]) -> bool
-    ensures { IsTrue result ↔ IsNumberedFrom (oldest marks.now) marks.now }
-{
-    let mut number = u64::from(oldest(marks));
-    for mark in marks {
-        if u64::from(mark.number) != number {
-            return false;
-        }
-        number = u64::from(mark.number) + 1;
-    }
-    true
 }
 
 fn within_limits(capacity: u32, captures: u64, start: u64, retained: u64, number: u64) -> bool
@@ -152,9 +120,9 @@ fn has_captured(base: &Base) -> bool
     are_pages(base.page_count, captured) && captured.len() as u64 == count
 }
 
-/// Whether a base is right: its sizes are in their ranges and it keeps the limits, its snapshots are numbered
-/// without gaps, their starts do not fall and none is greater than its count of captures, there is no capture
-/// before the first snapshot, and as many pages are captured as there are captures since the newest one.
+/// Whether a base is right: its sizes are in their ranges and it keeps the limits, the numbers of its snapshots
+/// rise, their starts do not fall and none is greater than its count of captures, there is no capture before the
+/// first snapshot, and as many pages are captured as there are captures since the newest one.
 pub fn is_base(base: &Base) -> bool
     ensures { IsTrue result ↔ IsBase base.now }
 {
@@ -170,7 +138,6 @@ pub fn is_base(base: &Base) -> bool
             number,
         )
         && are_marks(base.captures, marks)
-        && are_numbered(marks)
         && (!marks.is_empty() || base.captures == 0)
         && has_captured(base)
 }

@@ -1,4 +1,4 @@
-//! What no clause says: the bytes of entries and the captures of short journals, worked by hand.
+//! What no clause says: the captures of short journals, worked by hand.
 
 use crate::*;
 use retro_base::{PAGE_BYTES, Page};
@@ -114,46 +114,4 @@ fn drops_keep_the_newest(rt: HostRuntime) -> Result<(), Fail> {
     assert_eq!(rt; oldest(store.base.marks.as_slice()), 3);
     assert_eq!(rt; newest(store.base.marks.as_slice()), 3);
     Ok(())
-}
-
-const BASE: [u8; 39] = [
-    1, 0, 1, 0, 0, 0, 0x10, 0, 0, 0, 0x40, 0, 0, 0, 0, 0, 0, 0, 0, 0, 0, 0, 0, 0, 0, 0, 0, 0, 0, 0,
-    1, 0, 0, 0, 0, 0, 0, 0, 0,
-];
-
-#[test]
-fn a_drop_has_these_bytes(rt: HostRuntime) -> Result<(), Fail> {
-    let below = Entry::Change(Change::Drop { below: 3 });
-    let bytes = encode(rt.alloc(), Version::One, &below)?;
-    assert_eq!(rt; bytes.as_slice(), [3, 0, 0, 0, 3].as_slice());
-    Ok(())
-}
-
-#[test]
-fn a_base_has_these_bytes(rt: HostRuntime) -> Result<(), Fail> {
-    let alloc = rt.alloc();
-    let base = Entry::Base(Base {
-        page_count: 16,
-        capacity: 64,
-        changes: 0,
-        captures: 0,
-        marks: Seq::new(alloc),
-        captured: Seq::new(alloc),
-    });
-    let bytes = encode(alloc, Version::One, &base)?;
-    assert_eq!(rt; bytes.as_slice(), BASE.as_slice());
-    Ok(())
-}
-
-#[test]
-fn bytes_are_these_entries(rt: HostRuntime) {
-    let alloc = rt.alloc();
-    assert!(rt; matches!(decode(alloc, Version::One, &BASE), Ok(Entry::Base(_))));
-    let declares = decode(alloc, Version::One, &[2, 1, 3, b'o', b'n', b'e', 0, 0]);
-    assert!(rt; matches!(declares, Ok(Entry::Change(_))));
-    // A byte of a label that is not printable, a byte too many.
-    let label = decode(alloc, Version::One, &[2, 1, 1, 10, 0, 0]);
-    assert!(rt; matches!(label, Err(DecodeError::Malformed)));
-    let longer = decode(alloc, Version::One, &[3, 0, 0, 0, 3, 0]);
-    assert!(rt; matches!(longer, Err(DecodeError::Malformed)));
 }

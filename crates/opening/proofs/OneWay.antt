@@ -8,15 +8,16 @@ use Rattle.gate_log.specs.Region.{gate_behind}
 use Rattle.area_log.specs.Regions.{Counts, DeviceLists}
 use Rattle.area_log.proofs.Unique.{counts_once, device_one_way}
 use Rattle.skippy.specs.Mappings.{Mappings}
-use Rattle.replay.specs.declared.log.Log as declared
-use Rattle.replay.specs.InTurn.{BreaksBehind}
+use Rattle.history.specs.declared.log.Log as declared
+use Rattle.history.specs.declared.log.Version.TheVariants.{One}
+use Rattle.records.specs.InTurn.{BreaksBehind}
 use Rattle.replay.specs.Joined.{AreJoined}
-use Rattle.replay.specs.Laws.{IsReadOneWay}
-use Rattle.replay.specs.Log.{IsLog}
-use Rattle.replay.specs.Maplog.{IsMaplog}
+use Rattle.records.specs.Laws.{IsReadOneWay}
+use Rattle.records.specs.Log.{IsLog}
+use Rattle.records.specs.Maplog.{IsMaplog}
 use Rattle.replay.specs.Opened.{Contents}
-use Rattle.replay.proofs.Logs.{log_one_way}
-use Rattle.replay.proofs.Maps.{maplog_one_way}
+use Rattle.records.proofs.Logs.{log_one_way}
+use Rattle.records.proofs.Maps.{maplog_one_way}
 use Rattle.opening.specs.Laws.{AreReadOneWay}
 use Rattle.opening.specs.Opening.{DeviceStandsFor, ListBreaks, DeviceRefused, maplog_half, LogStandsFor, AreSized, Hold, PagesRefused, PagelogRefused, MaplogRefused, DevicesBreak}
 
@@ -64,14 +65,14 @@ one_gate half more bytes same bodies others this that =
 
 module _ (devices : Four (List ℕ)) where
   same_log : (log other : declared.Log) → LogStandsFor devices log → LogStandsFor devices other → log ≡ other
-  same_log = one_value LOG_REGION_BYTES IsLog log_one_way devices.log
+  same_log = one_value LOG_REGION_BYTES (IsLog One) (log_one_way One) devices.log
 
   abbrev MaplogStandsFor : declared.Log → Mappings → Type 0
-  MaplogStandsFor log mappings = DeviceStandsFor (maplog_half log.base.capacity) (IsMaplog log.base.page_count log.base.capacity) devices.maplog mappings
+  MaplogStandsFor log mappings = DeviceStandsFor (maplog_half log.base.capacity) (IsMaplog One log.base.page_count log.base.capacity) devices.maplog mappings
 
   same_maplog : (log other : declared.Log) (mappings more : Mappings) → log ≡ other → MaplogStandsFor log mappings → MaplogStandsFor other more → mappings ≡ more
   same_maplog log other mappings more same this that =
-      one_value (maplog_half other.base.capacity) (IsMaplog other.base.page_count other.base.capacity) (maplog_one_way other.base.page_count other.base.capacity) devices.maplog mappings more
+      one_value (maplog_half other.base.capacity) (IsMaplog One other.base.page_count other.base.capacity) (maplog_one_way One other.base.page_count other.base.capacity) devices.maplog mappings more
       (subst (λ (l : declared.Log). MaplogStandsFor l mappings) same this) that
 
   contents_are : (log other : declared.Log) (pages more slots others : ℕ → List ℕ) (mappings maps : Mappings) → log ≡ other → pages ≡ more → mappings ≡ maps → slots ≡ others
@@ -90,7 +91,7 @@ module _ (devices : Four (List ℕ)) where
 
   -- the log's device is refused for no log
   log_stands : (log : declared.Log) (broken : ℕ) → LogStandsFor devices log → DevicesBreak devices Log broken → ⊥
-  log_stands = not_refused LOG_REGION_BYTES IsLog log_one_way devices.log
+  log_stands = not_refused LOG_REGION_BYTES (IsLog One) (log_one_way One) devices.log
 
   pages_whole : (log : declared.Log) (broken : ℕ) → LogStandsFor devices log → AreSized devices log → PagesRefused devices broken → ⊥
   pages_whole log broken stands sized refused =
@@ -105,7 +106,7 @@ module _ (devices : Four (List ℕ)) where
   maplog_stands : (log : declared.Log) (mappings : Mappings) (broken : ℕ) → LogStandsFor devices log → MaplogStandsFor log mappings → MaplogRefused devices broken → ⊥
   maplog_stands log mappings broken stands maps refused =
       let same = same_log log refused.log stands refused.stands in
-      not_refused (maplog_half refused.log.base.capacity) (IsMaplog refused.log.base.page_count refused.log.base.capacity) (maplog_one_way refused.log.base.page_count refused.log.base.capacity) devices.maplog mappings broken
+      not_refused (maplog_half refused.log.base.capacity) (IsMaplog One refused.log.base.page_count refused.log.base.capacity) (maplog_one_way One refused.log.base.page_count refused.log.base.capacity) devices.maplog mappings broken
       (subst (λ (l : declared.Log). MaplogStandsFor l mappings) same maps) refused.refused
 
   joined_not_refused : (contents : Contents) (device : Device) (broken : ℕ) → Hold devices contents → AreJoined contents → DevicesBreak devices device broken → ⊥
@@ -169,8 +170,8 @@ module _ (devices : Four (List ℕ)) where
   maplog_once : (broken place : ℕ) → DevicesBreak devices Maplog broken → DevicesBreak devices Maplog place → broken ≡ place
   maplog_once broken place (inl this) (inl that) =
       let same = same_log this.log that.log this.stands that.stands in
-      refused_once (maplog_half that.log.base.capacity) (IsMaplog that.log.base.page_count that.log.base.capacity) (maplog_one_way that.log.base.page_count that.log.base.capacity) devices.maplog broken place
-      (subst (λ (l : declared.Log). DeviceRefused (maplog_half l.base.capacity) (IsMaplog l.base.page_count l.base.capacity) devices.maplog broken) same this.refused) that.refused
+      refused_once (maplog_half that.log.base.capacity) (IsMaplog One that.log.base.page_count that.log.base.capacity) (maplog_one_way One that.log.base.page_count that.log.base.capacity) devices.maplog broken place
+      (subst (λ (l : declared.Log). DeviceRefused (maplog_half l.base.capacity) (IsMaplog One l.base.page_count l.base.capacity) devices.maplog broken) same this.refused) that.refused
   maplog_once broken place (inl this) (inr that) = absurd (maplog_stands that.contents.log that.contents.mappings broken that.hold.log that.hold.maplog this)
   maplog_once broken place (inr this) (inl that) = absurd (maplog_stands this.contents.log this.contents.mappings place this.hold.log this.hold.maplog that)
   maplog_once broken place (inr this) (inr that) =
@@ -180,7 +181,7 @@ module _ (devices : Four (List ℕ)) where
       ∙ sym that.told
 
   once : (device : Device) (broken place : ℕ) → DevicesBreak devices device broken → DevicesBreak devices device place → broken ≡ place
-  once Log broken place this that = refused_once LOG_REGION_BYTES IsLog log_one_way devices.log broken place this that
+  once Log broken place this that = refused_once LOG_REGION_BYTES (IsLog One) (log_one_way One) devices.log broken place this that
   once Pages broken place this that = this.size.told ∙ sym that.size.told
   once Pagelog broken place this that = this.size.told ∙ sym that.size.told
   once Maplog broken place this that = maplog_once broken place this that

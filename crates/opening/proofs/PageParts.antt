@@ -4,7 +4,7 @@ use Rattle.std.specs.declared.alloc.Global.{Global}
 use Rattle.std.proofs.lemmas.Bool.{ltb-true, ltb-false}
 use Rattle.std.proofs.lemmas.List.{get_or_append_left, get_or_push, get_or_past, drop_all, drop_min, drop-map, take_rest}
 use Rattle.history.specs.Replayed.{page_in}
-use Rattle.replay.specs.InTurn.{bodies_of}
+use Rattle.records.specs.InTurn.{bodies_of}
 use Rattle.opening.specs.Opening.{page_at}
 
 pub pages_more : (items : List (List ℕ)) (bytes : List ℕ) (n : ℕ) (page : List ℕ) → length items ≡ n → ((k : ℕ) → k < n → get_or items k [] ≡ page_at bytes k) → page ≡ page_at bytes n → (k : ℕ) → k < n + 1 → get_or (items ++ page ∷ []) k [] ≡ page_at bytes k

@@ -7,9 +7,9 @@ use Rattle.retro_base.specs.declared.refusal.Refusal.TheVariants as refusals
 use Rattle.retro_base.specs.Framing.{record_of, records_of}
 use Rattle.gate_log.specs.Region.{gate_behind}
 use Rattle.gate_log.proofs.Framing.{length-records-push}
-use Rattle.replay.specs.declared.unread.Unread.{Unread}
-use Rattle.replay.specs.declared.unread.Unread.TheVariants.{OutOfMemory, Broken}
-use Rattle.replay.specs.InTurn.{BreaksAs}
+use Rattle.records.specs.declared.unread.Unread.{Unread}
+use Rattle.records.specs.declared.unread.Unread.TheVariants.{OutOfMemory, Broken}
+use Rattle.records.specs.InTurn.{BreaksAs}
 use Rattle.opening.specs.Devices.{IsListed, IsListRefusal, refusal_at, IsDeviceRefusal, StandsWithGate}
 use Rattle.opening.specs.Opening.{DeviceStandsFor}
 

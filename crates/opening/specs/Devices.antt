@@ -6,8 +6,8 @@ use Rattle.retro_base.specs.declared.refusal.Refusal.{Refusal}
 use Rattle.retro_base.specs.declared.refusal.Refusal.TheVariants.{OutOfMemory, NotAStore}
 use Rattle.gate_log.specs.Region.{gate_behind}
 use Rattle.area_log.specs.Regions.{DeviceBreaks, DeviceLists}
-use Rattle.replay.specs.declared.unread.Unread.{Unread}
-use Rattle.replay.specs.declared.unread.Unread.TheVariants as unread
+use Rattle.records.specs.declared.unread.Unread.{Unread}
+use Rattle.records.specs.declared.unread.Unread.TheVariants as unread
 use Rattle.opening.specs.Opening.{WrongSize, DeviceStandsFor, closed_gate, DeviceRefused}
 
 -- a device of that size lists these bodies, with its closed gate there

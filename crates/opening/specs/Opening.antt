@@ -9,12 +9,13 @@ use Rattle.retro_base.specs.declared.refusal.Refusal.{Refusal}
 use Rattle.retro_base.specs.declared.refusal.Refusal.TheVariants.{OutOfMemory, NotAStore}
 use Rattle.gate_log.specs.Region.{gate_behind}
 use Rattle.area_log.specs.Regions.{DeviceBreaks, DeviceLists}
-use Rattle.replay.specs.declared.log.Log as declared
+use Rattle.history.specs.declared.log.Log as declared
 use Rattle.replay.specs.declared.opened.Opened.{Opened}
-use Rattle.replay.specs.InTurn.{BreaksBehind}
+use Rattle.history.specs.declared.log.Version.TheVariants.{One}
+use Rattle.records.specs.InTurn.{BreaksBehind}
 use Rattle.replay.specs.Joined.{AreJoined}
-use Rattle.replay.specs.Log.{IsLog}
-use Rattle.replay.specs.Maplog.{IsMaplog}
+use Rattle.records.specs.Log.{IsLog}
+use Rattle.records.specs.Maplog.{IsMaplog}
 use Rattle.replay.specs.Opened.{Contents, Opens}
 
 -- a device has other than so many bytes, and is told with as many as it has
@@ -55,7 +56,7 @@ page_at bytes number = take PAGE_BYTES (drop (PAGE_BYTES * number) bytes)
 
 -- the log's device
 abbrev pub LogStandsFor : Four (List ℕ) → declared.Log → Type 0
-LogStandsFor devices log = DeviceStandsFor LOG_REGION_BYTES IsLog devices.log log
+LogStandsFor devices log = DeviceStandsFor LOG_REGION_BYTES (IsLog One) devices.log log
 
 -- the devices of pages have the sizes that the log's base says
 pub record AreSized (devices : Four (List ℕ)) (log : declared.Log) : Type 0 where
@@ -68,7 +69,7 @@ pub record Hold (devices : Four (List ℕ)) (contents : Contents) : Type 0 where
   pub sized : AreSized devices contents.log
   pub pages : contents.pages ≡ page_at devices.pages
   pub slots : contents.slots ≡ page_at devices.pagelog
-  pub maplog : DeviceStandsFor (maplog_half contents.log.base.capacity) (IsMaplog contents.log.base.page_count contents.log.base.capacity) devices.maplog contents.mappings
+  pub maplog : DeviceStandsFor (maplog_half contents.log.base.capacity) (IsMaplog One contents.log.base.page_count contents.log.base.capacity) devices.maplog contents.mappings
 
 -- the devices open to this store: they hold contents that belong together and open to it
 pub record DevicesOpen (devices : Four (List ℕ)) (store : Opened) : Type 0 where
@@ -93,7 +94,7 @@ pub record MaplogRefused (devices : Four (List ℕ)) (broken : ℕ) : Type 0 whe
   pub log : declared.Log
   pub stands : LogStandsFor devices log
   pub sized : AreSized devices log
-  pub refused : DeviceRefused (maplog_half log.base.capacity) (IsMaplog log.base.page_count log.base.capacity) devices.maplog broken
+  pub refused : DeviceRefused (maplog_half log.base.capacity) (IsMaplog One log.base.page_count log.base.capacity) devices.maplog broken
 
 pub record NotJoined (devices : Four (List ℕ)) (broken : ℕ) : Type 0 where
   pub contents : Contents
@@ -103,7 +104,7 @@ pub record NotJoined (devices : Four (List ℕ)) (broken : ℕ) : Type 0 where
 
 -- the devices are those of no store: the first of them that breaks, and where
 abbrev pub DevicesBreak : Four (List ℕ) → Device → ℕ → Type 0
-DevicesBreak devices Log broken = DeviceRefused LOG_REGION_BYTES IsLog devices.log broken
+DevicesBreak devices Log broken = DeviceRefused LOG_REGION_BYTES (IsLog One) devices.log broken
 DevicesBreak devices Pages broken = PagesRefused devices broken
 DevicesBreak devices Pagelog broken = PagelogRefused devices broken
 DevicesBreak devices Maplog broken = MaplogRefused devices broken ⊎ NotJoined devices broken

@@ -3,13 +3,13 @@
 ghost use Rattle.std.specs.Prelude.{◌≡◌, ◌≤◌, ◌<◌, ◌-◌, ◌*◌, ◌^◌, length, drop, IfOk, IfErr};
 ghost use Rattle.retro_base.specs.Framing.{records_of};
 ghost use Rattle.retro_base.specs.declared.refusal.Refusal.TheVariants.{OutOfMemory, NotAStore};
-ghost use Rattle.replay.specs.InTurn.{bodies_of};
+ghost use Rattle.records.specs.InTurn.{bodies_of};
 ghost use Rattle.opening.specs.Devices.{IsListed, IsListRefusal, refusal_at};
 
 use area_log::AreaLog;
 use disk_mem::RamDisk;
 use disk_model::{Disk, Failed};
-use replay::Unread;
+use records::Unread;
 use retro_base::{Device, Refusal};
 use std::alloc::Global;
 

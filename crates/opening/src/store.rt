@@ -5,27 +5,32 @@ ghost use Rattle.retro_base.specs.declared.device.Device.TheVariants as kinds;
 ghost use Rattle.retro_base.specs.declared.limits.TheConstants.{LOG_REGION_BYTES, MAX_CAPACITY};
 ghost use Rattle.retro_base.specs.declared.refusal.Refusal.TheVariants.{NotAStore};
 ghost use Rattle.history.specs.Right.{IsBase};
-ghost use Rattle.replay.specs.Log.{AreRight, IsLog};
-ghost use Rattle.replay.specs.Maplog.{IsMaplog};
+ghost use Rattle.history.specs.declared.log.Version.TheVariants.{One};
+ghost use Rattle.records.specs.Log.{IsLog};
+ghost use Rattle.history.specs.Right.{AreRight};
+ghost use Rattle.records.specs.Maplog.{IsMaplog};
 ghost use Rattle.opening.specs.Devices.{IsDeviceRefusal, StandsWithGate};
 ghost use Rattle.opening.specs.Opening.{maplog_half, DeviceStandsFor, DevicesOpen, IsOpenRefusal, WrongSize};
 
 use crate::devices::{listed, refusal_of};
 use crate::pages::pages_of;
 use disk_model::{Four, Sizes};
-use replay::{Log, Mappings, Opened, join, read_log, read_maplog};
+use history::{Log, Version};
+use records::{read_log, read_maplog};
+use replay::{Opened, join};
 use retro_base::{Device, LOG_REGION_BYTES, Refusal};
+use skippy::Mappings;
 use std::alloc::Global;
 use values::Seq;
 
 fn log_of(alloc: Global, bytes: &[u8]) -> Result<Log, Refusal>
-    ensures ok { IfOk result (DeviceStandsFor LOG_REGION_BYTES IsLog bytes.now) }
+    ensures ok { IfOk result (DeviceStandsFor LOG_REGION_BYTES (IsLog One) bytes.now) }
     ensures base { IfOk result (λ log. IsBase log.base) }
     ensures right { IfOk result (λ log. AreRight log.base log.changes) }
-    ensures err { IfErr result (IsDeviceRefusal kinds.Log LOG_REGION_BYTES IsLog bytes.now) }
+    ensures err { IfErr result (IsDeviceRefusal kinds.Log LOG_REGION_BYTES (IsLog One) bytes.now) }
 {
     let (bodies, end) = listed(alloc, Device::Log, bytes, LOG_REGION_BYTES)?;
-    match read_log(alloc, &bodies) {
+    match read_log(alloc, Version::One, &bodies) {
         Ok(log) => Ok(log),
         Err(error) => Err(refusal_of(Device::Log, &bodies, end, error)),
     }
@@ -39,12 +44,12 @@ fn mappings_of(
     bytes: &[u8],
 ) -> Result<(Mappings, u64), Refusal>
     requires { capacity ≤ MAX_CAPACITY }
-    ensures ok { IfOk result (λ p. StandsWithGate (maplog_half capacity) (IsMaplog page_count capacity) bytes.now p.0 p.1) }
-    ensures err { IfErr result (IsDeviceRefusal kinds.Maplog (maplog_half capacity) (IsMaplog page_count capacity) bytes.now) }
+    ensures ok { IfOk result (λ p. StandsWithGate (maplog_half capacity) (IsMaplog One page_count capacity) bytes.now p.0 p.1) }
+    ensures err { IfErr result (IsDeviceRefusal kinds.Maplog (maplog_half capacity) (IsMaplog One page_count capacity) bytes.now) }
 {
     let half = 32 * u64::from(capacity) + 4096;
     let (bodies, end) = listed(alloc, Device::Maplog, bytes, half)?;
-    match read_maplog(alloc, page_count, capacity, &bodies) {
+    match read_maplog(alloc, Version::One, page_count, capacity, &bodies) {
         Ok(mappings) => Ok((mappings, end)),
         Err(error) => Err(refusal_of(Device::Maplog, &bodies, end, error)),
     }

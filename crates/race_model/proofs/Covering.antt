@@ -3,7 +3,7 @@ use Rattle.std.proofs.Common.{◌≡◌, ◌⊎◌, inl, inr, ◌∙◌, ℕ, Bo
 use Rattle.std.specs.Prelude.{Contains}
 use Rattle.std.proofs.lemmas.Bool.{cases_eq, eq-eqb, ne_eqb, cond-true, cond-false, both_ways}
 use Rattle.skippy.specs.Mappings.{Mappings}
-use Rattle.replay.specs.declared.log.Log.{Log}
+use Rattle.history.specs.declared.log.Log.{Log}
 use Rattle.race_model.specs.Desk.{Doubt, Sure, Desk, IsInDoubt, IsLogOf, log_from}
 use Rattle.race_model.specs.Vault.{trim_to, enter_into}
 use Rattle.race_model.specs.Machine.{with_page, changed, cut}

@@ -6,7 +6,7 @@ use Rattle.history.specs.declared.entry.Change.{Change}
 use Rattle.history.specs.declared.writes.PageImage.{PageImage}
 use Rattle.history.specs.History.{State, now, captures_of, with_change}
 use Rattle.history.proofs.Captures.{now-with}
-use Rattle.replay.specs.declared.log.Log.{Log}
+use Rattle.history.specs.declared.log.Log.{Log}
 use Rattle.replay.specs.Opened.{Contents, forgotten}
 use Rattle.race_model.specs.Desk.{Doubt, Sure, OneMore, NewBase, Desk, behind, log_from, IsInDoubt, IsLogOf, ArePagesOf, writes_page}
 use Rattle.race_model.specs.Fits.{MayFollow, WasSent, DoubtFits, DeskFits}

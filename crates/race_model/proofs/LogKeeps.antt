@@ -14,7 +14,7 @@ use Rattle.history.proofs.Captures.{run-append, run-base}
 use Rattle.history.proofs.BaseStays.{stays_right}
 use Rattle.skippy.specs.Mappings.{end_of}
 use Rattle.replay.specs.Joined.{differ, are_among, mapped_since}
-use Rattle.replay.specs.Log.{AreRight}
+use Rattle.history.specs.Right.{AreRight}
 use Rattle.replay.specs.Opened.{Contents, opened, slot_images}
 use Rattle.replay.proofs.Belonging.{opened_captures, opened_is_consistent}
 use Rattle.race_model.specs.Desk.{behind}

@@ -6,7 +6,7 @@ use Rattle.history.specs.declared.entry.Change.TheVariants.{Commit, Drop}
 use Rattle.history.specs.declared.writes.PageImage.{PageImage}
 use Rattle.history.specs.Writes.{pages_of, is_among}
 use Rattle.history.specs.History.{State, run, captures, History}
-use Rattle.replay.specs.declared.log.Log.{Log}
+use Rattle.history.specs.declared.log.Log.{Log}
 use Rattle.replay.specs.Opened.{forgotten}
 
 -- what a failed call may have left of the log beside its list: nothing; the list with one change more; a new base alone

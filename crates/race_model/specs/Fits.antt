@@ -11,7 +11,7 @@ use Rattle.history.specs.Laws.{IsConsistent, WritesRise}
 use Rattle.history.specs.Right.{IsBase, IsRight}
 use Rattle.skippy.specs.Mappings.{Mappings, end_of}
 use Rattle.replay.specs.Joined.{differ, are_among, mapped_since}
-use Rattle.replay.specs.Log.{AreRight}
+use Rattle.history.specs.Right.{AreRight}
 use Rattle.replay.specs.Laws.{AreRightContents}
 use Rattle.replay.specs.Opened.{Contents, forgotten}
 use Rattle.race_model.specs.Desk.{Doubt, Sure, OneMore, NewBase, Desk, behind, captured, capacity_of, is_written}

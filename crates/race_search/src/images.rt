@@ -3,8 +3,9 @@
 use crate::desk::{Desk, Doubt};
 use crate::vault::{Mappings, Vault};
 use crate::world::{Change, WRITTEN, World, at, put};
-use history::Base;
-use replay::{Opened, join, read_log, read_maplog};
+use history::{Base, Version};
+use records::{read_log, read_maplog};
+use replay::{Opened, join};
 use retro_base::{PAGE_BYTES, Page};
 use std::alloc::{AllocError, Global};
 use values::Seq;
@@ -187,10 +188,10 @@ pub fn opens(
     slots: &[Page],
 ) -> Result<bool, AllocError> {
     let pages = filled(alloc, pages)?;
-    let Ok(list) = read_log(alloc, log) else {
+    let Ok(list) = read_log(alloc, Version::One, log) else {
         return Ok(false);
     };
-    let Ok(mappings) = read_maplog(alloc, 16, 64, maplog) else {
+    let Ok(mappings) = read_maplog(alloc, Version::One, 16, 64, maplog) else {
         return Ok(false);
     };
     let sizes = (list.base.page_count, list.base.capacity);

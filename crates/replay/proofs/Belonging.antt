@@ -18,7 +18,7 @@ use Rattle.history.specs.Replayed.{state_of}
 use Rattle.history.proofs.Captures.{run-base, among-append, captured-length}
 use Rattle.history.proofs.Consistent.{stays_consistent}
 use Rattle.skippy.specs.Mappings.{Mappings, end_of}
-use Rattle.replay.specs.Log.{AreRight}
+use Rattle.history.specs.Right.{AreRight}
 use Rattle.replay.specs.Opened.{Contents, opened, slot_images, forgotten}
 use Rattle.replay.specs.Joined.{differ, are_among, begins_with, mapped_since}
 use Rattle.replay.specs.Laws.{AreRightContents, OpenedIsConsistent}

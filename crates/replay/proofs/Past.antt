@@ -1,16 +1,15 @@
 -- The pages as of a snapshot of a store that was opened.
-use Rattle.std.proofs.Common.{◌≡◌, ◌≤◌, ◌<◌, ◌+◌, ◌-◌, ◌%◌, ◌++◌, ◌∙◌, ◌||◌, ℕ, zero, suc, Bool, true, false, cond, eqb, List, [], ◌∷◌, length, take, drop, replicate, Option, Some, None, refl, sym, ap, arith, append_assoc, length-append}
+use Rattle.std.proofs.Common.{◌≡◌, ◌≤◌, ◌<◌, ◌+◌, ◌-◌, ◌%◌, ◌++◌, ◌∙◌, ◌||◌, ℕ, zero, suc, Bool, true, false, cond, eqb, List, [], ◌∷◌, length, take, drop, replicate, Option, Some, None, refl, sym, ap, arith}
 use Rattle.std.specs.Prelude.{slice_get, unwrap_or, option_map, position}
 use Rattle.std.proofs.lemmas.List.{drop-drop, drop-append-le, drop_at, length-replicate}
-use Rattle.retro_base.specs.FirstMet.{first_met}
 use Rattle.history.specs.declared.entry.Mark.{Mark}
 use Rattle.history.specs.declared.writes.PageImage.{PageImage}
-use Rattle.history.specs.History.{History, now, captures, captures_of, pages_as_of, bytes_at}
+use Rattle.history.specs.History.{History, now, captures, captures_of, bytes_at}
 use Rattle.history.specs.Marks.{is_retained, start_of, oldest_start, MarksRise}
 use Rattle.history.specs.Writes.{pages_of}
 use Rattle.skippy.specs.Mappings.{end_of}
 use Rattle.replay.specs.Opened.{Contents, opened, slot_images, forgotten}
-use Rattle.replay.specs.Laws.{AreRightContents, PastByFirstCapture}
+use Rattle.replay.specs.Laws.{PastByFirstCapture}
 use Rattle.replay.proofs.Belonging.{held_long, opened_is_consistent}
 
 -- the start of a retained snapshot is not below the oldest one's

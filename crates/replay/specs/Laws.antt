@@ -1,5 +1,5 @@
 -- What follows from these definitions, in the words of the subject.
-use Rattle.std.specs.Prelude.{◌≡◌, ◌≤◌, ◌<◌, ◌%◌, true, ℕ, List, length, Option, Some, None}
+use Rattle.std.specs.Prelude.{◌≡◌, ◌≤◌, ◌<◌, ◌%◌, true, ℕ, length, Option, Some, None}
 use Rattle.retro_base.specs.FirstMet.{first_met}
 use Rattle.history.specs.History.{History, now, captures, pages_as_of}
 use Rattle.history.specs.Laws.{IsConsistent}
@@ -7,10 +7,8 @@ use Rattle.history.specs.Marks.{is_retained, start_of}
 use Rattle.history.specs.Right.{IsBase}
 use Rattle.history.specs.Writes.{pages_of}
 use Rattle.skippy.specs.Mappings.{end_of}
-use Rattle.replay.specs.InTurn.{BreaksBehind}
 use Rattle.replay.specs.Joined.{AreJoined}
-use Rattle.replay.specs.Log.{AreRight, IsLog}
-use Rattle.replay.specs.Maplog.{IsMaplog}
+use Rattle.history.specs.Right.{AreRight}
 use Rattle.replay.specs.Opened.{Contents, opened}
 
 -- a right log, and mappings that belong to it
@@ -30,17 +28,3 @@ PastByFirstCapture = (contents : Contents) (snapshot page : ℕ) → AreRightCon
     let first : Option ℕ = first_met (pages_of (captures history)) (start_of snapshot (now history).base.marks) (length (captures history)) page in
     ((number : ℕ) → first ≡ Some number → number < end_of contents.mappings → (contents.mappings.low ≤ number) × (pages_as_of history snapshot page ≡ contents.slots (number % contents.log.base.capacity)))
     × (first ≡ None → pages_as_of history snapshot page ≡ (now history).pages page)
-
--- a list of bodies stands for one value at most, or breaks behind one front at most, and not both
-pub record IsReadOneWay {X : Type 0} (StandsFor : List (List ℕ) → X → Type 0) : Type 0 where
-  pub one_value : (bodies : List (List ℕ)) (x y : X) → StandsFor bodies x → StandsFor bodies y → x ≡ y
-  pub one_front : (bodies front other : List (List ℕ)) → BreaksBehind StandsFor bodies front → BreaksBehind StandsFor bodies other → front ≡ other
-  pub not_both : (bodies front : List (List ℕ)) (x : X) → StandsFor bodies x → BreaksBehind StandsFor bodies front → ⊥
-
--- so it is with the log
-abbrev pub LogIsReadOneWay : Type 0
-LogIsReadOneWay = IsReadOneWay IsLog
-
--- and with the Maplog beside any log
-abbrev pub MaplogIsReadOneWay : Type 0
-MaplogIsReadOneWay = (page_count capacity : ℕ) → IsReadOneWay (IsMaplog page_count capacity)

@@ -4,7 +4,7 @@ use Rattle.history.specs.declared.writes.PageImage.{PageImage}
 use Rattle.history.specs.History.{History, now, captures}
 use Rattle.history.specs.Replayed.{page_in}
 use Rattle.skippy.specs.Mappings.{Mappings, end_of}
-use Rattle.replay.specs.declared.log.Log.{Log}
+use Rattle.history.specs.declared.log.Log.{Log}
 use Rattle.replay.specs.declared.opened.Opened.{Opened}
 
 -- what the log lists, the pages as their device has them, the mappings that the Maplog keeps, and the slots of the page images

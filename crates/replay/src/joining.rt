@@ -1,13 +1,12 @@
 //! Whether the log and the Maplog belong together.
 
 ghost use Rattle.std.specs.Prelude.{◌≡◌, ◌+◌, ◌≤◌, ◌↔◌, IsTrue, length};
-ghost use Rattle.history.specs.Marks.{newest_start, oldest_start};
 ghost use Rattle.history.specs.Writes.{is_among, pages_of};
 ghost use Rattle.skippy.specs.Mappings.{end_of};
 ghost use Rattle.replay.specs.Joined.{are_among, begins_with, differ, mapped_since, HoldsBase, HoldsChanges};
 
-use crate::mappings::Mappings;
-use history::{Base, Mark, PageImage, Replayed};
+use history::{Base, PageImage, Replayed, newest_start, oldest_start};
+use skippy::Mappings;
 
 fn is_among(page: u32, pages: &[u32]) -> bool
     ensures { result ≡ is_among page pages.now }
@@ -50,24 +49,6 @@ fn begin_with(pages: &[u32], captures: &[PageImage]) -> bool
         }
     }
     true
-}
-
-fn newest_start(marks: &[Mark]) -> u64
-    ensures { result ≡ newest_start marks.now }
-{
-    match marks {
-        [] => 0,
-        [.., last] => last.start,
-    }
-}
-
-fn oldest_start(marks: &[Mark]) -> u64
-    ensures { result ≡ oldest_start marks.now }
-{
-    match marks {
-        [] => 0,
-        [first, ..] => first.start,
-    }
 }
 
 // The kept mappings from the newest snapshot of the base on, up to its captures.

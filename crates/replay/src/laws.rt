@@ -1,12 +1,6 @@
 //! What follows from the definitions.
 
-ghost use Rattle.replay.specs.Laws.{LogIsReadOneWay, MaplogIsReadOneWay, OpenedIsConsistent, PastByFirstCapture};
-
-/// Lists of bodies are read in one way: each stands for one value at most, or breaks behind one front at most.
-pub fn lists_are_read_one_way()
-    ensures log { LogIsReadOneWay }
-    ensures maplog { MaplogIsReadOneWay }
-{}
+ghost use Rattle.replay.specs.Laws.{OpenedIsConsistent, PastByFirstCapture};
 
 /// Of whatever the devices hold.
 pub fn laws_of_the_opened()

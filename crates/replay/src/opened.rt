@@ -5,14 +5,13 @@ ghost use Rattle.history.specs.History.{run, captures_of};
 ghost use Rattle.history.specs.Replayed.{page_in, state_of};
 ghost use Rattle.history.specs.Right.{IsBase};
 ghost use Rattle.replay.specs.Joined.{AreJoined};
-ghost use Rattle.replay.specs.Log.{AreRight};
+ghost use Rattle.history.specs.Right.{AreRight};
 ghost use Rattle.replay.specs.Opened.{contents_of, slot_images, Opens};
 
 use crate::joining::{holds_base, holds_changes};
-use crate::log::Log;
-use crate::mappings::Mappings;
-use history::{Base, Change, PageImage, Replayed};
+use history::{Base, Change, Log, PageImage, Replayed};
 use retro_base::Page;
+use skippy::Mappings;
 use std::alloc::{AllocError, Global};
 use values::Seq;
 
@@ -99,7 +98,7 @@ pub fn join(
         return Ok(None);
     }
     let captures = log.base.captures;
-    let Log { base, changes } = log;
+    let Log { base, changes, .. } = log;
     let first = Replayed {
         base,
         pages,

@@ -1,6 +1,6 @@
 use Rattle.std.proofs.Common.{List, ℕ, length, ap, arith}
 use Rattle.retro_base.specs.Framing.{records_of}
-use Rattle.replay.specs.InTurn.{bodies_of}
+use Rattle.records.specs.InTurn.{bodies_of}
 use Rattle.opening.proofs.PageParts.{behind_place}
 use Rattle.opening.proofs.Reading.{length-records-drop}
 use Rattle.opening.proofs.devices.gate_behind.Goals as goal

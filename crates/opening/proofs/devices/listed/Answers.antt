@@ -1,5 +1,5 @@
 use Rattle.std.proofs.Common.{◌≡◌, ◌∙◌, ◌*◌, List, ℕ, length, ap, sym, subst, arith}
-use Rattle.replay.specs.InTurn.{bodies_of}
+use Rattle.records.specs.InTurn.{bodies_of}
 use Rattle.opening.specs.Devices.{IsListed}
 use Rattle.opening.proofs.Listed.{listed_there}
 use Rattle.opening.proofs.devices.listed.Goals as goal

@@ -1,8 +1,8 @@
 use Rattle.std.proofs.Common.{◌≡◌, ◌+◌, ◌∙◌, List, ℕ, length, take, ap, arith}
 use Rattle.std.proofs.lemmas.List.{take_all}
 use Rattle.retro_base.specs.Framing.{records_of}
-use Rattle.replay.specs.InTurn.{bodies_of}
-use Rattle.replay.proofs.Turns.{body_more, length-bodies}
+use Rattle.records.specs.InTurn.{bodies_of}
+use Rattle.records.proofs.Turns.{body_more, length-bodies}
 use Rattle.opening.proofs.Reading.{length-records-more, length-records-take}
 use Rattle.opening.proofs.devices.records_bytes.Goals as goal
 

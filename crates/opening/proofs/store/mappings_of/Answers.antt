@@ -2,8 +2,9 @@ use Rattle.std.proofs.Common.{◌∙◌, ◌*◌, ◌+◌, ℕ, List, Vec, sym, 
 use Rattle.std.specs.declared.alloc.Global.{Global}
 use Rattle.retro_base.specs.declared.device.Device.TheVariants as kinds
 use Rattle.retro_base.specs.declared.refusal.Refusal.{Refusal}
-use Rattle.replay.specs.InTurn.{BreaksAs, bodies_of}
-use Rattle.replay.specs.Maplog.{IsMaplog}
+use Rattle.history.specs.declared.log.Version.TheVariants.{One}
+use Rattle.records.specs.InTurn.{BreaksAs, bodies_of}
+use Rattle.records.specs.Maplog.{IsMaplog}
 use Rattle.opening.specs.Devices.{IsDeviceRefusal, IsListed, refusal_at}
 use Rattle.opening.specs.Opening.{maplog_half}
 use Rattle.opening.proofs.Reading.{gate_there, unread_there}
@@ -15,9 +16,9 @@ returns-in-Ok-clause-ok c =
     let items = c.in_ok-bodies.bodies.items in
     let end = c.in_ok-bodies.end in
     let listed : IsListed (maplog_half c.args.capacity) bytes (bodies_of items) end = subst (λ (n : ℕ). IsListed (32 * n + 4096) bytes (bodies_of items) end) c.from.ensures c.in_ok-bodies.ensures.ok in
-    let maps : IsMaplog c.args.page_count c.args.capacity (bodies_of items) c.in-Ok.mappings =
-    subst (λ (vecs : List (Vec ℕ Global)). IsMaplog c.args.page_count c.args.capacity (bodies_of vecs) c.in-Ok.mappings) c.deref.ensures.value c.in-Ok.ensures in
-    gate_there kinds.Maplog (maplog_half c.args.capacity) (IsMaplog c.args.page_count c.args.capacity) bytes (bodies_of items) end c.in-Ok.mappings listed maps
+    let maps : IsMaplog One c.args.page_count c.args.capacity (bodies_of items) c.in-Ok.mappings =
+    subst (λ (vecs : List (Vec ℕ Global)). IsMaplog One c.args.page_count c.args.capacity (bodies_of vecs) c.in-Ok.mappings) c.deref.ensures.value c.in-Ok.ensures in
+    gate_there kinds.Maplog (maplog_half c.args.capacity) (IsMaplog One c.args.page_count c.args.capacity) bytes (bodies_of items) end c.in-Ok.mappings listed maps
 
 pub returns-clause-err : goal.returns-clause-err
 returns-clause-err c =
@@ -26,8 +27,8 @@ returns-clause-err c =
     let end = c.in_ok-bodies.end in
     let half = maplog_half c.args.capacity in
     let listed : IsListed half bytes (bodies_of items) end = subst (λ (n : ℕ). IsListed (32 * n + 4096) bytes (bodies_of items) end) c.from.ensures c.in_ok-bodies.ensures.ok in
-    let breaks : BreaksAs (IsMaplog c.args.page_count c.args.capacity) (bodies_of items) c.in-Err.error =
-    subst (λ (vecs : List (Vec ℕ Global)). BreaksAs (IsMaplog c.args.page_count c.args.capacity) (bodies_of vecs) c.in-Err.error) c.deref.ensures.value c.in-Err.ensures in
-    let there = unread_there kinds.Maplog half (IsMaplog c.args.page_count c.args.capacity) bytes (bodies_of items) end c.in-Err.error listed breaks in
-    subst (λ (e : Refusal). IsDeviceRefusal kinds.Maplog half (IsMaplog c.args.page_count c.args.capacity) bytes e)
+    let breaks : BreaksAs (IsMaplog One c.args.page_count c.args.capacity) (bodies_of items) c.in-Err.error =
+    subst (λ (vecs : List (Vec ℕ Global)). BreaksAs (IsMaplog One c.args.page_count c.args.capacity) (bodies_of vecs) c.in-Err.error) c.deref.ensures.value c.in-Err.ensures in
+    let there = unread_there kinds.Maplog half (IsMaplog One c.args.page_count c.args.capacity) bytes (bodies_of items) end c.in-Err.error listed breaks in
+    subst (λ (e : Refusal). IsDeviceRefusal kinds.Maplog half (IsMaplog One c.args.page_count c.args.capacity) bytes e)
     (sym (c.refusal_of.ensures ∙ ap (λ (vecs : List (Vec ℕ Global)). refusal_at kinds.Maplog (bodies_of vecs) end c.in-Err.error) c.deref-in-Err.ensures.value)) there

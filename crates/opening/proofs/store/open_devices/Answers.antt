@@ -5,8 +5,9 @@ use Rattle.retro_base.specs.declared.limits.TheConstants.{LOG_REGION_BYTES}
 use Rattle.retro_base.specs.declared.refusal.Refusal.{Refusal}
 use Rattle.history.specs.Replayed.{page_in}
 use Rattle.replay.specs.Joined.{AreJoined}
-use Rattle.replay.specs.Log.{IsLog}
-use Rattle.replay.specs.Maplog.{IsMaplog}
+use Rattle.history.specs.declared.log.Version.TheVariants.{One}
+use Rattle.records.specs.Log.{IsLog}
+use Rattle.records.specs.Maplog.{IsMaplog}
 use Rattle.replay.specs.declared.opened.Opened.{Opened}
 use Rattle.replay.specs.Opened.{Contents, contents_of, Opens}
 use Rattle.opening.specs.Devices.{IsDeviceRefusal, StandsWithGate}
@@ -23,28 +24,28 @@ pub returns-in_err-mappings-clause-refused : goal.returns-in_err-mappings-clause
 returns-in_err-mappings-clause-refused c =
     let devices = c.args.devices.now in
     let log = c.in_ok-log.log in
-    let stands : LogStandsFor devices log = subst (λ (b : List ℕ). DeviceStandsFor LOG_REGION_BYTES IsLog b log) c.as_slice.ensures c.in_ok-log.ensures.ok in
+    let stands : LogStandsFor devices log = subst (λ (b : List ℕ). DeviceStandsFor LOG_REGION_BYTES (IsLog One) b log) c.as_slice.ensures c.in_ok-log.ensures.ok in
     let sized : AreSized devices log = record {
       pages = ap (λ (b : List ℕ). length b) (sym c.as_slice-2.ensures) ∙ c.in_ok-sized.ensures ∙ c.pages_bytes.ensures;
       pagelog = ap (λ (b : List ℕ). length b) (sym c.as_slice-3.ensures) ∙ c.in_ok-sized-2.ensures ∙ c.pagelog_bytes.ensures;
     } in
     let why = c.in_err-mappings.field-0.0 in
     let refused : IsOpenRefusal devices why =
-    maplog_refused devices log stands sized why (subst (λ (b : List ℕ). IsDeviceRefusal kinds.Maplog (maplog_half log.base.capacity) (IsMaplog log.base.page_count log.base.capacity) b why) c.as_slice-4.ensures c.in_err-mappings.ensures.err) in
+    maplog_refused devices log stands sized why (subst (λ (b : List ℕ). IsDeviceRefusal kinds.Maplog (maplog_half log.base.capacity) (IsMaplog One log.base.page_count log.base.capacity) b why) c.as_slice-4.ensures c.in_err-mappings.ensures.err) in
     passed_on c.from_residual-in_err-mappings.result (IsOpenRefusal devices) why c.from_residual-in_err-mappings.ensures.1 refused
 
 pub returns-in-Some-clause-opens : goal.returns-in-Some-clause-opens
 returns-in-Some-clause-opens c =
     let devices = c.args.devices.now in
     let log = c.in_ok-log.log in
-    let stands : LogStandsFor devices log = subst (λ (b : List ℕ). DeviceStandsFor LOG_REGION_BYTES IsLog b log) c.as_slice.ensures c.in_ok-log.ensures.ok in
+    let stands : LogStandsFor devices log = subst (λ (b : List ℕ). DeviceStandsFor LOG_REGION_BYTES (IsLog One) b log) c.as_slice.ensures c.in_ok-log.ensures.ok in
     let sized : AreSized devices log = record {
       pages = ap (λ (b : List ℕ). length b) (sym c.as_slice-2.ensures) ∙ c.in_ok-sized.ensures ∙ c.pages_bytes.ensures;
       pagelog = ap (λ (b : List ℕ). length b) (sym c.as_slice-3.ensures) ∙ c.in_ok-sized-2.ensures ∙ c.pagelog_bytes.ensures;
     } in
     let mappings = c.in_ok-mappings.mappings in
-    let maps : StandsWithGate (maplog_half log.base.capacity) (IsMaplog log.base.page_count log.base.capacity) devices.maplog mappings c.in_ok-mappings.end =
-    subst (λ (b : List ℕ). StandsWithGate (maplog_half log.base.capacity) (IsMaplog log.base.page_count log.base.capacity) b mappings c.in_ok-mappings.end) c.as_slice-4.ensures c.in_ok-mappings.ensures.ok in
+    let maps : StandsWithGate (maplog_half log.base.capacity) (IsMaplog One log.base.page_count log.base.capacity) devices.maplog mappings c.in_ok-mappings.end =
+    subst (λ (b : List ℕ). StandsWithGate (maplog_half log.base.capacity) (IsMaplog One log.base.page_count log.base.capacity) b mappings c.in_ok-mappings.end) c.as_slice-4.ensures c.in_ok-mappings.ensures.ok in
     let pages = c.in_ok-pages_of.field-0.items in
     let slots = c.in_ok-slots.slots.items in
     let same : (k : ℕ) → page_in pages k ≡ page_at devices.pages k = λ k. c.in_ok-pages_of.ensures.pages k ∙ ap (λ (b : List ℕ). page_at b k) c.as_slice-5.ensures in
@@ -64,14 +65,14 @@ pub returns-clause-refused : goal.returns-clause-refused
 returns-clause-refused c =
     let devices = c.args.devices.now in
     let log = c.in_ok-log.log in
-    let stands : LogStandsFor devices log = subst (λ (b : List ℕ). DeviceStandsFor LOG_REGION_BYTES IsLog b log) c.as_slice.ensures c.in_ok-log.ensures.ok in
+    let stands : LogStandsFor devices log = subst (λ (b : List ℕ). DeviceStandsFor LOG_REGION_BYTES (IsLog One) b log) c.as_slice.ensures c.in_ok-log.ensures.ok in
     let sized : AreSized devices log = record {
       pages = ap (λ (b : List ℕ). length b) (sym c.as_slice-2.ensures) ∙ c.in_ok-sized.ensures ∙ c.pages_bytes.ensures;
       pagelog = ap (λ (b : List ℕ). length b) (sym c.as_slice-3.ensures) ∙ c.in_ok-sized-2.ensures ∙ c.pagelog_bytes.ensures;
     } in
     let mappings = c.in_ok-mappings.mappings in
-    let maps : StandsWithGate (maplog_half log.base.capacity) (IsMaplog log.base.page_count log.base.capacity) devices.maplog mappings c.in_ok-mappings.end =
-    subst (λ (b : List ℕ). StandsWithGate (maplog_half log.base.capacity) (IsMaplog log.base.page_count log.base.capacity) b mappings c.in_ok-mappings.end) c.as_slice-4.ensures c.in_ok-mappings.ensures.ok in
+    let maps : StandsWithGate (maplog_half log.base.capacity) (IsMaplog One log.base.page_count log.base.capacity) devices.maplog mappings c.in_ok-mappings.end =
+    subst (λ (b : List ℕ). StandsWithGate (maplog_half log.base.capacity) (IsMaplog One log.base.page_count log.base.capacity) b mappings c.in_ok-mappings.end) c.as_slice-4.ensures c.in_ok-mappings.ensures.ok in
     let pages = c.in_ok-pages_of.field-0.items in
     let slots = c.in_ok-slots.slots.items in
     let same : (k : ℕ) → page_in pages k ≡ page_at devices.pages k = λ k. c.in_ok-pages_of.ensures.pages k ∙ ap (λ (b : List ℕ). page_at b k) c.as_slice-5.ensures in

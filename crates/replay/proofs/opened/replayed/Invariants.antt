@@ -1,7 +1,7 @@
 use Rattle.std.proofs.Common.{◌≡◌, ◌++◌, drop, length}
 use Rattle.history.specs.History.{run, captures_of}
 use Rattle.history.specs.Replayed.{state_of}
-use Rattle.replay.specs.Log.{AreRight}
+use Rattle.history.specs.Right.{AreRight}
 use Rattle.replay.proofs.opened.replayed.Given as goal
 
 abbrev pub invariant-loop-change : goal.invariant-loop-change

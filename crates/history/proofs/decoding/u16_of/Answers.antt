@@ -1,6 +1,0 @@
-use Rattle.std.proofs.Common.{arith}
-use Rattle.history.proofs.Fields.{number_there}
-use Rattle.history.proofs.decoding.u16_of.Goals as goal
-
-pub returns : goal.returns
-returns c = number_there 2 _ c.args.bytes.now (omega arith) c.get_u16.ensures

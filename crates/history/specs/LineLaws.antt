@@ -1,0 +1,105 @@
+-- What one line more tells, behind the lines before it.
+use Rattle.std.specs.Prelude.{◌↔◌, ◌≡◌, ◌≤◌, ◌<◌, ◌+◌, ◌==◌, ℕ, Bool, true, false, List, [], ◌∷◌, ◌++◌, length, Some, if◌then◌else◌}
+use Rattle.std.specs.Option.{option_or}
+use Rattle.std.specs.List.{AllByRecursion}
+use Rattle.retro_base.specs.declared.device.Device.{Device}
+use Rattle.retro_base.specs.declared.who.Who.{Who}
+use Rattle.history.specs.declared.entry.Base.{Base}
+use Rattle.history.specs.declared.journal.Line.{Line}
+use Rattle.history.specs.declared.journal.What.{What}
+use Rattle.history.specs.declared.journal.What.TheVariants.{Done, Looked, LookedAll, Unlooked, Dropped, Refused, Fault}
+use Rattle.history.specs.declared.writes.PageImage.{PageImage}
+use Rattle.history.specs.Journal.{base_behind, changes_of, after_journal}
+use Rattle.history.specs.Laws.{IsConsistent}
+use Rattle.history.specs.Lines.{base_of, lines_of, images_of, images_in, open_behind, open_in, change_by, last_change, DeviceFault, fault_of, faults_of, IsNewer, FaultsDiffer, stop_of, first_stop}
+use Rattle.history.specs.Marks.{newest, is_retained}
+use Rattle.history.specs.History.{History, now, pages_as_of}
+use Rattle.history.specs.Right.{IsBase, AllMayFollow}
+use Rattle.history.specs.Sound.{Pin, pins_behind, KeepsRules, pins_of, IsSound}
+
+-- One line more is sound where there is room for it and it keeps the rules.
+abbrev pub SoundWithOneMore : Type 0
+SoundWithOneMore = (base : Base) (lines : List Line) (line : Line) →
+    IsSound base (lines ++ line ∷ []) ↔ IsSound base lines × (length lines < 65536) × KeepsRules (base_of base lines) (pins_of base [] lines) line.what
+
+-- The changes that a sound journal leaves may follow one another: each is right at its place.
+abbrev pub ChangesMayFollow : Type 0
+ChangesMayFollow = (base : Base) (lines : List Line) → IsSound base lines → AllMayFollow base (changes_of base lines)
+
+-- Behind a sound journal the base is right.
+abbrev pub BaseStaysRight : Type 0
+BaseStaysRight = (base : Base) (lines : List Line) → IsSound base lines → IsBase (base_of base lines)
+
+-- A drop in a sound journal is below a snapshot that was declared, and below none that is pinned.
+abbrev pub DropsAreBelowPins : Type 0
+DropsAreBelowPins = (base : Base) (lines : List Line) (line : Line) (below : ℕ) → IsSound base (lines ++ line ∷ []) → line.what ≡ Dropped below →
+    (0 < below) × (below ≤ newest (base_of base lines).marks) × AllByRecursion (λ (pin : Pin). below ≤ pin.snapshot) (pins_of base [] lines)
+
+-- whether a line ends a look
+abbrev pub ends_look : What → Bool
+ends_look Unlooked = true
+ends_look (Refused why) = true
+ends_look (Fault device count wrote) = true
+ends_look _ = false
+
+-- What is looked at: a snapshot, or each that is retained.
+abbrev pub LooksAt : Base → What → ℕ → Type 0
+LooksAt base (Looked snapshot) number = snapshot ≡ number
+LooksAt base LookedAll number = is_retained number base.marks ≡ true
+LooksAt base _ number = ⊥
+
+-- While a look has no end, what it looked at stays retained.
+abbrev pub LookedAtStays : Type 0
+LookedAtStays = (base : Base) (before more : List Line) (look : Line) (number : ℕ) →
+    IsSound base (before ++ look ∷ more) → LooksAt (base_of base before) look.what number →
+    AllByRecursion (λ (line : Line). line.who ≡ look.who → ends_look line.what ≡ false) more →
+    is_retained number (base_of base (before ++ look ∷ more)).marks ≡ true
+
+abbrev pub BaseOfOneMore : Type 0
+BaseOfOneMore = (base : Base) (lines : List Line) (line : Line) → base_of base (lines ++ line ∷ []) ≡ base_behind (base_of base lines) line
+
+abbrev pub PinsOfOneMore : Type 0
+PinsOfOneMore = (base : Base) (lines : List Line) (line : Line) → pins_of base [] (lines ++ line ∷ []) ≡ pins_behind (base_of base lines) (pins_of base [] lines) line.who line.what
+
+abbrev pub LinesOfOneMore : Type 0
+LinesOfOneMore = (session : ℕ) (lines : List Line) (line : Line) → lines_of session (lines ++ line ∷ []) ≡ lines_of session lines ++ (if line.who.session == session then line ∷ [] else [])
+
+abbrev pub ImagesInOneMore : Type 0
+ImagesInOneMore = (lines : List Line) (line : Line) → images_in (lines ++ line ∷ []) ≡ images_in lines + images_of line.what
+
+abbrev pub OpenInOneMore : Type 0
+OpenInOneMore = (lines : List Line) (line : Line) → open_in (lines ++ line ∷ []) ≡ open_behind (open_in lines) line
+
+abbrev pub LastChangeInOneMore : Type 0
+LastChangeInOneMore = (who : Who) (page : ℕ) (lines : List Line) (line : Line) → last_change who page (lines ++ line ∷ []) ≡ option_or (change_by who page line) (last_change who page lines)
+
+abbrev pub FirstStopInOneMore : Type 0
+FirstStopInOneMore = (lines : List Line) (line : Line) → first_stop (lines ++ line ∷ []) ≡ option_or (first_stop lines) (stop_of line.what)
+
+abbrev pub FaultsOfOneMore : Type 0
+FaultsOfOneMore = (device : Device) (lines : List Line) (line : Line) → faults_of device (lines ++ line ∷ []) ≡ faults_of device lines ++ fault_of device line.who line.what
+
+-- With one line more the faults differ where they did before and that line's is newer than each of its device.
+abbrev pub FaultsDifferInOneMore : Type 0
+FaultsDifferInOneMore = (lines : List Line) (line : Line) →
+    FaultsDiffer (lines ++ line ∷ []) ↔ FaultsDiffer lines × ((device : Device) → AllByRecursion (λ (fault : DeviceFault). AllByRecursion (IsNewer fault) (fault_of device line.who line.what)) (faults_of device lines))
+
+-- The faults of a journal's front differ where those of the journal do.
+abbrev pub FaultsOfFrontDiffer : Type 0
+FaultsOfFrontDiffer = (lines more : List Line) → FaultsDiffer (lines ++ more) → FaultsDiffer lines
+
+-- While a snapshot is retained, a page as of it is the page behind the line that declared it, whatever lines follow.
+abbrev pub PageOfTheDeclaringLine : Type 0
+PageOfTheDeclaringLine = (history : History) (before more : List Line) (declaring : Line) (label : List ℕ) (writes : List PageImage) →
+    let base : Base = (now history).base in
+    let lines : List Line = before ++ declaring ∷ more in
+    let number : ℕ = newest (base_of base before).marks + 1 in
+    IsConsistent history → IsSound base lines → declaring.what ≡ Done (Some label) writes → is_retained number (base_of base lines).marks ≡ true →
+    (page : ℕ) → pages_as_of (after_journal history lines) number page ≡ (now (after_journal history (before ++ declaring ∷ []))).pages page
+
+-- While a snapshot is retained, no page as of it changes with the lines that follow.
+abbrev pub PagesAsOfStay : Type 0
+PagesAsOfStay = (history : History) (lines more : List Line) (number : ℕ) →
+    let base : Base = (now history).base in
+    IsConsistent history → IsSound base (lines ++ more) → number ≤ newest (base_of base lines).marks → is_retained number (base_of base (lines ++ more)).marks ≡ true →
+    (page : ℕ) → pages_as_of (after_journal history (lines ++ more)) number page ≡ pages_as_of (after_journal history lines) number page

@@ -1,0 +1,9 @@
+pub mod Bytes
+pub mod Fields
+pub mod Lists
+pub mod Logs
+pub mod Maps
+pub mod MapSpelling
+pub mod Numbering
+pub mod Spelling
+pub mod Turns

@@ -1,0 +1,6 @@
+use Rattle.std.proofs.Common.{arith}
+use Rattle.records.proofs.Fields.{number_there}
+use Rattle.records.proofs.decoding.u32_of.Goals as goal
+
+pub returns : goal.returns
+returns c = number_there 4 _ c.args.bytes.now (omega arith) c.get_u32.ensures

@@ -1,0 +1,22 @@
+//! What follows from the definitions.
+
+ghost use Rattle.records.specs.Laws.{LogIsReadOneWay, MaplogIsReadOneWay, NumberedStays, OneEntry, RetainedBetween};
+
+/// Bytes are those of one record.
+pub fn records_are_read_one_way()
+    ensures { OneEntry }
+{}
+
+/// Lists of bodies are read in one way: each stands for one value at most, or breaks behind one front at most.
+pub fn lists_are_read_one_way()
+    ensures log { LogIsReadOneWay }
+    ensures maplog { MaplogIsReadOneWay }
+{}
+
+/// Of bases whose snapshots are numbered without gaps, as those are whose bytes are read.
+pub fn laws_of_bases()
+    // So they stay behind each change.
+    ensures numbered { NumberedStays }
+    // Their retained snapshots are those from the oldest to the newest.
+    ensures retained { RetainedBetween }
+{}

@@ -1,0 +1,24 @@
+//! The bytes of the records of a store's two logs, and what lists of records stand for: the log, and the mappings
+//! that a Maplog keeps.
+#![tactic(auto)]
+
+mod decoding;
+mod encoding;
+mod entry;
+mod laws;
+mod log;
+mod map_decoding;
+mod map_entry;
+mod maplog;
+#[cfg(test)]
+mod tests;
+mod unread;
+
+pub use decoding::{DecodeError, decode};
+pub use encoding::encode;
+pub use entry::Entry;
+pub use laws::{laws_of_bases, lists_are_read_one_way, records_are_read_one_way};
+pub use log::read_log;
+pub use map_decoding::decode_mapping;
+pub use map_entry::{MapEntry, RUN_PAGES};
+pub use maplog::read_maplog;

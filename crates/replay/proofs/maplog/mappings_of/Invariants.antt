@@ -1,8 +1,0 @@
-use Rattle.std.proofs.Common.{◌≡◌, take, List}
-use Rattle.replay.specs.declared.map_entry.MapEntry.{MapEntry}
-use Rattle.replay.specs.InTurn.{bodies_of, InTurn, reached}
-use Rattle.replay.specs.Maplog.{mappings_after, IsMappingBody}
-use Rattle.replay.proofs.maplog.mappings_of.Given as goal
-
-abbrev pub invariant-loop-count : goal.invariant-loop-count
-invariant-loop-count l = (entries : List MapEntry) × InTurn (IsMappingBody l.page_count) mappings_after l.fn.start (take l.count (bodies_of l.bodies)) entries × (l.mappings ≡ reached mappings_after l.fn.start entries)
