@@ -17,7 +17,8 @@ use Rattle.turn.specs.declared.view.Place.{Place}
 use Rattle.turn.specs.declared.view.Place.TheVariants.{Outside, Waits, Inside}
 use Rattle.turn.specs.declared.view.View.{View}
 use Rattle.turn.specs.Faults.{fault_lines, fault_times}
-use Rattle.turn.specs.Meanings.{OpeningMeaning, DeskMeaning, VaultMeaning, lines_of}
+use Rattle.history.specs.Lines.{lines_of}
+use Rattle.turn.specs.Meanings.{OpeningMeaning, DeskMeaning, VaultMeaning}
 use Rattle.turn.specs.Queue.{Lock, total, tickets_in}
 use Rattle.turn.specs.Rule.{AreFronts, AreOwn, AreNewer, AreParts, AreSeats, IsCounted, IsNewer, IsOwn, IsRuled, Knows, count_now, told_times}
 use Rattle.turn.specs.Views.{dealt, desk_of, first_of, firsts, joined, lending, lending_view, lent, lent_view, note_of, others, parts_at, parts_in, parts_of, returned, returned_view, spent, undealt, vault_of}

@@ -18,7 +18,8 @@ use Rattle.turn.specs.declared.view.Place.{Place}
 use Rattle.turn.specs.declared.view.Place.TheVariants.{Outside, Waits, Inside}
 use Rattle.turn.specs.declared.view.View.{View}
 use Rattle.turn.specs.Faults.{LAST, fault_lines, fault_times}
-use Rattle.turn.specs.Meanings.{OpeningMeaning, DeskMeaning, VaultMeaning, lines_of, horizon_of}
+use Rattle.history.specs.Lines.{horizon_of, lines_of}
+use Rattle.turn.specs.Meanings.{OpeningMeaning, DeskMeaning, VaultMeaning}
 use Rattle.turn.specs.Queue.{Lock, Stands, total, tickets_in, is_inside}
 use Rattle.turn.specs.Rule.{IsHorizon, IsNewer, IsOwn, IsRuled, Knows, words_of, told_times}
 use Rattle.turn.specs.Seats.{AreClosed, AreNew, AreRight, AreWhole, Covers, IsRight, MayOpen, Rests, mine, seen, view_of}

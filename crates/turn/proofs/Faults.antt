@@ -9,7 +9,7 @@ use Rattle.history.specs.declared.journal.Line.{Line}
 use Rattle.history.specs.declared.journal.What.{What}
 use Rattle.history.specs.declared.journal.What.TheVariants.{Began, Done, Overlapped, RolledBack, Looked, LookedAll, Unlooked, Dropped, Refused, Fault}
 use Rattle.turn.specs.Faults.{LAST, device_number, is_of_desk, one_fault, fault_times, line_fault, fault_lines, rose, desk_faults, vault_faults}
-use Rattle.turn.specs.Meanings.{lines_of}
+use Rattle.history.specs.Lines.{lines_of}
 use Rattle.turn.proofs.Totals.{total_append}
 
 pub lines_append : (d : Device) (c : ℕ) (J : List Line) (l : Line) → fault_lines d c (J ++ l ∷ []) ≡ fault_lines d c J + line_fault d c l.what

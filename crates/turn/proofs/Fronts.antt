@@ -6,7 +6,7 @@ use mathlib.Core.List.{IsPrefix}
 use mathlib.Core.Option.{some, some-injective, some-ne-none}
 use lib.ListN.{get_elem?}
 use Rattle.history.specs.declared.journal.Line.{Line}
-use Rattle.turn.specs.Meanings.{lines_of}
+use Rattle.history.specs.Lines.{lines_of}
 use Rattle.turn.specs.Views.{longer, longest}
 
 pub prefix_self : {A : Type 0} (xs : List A) → IsPrefix xs xs

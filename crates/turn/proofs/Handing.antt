@@ -11,7 +11,8 @@ use Rattle.turn.specs.declared.view.Kept.{Kept}
 use Rattle.turn.specs.declared.view.Kept.TheVariants.{Desk, Vault}
 use Rattle.turn.specs.declared.view.Place.TheVariants.{Outside, Inside}
 use Rattle.turn.specs.declared.view.View.{View}
-use Rattle.turn.specs.Meanings.{DeskMeaning, VaultMeaning, lines_of}
+use Rattle.history.specs.Lines.{lines_of}
+use Rattle.turn.specs.Meanings.{DeskMeaning, VaultMeaning}
 use Rattle.turn.specs.Queue.{total}
 use Rattle.turn.specs.Rule.{AreOwn}
 use Rattle.turn.specs.Seats.{IsSeat, Rests, mine, opening, seen, view_of}

@@ -16,7 +16,8 @@ use Rattle.turn.specs.declared.view.Place.{Place}
 use Rattle.turn.specs.declared.view.Place.TheVariants.{Inside}
 use Rattle.turn.specs.declared.view.View.{View}
 use Rattle.turn.specs.Faults.{LAST, desk_faults, fault_lines, fault_times, is_of_desk, line_fault}
-use Rattle.turn.specs.Meanings.{OpeningMeaning, DeskMeaning, VaultMeaning, lines_of, horizon_of}
+use Rattle.history.specs.Lines.{horizon_of, lines_of}
+use Rattle.turn.specs.Meanings.{OpeningMeaning, DeskMeaning, VaultMeaning}
 use Rattle.turn.specs.Plays.{Sat, records}
 use Rattle.turn.specs.Queue.{Lock, total, is_inside, ticket_of}
 use Rattle.turn.specs.Rule.{AreOwn, AreParts, AreSeats, IsCounted, IsHorizon, IsNewer, AreNewer, IsOwn, IsRuled, Knows, count_now, told_times}

@@ -15,7 +15,8 @@ use Rattle.turn.specs.declared.view.Kept.TheVariants.{Desk, Vault}
 use Rattle.turn.specs.declared.view.Place.{Place}
 use Rattle.turn.specs.declared.view.Place.TheVariants.{Outside, Waits, Inside}
 use Rattle.turn.specs.declared.view.View.{View}
-use Rattle.turn.specs.Meanings.{OpeningMeaning, DeskMeaning, VaultMeaning, horizon_of}
+use Rattle.history.specs.Lines.{horizon_of}
+use Rattle.turn.specs.Meanings.{OpeningMeaning, DeskMeaning, VaultMeaning}
 use Rattle.turn.specs.Plays.{Sat, draws_desk, draws_vault, reads_desk, reads_vault, serves_desk, serves_vault, sees_horizon, settles}
 use Rattle.turn.specs.Queue.{Lock, tickets_in}
 use Rattle.turn.specs.Rule.{IsHorizon, IsRuled, Knows}

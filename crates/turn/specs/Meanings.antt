@@ -1,20 +1,8 @@
 -- What the locks know of the opening of a store, of its desk, and of its vault.
-use Rattle.std.specs.Prelude.{◌==◌, ℕ, List, filter, Option}
+use Rattle.std.specs.Prelude.{ℕ, List, Option}
 use Rattle.retro_base.specs.declared.device.Device.{Device}
 use Rattle.history.specs.declared.entry.Base.{Base}
-use Rattle.history.specs.declared.entry.Mark.{Mark}
 use Rattle.history.specs.declared.journal.Line.{Line}
-use Rattle.history.specs.Journal.{changes_of}
-use Rattle.history.specs.History.{bases_after}
-use Rattle.history.specs.Marks.{oldest, newest}
-
--- the lines of one session, in order
-abbrev pub lines_of : ℕ → List Line → List Line
-lines_of session lines = filter (λ line. line.who.session == session) lines
-
--- the oldest and the newest snapshot behind a journal
-abbrev pub horizon_of : Base → List Line → ℕ × ℕ
-horizon_of base lines = let marks : List Mark = (bases_after base (changes_of base lines)).marks in (oldest marks, newest marks)
 
 pub record OpeningMeaning (O : Type 0) : Type 1 where
   -- what the log said

@@ -9,7 +9,8 @@ use Rattle.turn.specs.declared.view.Kept.{Kept}
 use Rattle.turn.specs.declared.view.Kept.TheVariants.{Desk, Vault}
 use Rattle.turn.specs.declared.view.Place.TheVariants.{Outside, Waits, Inside}
 use Rattle.turn.specs.declared.view.View.{View}
-use Rattle.turn.specs.Meanings.{OpeningMeaning, DeskMeaning, VaultMeaning, horizon_of}
+use Rattle.history.specs.Lines.{horizon_of}
+use Rattle.turn.specs.Meanings.{OpeningMeaning, DeskMeaning, VaultMeaning}
 use Rattle.turn.specs.Rule.{AreOwn, IsHorizon}
 use Rattle.turn.specs.Views.{behind_desk, behind_vault, longest, spent}
 

@@ -13,7 +13,8 @@ use Rattle.turn.specs.declared.view.Kept.TheVariants.{Desk, Vault}
 use Rattle.turn.specs.declared.view.Place.TheVariants.{Inside}
 use Rattle.turn.specs.declared.view.View.{View}
 use Rattle.turn.specs.Faults.{LAST, count_of, fault_lines, fault_times}
-use Rattle.turn.specs.Meanings.{OpeningMeaning, DeskMeaning, VaultMeaning, lines_of, horizon_of}
+use Rattle.history.specs.Lines.{horizon_of, lines_of}
+use Rattle.turn.specs.Meanings.{OpeningMeaning, DeskMeaning, VaultMeaning}
 use Rattle.turn.specs.Queue.{Lock, total, tickets_in}
 use Rattle.turn.specs.Views.{PARTS, desk_of, parts_at, parts_of, vault_of}
 

@@ -9,7 +9,8 @@ use Rattle.turn.specs.declared.view.Holding.{Holding}
 use Rattle.turn.specs.declared.view.Place.TheVariants.{Outside, Inside}
 use Rattle.turn.specs.declared.view.View.{View}
 use Rattle.turn.specs.Faults.{LAST, desk_faults, fault_lines, fault_times, line_fault}
-use Rattle.turn.specs.Meanings.{OpeningMeaning, DeskMeaning, VaultMeaning, lines_of}
+use Rattle.history.specs.Lines.{lines_of}
+use Rattle.turn.specs.Meanings.{OpeningMeaning, DeskMeaning, VaultMeaning}
 use Rattle.turn.specs.Queue.{ticket_of}
 use Rattle.turn.specs.Rule.{Knows, count_now}
 use Rattle.turn.specs.Views.{PARTS, first_of, fresh}

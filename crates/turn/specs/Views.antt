@@ -7,7 +7,8 @@ use Rattle.turn.specs.declared.view.Place.{Place}
 use Rattle.turn.specs.declared.view.Place.TheVariants.{Outside}
 use Rattle.turn.specs.declared.view.View.{View}
 use Rattle.turn.specs.Faults.{desk_faults, vault_faults}
-use Rattle.turn.specs.Meanings.{DeskMeaning, VaultMeaning, lines_of}
+use Rattle.history.specs.Lines.{lines_of}
+use Rattle.turn.specs.Meanings.{DeskMeaning, VaultMeaning}
 use Rattle.turn.specs.Queue.{total}
 
 -- A seat that lends nothing has all parts of its number, a helper one.

@@ -9,4 +9,6 @@ mod sharing;
 pub mod turn;
 mod vault_lock;
 pub mod view;
+#[cfg(test)]
+mod tests;
 mod words;

@@ -18,7 +18,8 @@ pub trait DeskValue {
     type Work;
 
     ghost use Rattle.std.specs.Prelude.{◌≡◌};
-    ghost use Rattle.turn.specs.Meanings.{DeskMeaning, horizon_of};
+    ghost use Rattle.history.specs.Lines.{horizon_of};
+    ghost use Rattle.turn.specs.Meanings.{DeskMeaning};
 
     ghost meaning: { DeskMeaning Self.Opening Self.Work Self };
 

@@ -2,7 +2,7 @@
 
 ghost use Rattle.std.specs.Prelude.{◌≡◌, ◌<◌, ◌≤◌, max, IfSome};
 ghost use mathlib.Core.List.{IsPrefix};
-ghost use Rattle.turn.specs.Meanings.{horizon_of, lines_of};
+ghost use Rattle.history.specs.Lines.{horizon_of, lines_of};
 ghost use Rattle.turn.specs.Seats.{IsSame, Rests, held, mine, opening, seen};
 ghost use Rattle.turn.specs.Views.{lending, lent, longer, returned};
 

@@ -2,7 +2,7 @@
 
 ghost use Rattle.std.specs.Prelude.{◌≡◌, ◌≤◌, IfSome};
 ghost use mathlib.Core.List.{IsPrefix};
-ghost use Rattle.turn.specs.Meanings.{lines_of};
+ghost use Rattle.history.specs.Lines.{lines_of};
 ghost use Rattle.turn.specs.Seats.{IsInVault, IsSame, MayLeaveVault, Rests, held, mine, opening, seen};
 ghost use Rattle.turn.specs.Views.{behind_vault};
 

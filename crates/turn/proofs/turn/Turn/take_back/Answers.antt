@@ -5,7 +5,7 @@ use lib.ListN.{get_elem?}
 use Rattle.history.specs.declared.journal.Line.{Line}
 use Rattle.turn.specs.declared.view.Holding.{Holding}
 use Rattle.turn.specs.declared.view.View.{View}
-use Rattle.turn.specs.Meanings.{lines_of}
+use Rattle.history.specs.Lines.{lines_of}
 use Rattle.turn.specs.Seats.{mine}
 use Rattle.turn.specs.Views.{first_of, returned, returned_view}
 use Rattle.turn.proofs.Cuts.{returns}
