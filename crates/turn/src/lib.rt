@@ -9,6 +9,4 @@ mod sharing;
 pub mod turn;
 mod vault_lock;
 pub mod view;
-#[cfg(test)]
-mod tests;
 mod words;
