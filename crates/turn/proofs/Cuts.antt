@@ -239,9 +239,9 @@ module _ {O W A B : Type 0} (o : OpeningMeaning O) (a : DeskMeaning O W A) (b : 
   deals id v out out' = splits id v (undealt v) (dealt v) out out' out out' refl refl
       (record { parts = firsts_total (λ (h : Holding W). h.parts) v.holds; numbers = λ n. firsts_total (parts_in n) v.holds; told = λ d c. firsts_total (λ (h : Holding W). fault_times d c h.faults) v.holds })
       (λ desk vault k.
-          let own = firsts_each (IsOwn (a.journal desk) (a.work_of desk)) v.holds k.own in
-          let newer = firsts_each IsNewer v.holds k.newer in
-          (with_holds desk vault v (others v.holds) out out' own.0 newer.0 k, new_knows desk vault v (firsts v.holds) own.1 newer.1 k))
+      let own = firsts_each (IsOwn (a.journal desk) (a.work_of desk)) v.holds k.own in
+      let newer = firsts_each IsNewer v.holds k.newer in
+      (with_holds desk vault v (others v.holds) out out' own.0 newer.0 k, new_knows desk vault v (firsts v.holds) own.1 newer.1 k))
 
   pub notes : (id : ℕ) (v : View O W A B) → v.desk ≡ Outside → v.vault ≡ Outside → Splits Rule id v v (note_of v)
   notes id v out out' = splits id v v (note_of v) out out' out out' refl refl
@@ -260,13 +260,13 @@ module _ {O W A B : Type 0} (o : OpeningMeaning O) (a : DeskMeaning O W A) (b : 
             let y = ap (total (λ (g : Holding W). fault_times d c g.faults)) one in omega arith;
       })
       (λ desk vault k.
-          let own : IsOwn (a.journal desk) (a.work_of desk) h = k.own 0 h (ap (λ (hs : List (Holding W)). get_elem? hs 0) one) in
-          let newer : IsNewer h = k.newer 0 h (ap (λ (hs : List (Holding W)). get_elem? hs 0) one) in
-          let P : Holding W → Type 0 = IsOwn (a.journal desk) (a.work_of desk) in (
-            with_holds desk vault v (map lending v.holds) out out' (subst (Each P) (sym (ap (map lending) one)) (only_one P (lending h) (λ p. own (omega arith)))) (subst AreNewer (sym (ap (map lending) one)) (only_one IsNewer (lending h) newer)) k,
-            new_knows desk vault v (map lent v.holds) (subst (Each P) (sym (ap (map lent) one)) (only_one P (lent h) (λ p. own (omega arith))))
-                (subst AreNewer (sym (ap (map lent) one)) (only_one IsNewer (lent h) (λ d c e lt t l. absurd (omega arith)))) k,
-          ))
+      let own : IsOwn (a.journal desk) (a.work_of desk) h = k.own 0 h (ap (λ (hs : List (Holding W)). get_elem? hs 0) one) in
+      let newer : IsNewer h = k.newer 0 h (ap (λ (hs : List (Holding W)). get_elem? hs 0) one) in
+      let P : Holding W → Type 0 = IsOwn (a.journal desk) (a.work_of desk) in (
+        with_holds desk vault v (map lending v.holds) out out' (subst (Each P) (sym (ap (map lending) one)) (only_one P (lending h) (λ p. own (omega arith)))) (subst AreNewer (sym (ap (map lending) one)) (only_one IsNewer (lending h) newer)) k,
+        new_knows desk vault v (map lent v.holds) (subst (Each P) (sym (ap (map lent) one)) (only_one P (lent h) (λ p. own (omega arith))))
+            (subst AreNewer (sym (ap (map lent) one)) (only_one IsNewer (lent h) (λ d c e lt t l. absurd (omega arith)))) k,
+      ))
 
   -- a view that heard of another, with these holdings
   hears : (desk : A) (vault : B) (v w : View O W A B) (hs : List (Holding W)) → v.desk ≡ Outside → v.vault ≡ Outside → AreOwn (a.journal desk) (a.work_of desk) hs → AreNewer hs → Knows o a b desk vault v → Knows o a b desk vault w
@@ -309,9 +309,9 @@ module _ {O W A B : Type 0} (o : OpeningMeaning O) (a : DeskMeaning O W A) (b : 
             let q = ap (total (λ (z : Holding W). fault_times d c z.faults)) both_is in let sum = times_append d c h.faults g.faults in omega arith;
       })
       (λ desk vault k l.
-          let P : Holding W → Type 0 = IsOwn (a.journal desk) (a.work_of desk) in
-          let own : P h = k.own 0 h (ap (λ (hs : List (Holding W)). get_elem? hs 0) one) in
-          let own' : P g = l.own 0 g (ap (λ (hs : List (Holding W)). get_elem? hs 0) one') in
-          let lines : h.lines ≡ g.lines = (own part).0 ∙ sym ((own' (omega arith)).0 ∙ ap (λ (n : ℕ). lines_of n (a.journal desk)) same) in
-          hears desk vault v w both out out' (subst (Each P) (sym both_is) (only_one P (returned g h) (λ p. own part)))
-              (subst AreNewer (sym both_is) (only_one IsNewer (returned g h) (newer_both h g lines (k.newer 0 h (ap (λ (hs : List (Holding W)). get_elem? hs 0) one)) (l.newer 0 g (ap (λ (hs : List (Holding W)). get_elem? hs 0) one'))))) k l)
+      let P : Holding W → Type 0 = IsOwn (a.journal desk) (a.work_of desk) in
+      let own : P h = k.own 0 h (ap (λ (hs : List (Holding W)). get_elem? hs 0) one) in
+      let own' : P g = l.own 0 g (ap (λ (hs : List (Holding W)). get_elem? hs 0) one') in
+      let lines : h.lines ≡ g.lines = (own part).0 ∙ sym ((own' (omega arith)).0 ∙ ap (λ (n : ℕ). lines_of n (a.journal desk)) same) in
+      hears desk vault v w both out out' (subst (Each P) (sym both_is) (only_one P (returned g h) (λ p. own part)))
+      (subst AreNewer (sym both_is) (only_one IsNewer (returned g h) (newer_both h g lines (k.newer 0 h (ap (λ (hs : List (Holding W)). get_elem? hs 0) one)) (l.newer 0 g (ap (λ (hs : List (Holding W)). get_elem? hs 0) one'))))) k l)

@@ -86,9 +86,11 @@ module _ (old new : Device → ℕ) (d : Device) (c : ℕ) where
       told : rose old new e ≡ (e, new e) ∷ [] → (c < LAST → old e < new e) → Rose e
       told is up =
           let t : fault_times d c (rose old new e) ≡ one_fault d c (e, new e) + 0 = ap (fault_times d c) is in
-          let m = one_most d c e (new e) in
-          (omega arith, λ h. let o = one_is d c e (new e) (omega arith) in
-          (o.0, record { now = sym o.1 ∙ ap new o.0; above = λ lt. subst (λ (x : Device × ℕ). old x.0 < x.1) (λ i. (o.0 i, o.1 i)) (up lt) }))
+          let m = one_most d c e (new e) in (
+            omega arith,
+            λ h. let o = one_is d c e (new e) (omega arith) in
+                (o.0, record { now = sym o.1 ∙ ap new o.0; above = λ lt. subst (λ (x : Device × ℕ). old x.0 < x.1) (λ i. (o.0 i, o.1 i)) (up lt) }),
+          )
 
       go : (p q : Bool) → ltb (old e) (new e) ≡ p → eqb (new e) LAST ≡ q → Rose e
       go true q x y = told (ap (λ (b : Bool). cond (b || eqb (new e) LAST) ((e, new e) ∷ []) []) x) (λ _. ltb-true (old e) (new e) x)
@@ -98,9 +100,11 @@ module _ (old new : Device → ℕ) (d : Device) (c : ℕ) where
           last z =
               let is : rose old new e ≡ (e, new e) ∷ [] = ap (λ (b : Bool × Bool). cond (b.0 || b.1) ((e, new e) ∷ []) []) (λ i. (x i, y i)) in
               let t : fault_times d c (rose old new e) ≡ one_fault d c (e, new e) + 0 = ap (fault_times d c) is in
-              let m = one_most d c e (new e) in
-              (omega arith, λ h. let o = one_is d c e (new e) (omega arith) in
-              (o.0, record { now = sym o.1 ∙ ap new o.0; above = λ lt. let k = o.1 in absurd (omega arith) }))
+              let m = one_most d c e (new e) in (
+                omega arith,
+                λ h. let o = one_is d c e (new e) (omega arith) in
+                    (o.0, record { now = sym o.1 ∙ ap new o.0; above = λ lt. let k = o.1 in absurd (omega arith) }),
+              )
       go false false x y =
           let is : rose old new e ≡ [] = ap (λ (b : Bool × Bool). cond (b.0 || b.1) ((e, new e) ∷ []) []) (λ i. (x i, y i)) in
           let t : fault_times d c (rose old new e) ≡ 0 = ap (fault_times d c) is in

@@ -174,12 +174,14 @@ module _ {X S : Type 0} (t s : ℕ) (value : S) (slot : maybe.Option (Option S))
       let here = is_served t s ps l.queue me n at few found in
       let nobody = nobody_inside t s ps l.queue me n at here in
       let stands = l.queue.each me (Waits n) at in
-      ⊎_elim (λ (h : (slot ≡ some (Some value)) × (total is_inside ps ≡ 0)).
-          (h.0, λ x. let sum = total_set is_inside ps me (Waits n) (Inside n x) at in record {
-            queue = stays_in t s ps l.queue me (Waits n) (Inside n x) (at_length ps me (Waits n) at) at refl refl refl (let b = stands.1 in (here, omega arith, stands.2));
-            home = inr (refl, omega arith);
-          }))
-          (λ (h : (slot ≡ none) × (total is_inside ps ≡ 1)). let one = h.1 in absurd (omega arith)) l.home
+      ⊎_elim (λ (h : (slot ≡ some (Some value)) × (total is_inside ps ≡ 0)). (
+        h.0,
+        λ x. let sum = total_set is_inside ps me (Waits n) (Inside n x) at in record {
+          queue = stays_in t s ps l.queue me (Waits n) (Inside n x) (at_length ps me (Waits n) at) at refl refl refl (let b = stands.1 in (here, omega arith, stands.2));
+          home = inr (refl, omega arith);
+        },
+      ))
+      (λ (h : (slot ≡ none) × (total is_inside ps ≡ 1)). let one = h.1 in absurd (omega arith)) l.home
 
   -- while a seat is inside, the value is out
   pub lock_away : (me n : ℕ) (x : X) → get_elem? ps me ≡ some (Inside n x) → (slot ≡ none) × (total is_inside ps ≡ 1)

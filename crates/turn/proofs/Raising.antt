@@ -174,9 +174,12 @@ module _ {O W A B : Type 0} (o : OpeningMeaning O) (a : DeskMeaning O W A) (b : 
             vault_lock = subst (Lock r.words.vault_ticket r.words.vault_serving (Vault new) r.vault_slot) (sym (new_places vault_of s.views id w (Inside n new) refl)) lock;
             seats = raise_seats r.desk r.vault new s.views id n m.0 h r.seats at one part inside' may'.held may'.counts r.agree.counts (λ j p other e. alone j p place other e);
           },
-          (refl, λ j y z e c.
-              let t : n ≡ j = ap ticket_of (sym inside ∙ e) in
-              let vy : r.vault ≡ y = sym here ∙ same_value n j old y (sym inside ∙ e) in
-              let vz : new ≡ z = ap (in_hand new) (sym carried ∙ c) in
-              λ i. raised (t i) (vy i) (vz i) m.0),
+          (
+            refl,
+            λ j y z e c.
+                let t : n ≡ j = ap ticket_of (sym inside ∙ e) in
+                let vy : r.vault ≡ y = sym here ∙ same_value n j old y (sym inside ∙ e) in
+                let vz : new ≡ z = ap (in_hand new) (sym carried ∙ c) in
+                λ i. raised (t i) (vy i) (vz i) m.0,
+          ),
         )

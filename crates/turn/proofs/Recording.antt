@@ -284,9 +284,12 @@ module _ {O W A B : Type 0} (o : OpeningMeaning O) (a : DeskMeaning O W A) (b : 
             vault_lock = subst (Lock r.words.vault_ticket r.words.vault_serving (Vault r.vault) r.vault_slot) (sym (same_places vault_of s.views id m.0 w at refl)) r.vault_lock;
             seats = record_seats r.desk new r.vault s.views id n m.0 h r.seats at one may' r.agree.counts part (λ j p other e. alone j p place other e);
           },
-          (refl, λ j x y e c.
-              let t : n ≡ j = ap ticket_of (sym inside ∙ e) in
-              let vx : r.desk ≡ x = sym here ∙ same_value n j old x (sym inside ∙ e) in
-              let vy : new ≡ y = ap (in_hand new) (sym carried ∙ c) in
-              λ i. recorded (t i) (vx i) (vy i) m.0),
+          (
+            refl,
+            λ j x y e c.
+                let t : n ≡ j = ap ticket_of (sym inside ∙ e) in
+                let vx : r.desk ≡ x = sym here ∙ same_value n j old x (sym inside ∙ e) in
+                let vy : new ≡ y = ap (in_hand new) (sym carried ∙ c) in
+                λ i. recorded (t i) (vx i) (vy i) m.0,
+          ),
         )

@@ -22,7 +22,6 @@ abbrev pub At : Type 0 → Type 0 → Type 0
 At A B = Step (Option (Kept A B))
 
 module _ {O W A B : Type 0} where
-
   abbrev pub draws_desk : At A B → Sat O W A B → ℕ → Sat O W A B → Type 0
   draws_desk st m found m' = (m'.1 ≡ m.1) × ((n : ℕ) × (found ≡ n % 18446744073709551616) × (m'.0 ≡ record m.0 { desk = Waits n }))
 

@@ -31,7 +31,10 @@ impl<A: DeskValue, B: VaultValue<A::Opening>> Turn<A, B> {
         ensures held { held seat.old ≤ held seat.new }
         ensures acked { A.meaning.acked result ≤ held seat.new }
     {
-        let ticket = self.table.shared.fetch_add::<DrawsDesk>(&mut seat.seat, 0, 1);
+        let ticket = self
+            .table
+            .shared
+            .fetch_add::<DrawsDesk>(&mut seat.seat, 0, 1);
         for _ in rt.forever() {
             let serving = self.table.shared.load::<ReadsDesk<A>>(&mut seat.seat, 1);
             if serving == ticket {
@@ -60,7 +63,9 @@ impl<A: DeskValue, B: VaultValue<A::Opening>> Turn<A, B> {
             .shared
             .exchange(&mut seat.seat, 0, Some(Kept::Desk(desk)));
         let None = left else { unreachable!() };
-        self.table.shared.store::<Records<A>>(&mut seat.seat, 2, word);
+        self.table
+            .shared
+            .store::<Records<A>>(&mut seat.seat, 2, word);
         self.table
             .shared
             .fetch_add::<ServesDesk>(&mut seat.seat, 1, 1);

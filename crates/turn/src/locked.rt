@@ -15,6 +15,7 @@ pub trait Opening {
 /// What lies in the desk's lock: the side of a store that keeps its journal.
 pub trait DeskValue {
     type Opening: Opening;
+
     type Work;
 
     ghost use Rattle.std.specs.Prelude.{◌≡◌};

@@ -89,9 +89,10 @@ pub(crate) struct ReadsVault<A, B> {
     of: PhantomData<(A, B)>,
 }
 
-impl<A: DeskValue, B: VaultValue<A::Opening>>
-    Play<Option<Kept<A, B>>, View<A::Opening, A::Work, A, B>> for ReadsVault<A, B>
-{
+impl<A: DeskValue, B: VaultValue<A::Opening>> Play<
+    Option<Kept<A, B>>,
+    View<A::Opening, A::Work, A, B>,
+> for ReadsVault<A, B> {
     ghost use Rattle.turn.specs.Plays.{reads_vault};
 
     ghost then = { reads_vault A.Opening.meaning B.meaning };
@@ -101,9 +102,10 @@ pub(crate) struct Raises<A, B> {
     of: PhantomData<(A, B)>,
 }
 
-impl<A: DeskValue, B: VaultValue<A::Opening>>
-    Play<Option<Kept<A, B>>, View<A::Opening, A::Work, A, B>> for Raises<A, B>
-{
+impl<A: DeskValue, B: VaultValue<A::Opening>> Play<
+    Option<Kept<A, B>>,
+    View<A::Opening, A::Work, A, B>,
+> for Raises<A, B> {
     ghost use Rattle.turn.specs.Plays.{raises};
 
     ghost then = { raises B.meaning };

@@ -24,11 +24,7 @@ impl<A: DeskValue, B: VaultValue<A::Opening>> Turn<A, B> {
         ensures own { (mine seat.old).lines ≡ lines_of seat.old.number (seen seat.new) }
         ensures lawful { IfSome (opening seat.old) (λ x. A.Opening.meaning.Lawful x (seen seat.new)) }
     {
-        horizon_in(
-            self.table
-                .shared
-                .load::<SeesHorizon<A>>(&mut seat.seat, 2),
-        )
+        horizon_in(self.table.shared.load::<SeesHorizon<A>>(&mut seat.seat, 2))
     }
 
     /// A helper of the seat, which records nothing, as the seat then doesn't either. A seat has at most fifteen.

@@ -1,7 +1,6 @@
 //! The table with the two locks: how it is made and closed.
 
 ghost use Rattle.std.specs.Prelude.{◌≡◌, ◌≤◌, ◌*◌, ◌∷◌, ℕ, [], length, Some, IfOk, IfErr};
-
 ghost use Rattle.turn.specs.Rule.{Knows};
 ghost use Rattle.turn.specs.declared.view.Kept.TheVariants.{Desk, Vault};
 ghost use Rattle.turn.specs.declared.view.Place.TheVariants.{Outside};
@@ -31,9 +30,11 @@ pub(crate) struct Order<A, B> {
     of: PhantomData<(A, B)>,
 }
 
-impl<A: DeskValue, B: VaultValue<A::Opening>>
-    TableRule<Option<Kept<A, B>>, View<A::Opening, A::Work, A, B>, Key<A>> for Order<A, B>
-{
+impl<A: DeskValue, B: VaultValue<A::Opening>> TableRule<
+    Option<Kept<A, B>>,
+    View<A::Opening, A::Work, A, B>,
+    Key<A>,
+> for Order<A, B> {
     ghost use Rattle.turn.specs.Rule.{IsRuled};
     ghost use Rattle.turn.specs.Views.{first_view};
 
@@ -44,8 +45,13 @@ impl<A: DeskValue, B: VaultValue<A::Opening>>
 
 /// A desk and a vault, each in a lock that its seats enter in turn.
 pub struct Turn<A: DeskValue, B: VaultValue<A::Opening>> {
-    pub(crate) table:
-        Table<Option<Kept<A, B>>, View<A::Opening, A::Work, A, B>, Key<A>, Order<A, B>, Global>,
+    pub(crate) table: Table<
+        Option<Kept<A, B>>,
+        View<A::Opening, A::Work, A, B>,
+        Key<A>,
+        Order<A, B>,
+        Global,
+    >,
     ghost words: { table.shared.table_id.words ≡ 6 },
     ghost slots: { table.shared.table_id.slots ≡ 2 },
 }

@@ -28,9 +28,15 @@ impl<A: DeskValue, B: VaultValue<A::Opening>> Turn<A, B> {
         ensures held { held seat.new ≡ B.meaning.held result }
         ensures rises { held seat.old ≤ held seat.new }
     {
-        let ticket = self.table.shared.fetch_add::<DrawsVault>(&mut seat.seat, 3, 1);
+        let ticket = self
+            .table
+            .shared
+            .fetch_add::<DrawsVault>(&mut seat.seat, 3, 1);
         for _ in rt.forever() {
-            let serving = self.table.shared.load::<ReadsVault<A, B>>(&mut seat.seat, 4);
+            let serving = self
+                .table
+                .shared
+                .load::<ReadsVault<A, B>>(&mut seat.seat, 4);
             if serving == ticket {
                 let taken = self.table.shared.exchange(&mut seat.seat, 1, None);
                 let Some(Kept::Vault(vault)) = taken else {

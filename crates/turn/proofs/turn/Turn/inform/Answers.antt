@@ -52,5 +52,5 @@ returns-clause-own g c =
     let l = c.load.ensures.2 in
     let h : Holding _ = mine c.args.one.now in
     let one : c.join_seat.new.seat.me.0.holds ≡ h ∷ [] = ap (λ (v : View _ _ _ _). v.holds) j
-        ∙ (ap (λ (x : List (Holding _)). x ++ w.holds) r.seat.one ∙ ap (λ (v : View _ _ _ _). h ∷ v.holds) is) in
+    ∙ (ap (λ (x : List (Holding _)). x ++ w.holds) r.seat.one ∙ ap (λ (v : View _ _ _ _). h ∷ v.holds) is) in
     own_front l.journal l.works c.load.new.seat.me.0.seen c.join_seat.new.seat.me.0.holds h c.args.one.now.number l.begins l.own one r.seat.part r.seat.number

@@ -11,7 +11,7 @@ use Rattle.turn.proofs.turn.Turn.new.Goals as goal
 pub new-requires : goal.new-requires
 new-requires g c =
     rw (c.in-Ok-in_slots.ensures.ok, c.of-first.ensures, c.held.ensures) (starts g.A.Opening.Opening.meaning g.A.DeskValue.meaning g.B.VaultValue.meaning c.args.seats c.args.desk c.args.vault c.word_of.result c.requires.seats c.requires.open
-        (subst (IsHorizon c.word_of.result) c.horizon.ensures c.word_of.ensures))
+    (subst (IsHorizon c.word_of.result) c.horizon.ensures c.word_of.ensures))
 
 pub split_seat-seat-requires : goal.split_seat-seat-requires
 split_seat-seat-requires g c =

@@ -15,13 +15,13 @@ use Rattle.turn.proofs.turn.Turn.take_back.Goals as goal
 
 pub join_seat-requires : goal.join_seat-requires
 join_seat-requires g c = let r = c.requires.rests in (
-      r.0.seat.table,
-      r.1.seat.table,
-      r.1.slots,
-      search rules,
-      returns _ _ _ _ _ _ _ (mine c.args.seat.now) (mine c.args.helper) c.args.seat.now.seat.me.0 c.args.helper.seat.me.0 r.0.desk r.0.vault r.1.desk r.1.vault
-          r.0.seat.one r.1.seat.one r.0.seat.part c.requires.helper.1 (r.1.seat.number ∙ (c.requires.helper.0 ∙ sym r.0.seat.number)),
-    )
+  r.0.seat.table,
+  r.1.seat.table,
+  r.1.slots,
+  search rules,
+  returns _ _ _ _ _ _ _ (mine c.args.seat.now) (mine c.args.helper) c.args.seat.now.seat.me.0 c.args.helper.seat.me.0 r.0.desk r.0.vault r.1.desk r.1.vault
+      r.0.seat.one r.1.seat.one r.0.seat.part c.requires.helper.1 (r.1.seat.number ∙ (c.requires.helper.0 ∙ sym r.0.seat.number)),
+)
 
 pub load-requires : goal.load-requires
 load-requires g c = (c.join_seat.ensures.0 ∙ c.requires.rests.0.seat.table, search rules, settle _ _ _ _ _ _ _ c.join_seat.new.seat.me)
