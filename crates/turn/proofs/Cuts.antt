@@ -1,31 +1,30 @@
 -- Cutting and joining of views keeps the rule of the table.
-use Rattle.std.proofs.Common.{◌≡◌, ℕ, zero, suc, ◌+◌, ◌-◌, ◌<◌, ◌≤◌, ◌⊎◌, max, List, [], ◌∷◌, ◌++◌, map, length, get_or, set, eqb, cond, Bool, true, false, refl, ap, sym, ◌∙◌, subst, inl, inr, ⊎_elim, arith, Option, append-nil}
+use Rattle.std.proofs.Common.{◌≡◌, ℕ, zero, suc, ◌+◌, ◌-◌, ◌<◌, ◌⊎◌, max, List, [], ◌∷◌, ◌++◌, map, set, eqb, cond, Bool, true, false, refl, ap, sym, ◌∙◌, subst, inl, inr, ⊎_elim, arith, Option}
 use mathlib.Core.Option.{some, some-injective, some-ne-none}
 use mathlib.Core.List.{IsPrefix, map-append}
 use mathlib.Core.Logic.{dite}
 use native.Mathlib.Decide.{dec_lt}
 use lib.ListN.{get_elem?}
-use lib.Seq.{map-set}
 use Rattle.atomic_table.specs.Table.{State, Enters, Splits, Joins}
-use Rattle.atomic_table.proofs.Lists.{at_map, at_snoc, set_again, set_else}
+use Rattle.atomic_table.proofs.Lists.{at_snoc, set_else}
 use Rattle.retro_base.specs.declared.device.Device.{Device}
 use Rattle.history.specs.declared.journal.Line.{Line}
 use Rattle.turn.specs.declared.view.Holding.{Holding}
 use Rattle.turn.specs.declared.view.Kept.{Kept}
 use Rattle.turn.specs.declared.view.Kept.TheVariants.{Desk, Vault}
 use Rattle.turn.specs.declared.view.Place.{Place}
-use Rattle.turn.specs.declared.view.Place.TheVariants.{Outside, Waits, Inside}
+use Rattle.turn.specs.declared.view.Place.TheVariants.{Outside}
 use Rattle.turn.specs.declared.view.View.{View}
 use Rattle.turn.specs.Faults.{fault_lines, fault_times}
 use Rattle.history.specs.Lines.{lines_of}
 use Rattle.turn.specs.Meanings.{OpeningMeaning, DeskMeaning, VaultMeaning}
 use Rattle.turn.specs.Queue.{Lock, total, tickets_in}
-use Rattle.turn.specs.Rule.{AreFronts, AreOwn, AreNewer, AreParts, AreSeats, IsCounted, IsNewer, IsOwn, IsRuled, Knows, count_now, told_times}
+use Rattle.turn.specs.Rule.{AreOwn, AreNewer, AreParts, IsCounted, IsNewer, IsOwn, IsRuled, Knows, count_now, told_times}
 use Rattle.turn.specs.Views.{dealt, desk_of, first_of, firsts, joined, lending, lending_view, lent, lent_view, note_of, others, parts_at, parts_in, parts_of, returned, returned_view, spent, undealt, vault_of}
 use Rattle.turn.proofs.Faults.{times_append}
 use Rattle.turn.proofs.Locks.{lock_more}
 use Rattle.turn.proofs.Recording.{only_one}
-use Rattle.turn.proofs.Seating.{keep_total, moved, same_places, place_at}
+use Rattle.turn.proofs.Seating.{moved, same_places}
 use Rattle.turn.proofs.Totals.{total_append, total_set}
 
 -- what is said of each of a list

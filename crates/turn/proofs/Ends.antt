@@ -1,13 +1,12 @@
 -- The table at its start, with the seats that are dealt out, and at its end, with those that are gathered.
-use Rattle.std.proofs.Common.{◌≡◌, ℕ, zero, suc, ◌+◌, ◌-◌, ◌*◌, ◌<◌, ◌≤◌, ◌⊎◌, List, [], ◌∷◌, ◌++◌, map, length, slice_get, eqb, cond, refl, ap, sym, ◌∙◌, subst, inl, inr, ⊎_elim, arith, Option, Some, None, is_some, eq-eqb, ne_eqb}
+use Rattle.std.proofs.Common.{◌≡◌, ℕ, zero, suc, ◌+◌, ◌-◌, ◌*◌, ◌<◌, ◌≤◌, ◌⊎◌, List, [], ◌∷◌, ◌++◌, map, length, slice_get, cond, refl, ap, sym, ◌∙◌, subst, inl, inr, ⊎_elim, arith, Option, Some, None, is_some, eq-eqb, ne_eqb}
 use mathlib.Core.Option.{some, some-injective, some-ne-none}
 use mathlib.Core.List.{IsPrefix}
 use mathlib.Core.Logic.{dite}
-use native.Mathlib.Decide.{ℕ_discrete, dec_le, dec_lt}
+use native.Mathlib.Decide.{ℕ_discrete, dec_le}
 use lib.ListN.{get_elem?}
 use Rattle.atomic_table.specs.Seated.{TableId}
-use Rattle.atomic_table.specs.Table.{State, opening, Final, Seen}
-use Rattle.atomic_table.proofs.Lists.{at_map}
+use Rattle.atomic_table.specs.Table.{opening, Final, Seen}
 use Rattle.retro_base.specs.declared.device.Device.{Device}
 use Rattle.history.specs.declared.journal.Line.{Line}
 use Rattle.turn.specs.declared.seat.SeatOver.{SeatOver}
@@ -17,18 +16,17 @@ use Rattle.turn.specs.declared.view.Kept.TheVariants.{Desk, Vault}
 use Rattle.turn.specs.declared.view.Place.{Place}
 use Rattle.turn.specs.declared.view.Place.TheVariants.{Outside, Waits, Inside}
 use Rattle.turn.specs.declared.view.View.{View}
-use Rattle.turn.specs.Faults.{LAST, fault_lines, fault_times}
+use Rattle.turn.specs.Faults.{fault_lines, fault_times}
 use Rattle.history.specs.Lines.{horizon_of, lines_of}
 use Rattle.turn.specs.Meanings.{OpeningMeaning, DeskMeaning, VaultMeaning}
 use Rattle.turn.specs.Queue.{Lock, Stands, total, tickets_in, is_inside}
-use Rattle.turn.specs.Rule.{IsHorizon, IsNewer, IsOwn, IsRuled, Knows, words_of, told_times}
+use Rattle.turn.specs.Rule.{IsHorizon, IsNewer, IsOwn, IsRuled, Knows}
 use Rattle.turn.specs.Seats.{AreClosed, AreNew, AreRight, AreWhole, Covers, IsRight, MayOpen, Rests, mine, seen, view_of}
 use Rattle.turn.specs.Seats as at
-use Rattle.turn.specs.Views.{PARTS, dealt, desk_of, first_of, first_view, fresh, fresh_from, holding, joined, parts_at, parts_in, parts_of, undealt, vault_of, view}
+use Rattle.turn.specs.Views.{PARTS, dealt, desk_of, first_of, first_view, fresh, fresh_from, joined, parts_in, parts_of, undealt, vault_of, view}
 use Rattle.turn.proofs.Cuts.{Each, front_each, back_each, none_each}
-use Rattle.turn.proofs.Recording.{only_one}
-use Rattle.turn.proofs.Seating.{at_mapped, place_at}
-use Rattle.turn.proofs.Totals.{total_append, total_at, total_le, total_some, total_two}
+use Rattle.turn.proofs.Seating.{at_mapped}
+use Rattle.turn.proofs.Totals.{total_append, total_some, total_two}
 
 fresh_parts : (W : Type 0) (k n : ℕ) → total (λ (h : Holding W). h.parts) (fresh_from k n) ≡ PARTS * n
 fresh_parts W k zero = refl

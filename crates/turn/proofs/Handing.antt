@@ -1,8 +1,7 @@
 -- A seat between its steps.
-use Rattle.std.proofs.Common.{◌≡◌, ℕ, ◌<◌, ◌≤◌, ◌+◌, List, [], ◌∷◌, map, is_some, Bool, true, false, refl, ap, sym, ◌∙◌, subst, arith, Option, Some, None, IfSome}
+use Rattle.std.proofs.Common.{◌≡◌, ℕ, ◌<◌, List, [], ◌∷◌, map, is_some, true, refl, ap, sym, ◌∙◌, subst, arith, Option, Some, None, IfSome}
 use mathlib.Core.List.{IsPrefix}
 use lib.ListN.{get_elem?}
-use mathlib.Core.Option.{some}
 use Rattle.atomic_table.specs.Seated.{TableId}
 use Rattle.history.specs.declared.journal.Line.{Line}
 use Rattle.turn.specs.declared.seat.SeatOver.{SeatOver}
@@ -15,7 +14,7 @@ use Rattle.history.specs.Lines.{lines_of}
 use Rattle.turn.specs.Meanings.{DeskMeaning, VaultMeaning}
 use Rattle.turn.specs.Queue.{total}
 use Rattle.turn.specs.Rule.{AreOwn}
-use Rattle.turn.specs.Seats.{IsSeat, Rests, mine, opening, seen, view_of}
+use Rattle.turn.specs.Seats.{IsSeat, Rests, mine, opening, view_of}
 use Rattle.turn.specs.Views.{behind_desk, behind_vault, first_of, parts_of}
 use Rattle.turn.proofs.Fronts.{lines_front}
 

@@ -1,17 +1,16 @@
 -- A step of one seat, and the facts of all seats.
-use Rattle.std.proofs.Common.{◌≡◌, ◌≢◌, ℕ, zero, suc, ◌+◌, ◌<◌, ◌≤◌, List, [], ◌∷◌, map, length, set, cond, max, refl, ap, sym, ◌∙◌, subst, ⊎_elim, arith, Option}
+use Rattle.std.proofs.Common.{◌≡◌, ◌≢◌, ℕ, zero, suc, ◌+◌, ◌<◌, ◌≤◌, List, [], ◌∷◌, map, set, refl, ap, sym, ◌∙◌, subst, ⊎_elim, arith}
 use mathlib.Core.Option.{some, some-injective, some-ne-none}
 use lib.ListN.{get_elem?}
 use lib.Seq.{map-set}
 use Rattle.atomic_table.proofs.Lists.{at_set, set_again, at_map}
-use Rattle.retro_base.specs.declared.device.Device.{Device}
 use Rattle.turn.specs.declared.view.Holding.{Holding}
 use Rattle.turn.specs.declared.view.Place.{Place}
 use Rattle.turn.specs.declared.view.Place.TheVariants.{Outside, Waits, Inside}
 use Rattle.turn.specs.declared.view.View.{View}
 use Rattle.turn.specs.Faults.{fault_lines, fault_times}
 use Rattle.turn.specs.Meanings.{OpeningMeaning, DeskMeaning, VaultMeaning}
-use Rattle.turn.specs.Queue.{total, tickets_in, ticket_of, is_inside}
+use Rattle.turn.specs.Queue.{total, tickets_in, ticket_of}
 use Rattle.turn.specs.Rule.{AreParts, AreSeats, IsCounted, Knows, count_now, told_times}
 use Rattle.turn.specs.Views.{parts_at, parts_in, parts_of, desk_of, vault_of}
 use Rattle.turn.proofs.Totals.{total_set, total_le, total_map}

@@ -1,5 +1,5 @@
 -- The steps that record nothing keep the rule of the table.
-use Rattle.std.proofs.Common.{◌≡◌, ◌≢◌, ℕ, ◌+◌, ◌%◌, ◌<◌, ◌≤◌, List, [], ◌∷◌, map, length, get_or, set, refl, ap, sym, ◌∙◌, subst, arith, Option, Some, None}
+use Rattle.std.proofs.Common.{◌≡◌, ◌≢◌, ℕ, ◌+◌, ◌%◌, ◌<◌, List, [], ◌∷◌, map, get_or, set, refl, ap, sym, ◌∙◌, subst, arith, Option, Some}
 use mathlib.Core.Option.{some, none, some-ne-none}
 use mathlib.Core.Option as maybe
 use mathlib.Core.Logic.{dite}
@@ -21,7 +21,7 @@ use Rattle.turn.specs.Plays.{Sat, draws_desk, draws_vault, reads_desk, reads_vau
 use Rattle.turn.specs.Queue.{Lock, tickets_in}
 use Rattle.turn.specs.Rule.{IsHorizon, IsRuled, Knows}
 use Rattle.turn.specs.Views.{desk_of, vault_of, parts_of, longest}
-use Rattle.turn.proofs.Fronts.{prefix_self, prefix_trans, prefix_both, longest_of}
+use Rattle.turn.proofs.Fronts.{prefix_self, prefix_both, longest_of}
 use Rattle.turn.proofs.Locks.{lock_draws, lock_served, lock_serves}
 use Rattle.turn.proofs.Seating.{same_value, same_ticket, same_places, new_places, place_at, few_desk, few_vault, reseated}
 

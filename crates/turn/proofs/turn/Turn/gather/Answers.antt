@@ -1,6 +1,6 @@
 use Rattle.std.proofs.Common.{rules, arith, refl, ap, sym, ◌∙◌, ◌≡◌, subst, List, ◌∷◌, [], ◌++◌, append-nil, append_assoc, length}
 use Rattle.turn.specs.declared.view.View.{View}
-use Rattle.turn.specs.Seats.{AreWhole, Covers, view_of}
+use Rattle.turn.specs.Seats.{AreWhole, Covers}
 use Rattle.turn.specs.Views.{joined, parts_of}
 use Rattle.turn.proofs.Cuts.{enters, gathers}
 use Rattle.turn.proofs.Ends.{covers_one, parts_joined, parts_whole, whole_front, whole_last}

@@ -1,4 +1,4 @@
-use Rattle.std.proofs.Common.{rules, ◌≡◌}
+use Rattle.std.proofs.Common.{rules}
 use Rattle.turn.proofs.Handing.{if_some}
 use Rattle.turn.proofs.Steps.{see_horizon}
 use Rattle.turn.proofs.turn.Turn.horizon.Goals as goal

@@ -1,4 +1,4 @@
-use Rattle.std.proofs.Common.{rules, refl, sym, ap, ◌∙◌, ◌≡◌, subst, List, ◌∷◌, [], ◌++◌}
+use Rattle.std.proofs.Common.{rules, ap, ◌∙◌, ◌≡◌, subst, List, ◌∷◌, [], ◌++◌}
 use mathlib.Core.List.{IsPrefix}
 use mathlib.Core.Option.{some}
 use lib.ListN.{get_elem?}

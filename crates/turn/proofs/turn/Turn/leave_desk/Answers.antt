@@ -1,7 +1,6 @@
 use Rattle.std.proofs.Common.{rules, sym, ap, refl, ◌∙◌, ◌≡◌, subst, Some, ◌∷◌, map}
 use Rattle.atomic_table.specs.Table.{rest}
 use Rattle.turn.specs.declared.view.Kept.TheVariants.{Desk}
-use Rattle.turn.specs.declared.view.View.{View}
 use Rattle.turn.specs.Rule.{IsHorizon}
 use Rattle.turn.specs.Seats.{MayLeave, mine}
 use Rattle.turn.specs.Views.{behind_desk, first_of}

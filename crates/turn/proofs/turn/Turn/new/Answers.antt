@@ -1,4 +1,4 @@
-use Rattle.std.proofs.Common.{rules, arith, ap, sym, refl, ◌∙◌, ◌≡◌, subst, ℕ, ◌∷◌, [], ◌++◌, Some, ◌<◌, ◌+◌, length, length-append}
+use Rattle.std.proofs.Common.{rules, arith, ap, sym, ◌∙◌, ◌≡◌, subst, ℕ, ◌∷◌, [], Some, ◌<◌, ◌+◌, length, length-append}
 use Rattle.turn.specs.declared.view.View.{View}
 use Rattle.turn.specs.Rule.{IsHorizon}
 use Rattle.turn.specs.Seats.{AreNew}
