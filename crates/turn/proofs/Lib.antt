@@ -1,0 +1,11 @@
+pub mod Cuts
+pub mod Ends
+pub mod Faults
+pub mod Fronts
+pub mod Handing
+pub mod Locks
+pub mod Raising
+pub mod Recording
+pub mod Seating
+pub mod Steps
+pub mod Totals

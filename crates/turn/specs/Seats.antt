@@ -1,0 +1,148 @@
+-- What contracts say of a seat.
+use Rattle.std.specs.Prelude.{◌≡◌, ℕ, ◌<◌, ◌≤◌, ◌⊎◌, ◌≢◌, ◌++◌, true, is_some, List, [], ◌∷◌, slice_get, Option, Some, None}
+use mathlib.Core.List.{IsPrefix}
+use Rattle.atomic_table.specs.Seated.{TableId}
+use Rattle.retro_base.specs.declared.device.Device.{Device}
+use Rattle.history.specs.declared.journal.Line.{Line}
+use Rattle.turn.specs.declared.seat.SeatOver.{SeatOver}
+use Rattle.turn.specs.declared.view.Holding.{Holding}
+use Rattle.turn.specs.declared.view.Place.TheVariants.{Outside, Inside}
+use Rattle.turn.specs.declared.view.View.{View}
+use Rattle.turn.specs.Faults.{LAST, desk_faults, fault_lines, fault_times, line_fault}
+use Rattle.history.specs.Lines.{lines_of}
+use Rattle.turn.specs.Meanings.{OpeningMeaning, DeskMeaning, VaultMeaning}
+use Rattle.turn.specs.Queue.{ticket_of}
+use Rattle.turn.specs.Rule.{Knows, count_now}
+use Rattle.turn.specs.Views.{PARTS, first_of, fresh}
+
+module _ {O W A B : Type 0} where
+  abbrev pub view_of : SeatOver O W A B → View O W A B
+  view_of s = s.seat.me.0
+
+  -- what the seat has seen of the journal
+  abbrev pub seen : SeatOver O W A B → List Line
+  seen s = s.seat.me.0.seen
+
+  -- the most that it has seen the vault hold
+  abbrev pub held : SeatOver O W A B → ℕ
+  held s = s.seat.me.0.held
+
+  abbrev pub opening : SeatOver O W A B → Option O
+  opening s = s.seat.me.0.opening
+
+  -- what it has under its number
+  abbrev pub mine : SeatOver O W A B → Holding W
+  mine s = first_of s.seat.me.0.holds
+
+  -- what is so of each seat and helper of the table, inside a lock or not
+  pub record IsSeat (z : TableId) (s : SeatOver O W A B) : Type 0 where
+    pub table : s.seat.table_id ≡ z
+    pub opened : is_some s.seat.me.0.opening ≡ true
+    pub heard : s.seat.me.0.heard ≡ []
+    pub one : s.seat.me.0.holds ≡ mine s ∷ []
+    pub number : (mine s).number ≡ s.number
+    pub part : 0 < (mine s).parts
+
+  -- outside both locks
+  pub record Rests (z : TableId) (s : SeatOver O W A B) : Type 0 where
+    pub seat : IsSeat z s
+    pub desk : s.seat.me.0.desk ≡ Outside
+    pub vault : s.seat.me.0.vault ≡ Outside
+    pub slots : s.seat.me.1 ≡ []
+
+  -- in the desk, which had this value when it was entered
+  pub record IsInDesk (z : TableId) (s : SeatOver O W A B) (value : A) : Type 0 where
+    pub seat : IsSeat z s
+    pub desk : s.seat.me.0.desk ≡ Inside (ticket_of s.seat.me.0.desk) value
+    pub vault : s.seat.me.0.vault ≡ Outside
+    pub slots : s.seat.me.1 ≡ (0, None) ∷ []
+
+  -- in the vault, which had this value when it was entered
+  pub record IsInVault (z : TableId) (s : SeatOver O W A B) (value : B) : Type 0 where
+    pub seat : IsSeat z s
+    pub desk : s.seat.me.0.desk ≡ Outside
+    pub vault : s.seat.me.0.vault ≡ Inside (ticket_of s.seat.me.0.vault) value
+    pub slots : s.seat.me.1 ≡ (1, None) ∷ []
+
+  -- the same seat, of the same number and opening
+  pub record IsSame (old new : SeatOver O W A B) : Type 0 where
+    pub id : new.seat.id ≡ old.seat.id
+    pub number : new.number ≡ old.number
+    pub opening : opening new ≡ opening old
+
+  -- the seats of a new table
+  abbrev pub AreNew : TableId → O → List (SeatOver O W A B) → Type 0
+  AreNew z o seats = (k : ℕ) (s : SeatOver O W A B) → slice_get seats k ≡ Some s → Rests z s × (s.number ≡ k) × (mine s ≡ fresh k) × (seen s ≡ []) × (opening s ≡ Some o)
+
+  -- seats with no helper out, outside both locks
+  abbrev pub AreWhole : TableId → List (SeatOver O W A B) → Type 0
+  AreWhole z seats = (k : ℕ) (s : SeatOver O W A B) → slice_get seats k ≡ Some s → Rests z s × ((mine s).parts ≡ PARTS)
+
+module _ {O W A : Type 0} (a : DeskMeaning O W A) where
+  -- The journal is as it was, and the work at each number
+  pub record IsQuiet (old new : A) : Type 0 where
+    pub journal : a.journal new ≡ a.journal old
+    pub works : (n : ℕ) → a.work_of new n ≡ a.work_of old n
+
+  -- One line more, of that number. A fault that it tells was told to its seat since the line before.
+  pub record AddsLine (mine : Holding W) (old new : A) : Type 0 where
+    pub line : Line
+    pub number : line.who.session ≡ mine.number
+    pub journal : a.journal new ≡ a.journal old ++ line ∷ []
+    pub told : (d : Device) (c : ℕ) → 0 < line_fault d c line.what → 0 < fault_times d c (mine.faults ++ desk_faults (a.counts old) (a.counts new))
+
+  -- a seat with no helper out may record a line of its number and change its work
+  pub record IsOwnChange (mine : Holding W) (old new : A) : Type 0 where
+    pub whole : mine.parts ≡ PARTS
+    pub works : (n : ℕ) → n ≢ mine.number → a.work_of new n ≡ a.work_of old n
+    pub journal : (a.journal new ≡ a.journal old) ⊎ AddsLine mine old new
+
+  -- what an entry of a seat may do to the desk
+  pub record MayLeave (o : OpeningMeaning O) (held : ℕ) (mine : Holding W) (old new : A) : Type 0 where
+    pub opening : a.opening new ≡ a.opening old
+    pub counts : (d : Device) → a.counts old d ≤ a.counts new d
+    pub change : IsQuiet old new ⊎ IsOwnChange mine old new
+    pub fits : a.Fits new
+    pub lawful : o.Lawful (a.opening new) (a.journal new)
+    pub acked : a.acked new ≤ held
+
+-- what an entry of a seat may do to the vault
+pub record MayLeaveVault {O B : Type 0} (b : VaultMeaning O B) (opening : Option O) (seen : List Line) (old new : B) : Type 0 where
+  pub held : b.held old ≤ b.held new
+  pub counts : (d : Device) → b.counts old d ≤ b.counts new d
+  pub fits : (x : O) → opening ≡ Some x → b.Fits new x seen
+
+-- what a seat has is what the desk has of its number
+pub record IsRight {O W A B : Type 0} (a : DeskMeaning O W A) (desk : A) (s : SeatOver O W A B) : Type 0 where
+  pub front : IsPrefix (seen s) (a.journal desk)
+  pub lines : (mine s).lines ≡ lines_of s.number (a.journal desk)
+  pub work : (mine s).work ≡ a.work_of desk s.number
+
+abbrev pub AreRight : {O W A B : Type 0} → DeskMeaning O W A → A → List (SeatOver O W A B) → Type 0
+AreRight {O = O} {W = W} {A = A} {B = B} a desk seats = (k : ℕ) (s : SeatOver O W A B) → slice_get seats k ≡ Some s → IsRight a desk s
+
+-- what is so of the two values at the start
+pub record MayOpen {O W A B : Type 0} (o : OpeningMeaning O) (a : DeskMeaning O W A) (b : VaultMeaning O B) (desk : A) (vault : B) : Type 0 where
+  pub empty : a.journal desk ≡ []
+  pub idle : (n : ℕ) → a.work_of desk n ≡ None
+  pub lawful : o.Lawful (a.opening desk) (a.journal desk)
+  pub desk_fits : a.Fits desk
+  pub vault_fits : b.Fits vault (a.opening desk) (a.journal desk)
+  pub acked : a.acked desk ≤ b.held vault
+  pub counts : (d : Device) → o.counts (a.opening desk) d ≤ count_now o a b desk vault d
+
+-- what is so of the two values at the end, of a table with so many seats
+pub record AreClosed {O W A B : Type 0} (o : OpeningMeaning O) (a : DeskMeaning O W A) (b : VaultMeaning O B) (limit : ℕ) (desk : A) (vault : B) : Type 0 where
+  pub lawful : o.Lawful (a.opening desk) (a.journal desk)
+  pub desk_fits : a.Fits desk
+  pub vault_fits : b.Fits vault (a.opening desk) (a.journal desk)
+  pub acked : a.acked desk ≤ b.held vault
+  -- no line and no work is of another number
+  pub foreign : (n : ℕ) → limit ≤ n → (lines_of n (a.journal desk) ≡ []) × (a.work_of desk n ≡ None)
+  -- each fault that a line tells stands once, above the count at the opening and not above that at the end
+  pub faults : (d : Device) (c : ℕ) → c < LAST → 0 < fault_lines d c (a.journal desk) →
+      (fault_lines d c (a.journal desk) ≡ 1) × (o.counts (a.opening desk) d < c) × (c ≤ count_now o a b desk vault d)
+
+-- what is right of a gathered view is right of each of these seats
+abbrev pub Covers : {O W A B : Type 0} → OpeningMeaning O → DeskMeaning O W A → VaultMeaning O B → View O W A B → List (SeatOver O W A B) → Type 0
+Covers {A = A} {B = B} o a b v seats = (desk : A) (vault : B) → Knows o a b desk vault v → AreRight a desk seats
