@@ -62,9 +62,9 @@ impl Batch {
     pub fn add(&mut self, page: u32, bytes: &Page)
         requires room { length self.old.images < BATCH }
         ensures { self.new ≡ record {
-            first = self.old.first;
-            low = self.old.low;
-            images = self.old.images ++ record { page = page; bytes = bytes.now } ∷ [];
+          first = self.old.first;
+          low = self.old.low;
+          images = self.old.images ++ record { page = page; bytes = bytes.now } ∷ [];
         } }
     {
         let (Ok(()), Ok(())) = (self.pages.push(page), self.bytes.push(*bytes)) else {
