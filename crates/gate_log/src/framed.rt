@@ -56,8 +56,7 @@ impl Framed {
 
     // The length of the body, and the body.
     pub(crate) fn sized(&self) -> &[u8]
-        ensures same { result.now ≡ sized self.now }
-        ensures short { length self.now < 2 ^ 32 }
+        ensures { result.now ≡ sized self.now }
     {
         let piece = self.as_bytes();
         &piece[..piece.len() - 1]

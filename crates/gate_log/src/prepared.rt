@@ -87,6 +87,7 @@ impl Prepared {
 }
 
 // What stands behind the gate of the header of a region with these bodies.
+#[tactic(auto, using(crate::proofs::Framing::bodies_one_more))]
 fn region_bytes(alloc: Global, generation: u64, bodies: &[Framed]) -> Result<Vec<u8>, Refusal>
     ensures ok { IfOk result (λ bytes. bytes.items ≡ region_tail generation bodies.now) }
     ensures short { OnOk result (AreBodies bodies.now) }
@@ -108,9 +109,9 @@ fn put_record(bytes: &mut Vec<u8>, framed: &Framed) -> Result<(), Refusal>
     ensures short { length framed.now < 2 ^ 32 }
     ensures err { IfErr result (λ refusal. refusal ≡ OutOfMemory) }
 {
-    let sized = framed.sized();
+    bytes.reserve(framed.len() as usize + 5)?;
     bytes.push(OPEN_GATE)?;
-    bytes.extend_from_slice(sized)?;
+    bytes.extend_from_slice(framed.sized())?;
     Ok(())
 }
 
