@@ -1,8 +1,8 @@
 -- How the loose bytes are taken, from the newest step back.
-use Rattle.std.proofs.Common.{◌≡◌, ◌∙◌, ◌⊎◌, ⊎_elim, inl, inr, ℕ, ◌+◌, ◌-◌, ◌≤◌, List, ◌∷◌, length, get_or, take, drop, sym, subst, ap, arith, length-drop}
+use Rattle.std.proofs.Common.{◌≡◌, ◌∙◌, ◌⊎◌, ⊎_elim, inl, inr, ℕ, ◌+◌, ◌-◌, ◌≤◌, List, ◌∷◌, length, get_or, take, drop, replicate, sym, subst, ap, arith, length-drop}
 use Rattle.std.specs.List.{AllByRecursion}
 use Rattle.std.proofs.lemmas.Bool.{cases_lt}
-use Rattle.std.proofs.lemmas.List.{get_or-take, get_or-drop, length-take-le}
+use Rattle.std.proofs.lemmas.List.{get_or-take, get_or-drop, length-take-le, length-replicate, take-replicate, drop-replicate}
 use Rattle.disk_model.specs.Disk.{InRange, written}
 use Rattle.disk_model.proofs.Written.{length-written, inside, same_outside}
 use Rattle.disk_mem.specs.History.{FitsIn, IsLoose, TakenFrom}
@@ -74,6 +74,23 @@ takes_on left all rest later step place count old mid split same_size fits withi
 
     is_left : (i : ℕ) → IsLoose later i ⊎ InRange place count i → IsLoose rest i
     is_left i loose = subst (λ (steps : List Step). IsLoose steps i) (sym split) (joined i loose)
+
+filled_piece : (fill place count size : ℕ) → place + count ≤ size → take count (drop place (replicate size fill)) ≡ replicate count fill
+filled_piece fill place count size fits = ap (take count) (drop-replicate place size fill) ∙ take-replicate count (size - place) fill (omega (arith, fits))
+
+-- the same where each byte that is taken is `fill`
+pub fills_on : (fill : ℕ) (all rest later : List Step) (step : Step) (place count : ℕ) (old mid : List ℕ)
+    → rest ≡ step ∷ later
+    → place + count ≤ length old
+    → AllByRecursion (FitsIn (length old)) later
+    → ((i : ℕ) → IsLoose (step ∷ later) i → IsLoose later i ⊎ InRange place count i)
+    → ((i : ℕ) → IsLoose later i ⊎ InRange place count i → IsLoose (step ∷ later) i)
+    → Taking (replicate (length old) fill) all rest old mid
+    → Taking (replicate (length old) fill) all later old (written place (replicate count fill) mid)
+fills_on fill all rest later step place count old mid split fits within apart joined run =
+    let filled = replicate (length old) fill in
+    subst (λ (bytes : List ℕ). Taking filled all later old (written place bytes mid)) (filled_piece fill place count (length old) fits)
+    (takes_on filled all rest later step place count old mid split (length-replicate (length old) fill) fits within apart joined run)
 
 -- no step is left after which a byte is loose
 pub all_taken : (left : List ℕ) (all rest : List Step) (old new : List ℕ) → ((i : ℕ) → IsLoose rest i → ⊥) → Taking left all rest old new → TakenFrom left (record { seen = old; is_loose = IsLoose all }) new

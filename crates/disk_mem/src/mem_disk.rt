@@ -76,8 +76,8 @@ impl MemDisk {
         ensures fresh { IfOk result (λ disk. disk ≡ fresh disk.past.first [] None) }
         ensures err { IfErr result (λ e. e ≡ OutOfMemory) }
     {
-        let left = vec![in alloc; fill; self.bytes().len()]?;
-        self.crash_as(alloc, &left)
+        let bytes = self.recording.crash(alloc, fill)?;
+        MemDisk::holding(alloc, bytes, Vec::new(alloc), None)
     }
 
     /// What a crash leaves now, where each loose byte is the one in that place of `left`: a device of which no

@@ -3,10 +3,10 @@ ghost use Rattle.std.specs.Prelude.{◌≡◌, ◌+◌, ◌-◌, ◌^◌, ◌<�
 ghost use Rattle.std.specs.VecDeque.{deque_capacity, deque_len};
 ghost use Rattle.disk_mem.specs.declared.recording.Step.TheVariants.{Wrote, Lost};
 ghost use Rattle.disk_mem.specs.Disks.{settled, stepped};
-ghost use Rattle.disk_mem.specs.History.{owed, state_of, synced, TakenFrom};
+ghost use Rattle.disk_mem.specs.History.{Filled, owed, state_of, synced, TakenFrom};
 ghost use Rattle.disk_model.specs.Disk.{written};
 
-use crate::crash::take_loose;
+use crate::crash::{fill_loose, take_loose};
 use std::alloc::{AllocError, Global};
 use std::collections::VecDeque;
 use std::marker::Model;
@@ -67,6 +67,15 @@ impl Recording {
         ensures { result.now ≡ (state_of self.now.past).seen }
     {
         &self.bytes
+    }
+
+    /// The bytes that a crash leaves where each loose one is `fill`.
+    pub fn crash(&self, alloc: Global, fill: u8) -> Result<Vec<u8>, AllocError>
+        ensures { IfOk result (λ bytes. Filled fill (state_of self.now.past) bytes.items) }
+    {
+        let mut bytes = self.bytes.to_vec(alloc)?;
+        fill_loose(&mut bytes, &self.steps, fill);
+        Ok(bytes)
     }
 
     /// The bytes that a crash leaves where each loose one is taken from `left`.

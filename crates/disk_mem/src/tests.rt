@@ -112,6 +112,33 @@ fn a_device_of_32_mib_takes_half_of_it_at_once(rt: HostRuntime) -> Result<(), Fa
     Ok(())
 }
 
+// Each place of forty has its number, of which the first twenty are durable, in a crash that fills with 0xa5.
+const LEFT_OF_FORTY: [u8; 40] = [
+    0, 1, 2, 3, 4, 5, 6, 7, 8, 9, 10, 11, 12, 13, 14, 15, 16, 17, 18, 19, 0xa5, 0xa5, 0xa5, 0xa5,
+    0xa5, 0xa5, 0xa5, 0xa5, 0xa5, 0xa5, 0xa5, 0xa5, 0xa5, 0xa5, 0xa5, 0xa5, 0xa5, 0xa5, 0xa5, 0xa5,
+];
+
+// Writes the number of each place of forty into it, and syncs behind the first twenty.
+fn write_forty<D: Disk>(disk: &mut D) -> Result<(), Failed> {
+    for place in 0..40u8 {
+        if place == 20 {
+            sync(disk)?;
+        }
+        write(disk, u64::from(place), &[place])?;
+    }
+    Ok(())
+}
+
+#[test]
+fn forty_writes_are_loose_behind_the_last_sync(rt: HostRuntime) -> Result<(), Fail> {
+    let alloc = rt.alloc();
+    let mut disk = new(alloc, 40, Vec::new(alloc), None)?;
+    let written = write_forty(&mut disk);
+    let left = leaves(alloc, &disk, 0xa5, &LEFT_OF_FORTY)?;
+    assert!(rt; (written, left, counts(&disk)) == (Ok(()), true, [0, 40, 1, 0]));
+    Ok(())
+}
+
 #[test]
 fn listed_calls_fail(rt: HostRuntime) -> Result<(), Fail> {
     let alloc = rt.alloc();
