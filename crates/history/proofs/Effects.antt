@@ -67,8 +67,7 @@ drop_leaves base lines line below sound what =
     let before : Base = base_of base lines in
     let right = base_stays_right base lines (front_is_sound base lines (line ∷ []) sound) in
     let is : base_of base (lines ++ line ∷ []) ≡ dropped before below =
-    base_of_one_more base lines line ∙ ap (λ (w : What). bases_after before (option_to_list (change_of before w))) what in
-    (
+    base_of_one_more base lines line ∙ ap (λ (w : What). bases_after before (option_to_list (change_of before w))) what in (
       ap (λ (b : Base). b.marks) is ∙ dropped_marks before below ∙ kept-filter before.captures 0 0 below before.marks right.marks,
       λ le. is ∙ dropped_none before below le,
     )

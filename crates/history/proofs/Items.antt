@@ -103,8 +103,7 @@ unfolding pins_at
 looks_pin base lines line =
     let there : Base = base_of base lines in
     let pins : List Pin = pins_of base [] lines in
-    let behind : What → List ℕ = λ (what : What). pinned_by line.who (pins_behind there pins line.who what) in
-    (
+    let behind : What → List ℕ = λ (what : What). pinned_by line.who (pins_behind there pins line.who what) in (
       λ snapshot is. ap (pinned_by line.who) (pins_of_one_more base lines line) ∙ ap behind is ∙ with_own (record { who = line.who; snapshot = snapshot }) pins,
       λ is. ap (pinned_by line.who) (pins_of_one_more base lines line) ∙ ap behind is ∙ own_look line.who there.marks pins,
     )
