@@ -1,22 +1,20 @@
 -- What drops and commits leave.
-use Rattle.std.proofs.Common.{◌≡◌, ◌<◌, ◌≤◌, ◌+◌, ◌∙◌, ◌&&◌, not, ℕ, Bool, true, false, cond, ltb, leb, List, [], ◌∷◌, ◌++◌, length, filter, Option, Some, None, refl, sym, ap, subst, arith}
+use Rattle.std.proofs.Common.{◌≡◌, ◌≤◌, ◌+◌, ◌∙◌, ◌&&◌, not, ℕ, Bool, true, false, cond, ltb, leb, List, [], ◌∷◌, ◌++◌, filter, Option, Some, None, refl, sym, ap, subst, arith}
 use Rattle.std.specs.Option.{option_or, option_to_list}
-use Rattle.std.proofs.lemmas.Bool.{le-leb, le-ltb, leb-true, leb-false, ltb-true, ltb-false, cond-true, cond-false}
+use Rattle.std.proofs.lemmas.Bool.{le-leb, le-ltb, leb-true, ltb-false, cond-true}
 use Rattle.retro_base.specs.declared.who.Who.{Who}
 use Rattle.history.specs.declared.entry.Base.{Base}
 use Rattle.history.specs.declared.entry.Mark.{Mark}
-use Rattle.history.specs.declared.entry.Change.{Change}
-use Rattle.history.specs.declared.entry.Change.TheVariants.{Commit, Drop}
-use Rattle.history.specs.declared.journal.Line.{Line}
+use Rattle.history.specs.declared.entry.Change.TheVariants.{Drop}
 use Rattle.history.specs.declared.journal.What.{What}
 use Rattle.history.specs.declared.journal.What.TheVariants.{Began, Done, Overlapped, RolledBack, Looked, LookedAll, Unlooked, Dropped, Refused, Fault}
 use Rattle.history.specs.declared.writes.PageImage.{PageImage}
 use Rattle.history.specs.History.{written, bases_after}
-use Rattle.history.specs.Journal.{change_of, base_behind, pages_behind, pages_after_journal}
-use Rattle.history.specs.LineLaws.{DropLeaves, CommitsAreSound, CommitsHoldImages, OthersHoldNoImages, CommitIsLastChange, NoCommitOf, UnchangedStays}
+use Rattle.history.specs.Journal.{change_of, pages_behind}
+use Rattle.history.specs.LineLaws.{DropLeaves, CommitsAreSound, CommitsHoldImages, OthersHoldNoImages, CommitIsLastChange, UnchangedStays}
 use Rattle.history.specs.Lines.{base_of, images_of, images_in, changes_page, change_by, last_change}
-use Rattle.history.specs.Marks.{oldest, kept_marks, MarksRise, AreMarks}
-use Rattle.history.specs.Sound.{same_item, KeepsRules, pins_of, IsSound}
+use Rattle.history.specs.Marks.{oldest, kept_marks, MarksRise}
+use Rattle.history.specs.Sound.{same_item, KeepsRules, pins_of}
 use Rattle.history.specs.Writes.{pages_of, is_among}
 use Rattle.history.proofs.AsOf.{unwritten}
 use Rattle.history.proofs.Items.{apart_items, or-parts}
