@@ -32,7 +32,7 @@ module _ {X : Type 0} (half : ℕ) (StandsFor : List (List ℕ) → X → Type 0
     fetched_stands x stands = record { size = size; bodies = bodies; lists = fetched.lists; stands = stands }
 
     -- the half that counts is where the log has it
-    place_there : fetched.lists.place ≡ area.log.place
+    pub place_there : fetched.lists.place ≡ area.log.place
     place_there =
         let holds = fetched.holds in
         let counts : Counts area.log.size area.log.place new.seen = record { half = holds.half; is_open = holds.is_open; newer = λ is. holds.generation ∙ holds.newer is } in

@@ -1,6 +1,6 @@
 //! The list of a device of two halves of a given size, and what it is refused for.
 
-ghost use Rattle.std.specs.Prelude.{◌≡◌, ◌≤◌, ◌<◌, ◌+◌, ◌*◌, ◌^◌, length, take, IfOk, MatchResult};
+ghost use Rattle.std.specs.Prelude.{◌≡◌, ◌≤◌, ◌<◌, ◌+◌, ◌*◌, ◌^◌, length, take, OnOk, IfOk, MatchResult};
 ghost use Rattle.disk_model.specs.Runs.{SameDevice, WritesNothing};
 ghost use Rattle.retro_base.specs.Framing.{records_of};
 ghost use Rattle.gate_log.specs.Bodies.{bodies_of};
@@ -31,7 +31,8 @@ pub fn listed<D: Disk>(
         (IsReadRefusal (λ broken. IsUnlisted half (D.extent disk.old) broken
         × (D.is_honest disk.old → NotListed half (D.state disk.old) (D.state disk.new) broken))
         device (D.faults disk.old) (D.faults disk.new)) }
-    ensures log { IfOk result (λ p. IsRead device (2 * half) (bodies_of p.1.items) p.0) }
+    ensures size { OnOk result (D.extent disk.old ≡ 2 * half) }
+    ensures log { IfOk result (λ p. IsRead device (D.extent disk.old) (bodies_of p.1.items) p.0) }
     ensures fetched { D.is_honest disk.old → IfOk result (λ p.
         Fetched half p.0 (bodies_of p.1.items) (D.state disk.old) (D.state disk.new)) }
     ensures quiet { D.is_honest disk.old → WritesNothing D.remembers D.state D.clock disk.old disk.new }

@@ -1,6 +1,5 @@
 ghost use Rattle.std.specs.Prelude.{◌≡◌, ◌≤◌, ◌+◌, ◌-◌, ◌*◌, ◌/◌, ◌%◌, ◌∷◌, [], ◌++◌, None, length, Ok, Err, IfOk, IfErr, MatchOption, MatchResult};
 ghost use Rattle.disk_model.specs.Runs.{SameDevice, WritesNothing};
-ghost use Rattle.retro_base.specs.Framing.{AreBodies};
 ghost use Rattle.retro_base.specs.declared.refusal.Refusal.TheVariants.{NotAStore};
 ghost use Rattle.gate_log.specs.Bodies.{bodies_of};
 ghost use Rattle.gate_log.specs.Cause.{Fit, HasRoom, IsAppendRefusal, IsDiskFault, IsFillRefusal, IsReadRefusal};
@@ -32,7 +31,8 @@ impl Model for AreaLog {
 
     ghost Value = { Area };
 
-    ghost view = { λ a. record { log = a.log; generation = a.generation; is_other_open = a.is_other_open; fault = a.fault } };
+    ghost view = { λ a.
+        record { log = a.log; generation = a.generation; is_other_open = a.is_other_open; fault = a.fault } };
 
     ghost invariant = { λ a. (a.log.place ≤ a.log.size) × (17 ≤ a.log.size) × (2 * a.log.size < 2 ^ 64) };
 }
@@ -44,19 +44,18 @@ impl AreaLog {
         alloc: Global,
         disk: &mut D,
         device: Device,
-        bodies: &[Vec<u8>],
+        bodies: &[Framed],
     ) -> Result<(), Refusal>
         requires even { D.extent disk.old % 2 ≡ 0 }
         requires least { 34 ≤ D.extent disk.old }
-        requires short { AreBodies (bodies_of bodies.now) }
         ensures same { SameDevice D.extent D.is_honest disk.old disk.new }
         ensures cause { MatchResult result
-            (λ _. Fit (D.extent disk.old / 2) (bodies_of bodies.now) × (D.faults disk.new ≡ D.faults disk.old))
-            (IsFillRefusal (D.extent disk.old / 2) (bodies_of bodies.now) device
+            (λ _. Fit (D.extent disk.old / 2) bodies.now × (D.faults disk.new ≡ D.faults disk.old))
+            (IsFillRefusal (D.extent disk.old / 2) bodies.now device
             (D.faults disk.old) (D.faults disk.new)) }
         ensures untouched { IfErr result (λ refusal. (IsDiskFault refusal → ⊥) → disk.new ≡ disk.old) }
         ensures makes { D.is_honest disk.old
-            → Makes (D.extent disk.old) (bodies_of bodies.now) D.remembers D.state D.clock disk.old disk.new result }
+            → Makes (D.extent disk.old) bodies.now D.remembers D.state D.clock disk.old disk.new result }
     {
         let size = disk.size() / 2;
         let prepared = Prepared::new(alloc, size, 1, bodies)?;
@@ -165,21 +164,20 @@ impl AreaLog {
         &mut self,
         alloc: Global,
         disk: &mut D,
-        bodies: &[Vec<u8>],
+        bodies: &[Framed],
     ) -> Result<(), Refusal>
-        requires whole { D.extent disk.old ≡ 2 * self.old.log.size }
-        requires short { AreBodies (bodies_of bodies.now) }
+        requires { D.extent disk.old ≡ 2 * self.old.log.size }
         ensures same { SameDevice D.extent D.is_honest disk.old disk.new }
-        ensures log { AfterWrite self.old (replaced self.old (bodies_of bodies.now)) result self.new }
+        ensures log { AfterWrite self.old (replaced self.old bodies.now) result self.new }
         ensures cause { MatchResult result
-            (λ _. (self.old.fault ≡ None) × Fit self.old.log.size (bodies_of bodies.now)
+            (λ _. (self.old.fault ≡ None) × Fit self.old.log.size bodies.now
             × (D.faults disk.new ≡ D.faults disk.old))
             (IsWriteRefusal self.old
-            (IsFillRefusal self.old.log.size (bodies_of bodies.now) self.old.log.device
+            (IsFillRefusal self.old.log.size bodies.now self.old.log.device
             (D.faults disk.old) (D.faults disk.new))
             (D.faults disk.old) (D.faults disk.new)) }
         ensures untouched { IfErr result (λ refusal. (IsDiskFault refusal → ⊥) → disk.new ≡ disk.old) }
-        ensures writes { D.is_honest disk.old → Writes self.old self.new (λ _. bodies_of bodies.now)
+        ensures writes { D.is_honest disk.old → Writes self.old self.new (λ _. bodies.now)
             D.remembers D.state D.clock disk.old disk.new result }
     {
         let device = self.log.device();

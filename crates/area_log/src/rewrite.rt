@@ -51,7 +51,8 @@ fn shut<D: Disk>(disk: &mut D, device: Device, place: u64, is_open: bool) -> Res
     ensures cause { FaultsAlone device (D.faults disk.old) (D.faults disk.new) result }
     ensures shut { D.is_honest disk.old
         → OnOk result ((D.state disk.new).seen ≡ shut_at is_open place (D.state disk.old).seen) }
-    ensures durable { D.is_honest disk.old → IsDurable (D.state disk.old) → OnOk result (IsDurable (D.state disk.new)) }
+    ensures durable { D.is_honest disk.old → IsDurable (D.state disk.old)
+        → OnOk result (IsDurable (D.state disk.new)) }
     ensures any_moment { D.is_honest disk.old → IsDurable (D.state disk.old)
         → (IsTrue is_open ↔ IsOpen place (D.state disk.old).seen)
         → LeavesOnly D.remembers (D.clock disk.old) (D.clock disk.new) (Shutting place (D.state disk.old).seen) }

@@ -3,8 +3,6 @@ ghost use Rattle.area_log.specs.Area.{Holds, ListsEither};
 ghost use Rattle.block_file.specs.Blocks.{block_at, KeepsSettled};
 ghost use Rattle.device_tests.specs.Left.{EachLeft};
 ghost use Rattle.disk_mem.specs.History.{state_of};
-ghost use Rattle.gate_log.specs.Bodies.{bodies_of};
-ghost use Rattle.retro_base.specs.Framing.{AreBodies};
 
 use area_log::AreaLog;
 use block_file::PageFile;
@@ -29,14 +27,13 @@ pub fn replace_on(
     alloc: Global,
     log: &mut AreaLog,
     disk: &mut MemDisk,
-    bodies: &[Vec<u8>],
+    bodies: &[Framed],
 ) -> Result<(), Refusal>
-    requires whole { length (state_of disk.old.past).seen ≡ 2 * log.old.log.size }
-    requires short { AreBodies (bodies_of bodies.now) }
+    requires { length (state_of disk.old.past).seen ≡ 2 * log.old.log.size }
     ensures holds { (old : List (List ℕ)) → Holds log.old old (state_of disk.old.past)
-        → OnOk result (Holds log.new (bodies_of bodies.now) (state_of disk.new.past)) }
+        → OnOk result (Holds log.new bodies.now (state_of disk.new.past)) }
     ensures left { (old : List (List ℕ)) → Holds log.old old (state_of disk.old.past)
-        → EachLeft disk.old disk.new (ListsEither log.old.log.size old (bodies_of bodies.now)) }
+        → EachLeft disk.old disk.new (ListsEither log.old.log.size old bodies.now) }
 {
     log.replace(alloc, disk, bodies)
 }

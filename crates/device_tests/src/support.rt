@@ -1,8 +1,6 @@
 // Calls of the logs and of the devices. Each stands in a function with no clause but one that a caller needs, so
 // that the tests stay cheap to prove, and fails where a condition of the call does not hold.
 ghost use Rattle.std.specs.Prelude.{◌≡◌, ◌*◌, IfOk};
-ghost use Rattle.gate_log.specs.Bodies.{bodies_of};
-ghost use Rattle.retro_base.specs.Framing.{AreBodies};
 
 use area_log::AreaLog;
 use disk_mem::{Call, MemDisk};
@@ -57,13 +55,8 @@ pub fn put<D: Disk>(disk: &mut D, place: u64, bytes: &[u8]) -> Result<(), Refusa
 }
 
 // A list of this body alone.
-fn list_of(alloc: Global, body: &[u8]) -> Result<Vec<Vec<u8>>, Refusal>
-    ensures { IfOk result (λ bodies. AreBodies (bodies_of bodies.items)) }
-{
-    if body.len() as u64 > u64::from(u32::MAX) {
-        return Err(Refusal::BadSizes);
-    }
-    Ok(vec![in alloc; body.to_vec(alloc)?]?)
+fn list_of(alloc: Global, body: &[u8]) -> Result<Vec<Framed>, Refusal> {
+    Ok(vec![in alloc; framed(alloc, body)?]?)
 }
 
 /// A body as an append takes it.

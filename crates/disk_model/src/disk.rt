@@ -42,7 +42,8 @@ pub trait Disk {
         ensures cause { HasCause (faults self.old) (faults self.new) result }
         ensures honest { is_honest self.old ↔ is_honest self.new }
         ensures read { is_honest self.old → Reads place out.new (state self.old) (state self.new) result }
-        ensures time { is_honest self.old → Elapses remembers (clock self.old) (clock self.new) (IsImage (state self.new)) };
+        ensures time { is_honest self.old
+            → Elapses remembers (clock self.old) (clock self.new) (IsImage (state self.new)) };
 
     /// Writes the bytes from that place on.
     fn write_at(&mut self, place: u64, bytes: &[u8]) -> Result<(), Failed>
@@ -51,7 +52,8 @@ pub trait Disk {
         ensures cause { HasCause (faults self.old) (faults self.new) result }
         ensures honest { is_honest self.old ↔ is_honest self.new }
         ensures written { is_honest self.old → Writes place bytes.now (state self.old) (state self.new) result }
-        ensures time { is_honest self.old → Elapses remembers (clock self.old) (clock self.new) (IsImage (state self.new)) };
+        ensures time { is_honest self.old
+            → Elapses remembers (clock self.old) (clock self.new) (IsImage (state self.new)) };
 
     /// Makes all that was written durable: a crash after it leaves what a read returns.
     fn sync(&mut self) -> Result<(), Failed>
@@ -59,7 +61,8 @@ pub trait Disk {
         ensures cause { HasCause (faults self.old) (faults self.new) result }
         ensures honest { is_honest self.old ↔ is_honest self.new }
         ensures synced { is_honest self.old → Syncs (state self.old) (state self.new) result }
-        ensures time { is_honest self.old → Elapses remembers (clock self.old) (clock self.new) (IsImage (state self.new)) };
+        ensures time { is_honest self.old
+            → Elapses remembers (clock self.old) (clock self.new) (IsImage (state self.new)) };
 
     // Reads return as many bytes as it has.
     ghost sized: { (d : Self) → is_honest d → length (state d).seen ≡ extent d };

@@ -1,10 +1,8 @@
 -- Bodies, and the bytes of their records.
-use Rattle.std.proofs.Common.{◌≡◌, ◌∙◌, ◌<◌, ◌+◌, ◌-◌, ◌^◌, ℕ, zero, suc, List, [], ◌∷◌, ◌++◌, length, get_or, take, drop, Vec, refl, sym, ap, arith, length-append}
-use Rattle.std.proofs.lemmas.List.{take_at, drop_at, flat_map_more}
+use Rattle.std.proofs.Common.{◌≡◌, ◌∙◌, ◌<◌, ◌+◌, ◌-◌, ◌^◌, ℕ, List, [], ◌∷◌, ◌++◌, length, get_or, take, drop, refl, sym, ap, subst, arith, length-append}
+use Rattle.std.proofs.lemmas.List.{take_at, take_more, drop_at, flat_map_more}
 use Rattle.retro_base.specs.Fields.{field_bytes}
 use Rattle.retro_base.specs.Framing.{sized, record_of, records_of, AreBodies}
-use Rattle.std.specs.declared.alloc.Global.{Global}
-use Rattle.gate_log.specs.Bodies.{bodies_of}
 use Rattle.gate_log.specs.Framed.{body_of, IsFramed}
 use Rattle.gate_log.specs.declared.framed.Framed.TheInside.{Inside}
 use Rattle.retro_base.proofs.FieldLaws.{length-field_bytes}
@@ -22,10 +20,11 @@ pub AreBodies-push : (bodies : List (List ℕ)) (body : List ℕ) → AreBodies 
 AreBodies-push [] body all short = (short, tt)
 AreBodies-push (first ∷ bodies) body (p, all) short = (p, AreBodies-push bodies body all short)
 
-pub AreBodies-at : (vecs : List (Vec ℕ Global)) (i : ℕ) (d : Vec ℕ Global) → AreBodies (bodies_of vecs) → i < length vecs → length (get_or vecs i d).items < 2 ^ 32
-AreBodies-at [] i d all lt = absurd (omega arith)
-AreBodies-at (vec ∷ vecs) zero d (p, all) lt = p
-AreBodies-at (vec ∷ vecs) (suc i) d (p, all) lt = AreBodies-at vecs i d all (omega arith)
+-- a front of them with one body more
+pub bodies_one_more : (bodies : List (List ℕ)) (i : ℕ) (body : List ℕ) → i < length bodies → body ≡ get_or bodies i body → AreBodies (take i bodies) → length body < 2 ^ 32 → AreBodies (take (i + 1) bodies)
+bodies_one_more bodies i body lt is all short =
+    let front : take (i + 1) bodies ≡ take i bodies ++ body ∷ [] = take_more bodies i body lt ∙ ap (λ (b : List ℕ). take i bodies ++ b ∷ []) (sym is) in
+    subst AreBodies (sym front) (AreBodies-push (take i bodies) body all short)
 
 -- a body's length, the body, and a closed gate
 pub length-piece : (body : List ℕ) → length (sized body ++ 0 ∷ []) ≡ length body + 5

@@ -34,7 +34,7 @@ impl Framed {
         ensures ok { IfOk result (λ framed. framed ≡ body.now) }
         ensures err { IfErr result (λ refusal. refusal ≡ OutOfMemory) }
     {
-        let mut builder = FramedBuilder::new(alloc)?;
+        let mut builder = FramedBuilder::with_capacity(alloc, body.len())?;
         builder.extend_from_slice(body)?;
         builder.finish()
     }
@@ -52,6 +52,14 @@ impl Framed {
         ensures { result.now ≡ sized self.now ++ 0 ∷ [] }
     {
         &self.bytes
+    }
+
+    // The length of the body, and the body.
+    pub(crate) fn sized(&self) -> &[u8]
+        ensures { result.now ≡ sized self.now }
+    {
+        let piece = self.as_bytes();
+        &piece[..piece.len() - 1]
     }
 }
 
@@ -81,7 +89,18 @@ impl FramedBuilder {
         ensures ok { IfOk result (λ builder. builder ≡ []) }
         ensures err { IfErr result (λ refusal. refusal ≡ OutOfMemory) }
     {
-        let bytes = [0; 4].to_vec(alloc)?;
+        FramedBuilder::with_capacity(alloc, 0)
+    }
+
+    /// An empty body with room for that many bytes: up to as many nothing moves, `finish` included. The only
+    /// refusal is want of memory.
+    pub fn with_capacity(alloc: Global, count: usize) -> Result<FramedBuilder, Refusal>
+        requires { count < 2 ^ 32 }
+        ensures ok { IfOk result (λ builder. builder ≡ []) }
+        ensures err { IfErr result (λ refusal. refusal ≡ OutOfMemory) }
+    {
+        let mut bytes = Vec::with_capacity(alloc, count + 5)?;
+        bytes.extend_from_slice(&[0; 4])?;
         Ok(FramedBuilder { bytes })
     }
 

@@ -7,7 +7,6 @@ ghost use Rattle.gate_log.specs.Bodies.{bodies_of};
 ghost use Rattle.gate_log.specs.Cause.{Fit, HasRoom, IsAppendRefusal, IsDiskFault, IsFillRefusal, IsReadRefusal};
 ghost use Rattle.gate_log.specs.Log.{Fills};
 ghost use Rattle.gate_log.specs.Region.{Breaks, gate_behind, InRecords, IsOpen, Lists};
-ghost use Rattle.retro_base.specs.Framing.{AreBodies};
 
 use crate::durable::put_durably;
 use crate::framed::Framed;
@@ -64,22 +63,21 @@ impl GateLog {
         place: u64,
         size: u64,
         generation: u64,
-        bodies: &[Vec<u8>],
+        bodies: &[Framed],
     ) -> Result<GateLog, Refusal>
         requires inside { place + size ≤ D.extent disk.old }
         requires least { 17 ≤ size }
         requires fits { place + size < 2 ^ 64 }
         requires first { 1 ≤ generation }
-        requires short { AreBodies (bodies_of bodies.now) }
         ensures same { SameDevice D.extent D.is_honest disk.old disk.new }
         ensures cause { MatchResult result
-            (λ _. Fit size (bodies_of bodies.now) × (D.faults disk.new ≡ D.faults disk.old))
-            (IsFillRefusal size (bodies_of bodies.now) device (D.faults disk.old) (D.faults disk.new)) }
+            (λ _. Fit size bodies.now × (D.faults disk.new ≡ D.faults disk.old))
+            (IsFillRefusal size bodies.now device (D.faults disk.old) (D.faults disk.new)) }
         ensures untouched { IfErr result (λ refusal. (IsDiskFault refusal → ⊥) → disk.new ≡ disk.old) }
         ensures log { IfOk result (λ log.
-            log ≡ record { device = device; place = place; size = size; gate = gate_behind (bodies_of bodies.now) }) }
+            log ≡ record { device = device; place = place; size = size; gate = gate_behind bodies.now }) }
         ensures filled { D.is_honest disk.old
-            → OnOk result (Fills place size generation (bodies_of bodies.now) (D.state disk.old) (D.state disk.new)) }
+            → OnOk result (Fills place size generation bodies.now (D.state disk.old) (D.state disk.new)) }
         ensures any_moment { D.is_honest disk.old → LeavesOnly D.remembers (D.clock disk.old) (D.clock disk.new)
             (SameOutside (LooseOrIn (D.state disk.old) (place + 1) (size - 1)) (D.state disk.old).seen) }
     {

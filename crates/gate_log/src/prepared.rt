@@ -1,9 +1,8 @@
-ghost use Rattle.std.specs.Prelude.{◌≡◌, ◌≤◌, ◌<◌, ◌+◌, ◌-◌, ◌^◌, ◌++◌, ℕ, List, length, OnOk, IfOk, IfErr};
+ghost use Rattle.std.specs.Prelude.{◌≡◌, ◌≤◌, ◌+◌, ◌-◌, ◌^◌, ◌<◌, ◌++◌, ℕ, List, length, OnOk, IfOk, IfErr};
 ghost use Rattle.disk_model.specs.Disk.{SameOutside};
 ghost use Rattle.disk_model.specs.Moments.{LeavesOnly};
 ghost use Rattle.disk_model.specs.Runs.{SameDevice};
 ghost use Rattle.gate_log.specs.Appending.{LooseOrIn};
-ghost use Rattle.gate_log.specs.Bodies.{bodies_of};
 ghost use Rattle.retro_base.specs.Cause.{FaultsAlone};
 ghost use Rattle.gate_log.specs.Cause.{Fit, IsPrepareRefusal};
 ghost use Rattle.gate_log.specs.Log.{Fills, IsPrepared, region_tail};
@@ -11,9 +10,10 @@ ghost use Rattle.retro_base.specs.Framing.{record_of, AreBodies};
 ghost use Rattle.retro_base.specs.declared.refusal.Refusal.TheVariants.{OutOfMemory};
 
 use crate::durable::put_durably;
+use crate::framed::Framed;
 use crate::log::GateLog;
 use disk_model::Disk;
-use retro_base::{Device, OPEN_GATE, Refusal, put_u32, put_u64};
+use retro_base::{Device, OPEN_GATE, Refusal, put_u64};
 use std::alloc::Global;
 use std::marker::Model;
 
@@ -41,14 +41,13 @@ impl Prepared {
         alloc: Global,
         size: u64,
         generation: u64,
-        bodies: &[Vec<u8>],
+        bodies: &[Framed],
     ) -> Result<Prepared, Refusal>
         requires least { 17 ≤ size }
         requires first { 1 ≤ generation }
-        requires short { AreBodies (bodies_of bodies.now) }
-        ensures ok { IfOk result (λ prepared. IsPrepared prepared generation (bodies_of bodies.now)) }
-        ensures fit { OnOk result (Fit size (bodies_of bodies.now)) }
-        ensures cause { IfErr result (IsPrepareRefusal size (bodies_of bodies.now)) }
+        ensures ok { IfOk result (λ prepared. IsPrepared prepared generation bodies.now) }
+        ensures fit { OnOk result (Fit size bodies.now) }
+        ensures cause { IfErr result (IsPrepareRefusal size bodies.now) }
     {
         let bytes = region_bytes(alloc, generation, bodies)?;
         let needed = bytes.len() as u64 - 15;
@@ -88,44 +87,45 @@ impl Prepared {
 }
 
 // What stands behind the gate of the header of a region with these bodies.
-fn region_bytes(alloc: Global, generation: u64, bodies: &[Vec<u8>]) -> Result<Vec<u8>, Refusal>
-    requires { AreBodies (bodies_of bodies.now) }
-    ensures ok { IfOk result (λ bytes. bytes.items ≡ region_tail generation (bodies_of bodies.now)) }
+#[tactic(auto, using(crate::proofs::Framing::bodies_one_more))]
+fn region_bytes(alloc: Global, generation: u64, bodies: &[Framed]) -> Result<Vec<u8>, Refusal>
+    ensures ok { IfOk result (λ bytes. bytes.items ≡ region_tail generation bodies.now) }
+    ensures short { OnOk result (AreBodies bodies.now) }
     ensures err { IfErr result (λ refusal. refusal ≡ OutOfMemory) }
 {
     let mut header = [0; 15];
     put_u64(&mut header, 7, generation);
     let mut bytes = header.to_vec(alloc)?;
-    for body in bodies {
-        put_record(&mut bytes, body)?;
+    for framed in bodies {
+        put_record(&mut bytes, framed)?;
     }
     bytes.push(0)?;
     Ok(bytes)
 }
 
 // Adds a record with its gate open.
-fn put_record(bytes: &mut Vec<u8>, body: &[u8]) -> Result<(), Refusal>
-    requires { length body.now < 2 ^ 32 }
-    ensures ok { OnOk result (bytes.new.items ≡ bytes.old.items ++ record_of body.now) }
+fn put_record(bytes: &mut Vec<u8>, framed: &Framed) -> Result<(), Refusal>
+    ensures ok { OnOk result (bytes.new.items ≡ bytes.old.items ++ record_of framed.now) }
+    ensures short { length framed.now < 2 ^ 32 }
     ensures err { IfErr result (λ refusal. refusal ≡ OutOfMemory) }
 {
-    let mut head = [OPEN_GATE; 5];
-    put_u32(&mut head, 1, body.len() as u32);
-    bytes.extend_from_slice(&head)?;
-    bytes.extend_from_slice(body)?;
+    bytes.reserve(framed.len() as usize + 5)?;
+    bytes.push(OPEN_GATE)?;
+    bytes.extend_from_slice(framed.sized())?;
     Ok(())
 }
 
 #[cfg(test)]
 mod tests {
     use super::Prepared;
+    use crate::framed::Framed;
     use retro_base::Refusal;
     use std::test::Fail;
 
     #[test]
     fn a_region_of_one_body(rt: HostRuntime) -> Result<(), Fail> {
         let alloc = rt.alloc();
-        let bodies = vec![in alloc; [1u8, 2].to_vec(alloc)?]?;
+        let bodies = vec![in alloc; Framed::new(alloc, &[1, 2])?]?;
         let prepared = Prepared::new(alloc, 24, 258, bodies.as_slice())?;
         let want = [
             0, 0, 0, 0, 0, 0, 0, 0, 0, 0, 0, 0, 0, 1, 2, 0xa5, 0, 0, 0, 2, 1, 2, 0,

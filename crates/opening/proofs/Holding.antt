@@ -1,5 +1,5 @@
 -- What four devices hold.
-use Rattle.std.proofs.Common.{◌≡◌, inl, inr, ◌*◌, ℕ, List, sym, subst}
+use Rattle.std.proofs.Common.{◌≡◌, inl, inr, ◌*◌, ℕ, List, length, sym, subst}
 use Rattle.std.proofs.Math.Path.{fun_ext}
 use Rattle.disk_model.specs.declared.four.Four.{Four}
 use Rattle.retro_base.specs.declared.device.Device.{Device}
@@ -17,11 +17,12 @@ use Rattle.records.specs.Log.{IsLog}
 use Rattle.records.specs.Maplog.{IsMaplog}
 use Rattle.replay.specs.Opened.{contents_of, Opens}
 use Rattle.opening.specs.Devices.{IsDeviceRefusal, StandsWithGate}
-use Rattle.opening.specs.Opening.{WrongSize, DeviceStandsFor, maplog_half, page_at, LogStandsFor, AreSized, Hold, DevicesOpen, DevicesBreak, IsOpenRefusal}
+use Rattle.area_log.specs.Listed.{DeviceStandsFor, WrongSize}
+use Rattle.opening.specs.Opening.{maplog_half, page_at, LogStandsFor, AreSized, Hold, DevicesOpen, DevicesBreak, IsOpenRefusal}
 
 module _ (devices : Four (List ℕ)) (log : declared.Log) (stands : LogStandsFor devices log) where
   -- a wrong size of the pages, or of the page images
-  pub pages_refused : (broken : ℕ) → WrongSize (1024 * log.base.page_count) devices.pages broken → IsOpenRefusal devices (refusals.NotAStore kinds.Pages broken)
+  pub pages_refused : (broken : ℕ) → WrongSize (1024 * log.base.page_count) (length devices.pages) broken → IsOpenRefusal devices (refusals.NotAStore kinds.Pages broken)
   pages_refused broken size = record { log = log; stands = stands; size = size }
 
   module _ (sized : AreSized devices log) where

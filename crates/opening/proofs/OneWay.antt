@@ -10,7 +10,7 @@ use Rattle.area_log.proofs.Unique.{counts_once, device_one_way}
 use Rattle.skippy.specs.Mappings.{Mappings}
 use Rattle.history.specs.declared.log.Log as declared
 use Rattle.history.specs.declared.log.Version.TheVariants.{One}
-use Rattle.records.specs.InTurn.{BreaksBehind}
+use Rattle.gate_log.specs.Bodies.{BreaksBehind}
 use Rattle.replay.specs.Joined.{AreJoined}
 use Rattle.records.specs.Laws.{IsReadOneWay}
 use Rattle.records.specs.Log.{IsLog}
@@ -19,7 +19,8 @@ use Rattle.replay.specs.Opened.{Contents}
 use Rattle.records.proofs.Logs.{log_one_way}
 use Rattle.records.proofs.Maps.{maplog_one_way}
 use Rattle.opening.specs.Laws.{AreReadOneWay}
-use Rattle.opening.specs.Opening.{DeviceStandsFor, ListBreaks, DeviceRefused, maplog_half, LogStandsFor, AreSized, Hold, PagesRefused, PagelogRefused, MaplogRefused, DevicesBreak}
+use Rattle.area_log.specs.Listed.{DeviceRefused, DeviceStandsFor, ListBreaks}
+use Rattle.opening.specs.Opening.{maplog_half, LogStandsFor, AreSized, Hold, PagesRefused, PagelogRefused, MaplogRefused, DevicesBreak}
 
 -- ---- a device of two halves
 

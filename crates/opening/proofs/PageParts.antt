@@ -1,10 +1,8 @@
 -- Pages from the bytes of their device.
-use Rattle.std.proofs.Common.{◌≡◌, ◌∙◌, ◌+◌, ◌-◌, ◌*◌, ◌≤◌, ◌<◌, ◌++◌, ℕ, Bool, true, false, ltb, List, [], ◌∷◌, length, take, drop, get_or, Vec, min, refl, sym, ap, arith, below_more}
-use Rattle.std.specs.declared.alloc.Global.{Global}
+use Rattle.std.proofs.Common.{◌≡◌, ◌∙◌, ◌+◌, ◌*◌, ◌≤◌, ◌<◌, ◌++◌, ℕ, Bool, true, false, ltb, List, [], ◌∷◌, length, take, get_or, refl, sym, ap, arith, below_more}
 use Rattle.std.proofs.lemmas.Bool.{ltb-true, ltb-false}
-use Rattle.std.proofs.lemmas.List.{get_or_append_left, get_or_push, get_or_past, drop_all, drop_min, drop-map, take_rest}
+use Rattle.std.proofs.lemmas.List.{get_or_append_left, get_or_push, get_or_past, drop_all}
 use Rattle.history.specs.Replayed.{page_in}
-use Rattle.records.specs.InTurn.{bodies_of}
 use Rattle.opening.specs.Opening.{page_at}
 
 pub pages_more : (items : List (List ℕ)) (bytes : List ℕ) (n : ℕ) (page : List ℕ) → length items ≡ n → ((k : ℕ) → k < n → get_or items k [] ≡ page_at bytes k) → page ≡ page_at bytes n → (k : ℕ) → k < n + 1 → get_or (items ++ page ∷ []) k [] ≡ page_at bytes k
@@ -18,8 +16,3 @@ pages_all items bytes n long size all k = go (ltb k n) refl where
   go false e =
       let past : n ≤ k = ltb-false k n e in
       get_or_past items k [] (omega (arith, long, past)) ∙ sym (ap (λ (l : List ℕ). take 1024 l) (drop_all (1024 * k) bytes (omega (arith, size, past))))
-
--- the bodies behind a place that is cut at the end
-pub behind_place : (vecs : List (Vec ℕ Global)) (behind place : ℕ) → place ≡ min behind (length vecs) → bodies_of (take (length vecs - place) (drop place vecs)) ≡ drop behind (bodies_of vecs)
-behind_place vecs behind place is =
-    ap bodies_of (take_rest vecs place ∙ ap (λ (n : ℕ). drop n vecs) is ∙ drop_min behind vecs) ∙ sym (drop-map (λ (vec : Vec ℕ Global). vec.items) behind vecs)

@@ -7,44 +7,14 @@ use Rattle.retro_base.specs.declared.device.Device.TheVariants.{Log, Pages, Page
 use Rattle.retro_base.specs.declared.limits.TheConstants.{LOG_REGION_BYTES, PAGE_BYTES}
 use Rattle.retro_base.specs.declared.refusal.Refusal.{Refusal}
 use Rattle.retro_base.specs.declared.refusal.Refusal.TheVariants.{OutOfMemory, NotAStore}
-use Rattle.gate_log.specs.Region.{gate_behind}
-use Rattle.area_log.specs.Regions.{DeviceBreaks, DeviceLists}
+use Rattle.area_log.specs.Listed.{closed_gate, DeviceRefused, DeviceStandsFor, WrongSize}
 use Rattle.history.specs.declared.log.Log as declared
 use Rattle.replay.specs.declared.opened.Opened.{Opened}
 use Rattle.history.specs.declared.log.Version.TheVariants.{One}
-use Rattle.records.specs.InTurn.{BreaksBehind}
 use Rattle.replay.specs.Joined.{AreJoined}
 use Rattle.records.specs.Log.{IsLog}
 use Rattle.records.specs.Maplog.{IsMaplog}
 use Rattle.replay.specs.Opened.{Contents, Opens}
-
--- a device has other than so many bytes, and is told with as many as it has
-pub record WrongSize (size : ℕ) (bytes : List ℕ) (broken : ℕ) : Type 0 where
-  pub other : length bytes ≡ size → ⊥
-  pub told : broken ≡ length bytes
-
--- a device of two halves of that size, whose list stands for the value
-pub record DeviceStandsFor {X : Type 0} (half : ℕ) (StandsFor : List (List ℕ) → X → Type 0) (bytes : List ℕ) (x : X) : Type 0 where
-  pub size : length bytes ≡ 2 * half
-  pub bodies : List (List ℕ)
-  pub lists : DeviceLists half bodies bytes
-  pub stands : StandsFor bodies x
-
--- where the closed gate behind its list stands
-abbrev pub closed_gate : {X : Type 0} {half : ℕ} {StandsFor : List (List ℕ) → X → Type 0} {bytes : List ℕ} {x : X} → DeviceStandsFor half StandsFor bytes x → ℕ
-closed_gate device = device.lists.place + gate_behind device.bodies
-
--- The list of the device breaks behind a front of it. It is told with the gate behind that front.
-pub record ListBreaks {X : Type 0} (half : ℕ) (StandsFor : List (List ℕ) → X → Type 0) (bytes : List ℕ) (broken : ℕ) : Type 0 where
-  pub bodies : List (List ℕ)
-  pub lists : DeviceLists half bodies bytes
-  pub front : List (List ℕ)
-  pub breaks : BreaksBehind StandsFor bodies front
-  pub told : broken ≡ lists.place + gate_behind front
-
--- a device of two halves is refused: for its size, else for its headers or its framing, else for its bodies
-abbrev pub DeviceRefused : {X : Type 0} → ℕ → (List (List ℕ) → X → Type 0) → List ℕ → ℕ → Type 0
-DeviceRefused half StandsFor bytes broken = WrongSize (2 * half) bytes broken ⊎ ((length bytes ≡ 2 * half) × (DeviceBreaks half bytes broken ⊎ ListBreaks half StandsFor bytes broken))
 
 -- the bytes of each half of the Maplog's device
 abbrev pub maplog_half : ℕ → ℕ
@@ -82,13 +52,13 @@ pub record DevicesOpen (devices : Four (List ℕ)) (store : Opened) : Type 0 whe
 pub record PagesRefused (devices : Four (List ℕ)) (broken : ℕ) : Type 0 where
   pub log : declared.Log
   pub stands : LogStandsFor devices log
-  pub size : WrongSize (pages_bytes log.base.page_count) devices.pages broken
+  pub size : WrongSize (pages_bytes log.base.page_count) (length devices.pages) broken
 
 pub record PagelogRefused (devices : Four (List ℕ)) (broken : ℕ) : Type 0 where
   pub log : declared.Log
   pub stands : LogStandsFor devices log
   pub pages : length devices.pages ≡ pages_bytes log.base.page_count
-  pub size : WrongSize (pagelog_bytes log.base.capacity) devices.pagelog broken
+  pub size : WrongSize (pagelog_bytes log.base.capacity) (length devices.pagelog) broken
 
 pub record MaplogRefused (devices : Four (List ℕ)) (broken : ℕ) : Type 0 where
   pub log : declared.Log

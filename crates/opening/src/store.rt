@@ -10,9 +10,10 @@ ghost use Rattle.records.specs.Log.{IsLog};
 ghost use Rattle.history.specs.Right.{AreRight};
 ghost use Rattle.records.specs.Maplog.{IsMaplog};
 ghost use Rattle.opening.specs.Devices.{IsDeviceRefusal, StandsWithGate};
-ghost use Rattle.opening.specs.Opening.{maplog_half, DeviceStandsFor, DevicesOpen, IsOpenRefusal, WrongSize};
+ghost use Rattle.area_log.specs.Listed.{DeviceStandsFor, WrongSize};
+ghost use Rattle.opening.specs.Opening.{maplog_half, DevicesOpen, IsOpenRefusal};
 
-use crate::devices::{listed, refusal_of};
+use crate::devices::list_of;
 use crate::pages::pages_of;
 use disk_model::{Four, Sizes};
 use history::{Log, Version};
@@ -29,10 +30,10 @@ fn log_of(alloc: Global, bytes: &[u8]) -> Result<Log, Refusal>
     ensures right { IfOk result (λ log. AreRight log.base log.changes) }
     ensures err { IfErr result (IsDeviceRefusal kinds.Log LOG_REGION_BYTES (IsLog One) bytes.now) }
 {
-    let (bodies, end) = listed(alloc, Device::Log, bytes, LOG_REGION_BYTES)?;
+    let (area, bodies) = list_of(alloc, Device::Log, bytes, LOG_REGION_BYTES)?;
     match read_log(alloc, Version::One, &bodies) {
         Ok(log) => Ok(log),
-        Err(error) => Err(refusal_of(Device::Log, &bodies, end, error)),
+        Err(error) => Err(area.refusal_of(&bodies, error)),
     }
 }
 
@@ -48,15 +49,15 @@ fn mappings_of(
     ensures err { IfErr result (IsDeviceRefusal kinds.Maplog (maplog_half capacity) (IsMaplog One page_count capacity) bytes.now) }
 {
     let half = 32 * u64::from(capacity) + 4096;
-    let (bodies, end) = listed(alloc, Device::Maplog, bytes, half)?;
+    let (area, bodies) = list_of(alloc, Device::Maplog, bytes, half)?;
     match read_maplog(alloc, Version::One, page_count, capacity, &bodies) {
-        Ok(mappings) => Ok((mappings, end)),
-        Err(error) => Err(refusal_of(Device::Maplog, &bodies, end, error)),
+        Ok(mappings) => Ok((mappings, area.end())),
+        Err(error) => Err(area.refusal_of(&bodies, error)),
     }
 }
 
 fn sized(device: Device, bytes: &[u8], size: u64) -> Result<(), Refusal>
-    ensures { MatchResult result (λ _. length bytes.now ≡ size) (λ e. (broken : ℕ) × (e ≡ NotAStore device broken) × WrongSize size bytes.now broken) }
+    ensures { MatchResult result (λ _. length bytes.now ≡ size) (λ e. (broken : ℕ) × (e ≡ NotAStore device broken) × WrongSize size (length bytes.now) broken) }
 {
     let place = bytes.len() as u64;
     if place != size {

@@ -132,6 +132,18 @@ fn a_damaged_device_is_told_with_its_place(rt: HostRuntime) -> Result<(), Fail> 
 }
 
 #[test]
+fn a_bad_frame_beats_a_bad_body_before_it(rt: HostRuntime) -> Result<(), Fail> {
+    // The drop at 16 is no base, and the length of the record at 26 passes the region.
+    let case = Case {
+        log: (&LOG_OF_A_DROP, LOG_BYTES),
+        damage: &[(Device::Log, 26, 0xA5), (Device::Log, 27, 0xFF)],
+        ..GOOD
+    };
+    assert!(rt; break_at(rt.alloc(), &case, Device::Log, 26)?);
+    Ok(())
+}
+
+#[test]
 fn a_device_of_another_size_or_list_is_told(rt: HostRuntime) -> Result<(), Fail> {
     let short_log = Case {
         log: (&LOG, 1024),

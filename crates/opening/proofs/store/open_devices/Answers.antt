@@ -11,7 +11,8 @@ use Rattle.records.specs.Maplog.{IsMaplog}
 use Rattle.replay.specs.declared.opened.Opened.{Opened}
 use Rattle.replay.specs.Opened.{Contents, contents_of, Opens}
 use Rattle.opening.specs.Devices.{IsDeviceRefusal, StandsWithGate}
-use Rattle.opening.specs.Opening.{AreSized, DeviceStandsFor, IsOpenRefusal, LogStandsFor, maplog_half, page_at}
+use Rattle.area_log.specs.Listed.{DeviceStandsFor}
+use Rattle.opening.specs.Opening.{AreSized, IsOpenRefusal, LogStandsFor, maplog_half, page_at}
 use Rattle.opening.proofs.Holding.{maplog_refused, not_joined_there, opens_there}
 use Rattle.opening.proofs.store.open_devices.Goals as goal
 

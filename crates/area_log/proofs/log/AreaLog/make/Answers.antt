@@ -2,7 +2,6 @@ use Rattle.std.proofs.Common.{◌≡◌, ◌⊎◌, ◌/◌, ◌<◌, ℕ, ap, s
 use Rattle.std.proofs.lemmas.Bool.{false≢true}
 use Rattle.disk_model.specs.Moments.{LeavesOnly}
 use Rattle.disk_model.proofs.Moments.{weaker}
-use Rattle.gate_log.specs.Bodies.{bodies_of}
 use Rattle.gate_log.specs.Region.{IsOpen}
 use Rattle.gate_log.proofs.Fills.{length-prepared}
 use Rattle.gate_log.proofs.Results.{err_owes}
@@ -12,13 +11,13 @@ use Rattle.area_log.proofs.log.AreaLog.make.Goals as goal
 
 pub rewrite-requires-clause-room : goal.rewrite-requires-clause-room
 rewrite-requires-clause-room g c =
-    omega (arith, length-prepared c.in_ok-prepared.prepared 1 (bodies_of c.args.bodies.now) c.in_ok-prepared.ensures.ok, c.in_ok-prepared.ensures.fit)
+    omega (arith, length-prepared c.in_ok-prepared.prepared 1 c.args.bodies.now c.in_ok-prepared.ensures.ok, c.in_ok-prepared.ensures.fit)
 
 pub returns-in_err-_log-clause-makes : goal.returns-in_err-_log-clause-makes
 returns-in_err-_log-clause-makes g c = λ honest.
     let disk = c.args.disk.now in
     let next = c.rewrite.new.disk in
-    let bodies = bodies_of c.args.bodies.now in
+    let bodies = c.args.bodies.now in
     let size = c.size-size.result / 2 in
     let some : 0 < size = omega (arith, c.size-size.ensures, c.requires.least) in
     record {
@@ -39,7 +38,7 @@ returns-clause-makes g c = λ honest.
     let next = c.rewrite.new.disk in
     let old = g.D.Disk.state disk in
     let new = g.D.Disk.state next in
-    let bodies = bodies_of c.args.bodies.now in
+    let bodies = c.args.bodies.now in
     let size = c.size-size.result / 2 in
     let some : 0 < size = omega (arith, c.size-size.ensures, c.requires.least) in
     let half : size ≡ g.D.Disk.extent disk / 2 = ap (λ (n : ℕ). n / 2) c.size-size.ensures in

@@ -1,7 +1,6 @@
 use Rattle.std.proofs.Common.{◌≡◌, ◌∙◌, ◌↔◌, ◌-◌, ◌*◌, ◌≤◌, ℕ, length, inl, IsTrue, sym, ap, subst, arith}
 use Rattle.disk_model.specs.Moments.{LeavesOnly}
 use Rattle.disk_model.proofs.Moments.{started, weaker}
-use Rattle.gate_log.specs.Bodies.{bodies_of}
 use Rattle.gate_log.specs.Log.{Region}
 use Rattle.gate_log.specs.Region.{IsOpen}
 use Rattle.gate_log.proofs.Fills.{length-prepared}
@@ -29,11 +28,11 @@ returns-in_err-prepared-clause-writes g c = λ honest.
 
 pub rewrite-requires-clause-room : goal.rewrite-requires-clause-room
 rewrite-requires-clause-room g c =
-    omega (arith, length-prepared c.in_ok-prepared.prepared c.next_after-generation.result (bodies_of c.args.bodies.now) c.in_ok-prepared.ensures.ok, c.in_ok-prepared.ensures.fit)
+    omega (arith, length-prepared c.in_ok-prepared.prepared c.next_after-generation.result c.args.bodies.now c.in_ok-prepared.ensures.ok, c.in_ok-prepared.ensures.fit)
 
 pub returns-in-Ok-clause-log : goal.returns-in-Ok-clause-log
 returns-in-Ok-clause-log g c =
-    let bodies = bodies_of c.args.bodies.now in
+    let bodies = c.args.bodies.now in
     let area : Area = record { log = c.self.inside.log; generation = c.self.inside.generation; is_other_open = c.self.inside.is_other_open; fault = c.self.inside.fault } in
     let is : area ≡ c.args.self.now = c.self.view_is in
     let log = c.in-Ok.ensures.log in
@@ -51,10 +50,10 @@ returns-in-Ok-clause-writes g c = λ honest.
     let disk = c.args.disk.now in
     let next = c.rewrite.new.disk in
     let state = g.D.Disk.state disk in
-    let bodies = bodies_of c.args.bodies.now in
+    let bodies = c.args.bodies.now in
     let area : Area = record { log = c.self.inside.log; generation = c.self.inside.generation; is_other_open = c.self.inside.is_other_open; fault = c.self.inside.fault } in
     let is : area ≡ c.args.self.now = c.self.view_is in
-    let fits : 2 * area.log.size ≤ length state.seen = omega (arith, c.requires.whole, ap (λ (a : Area). a.log.size) is, g.met.D.Disk.sized disk honest) in
+    let fits : 2 * area.log.size ≤ length state.seen = omega (arith, c.requires, ap (λ (a : Area). a.log.size) is, g.met.D.Disk.sized disk honest) in
     let other : c.size-size.result - c.place.result ≡ other_place area = omega (arith, c.size-size.ensures, c.place.ensures) in
     let new = g.D.Disk.state next in
     let log = c.in-Ok.ensures.log in
@@ -79,10 +78,10 @@ returns-clause-writes g c = λ honest.
     let disk = c.args.disk.now in
     let next = c.rewrite.new.disk in
     let state = g.D.Disk.state disk in
-    let bodies = bodies_of c.args.bodies.now in
+    let bodies = c.args.bodies.now in
     let area : Area = record { log = c.self.inside.log; generation = c.self.inside.generation; is_other_open = c.self.inside.is_other_open; fault = c.self.inside.fault } in
     let is : area ≡ c.args.self.now = c.self.view_is in
-    let fits : 2 * area.log.size ≤ length state.seen = omega (arith, c.requires.whole, ap (λ (a : Area). a.log.size) is, g.met.D.Disk.sized disk honest) in
+    let fits : 2 * area.log.size ≤ length state.seen = omega (arith, c.requires, ap (λ (a : Area). a.log.size) is, g.met.D.Disk.sized disk honest) in
     let other : c.size-size.result - c.place.result ≡ other_place area = omega (arith, c.size-size.ensures, c.place.ensures) in
     record {
       holds = λ old holds. tt;
