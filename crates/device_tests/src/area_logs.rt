@@ -1,7 +1,8 @@
 use crate::faults::{Act, FAULT, Trial, wrong_in_four, wrong_in_six};
 use crate::on_mem_disk::append_on;
 use crate::support::{
-    again, append, are_these, calls_of, crash, fetch, fill, framed, make, open, put, replace, zeros,
+    again, all_framed, append, are_these, calls_of, crash, fetch, fill, framed, make, make_all,
+    open, put, replace, replace_all, zeros,
 };
 use area_log::listed;
 use disk_mem::{Call, MemDisk};
@@ -308,28 +309,21 @@ fn forty_bodies(alloc: Global) -> Result<Vec<Vec<u8>>, Refusal> {
     Ok(bodies)
 }
 
-fn append_each<D: Disk>(alloc: Global, disk: &mut D, bodies: &[Vec<u8>]) -> Result<(), Refusal> {
-    for body in bodies {
-        append(alloc, disk, body)?;
-    }
-    Ok(())
-}
-
-// Whether a log of the first of forty bodies takes the others.
-fn holds_forty(alloc: Global) -> Result<bool, Refusal> {
-    let bodies = forty_bodies(alloc)?;
-    let [first, others @ ..] = bodies.as_slice() else {
-        return Ok(false);
-    };
+// Whether a log made of these bodies holds them, and again once they have replaced the body 1.
+fn holds_all(alloc: Global, bodies: &[Vec<u8>]) -> Result<[bool; 2], Refusal> {
+    let frames = all_framed(alloc, bodies)?;
     let mut disk = zeros(alloc, 262_144)?;
-    make(alloc, &mut disk, first)?;
-    append_each(alloc, &mut disk, others)?;
-    Ok(open(alloc, &mut disk)? == bodies)
+    make_all(alloc, &mut disk, &frames)?;
+    let made = open(alloc, &mut disk)?.as_slice() == bodies;
+    replace(alloc, &mut disk, &[1])?;
+    replace_all(alloc, &mut disk, &frames)?;
+    Ok([made, open(alloc, &mut disk)?.as_slice() == bodies])
 }
 
 #[test]
 fn a_log_holds_forty_bodies(rt: HostRuntime) -> Result<(), Fail> {
-    let held = holds_forty(rt.alloc());
-    assert!(rt; held == Ok(true));
+    let alloc = rt.alloc();
+    let held = holds_all(alloc, &forty_bodies(alloc)?);
+    assert!(rt; held == Ok([true; 2]));
     Ok(())
 }
