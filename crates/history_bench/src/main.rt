@@ -1,5 +1,5 @@
 //! What an opening reads at full size: 65,536 snapshots that roll on, a Maplog of low marks over 1,048,576 mappings,
-//! and 65,536 captured pages beside as many mappings. With no word a sixteenth of each: the time is linear.
+//! and 65,536 captured pages beside as many mappings. With no word a sixteenth of each.
 #![tactic(auto)]
 
 mod bodies;
