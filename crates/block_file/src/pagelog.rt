@@ -42,13 +42,6 @@ impl<D: Disk> Pagelog<D> {
         Pagelog { disk, capacity }
     }
 
-    /// How many slots it has.
-    pub fn capacity(&self) -> u32
-        ensures { result ≡ self.now.blocks }
-    {
-        self.capacity
-    }
-
     /// The device.
     pub fn into_disk(self) -> D
         ensures disk { result ≡ self.disk }

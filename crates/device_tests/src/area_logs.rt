@@ -1,13 +1,9 @@
 use crate::faults::{Act, FAULT, Trial, wrong_in_four, wrong_in_six};
-use crate::on_mem_disk::append_on;
 use crate::support::{
-    again, all_framed, append, are_these, calls_of, crash, fetch, fill, framed, make, make_all,
-    open, put, replace, replace_all, zeros,
+    again, append, are_these, crash, fetch, fill, framed, make, open, put, replace, zeros,
 };
-use area_log::listed;
 use disk_mem::{Call, MemDisk};
 use disk_model::Disk;
-use gate_log::Unread;
 use retro_base::{Device, Refusal};
 use std::alloc::Global;
 use std::test::Fail;
@@ -110,75 +106,6 @@ fn a_fault_of_an_opening_changes_nothing(rt: HostRuntime) -> Result<(), Fail> {
         opened_twice(alloc, &disk, Call::Read, 3),
     ];
     assert!(rt; opened == [Ok((FAULT.err(), true)); 4]);
-    Ok(())
-}
-
-// What an opening gives whose sync fails, and its reads, writes and syncs.
-fn opened_unsynced(alloc: Global, disk: &MemDisk) -> Result<(Option<Refusal>, [u64; 3]), Refusal> {
-    let failing = vec![in alloc; (Call::Sync, 1)]?;
-    let mut faulty = disk.again(alloc, failing, None)?;
-    let refused = open(alloc, &mut faulty).err();
-    Ok((refused, calls_of(&faulty)))
-}
-
-#[test]
-fn an_opening_reads_nothing_before_its_sync(rt: HostRuntime) -> Result<(), Fail> {
-    let alloc = rt.alloc();
-    let disk = log_of(alloc, &[1])?;
-    let opened = opened_unsynced(alloc, &disk);
-    assert!(rt; opened == Ok((FAULT.err(), [0, 0, 1])));
-    Ok(())
-}
-
-// What the log in halves of that many bytes is refused for where it breaks behind so many bodies.
-fn broken_behind<D: Disk>(
-    alloc: Global,
-    disk: &mut D,
-    half: u64,
-    behind: usize,
-) -> Result<Refusal, Refusal> {
-    if !(17..1024).contains(&half) {
-        return Err(Refusal::BadSizes);
-    }
-    let (log, bodies) = listed(alloc, disk, Device::Log, half)?;
-    Ok(log.refusal_of(bodies.as_slice(), Unread::Broken { behind }))
-}
-
-fn not_a_store(place: u64) -> Refusal {
-    let device = Device::Log;
-    Refusal::NotAStore { device, place }
-}
-
-#[test]
-fn a_list_is_refused_with_the_gate_of_the_body_that_breaks(rt: HostRuntime) -> Result<(), Fail> {
-    let alloc = rt.alloc();
-    let mut disk = log_of(alloc, &[1])?;
-    append(alloc, &mut disk, &[2, 3])?;
-    let refused = [
-        broken_behind(alloc, &mut disk, 64, 0),
-        broken_behind(alloc, &mut disk, 64, 1),
-        broken_behind(alloc, &mut disk, 64, 2),
-        broken_behind(alloc, &mut disk, 63, 0),
-    ];
-    let gates = [16, 22, 29].map(|place| Ok(not_a_store(place)));
-    assert!(rt; refused == [gates[0], gates[1], gates[2], Err(not_a_store(128))]);
-    Ok(())
-}
-
-// Opens the log, and appends a body to a device that remembers.
-fn append_behind_fetch(alloc: Global, disk: &mut MemDisk, body: &[u8]) -> Result<(), Refusal> {
-    let framed = framed(alloc, body)?;
-    let (mut log, _bodies) = fetch(alloc, disk)?;
-    append_on(&mut log, disk, &framed)
-}
-
-#[test]
-fn an_append_follows_a_fetch(rt: HostRuntime) -> Result<(), Fail> {
-    let alloc = rt.alloc();
-    let mut disk = log_of(alloc, &[1])?;
-    let appended = append_behind_fetch(alloc, &mut disk, &[2, 3]);
-    let both = lists(alloc, &mut disk, &[&[1], &[2, 3]])?;
-    assert!(rt; (appended, both) == (Ok(()), true));
     Ok(())
 }
 
@@ -296,34 +223,5 @@ fn holds_much(alloc: Global, size: u64, count: usize) -> Result<bool, Refusal> {
 fn a_log_of_4_mib_holds_a_body_of_1_mib(rt: HostRuntime) -> Result<(), Fail> {
     let held = holds_much(rt.alloc(), 4_194_304, 1_048_576);
     assert!(rt; held == Ok(true));
-    Ok(())
-}
-
-// Bodies of 0 to 38 bytes, and one of 100,000.
-fn forty_bodies(alloc: Global) -> Result<Vec<Vec<u8>>, Refusal> {
-    let mut bodies = Vec::new(alloc);
-    for number in 0..39u8 {
-        bodies.push(vec![in alloc; number; usize::from(number)]?)?;
-    }
-    bodies.push(vec![in alloc; 0xa5; 100_000]?)?;
-    Ok(bodies)
-}
-
-// Whether a log made of these bodies holds them, and again once they have replaced the body 1.
-fn holds_all(alloc: Global, bodies: &[Vec<u8>]) -> Result<[bool; 2], Refusal> {
-    let frames = all_framed(alloc, bodies)?;
-    let mut disk = zeros(alloc, 262_144)?;
-    make_all(alloc, &mut disk, &frames)?;
-    let made = open(alloc, &mut disk)?.as_slice() == bodies;
-    replace(alloc, &mut disk, &[1])?;
-    replace_all(alloc, &mut disk, &frames)?;
-    Ok([made, open(alloc, &mut disk)?.as_slice() == bodies])
-}
-
-#[test]
-fn a_log_holds_forty_bodies(rt: HostRuntime) -> Result<(), Fail> {
-    let alloc = rt.alloc();
-    let held = holds_all(alloc, &forty_bodies(alloc)?);
-    assert!(rt; held == Ok([true; 2]));
     Ok(())
 }

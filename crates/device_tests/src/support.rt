@@ -77,28 +77,14 @@ pub fn fill<D: Disk>(alloc: Global, disk: &mut D, body: &[u8]) -> Result<(), Ref
     Ok(())
 }
 
-/// These bodies as a make and a replace take them.
-pub fn all_framed(alloc: Global, bodies: &[Vec<u8>]) -> Result<Vec<Framed>, Refusal> {
-    let mut frames = Vec::new(alloc);
-    for body in bodies {
-        frames.push(framed(alloc, body)?)?;
-    }
-    Ok(frames)
-}
-
-/// Makes the log of these bodies on an all-zero device.
-pub fn make_all<D: Disk>(alloc: Global, disk: &mut D, bodies: &[Framed]) -> Result<(), Refusal> {
+/// Makes the log of one body on an all-zero device.
+pub fn make<D: Disk>(alloc: Global, disk: &mut D, body: &[u8]) -> Result<(), Refusal> {
     let size = disk.size();
     if size % 2 != 0 || size < 34 {
         return Err(Refusal::BadSizes);
     }
-    AreaLog::make(alloc, disk, Device::Log, bodies)
-}
-
-/// Makes the log of one body on an all-zero device.
-pub fn make<D: Disk>(alloc: Global, disk: &mut D, body: &[u8]) -> Result<(), Refusal> {
     let bodies = list_of(alloc, body)?;
-    make_all(alloc, disk, bodies.as_slice())
+    AreaLog::make(alloc, disk, Device::Log, bodies.as_slice())
 }
 
 /// The log and its bodies.
@@ -137,13 +123,8 @@ pub fn append<D: Disk>(alloc: Global, disk: &mut D, body: &[u8]) -> Result<(), R
 /// Opens the log, and puts one body in the place of all.
 pub fn replace<D: Disk>(alloc: Global, disk: &mut D, body: &[u8]) -> Result<(), Refusal> {
     let bodies = list_of(alloc, body)?;
-    replace_all(alloc, disk, bodies.as_slice())
-}
-
-/// Opens the log, and puts these bodies in the place of all.
-pub fn replace_all<D: Disk>(alloc: Global, disk: &mut D, bodies: &[Framed]) -> Result<(), Refusal> {
     let (mut log, _bodies) = fetch(alloc, disk)?;
-    log.replace(alloc, disk, bodies)
+    log.replace(alloc, disk, bodies.as_slice())
 }
 
 /// A page of this byte alone.

@@ -1,14 +1,8 @@
 //! What no clause says: the bytes of records, and lists of bodies with what they stand for, worked by hand.
 
-ghost use Rattle.std.specs.Prelude.{IsTrue, IfOk};
-ghost use Rattle.history.specs.declared.log.Version.TheVariants.{One};
-ghost use Rattle.records.specs.Entries.{EntryFits};
-ghost use Rattle.records.specs.Laws.{IsRightBase};
-
 use crate::*;
-use gate_log::{Framed, Unread};
+use gate_log::Unread;
 use history::{Base, Change, Version, is_base};
-use retro_base::Refusal;
 use std::alloc::{AllocError, Global};
 use std::test::Fail;
 use values::Seq;
@@ -146,83 +140,5 @@ fn a_maplog_breaks_at_its_first_wrong_body(rt: HostRuntime) -> Result<(), Fail> 
     for (list, want) in table {
         assert_eq!(rt; maplog_read(rt.alloc(), list)?, want);
     }
-    Ok(())
-}
-
-// A commit of 1,024 pages under a label of 64 bytes.
-fn large_commit(alloc: Global) -> Result<Vec<u8>, AllocError> {
-    let mut bytes = [2, 1, 64].to_vec(alloc)?;
-    bytes.extend_from_slice(&[b'x'; 64])?;
-    bytes.extend_from_slice(&[4, 0])?;
-    for page in 0..1024u16 {
-        let [high, low] = page.to_be_bytes();
-        bytes.extend_from_slice(&[high, low])?;
-        bytes.extend_from_slice(&[high ^ low; 1024])?;
-    }
-    Ok(bytes)
-}
-
-// A base with 1,000 marks under labels of 64 bytes, and 1,000 captured pages of 1,024.
-fn large_base(alloc: Global) -> Result<Vec<u8>, AllocError> {
-    let sizes = [1, 0, 1, 0, 0, 4, 0, 0, 0, 8, 0];
-    let changes_and_captures = [0, 0, 0, 0, 0, 0, 0, 0, 0, 0, 0, 0, 0, 0, 7, 0xcf];
-    let counts = [0, 0, 0, 1, 0, 0, 3, 0xe8, 0, 0, 3, 0xe8];
-    let mut bytes = sizes.to_vec(alloc)?;
-    bytes.extend_from_slice(&changes_and_captures)?;
-    bytes.extend_from_slice(&counts)?;
-    for start in 0..1000u64 {
-        bytes.extend_from_slice(&start.to_be_bytes())?;
-        bytes.push(64)?;
-        bytes.extend_from_slice(&[b'x'; 64])?;
-    }
-    for page in 0..1000u16 {
-        bytes.extend_from_slice(&page.to_be_bytes())?;
-    }
-    Ok(bytes)
-}
-
-fn decoded(alloc: Global, bytes: &[u8]) -> Result<Entry, Refusal>
-    ensures { IfOk result (EntryFits One) }
-{
-    match decode(alloc, Version::One, bytes) {
-        Ok(entry) => Ok(entry),
-        Err(_) => Err(Refusal::BadSizes),
-    }
-}
-
-fn is_right(entry: &Entry) -> bool
-    ensures { IsTrue result → IsRightBase entry.now }
-{
-    match entry {
-        Entry::Base(base) => is_base(base),
-        Entry::Change(_) => true,
-    }
-}
-
-fn encoded(alloc: Global, entry: &Entry) -> Result<Framed, Refusal>
-    requires { EntryFits One entry.now }
-{
-    if !is_right(entry) {
-        return Err(Refusal::BadSizes);
-    }
-    encode(alloc, Version::One, entry)
-}
-
-// Whether the entry that has these bytes is written with the same ones.
-fn goes_round(alloc: Global, bytes: &[u8]) -> Result<bool, Refusal> {
-    let entry = decoded(alloc, bytes)?;
-    let framed = encoded(alloc, &entry)?;
-    match framed.as_bytes() {
-        [_, _, _, _, body @ .., 0] => Ok(body == bytes),
-        _ => Ok(false),
-    }
-}
-
-#[test]
-fn large_records_are_read_and_written(rt: HostRuntime) -> Result<(), Fail> {
-    let alloc = rt.alloc();
-    let commit = goes_round(alloc, &large_commit(alloc)?);
-    let base = goes_round(alloc, &large_base(alloc)?);
-    assert!(rt; (commit, base) == (Ok(true), Ok(true)));
     Ok(())
 }
