@@ -1,11 +1,13 @@
 #!/bin/sh
-# Instructions of reading a log of snapshots that roll on, a Maplog of low marks, and of the rule that joins captured pages
-# with as many mappings: at a sixteenth of their full sizes and at these. It needs valgrind, and takes minutes.
+# Instructions of building and reading a log of snapshots that roll on, one of one-page commits, and Maplogs of low
+# marks over many mappings and over few; of joining captured pages with as many mappings; of reading, encoding and
+# reading again the largest base and commit; and of opening a store from a log of commits. At a sixteenth of their full
+# sizes and at these. It needs valgrind.
 cd "$(dirname "$0")/../crates/history_bench" && rt run > /dev/null 2>&1 || exit 1
 out=$(mktemp -d)
 trap 'rm -rf "$out"' EXIT
-for size in '' full; do
-    valgrind --tool=callgrind --callgrind-out-file="$out/count" out/history_bench $size 2> /dev/null
+for size in sixteenth ''; do
+    valgrind --tool=callgrind --callgrind-out-file="$out/count" out/history_bench $size > /dev/null 2>&1
     callgrind_annotate --inclusive=yes --threshold=100 "$out/count" |
-        sed -nE 's/^ *([0-9,]+) .*(records::log::read_log|records::maplog::read_maplog|replay::joining::holds_base)[: ].*/\2 \1/p'
+        sed -nE 's/^ *([0-9,]+) .*history_bench::[a-z]+::(rolling|capturing|growing|trimming|belongs|base_comes_back|commit_comes_back|joins)[: ].*/\2 \1/p'
 done

@@ -10,3 +10,4 @@ pub mod MarkLaws
 pub mod PageLists
 pub mod RightLaws
 pub mod SoundLaws
+pub mod Stamps

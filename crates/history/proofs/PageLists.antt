@@ -1,6 +1,6 @@
 -- Pages in their places, and writes of pages.
 use Rattle.std.proofs.Common.{◌≡◌, ◌<◌, ◌≤◌, ◌+◌, ◌∙◌, ℕ, suc, Bool, true, false, cond, not, ltb, leb, eqb, List, [], ◌∷◌, ◌++◌, length, take, drop, get_or, map, refl, sym, ap, subst, arith}
-use Rattle.std.specs.Prelude.{insert, unwrap_or, Some, None}
+use Rattle.std.specs.Prelude.{unwrap_or, Some, None}
 use Rattle.std.specs.List.{AllByRecursion, position, position_or_len, slice_set}
 use Rattle.std.proofs.lemmas.List.Elements.{All-from_recursion}
 use Rattle.std.proofs.lemmas.List.Sums.{prefix_len-le-length}
@@ -12,7 +12,7 @@ use Rattle.history.specs.Marks.{kept_marks}
 use Rattle.history.specs.declared.entry.Base.{Base}
 use Rattle.std.proofs.Math.Path.{fun_ext}
 use Rattle.history.specs.Writes.{pages_of}
-use Rattle.history.specs.History.{State, with_write, written, with_page, before_write}
+use Rattle.history.specs.History.{State, with_write, written, before_write}
 use Rattle.history.specs.Replayed.{page_in}
 
 abbrev pub state : Base → (ℕ → List ℕ) → State
@@ -25,20 +25,6 @@ module _ {X : Type 0} (test : X → Bool) where
     go : (b : Bool) → ltb (position_or_len test xs) (length xs) ≡ b → unwrap_or (cond b (Some (position_or_len test xs)) None) (length xs) ≡ position_or_len test xs
     go true e = refl
     go false e = omega (arith, ltb-false _ _ e, prefix_len-le-length (λ x. not (test x)) xs)
-
-  pub place-le : (xs : List X) → unwrap_or (position test xs) (length xs) ≤ length xs
-  place-le xs = omega (arith, place_is xs, prefix_len-le-length (λ x. not (test x)) xs)
-
--- a page in its place is inserted before the first greater one
-pub with_page-insert : (page : ℕ) (pages : List ℕ) → with_page page pages ≡ insert pages (position_or_len (λ other. ltb page other) pages) page
-with_page-insert page [] = refl
-with_page-insert page (other ∷ pages) = go (ltb page other) (with_page-insert page pages) where
-  go : (b : Bool) → with_page page pages ≡ insert pages (position_or_len (λ other. ltb page other) pages) page
-      → cond b (page ∷ other ∷ pages) (other ∷ with_page page pages) ≡ insert (other ∷ pages) (cond (not b) (1 + position_or_len (λ other. ltb page other) pages) 0) page
-  go true again = refl
-  go false again =
-      let k : 1 + position_or_len (λ other. ltb page other) pages ≡ suc (position_or_len (λ other. ltb page other) pages) = omega arith in
-      rw k (ap (λ (t : List ℕ). other ∷ t) again)
 
 -- the marks from the first that is not below a number
 pub kept-drop : (below : ℕ) (marks : List Mark) → kept_marks below marks ≡ drop (position_or_len (λ (mark : Mark). leb below mark.number) marks) marks

@@ -8,5 +8,6 @@ pub mod Log
 pub mod Marks
 pub mod Replayed
 pub mod Right
+pub mod Running
 pub mod Sound
 pub mod Writes

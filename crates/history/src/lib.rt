@@ -2,7 +2,6 @@
 //! captures that changes make.
 #![tactic(auto)]
 
-mod base;
 mod entry;
 mod journal;
 mod label;
@@ -10,19 +9,20 @@ mod laws;
 mod log;
 mod replaying;
 mod right;
+mod running;
 #[cfg(test)]
 mod tests;
 mod writes;
 
-pub use base::base_after;
 pub use entry::{Base, Change, Mark, newest, newest_start, oldest, oldest_start};
 pub use journal::{Journal, Line, What};
 pub use label::{Label, is_label};
 pub use laws::{
-    laws_of_captures, laws_of_journals, laws_of_lines, laws_of_sound_journals, laws_of_the_past,
-    right_bases_stay,
+    laws_of_captures, laws_of_journals, laws_of_lines, laws_of_open_items, laws_of_page_changes,
+    laws_of_pins, laws_of_sound_journals, laws_of_stops, laws_of_the_past, right_bases_stay,
 };
 pub use log::{Log, Version};
 pub use replaying::Replayed;
-pub use right::{captures_page, is_base, is_right};
+pub use right::{are_pages, is_base, oldest_start_behind};
+pub use running::RunningBase;
 pub use writes::{PageImage, Writes};

@@ -7,9 +7,8 @@ ghost use Rattle.history.specs.History.{capturing, before_write, written, after,
 ghost use Rattle.history.specs.Right.{IsRight};
 ghost use Rattle.history.specs.Replayed.{page_in, state_of};
 
-use crate::base::base_after;
-use crate::entry::{Base, Change};
-use crate::right::{captures_page, is_right};
+use crate::entry::Change;
+use crate::running::RunningBase;
 use crate::writes::PageImage;
 use retro_base::Page;
 use std::alloc::{AllocError, Global};
@@ -18,7 +17,7 @@ use values::Seq;
 /// A store as changes leave it: what the log says behind them, the pages, and what they captured.
 #[derive(Debug, Drop)]
 pub struct Replayed {
-    pub base: Base,
+    pub base: RunningBase,
     pub pages: Seq<Page>,
     pub captures: Seq<PageImage>,
 }
@@ -26,16 +25,17 @@ pub struct Replayed {
 // The bytes that the captured pages among these writes had.
 fn pre_states(
     alloc: Global,
-    base: &Base,
+    base: &RunningBase,
     pages: &[Page],
     writes: &[PageImage],
 ) -> Result<Vec<PageImage>, AllocError>
     requires { AllByRecursion (λ write. write.page < length pages.now) writes.now }
-    ensures { IfOk result (λ images. images.items ≡ map (before_write (page_in pages.now)) (capturing base.now writes.now)) }
+    ensures { IfOk result (λ images. images.items ≡
+        map (before_write (page_in pages.now)) (capturing base.now writes.now)) }
 {
     let mut images = Vec::new(alloc);
     for write in writes {
-        if captures_page(base, write.page) {
+        if base.captures_page(write.page) {
             images.push(PageImage {
                 page: write.page,
                 bytes: pages[write.page as usize],
@@ -59,8 +59,10 @@ impl Replayed {
     fn write(self, alloc: Global, writes: &[PageImage]) -> Result<Replayed, AllocError>
         requires { AllByRecursion (λ write. write.page < length self.pages) writes.now }
         ensures base { IfOk result (λ store. store.base ≡ self.base) }
-        ensures pages { IfOk result (λ store. (page : ℕ) → page_in store.pages page ≡ written (page_in self.pages) writes.now page) }
-        ensures captures { IfOk result (λ store. store.captures ≡ self.captures ++ map (before_write (page_in self.pages)) (capturing self.base writes.now)) }
+        ensures pages { IfOk result (λ store. (page : ℕ) →
+            page_in store.pages page ≡ written (page_in self.pages) writes.now page) }
+        ensures captures { IfOk result (λ store. store.captures ≡
+            self.captures ++ map (before_write (page_in self.pages)) (capturing self.base writes.now)) }
         ensures whole { IfOk result (λ store. length store.pages ≡ length self.pages) }
     {
         let images = pre_states(alloc, &self.base, self.pages.as_slice(), writes)?;
@@ -79,23 +81,21 @@ impl Replayed {
     /// memory alone.
     pub fn apply(self, alloc: Global, change: &Change) -> Result<Option<Replayed>, AllocError>
         requires { length self.pages ≡ self.base.page_count }
-        ensures state { IfOk result (λ found. IfSome found (λ store. state_of store ≡ after (state_of self) change.now)) }
-        ensures captures { IfOk result (λ found. IfSome found (λ store. store.captures ≡ self.captures ++ captured_by (state_of self) change.now)) }
+        ensures state { IfOk result (λ found. IfSome found (λ store.
+            state_of store ≡ after (state_of self) change.now)) }
+        ensures captures { IfOk result (λ found. IfSome found (λ store.
+            store.captures ≡ self.captures ++ captured_by (state_of self) change.now)) }
         ensures whole { IfOk result (λ found. IfSome found (λ store. length store.pages ≡ store.base.page_count)) }
         ensures right { IfOk result (λ found. IsSome found ↔ IsRight self.base change.now) }
     {
-        if !is_right(&self.base, change) {
+        if !self.base.is_right(change) {
             return Ok(None);
         }
-        let store = match change {
+        let mut store = match change {
             Change::Commit { writes, .. } => self.write(alloc, writes.images())?,
             Change::Drop { .. } => self,
         };
-        let base = base_after(alloc, store.base, change)?;
-        Ok(Some(Replayed {
-            base,
-            pages: store.pages,
-            captures: store.captures,
-        }))
+        store.base.apply(alloc, change)?;
+        Ok(Some(store))
     }
 }

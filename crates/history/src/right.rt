@@ -1,42 +1,20 @@
 //! Which records are right at their place.
 
-ghost use Rattle.std.specs.Prelude.{◌≡◌, ◌≤◌, ◌<◌, ◌-◌, ◌^◌, ◌↔◌, nat_lt, IsTrue, length};
-ghost use Rattle.std.specs.List.{AllByRecursion, list_all};
+ghost use Rattle.std.specs.Prelude.{◌≡◌, ◌≤◌, ◌<◌, ◌-◌, ◌^◌, ◌↔◌, IsTrue, length};
+ghost use Rattle.std.specs.List.{AllByRecursion};
 ghost use Rattle.history.specs.Marks.{newest_start, oldest_start, AreMarks};
-ghost use Rattle.history.specs.Writes.{rises, is_among};
-ghost use Rattle.history.specs.History.{captures_page, capturing, declared};
+ghost use Rattle.history.specs.Writes.{rises};
+ghost use Rattle.history.specs.History.{declared};
 ghost use Rattle.history.specs.declared.entry.Change.TheVariants.{Commit};
 ghost use Rattle.history.specs.Right.{IsWithinLimits, IsBase, DoesSomething, IsRight};
 
 use crate::entry::{Base, Change, Mark, newest, newest_start, oldest, oldest_start};
 use crate::label::Label;
+use crate::running::RunningBase;
 use crate::writes::PageImage;
 use retro_base::{
     MAX_CAPACITY, MAX_CAPTURES, MAX_PAGES, MIN_CAPACITY, MIN_PAGES, RETAINED_SNAPSHOTS,
 };
-
-fn is_among(page: u32, pages: &[u32]) -> bool
-    ensures { result ≡ is_among page pages.now }
-{
-    pages.iter().any(|other| *other == page)
-}
-
-/// Whether the write of a page captures it: a snapshot was declared, and the page has no capture since the newest.
-pub fn captures_page(base: &Base, page: u32) -> bool
-    ensures { result ≡ captures_page base.now page }
-{
-    !base.marks.is_empty() && !is_among(page, base.captured.as_slice())
-}
-
-// How many pages these writes capture.
-fn captured_count(base: &Base, writes: &[PageImage]) -> usize
-    ensures { result ≡ length (capturing base.now writes.now) }
-{
-    writes
-        .iter()
-        .filter(|write| captures_page(base, write.page))
-        .count()
-}
 
 fn rise(pages: &[u32]) -> bool
     ensures { result ≡ rises 0 pages.now }
@@ -51,28 +29,17 @@ fn rise(pages: &[u32]) -> bool
     true
 }
 
-fn are_pages_below(limit: u32, pages: &[u32]) -> bool
-    ensures { result ≡ list_all (λ page. nat_lt page limit) pages.now }
-{
-    pages.iter().all(|page| *page < limit)
-}
-
-fn are_pages(page_count: u32, pages: &[u32]) -> bool
+/// Whether these are pages of a store of that many. It takes a step for each.
+pub fn are_pages(page_count: u32, pages: &[u32]) -> bool
     ensures { IsTrue result ↔ AllByRecursion (λ page. page < page_count) pages.now }
 {
-    are_pages_below(page_count, pages)
-}
-
-fn are_written_below(limit: u32, writes: &[PageImage]) -> bool
-    ensures { result ≡ list_all (λ write. nat_lt write.page limit) writes.now }
-{
-    writes.iter().all(|write| write.page < limit)
+    pages.iter().all(|page| *page < page_count)
 }
 
 fn are_in_store(page_count: u32, writes: &[PageImage]) -> bool
     ensures { IsTrue result ↔ AllByRecursion (λ write. write.page < page_count) writes.now }
 {
-    are_written_below(page_count, writes)
+    writes.iter().all(|write| write.page < page_count)
 }
 
 // Whether the numbers rise, and the starts do not fall, up to this count of captures.
@@ -92,7 +59,8 @@ fn are_marks(captures: u64, marks: &[Mark]) -> bool
 }
 
 fn within_limits(capacity: u32, captures: u64, start: u64, retained: u64, number: u64) -> bool
-    ensures { IsTrue result ↔ (captures ≤ MAX_CAPTURES) × (captures - start ≤ capacity) × (retained ≤ RETAINED_SNAPSHOTS) × (number < 2 ^ 32) }
+    ensures { IsTrue result ↔ (captures ≤ MAX_CAPTURES) × (captures - start ≤ capacity) ×
+        (retained ≤ RETAINED_SNAPSHOTS) × (number < 2 ^ 32) }
 {
     captures <= MAX_CAPTURES
         && captures.saturating_sub(start) <= u64::from(capacity)
@@ -101,14 +69,17 @@ fn within_limits(capacity: u32, captures: u64, start: u64, retained: u64, number
 }
 
 fn has_sizes(base: &Base) -> bool
-    ensures { IsTrue result ↔ ((MIN_PAGES ≤ base.now.page_count) × (base.now.page_count ≤ MAX_PAGES)) × ((MIN_CAPACITY ≤ base.now.capacity) × (base.now.capacity ≤ MAX_CAPACITY)) }
+    ensures { IsTrue result ↔ ((MIN_PAGES ≤ base.now.page_count) × (base.now.page_count ≤ MAX_PAGES)) ×
+        ((MIN_CAPACITY ≤ base.now.capacity) × (base.now.capacity ≤ MAX_CAPACITY)) }
 {
     (MIN_PAGES..=MAX_PAGES).contains(&base.page_count)
         && (MIN_CAPACITY..=MAX_CAPACITY).contains(&base.capacity)
 }
 
 fn has_captured(base: &Base) -> bool
-    ensures { IsTrue result ↔ IsTrue (rises 0 base.now.captured) × AllByRecursion (λ page. page < base.now.page_count) base.now.captured × (length base.now.captured ≡ base.now.captures - newest_start base.now.marks) }
+    ensures { IsTrue result ↔ IsTrue (rises 0 base.now.captured) ×
+        AllByRecursion (λ page. page < base.now.page_count) base.now.captured ×
+        (length base.now.captured ≡ base.now.captures - newest_start base.now.marks) }
 {
     let captured = base.captured.as_slice();
     if !rise(captured) {
@@ -148,8 +119,8 @@ fn does_something(label: &Option<Label>, writes: &[PageImage]) -> bool
     label.is_some() || !writes.is_empty()
 }
 
-// The start of the oldest snapshot behind a commit that leaves this count of captures.
-fn oldest_start_behind(captures: u64, marks: &[Mark], label: &Option<Label>) -> u64
+/// The start of the oldest snapshot behind a commit that leaves this count of captures.
+pub fn oldest_start_behind(captures: u64, marks: &[Mark], label: &Option<Label>) -> u64
     ensures { result ≡ oldest_start (declared marks.now captures label.now) }
 {
     match (label, marks) {
@@ -168,31 +139,32 @@ fn keeps_limits(capacity: u32, captures: u64, marks: &[Mark], label: &Option<Lab
     within_limits(capacity, captures, start, marks.len() as u64 + more, number)
 }
 
-fn is_right_commit(base: &Base, label: &Option<Label>, writes: &[PageImage]) -> bool
+fn is_right_commit(base: &RunningBase, label: &Option<Label>, writes: &[PageImage]) -> bool
     ensures { IsTrue result ↔ IsRight base.now (Commit label.now writes.now) }
 {
-    let count = captured_count(base, writes) as u64;
-    let Some(captures) = base.captures.checked_add(count) else {
+    let count = base.captured_count(writes) as u64;
+    let Some(captures) = base.captures().checked_add(count) else {
         return false;
     };
-    if !are_in_store(base.page_count, writes) {
+    if !are_in_store(base.page_count(), writes) {
         return false;
     }
-    does_something(label, writes)
-        && keeps_limits(base.capacity, captures, base.marks.as_slice(), label)
+    does_something(label, writes) && keeps_limits(base.capacity(), captures, base.marks(), label)
 }
 
-/// Whether a change is right behind what the log says. A commit writes pages of the store, or declares, and
-/// leaves at most 2^62 captures, at most the capacity from the oldest snapshot's start on, and at most 65,536
-/// snapshots, numbered up to 4,294,967,295. A drop is of some snapshots, but not of the newest.
-pub fn is_right(base: &Base, change: &Change) -> bool
-    ensures { IsTrue result ↔ IsRight base.now change.now }
-{
-    match change {
-        Change::Commit { label, writes } => is_right_commit(base, label, writes.images()),
-        Change::Drop { below } => {
-            let marks = base.marks.as_slice();
-            oldest(marks) < *below && *below <= newest(marks)
+impl RunningBase {
+    /// Whether a change is right there. A commit writes pages of the store, or declares, and leaves at most 2^62
+    /// captures, at most the capacity from the oldest snapshot's start on, and at most 65,536 snapshots, numbered up
+    /// to 4,294,967,295. A drop is of some snapshots, but not of the newest. It takes a step for each write.
+    pub fn is_right(&self, change: &Change) -> bool
+        ensures { IsTrue result ↔ IsRight self.now change.now }
+    {
+        match change {
+            Change::Commit { label, writes } => is_right_commit(self, label, writes.images()),
+            Change::Drop { below } => {
+                let marks = self.marks();
+                oldest(marks) < *below && *below <= newest(marks)
+            }
         }
     }
 }

@@ -17,9 +17,9 @@ use Rattle.history.specs.Marks.{oldest, newest}
 use Rattle.history.specs.Label.{is_label, is_printable}
 use Rattle.history.specs.Right.{IsBase}
 use Rattle.history.specs.Writes.{rises}
-use Rattle.records.specs.Entries.{page_width, sizes_bytes, counts_bytes, label_bytes, mark_bytes, write_bytes, declaration_bytes, MarkFits, WriteFits, BaseFits, LabelFits, ChangeFits, base_bytes, change_bytes}
+use Rattle.records.specs.Entries.{page_width, sizes_bytes, counts_bytes, label_bytes, mark_bytes, write_bytes, declaration_bytes, MarkFits, WriteFits, LabelFits, ChangeFits, base_bytes, change_bytes}
 use Rattle.records.specs.declared.entry.Entry.TheVariants as entries
-use Rattle.records.specs.Laws.{RecordsAreShort}
+use Rattle.records.specs.Laws.{BasesAreShort, RecordsAreShort}
 
 -- so many items of at most so many bytes
 flat-short : {X : Type 0} (f : X → List ℕ) (most : ℕ) (xs : List X) → AllByRecursion (λ x. length (f x) ≤ most) xs → length (flat_map f xs) ≤ length xs * most
@@ -83,7 +83,7 @@ base-long version base =
       length-field_bytes 4 (length base.captured),
     )
 
-changes_are_short : (version : Version) (change : Change) → ChangeFits version change → length (change_bytes version change) < 2 ^ 32
+pub changes_are_short : (version : Version) (change : Change) → ChangeFits version change → length (change_bytes version change) < 2 ^ 32
 changes_are_short version (Commit label writes) fits =
     let images = flat-short (write_bytes version) 1028 writes (writes-short version writes fits.3) in
     omega (
@@ -97,13 +97,17 @@ changes_are_short version (Commit label writes) fits =
     )
 changes_are_short version (Drop below) fits = omega (arith, length-field_bytes 4 below)
 
-bases_are_short : (version : Version) (base : Base) → BaseFits version base → IsBase base → length (base_bytes version base) < 2 ^ 32
+-- the captured pages of a right base are pages of its store
+pub captured_few : (base : Base) → IsBase base → length base.captured ≤ 65536
+captured_few base right = omega (arith, rises-few 0 base.page_count base.captured right.rising right.in_store (omega arith), right.pages.1)
+
+-- 39 bytes, and those of at most 65,536 snapshots of 73 and 65,536 pages of 4
+pub bases_are_short : BasesAreShort
 bases_are_short version base fits right =
     let marks = flat-short mark_bytes 73 base.marks (marks-short base.marks fits.marks) in
     let captured = flat-short (field_bytes (page_width version)) 4 base.captured (pages-short version base.captured) in
-    let few = rises-few 0 base.page_count base.captured right.rising right.in_store (omega arith) in
-    omega (arith, base-long version base, marks, captured, few, right.limits.retained, right.pages.1)
+    omega (arith, base-long version base, marks, captured, captured_few base right, right.limits.retained)
 
 pub records_are_short : RecordsAreShort
-records_are_short version (entries.Base base) fits right = bases_are_short version base fits right
+records_are_short version (entries.Base base) fits right = omega (arith, bases_are_short version base fits right)
 records_are_short version (entries.Change change) fits right = changes_are_short version change fits

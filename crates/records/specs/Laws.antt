@@ -8,7 +8,7 @@ use Rattle.history.specs.Marks.{oldest, newest, is_retained}
 use Rattle.history.specs.Right.{IsBase}
 use Rattle.records.specs.declared.entry.Entry.{Entry}
 use Rattle.records.specs.declared.entry.Entry.TheVariants as entries
-use Rattle.records.specs.Entries.{entry_bytes, EntryFits, IsNumberedFrom}
+use Rattle.records.specs.Entries.{base_bytes, BaseFits, entry_bytes, EntryFits, IsNumberedFrom}
 use Rattle.gate_log.specs.Bodies.{BreaksBehind}
 use Rattle.records.specs.Log.{IsLog}
 use Rattle.records.specs.Maplog.{IsMaplog}
@@ -25,6 +25,10 @@ IsRightBase (entries.Change change) = Unit {0}
 -- such a record takes less than 2^32 bytes
 abbrev pub RecordsAreShort : Type 0
 RecordsAreShort = (version : Version) (entry : Entry) → EntryFits version entry → IsRightBase entry → length (entry_bytes version entry) < 2 ^ 32
+
+-- and that of a base at most 5,046,311
+abbrev pub BasesAreShort : Type 0
+BasesAreShort = (version : Version) (base : Base) → BaseFits version base → IsBase base → length (base_bytes version base) ≤ 5046311
 
 -- no number is left out from the oldest retained snapshot to the newest
 abbrev pub IsNumbered : Base → Type 0

@@ -125,7 +125,7 @@ fn mark_of(alloc: Global, number: u32, bytes: &[u8]) -> Result<(Mark, &[u8]), De
     ))
 }
 
-fn page_number_of(version: Version, bytes: &[u8]) -> Result<(u32, &[u8]), DecodeError>
+pub(crate) fn page_number_of(version: Version, bytes: &[u8]) -> Result<(u32, &[u8]), DecodeError>
     ensures { Gives (λ x. (x.0, x.1.now)) result (take_number (page_width version) bytes.now) }
 {
     match version {
@@ -358,7 +358,8 @@ fn whole(alloc: Global, version: Version, bytes: &[u8]) -> Result<Entry, DecodeE
 /// that the entry is right at its place is not looked at.
 pub fn decode(alloc: Global, version: Version, bytes: &[u8]) -> Result<Entry, DecodeError>
     ensures found { IfOk result (λ entry. EntryFits version entry × (bytes.now ≡ entry_bytes version entry)) }
-    ensures only { (entry : Entry) → EntryFits version entry → bytes.now ≡ entry_bytes version entry → Gives (λ e. e) result (Some entry) }
+    ensures only { (entry : Entry) → EntryFits version entry → bytes.now ≡ entry_bytes version entry →
+        Gives (λ e. e) result (Some entry) }
 {
     whole(alloc, version, bytes)
 }

@@ -1,50 +1,34 @@
 //! The bytes of the log's records.
 
-ghost use Rattle.std.specs.Prelude.{◌≡◌, ◌<◌, ◌^◌, ◌++◌, length, OnOk, IfOk, IfErr};
+ghost use Rattle.std.specs.Prelude.{◌≡◌, ◌<◌, ◌+◌, ◌*◌, ◌^◌, ◌++◌, length, OnOk, IfOk, IfErr};
 ghost use Rattle.std.specs.List.{AllByRecursion, flat_map};
 ghost use Rattle.retro_base.specs.Fields.{field_bytes};
 ghost use Rattle.retro_base.specs.declared.refusal.Refusal.TheVariants.{OutOfMemory};
 ghost use Rattle.records.specs.Entries.{page_width, label_bytes, mark_bytes, write_bytes, declaration_bytes, sizes_bytes, counts_bytes, base_bytes, change_bytes, entry_bytes, BaseFits, WriteFits, ChangeFits, EntryFits};
 ghost use Rattle.records.specs.Laws.{IsRightBase};
+ghost use Rattle.history.specs.Right.{IsBase};
+ghost use Rattle.history.specs.declared.entry.Change.TheVariants.{Commit};
 
 use crate::entry::Entry;
 use gate_log::{Framed, FramedBuilder};
-use history::{Base, Change, Label, Mark, PageImage, Version, newest, oldest};
-use retro_base::Refusal;
+use history::{Base, Change, Label, Mark, PageImage, Version, Writes, newest, oldest};
+use retro_base::{LABEL_BYTES, PAGE_BYTES, Refusal};
 use std::alloc::Global;
 
-#[tactic(auto, unfolding(retro_base::specs::Fields::field_bytes))]
-fn put_u16(value: u16, out: &mut FramedBuilder) -> Result<(), Refusal>
-    ensures bytes { OnOk result (out.new ≡ out.old ++ field_bytes 2 value) }
-    ensures memory { IfErr result (λ why. why ≡ OutOfMemory) }
-{
-    out.extend_from_slice(&value.to_be_bytes())
-}
+// The most bytes of a snapshot, and of a page image with its page.
+const MARK_BYTES: usize = 9 + LABEL_BYTES;
 
-#[tactic(auto, unfolding(retro_base::specs::Fields::field_bytes))]
-fn put_u32(value: u32, out: &mut FramedBuilder) -> Result<(), Refusal>
-    ensures bytes { OnOk result (out.new ≡ out.old ++ field_bytes 4 value) }
-    ensures memory { IfErr result (λ why. why ≡ OutOfMemory) }
-{
-    out.extend_from_slice(&value.to_be_bytes())
-}
-
-#[tactic(auto, unfolding(retro_base::specs::Fields::field_bytes))]
-fn put_u64(value: u64, out: &mut FramedBuilder) -> Result<(), Refusal>
-    ensures bytes { OnOk result (out.new ≡ out.old ++ field_bytes 8 value) }
-    ensures memory { IfErr result (λ why. why ≡ OutOfMemory) }
-{
-    out.extend_from_slice(&value.to_be_bytes())
-}
+const WRITE_BYTES: usize = 4 + PAGE_BYTES;
 
 fn put_page(version: Version, page: u32, out: &mut FramedBuilder) -> Result<(), Refusal>
     requires { page < 256 ^ page_width version }
     ensures bytes { OnOk result (out.new ≡ out.old ++ field_bytes (page_width version) page) }
+    ensures count { OnOk result (length out.new ≡ length out.old + page_width version) }
     ensures memory { IfErr result (λ why. why ≡ OutOfMemory) }
 {
     match version {
-        Version::One => put_u16(page as u16, out),
-        Version::Two => put_u32(page, out),
+        Version::One => out.put_u16(page as u16),
+        Version::Two => out.put_u32(page),
     }
 }
 
@@ -61,7 +45,7 @@ fn put_mark(mark: &Mark, out: &mut FramedBuilder) -> Result<(), Refusal>
     ensures bytes { OnOk result (out.new ≡ out.old ++ mark_bytes mark.now) }
     ensures memory { IfErr result (λ why. why ≡ OutOfMemory) }
 {
-    put_u64(mark.start, out)?;
+    out.put_u64(mark.start)?;
     put_label(&mark.label, out)
 }
 
@@ -84,9 +68,14 @@ fn put_marks(marks: &[Mark], out: &mut FramedBuilder) -> Result<(), Refusal>
     Ok(())
 }
 
-fn put_pages(version: Version, pages: &[u32], out: &mut FramedBuilder) -> Result<(), Refusal>
+pub(crate) fn put_pages(
+    version: Version,
+    pages: &[u32],
+    out: &mut FramedBuilder,
+) -> Result<(), Refusal>
     requires { AllByRecursion (λ page. page < 256 ^ page_width version) pages.now }
     ensures bytes { OnOk result (out.new ≡ out.old ++ flat_map (field_bytes (page_width version)) pages.now) }
+    ensures count { OnOk result (length out.new ≡ length out.old + page_width version * length pages.now) }
     ensures memory { IfErr result (λ why. why ≡ OutOfMemory) }
 {
     for page in pages {
@@ -116,9 +105,9 @@ fn put_sizes(version: Version, base: &Base, out: &mut FramedBuilder) -> Result<(
     ensures memory { IfErr result (λ why. why ≡ OutOfMemory) }
 {
     out.push(1)?;
-    put_u16(version.number(), out)?;
-    put_u32(base.page_count, out)?;
-    put_u32(base.capacity, out)
+    out.put_u16(version.number())?;
+    out.put_u32(base.page_count)?;
+    out.put_u32(base.capacity)
 }
 
 // The counts of a base.
@@ -128,22 +117,11 @@ fn put_counts(base: &Base, out: &mut FramedBuilder) -> Result<(), Refusal>
     ensures memory { IfErr result (λ why. why ≡ OutOfMemory) }
 {
     let marks = base.marks.as_slice();
-    put_u64(base.changes, out)?;
-    put_u64(base.captures, out)?;
-    put_u32(oldest(marks), out)?;
-    put_u32(newest(marks), out)?;
-    put_u32(base.captured.len() as u32, out)
-}
-
-fn put_base(version: Version, base: &Base, out: &mut FramedBuilder) -> Result<(), Refusal>
-    requires { BaseFits version base.now }
-    ensures bytes { OnOk result (out.new ≡ out.old ++ base_bytes version base.now) }
-    ensures memory { IfErr result (λ why. why ≡ OutOfMemory) }
-{
-    put_sizes(version, base, out)?;
-    put_counts(base, out)?;
-    put_marks(base.marks.as_slice(), out)?;
-    put_pages(version, base.captured.as_slice(), out)
+    out.put_u64(base.changes)?;
+    out.put_u64(base.captures)?;
+    out.put_u32(oldest(marks))?;
+    out.put_u32(newest(marks))?;
+    out.put_u32(base.captured.len() as u32)
 }
 
 fn put_declaration(label: &Option<Label>, out: &mut FramedBuilder) -> Result<(), Refusal>
@@ -160,47 +138,62 @@ fn put_declaration(label: &Option<Label>, out: &mut FramedBuilder) -> Result<(),
     Ok(())
 }
 
-fn put_change(version: Version, change: &Change, out: &mut FramedBuilder) -> Result<(), Refusal>
-    requires { ChangeFits version change.now }
-    ensures bytes { OnOk result (out.new ≡ out.old ++ change_bytes version change.now) }
+/// The bytes of a right base whose fields fit theirs, framed for an append. They are at most 5,046,311. The only
+/// refusal is want of memory.
+pub fn encode_base(alloc: Global, version: Version, base: &Base) -> Result<Framed, Refusal>
+    requires fits { BaseFits version base.now }
+    requires right { IsBase base.now }
+    ensures bytes { IfOk result (λ framed. framed ≡ base_bytes version base.now) }
     ensures memory { IfErr result (λ why. why ≡ OutOfMemory) }
 {
-    match change {
-        Change::Commit { label, writes } => {
-            let images = writes.images();
-            out.push(2)?;
-            put_declaration(label, out)?;
-            put_u16(images.len() as u16, out)?;
-            put_writes(version, images, out)
-        }
-        Change::Drop { below } => {
-            out.push(3)?;
-            put_u32(*below, out)
-        }
-    }
+    let marks = base.marks.as_slice();
+    let captured = base.captured.as_slice();
+    let room = 39 + MARK_BYTES * marks.len() + 4 * captured.len();
+    let mut out = FramedBuilder::with_capacity(alloc, room)?;
+    put_sizes(version, base, &mut out)?;
+    put_counts(base, &mut out)?;
+    put_marks(marks, &mut out)?;
+    put_pages(version, captured, &mut out)?;
+    out.finish()
 }
 
-fn put_entry(version: Version, entry: &Entry, out: &mut FramedBuilder) -> Result<(), Refusal>
-    requires { EntryFits version entry.now }
-    ensures bytes { OnOk result (out.new ≡ out.old ++ entry_bytes version entry.now) }
+fn encode_commit(
+    alloc: Global,
+    version: Version,
+    label: &Option<Label>,
+    writes: &Writes,
+) -> Result<Framed, Refusal>
+    requires { ChangeFits version (Commit label.now writes.now) }
+    ensures bytes { IfOk result (λ framed. framed ≡ change_bytes version (Commit label.now writes.now)) }
     ensures memory { IfErr result (λ why. why ≡ OutOfMemory) }
 {
-    match entry {
-        Entry::Base(base) => put_base(version, base, out),
-        Entry::Change(change) => put_change(version, change, out),
-    }
+    let images = writes.images();
+    let mut out = FramedBuilder::with_capacity(alloc, 69 + WRITE_BYTES * images.len())?;
+    out.push(2)?;
+    put_declaration(label, &mut out)?;
+    out.put_u16(images.len() as u16)?;
+    put_writes(version, images, &mut out)?;
+    out.finish()
 }
 
 /// The bytes of an entry whose fields fit theirs, and which is right where it is a base, framed for an append. The
 /// only refusal is want of memory.
-#[tactic(auto, using(crate::proofs::Short::records_are_short))]
 pub fn encode(alloc: Global, version: Version, entry: &Entry) -> Result<Framed, Refusal>
     requires fits { EntryFits version entry.now }
     requires right { IsRightBase entry.now }
     ensures bytes { IfOk result (λ framed. framed ≡ entry_bytes version entry.now) }
     ensures memory { IfErr result (λ why. why ≡ OutOfMemory) }
 {
-    let mut out = FramedBuilder::new(alloc)?;
-    put_entry(version, entry, &mut out)?;
-    out.finish()
+    match entry {
+        Entry::Base(base) => encode_base(alloc, version, base),
+        Entry::Change(Change::Commit { label, writes }) => {
+            encode_commit(alloc, version, label, writes)
+        }
+        Entry::Change(Change::Drop { below }) => {
+            let mut out = FramedBuilder::with_capacity(alloc, 5)?;
+            out.push(3)?;
+            out.put_u32(*below)?;
+            out.finish()
+        }
+    }
 }

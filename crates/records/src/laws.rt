@@ -1,6 +1,6 @@
 //! What follows from the definitions.
 
-ghost use Rattle.records.specs.Laws.{LogIsReadOneWay, MaplogIsReadOneWay, NumberedStays, OneEntry, RecordsAreShort, RetainedBetween};
+ghost use Rattle.records.specs.Laws.{BasesAreShort, LogIsReadOneWay, MaplogIsReadOneWay, NumberedStays, OneEntry, RecordsAreShort, RetainedBetween};
 
 /// Of the bytes of records.
 pub fn laws_of_records()
@@ -8,6 +8,8 @@ pub fn laws_of_records()
     ensures one_entry { OneEntry }
     // Each takes less than 2^32 bytes, where a base is right.
     ensures short { RecordsAreShort }
+    // A base takes at most 5,046,311 bytes.
+    ensures bases { BasesAreShort }
 {}
 
 /// Lists of bodies are read in one way: each stands for one value at most, or breaks behind one front at most.

@@ -8,6 +8,7 @@ mod entry;
 mod laws;
 mod log;
 mod map_decoding;
+mod map_encoding;
 mod map_entry;
 mod maplog;
 #[cfg(test)]
@@ -15,10 +16,11 @@ mod tests;
 mod unread;
 
 pub use decoding::{DecodeError, decode};
-pub use encoding::encode;
+pub use encoding::{encode, encode_base};
 pub use entry::Entry;
 pub use laws::{laws_of_bases, laws_of_records, lists_are_read_one_way};
 pub use log::read_log;
 pub use map_decoding::decode_mapping;
+pub use map_encoding::{low_body, run_body, start_body};
 pub use map_entry::{MapEntry, RUN_PAGES};
 pub use maplog::read_maplog;

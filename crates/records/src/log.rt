@@ -17,7 +17,7 @@ use crate::decoding::{DecodeError, decode};
 use crate::entry::Entry;
 use crate::unread::stopped_at;
 use gate_log::Unread;
-use history::{Base, Change, Log, Version, base_after, is_base, is_right};
+use history::{Base, Change, Log, RunningBase, Version, is_base};
 use std::alloc::Global;
 use values::{Duplicate, Seq};
 
@@ -56,10 +56,10 @@ fn base_of(alloc: Global, version: Version, body: &[u8]) -> Result<Base, DecodeE
     }
 }
 
-fn right_change(place: &Base, change: Change) -> Result<Change, DecodeError>
+fn right_change(place: &RunningBase, change: Change) -> Result<Change, DecodeError>
     ensures { Finds (λ (found : Change). (found ≡ change) × IsRight place.now found) result }
 {
-    if !is_right(place, &change) {
+    if !place.is_right(&change) {
         return Err(DecodeError::Malformed);
     }
     Ok(change)
@@ -72,7 +72,7 @@ fn no_change(_base: Base) -> Result<Change, DecodeError>
 }
 
 // The change that this entry is, if it is right there.
-fn change_in(place: &Base, entry: Entry) -> Result<Change, DecodeError>
+fn change_in(place: &RunningBase, entry: Entry) -> Result<Change, DecodeError>
     ensures { Finds (λ (change : Change). (entry ≡ entries.Change change) × IsRight place.now change) result }
 {
     match entry {
@@ -85,7 +85,7 @@ fn change_in(place: &Base, entry: Entry) -> Result<Change, DecodeError>
 fn change_of(
     alloc: Global,
     version: Version,
-    place: &Base,
+    place: &RunningBase,
     body: &[u8],
 ) -> Result<Change, DecodeError>
     ensures { Finds (IsChangeBody version place.now body.now) result }
@@ -103,16 +103,18 @@ fn changes_of(
     base: &Base,
     bodies: &[Vec<u8>],
 ) -> Result<Seq<Change>, Unread>
+    requires { IsBase base.now }
     ensures found { IfOk result (InTurn (IsChangeBody version) base_after base.now (bodies_of bodies.now)) }
-    ensures broken { IfErr result (λ e. (first : List ℕ) → IsBaseBody version first base.now → BreaksAs (IsLog version) (first ∷ bodies_of bodies.now) e) }
+    ensures broken { IfErr result (λ e. (first : List ℕ) → IsBaseBody version first base.now →
+        BreaksAs (IsLog version) (first ∷ bodies_of bodies.now) e) }
 {
-    let mut place = base.copy(alloc)?;
+    let mut place = RunningBase::new(alloc, base.copy(alloc)?)?;
     let mut changes = Vec::new(alloc);
     for body in bodies {
         match change_of(alloc, version, &place, body) {
             Err(error) => return Err(stopped_at(error, changes.len() + 1)),
             Ok(change) => {
-                place = base_after(alloc, place, &change)?;
+                place.apply(alloc, &change)?;
                 changes.push(change)?;
             }
         }

@@ -1,29 +1,16 @@
 //! Records of the Maplog from their bytes.
 
 ghost use Rattle.std.specs.Prelude.{◌≡◌};
-ghost use Rattle.records.specs.Entries.{page_width};
-ghost use Rattle.records.specs.Reading.{Gives, take_number, take_list};
+ghost use Rattle.records.specs.Reading.{Gives, take_list};
 ghost use Rattle.records.specs.Finds.{Finds};
 ghost use Rattle.records.specs.Maplog.{map_entry_bytes, MapEntryFits};
 ghost use Rattle.records.specs.MapReading.{take_start, take_mapped, no_matter, take_run, take_low, take_map_entry, whole_map_entry};
 
-use crate::decoding::{DecodeError, u16_of, u32_of, u64_of};
+use crate::decoding::{DecodeError, page_number_of, u16_of, u32_of, u64_of};
 use crate::map_entry::{MapEntry, RUN_PAGES};
 use history::Version;
 use std::alloc::Global;
 use values::Seq;
-
-fn page_of(version: Version, bytes: &[u8]) -> Result<(u32, &[u8]), DecodeError>
-    ensures { Gives (λ x. (x.0, x.1.now)) result (take_number (page_width version) bytes.now) }
-{
-    match version {
-        Version::One => {
-            let (page, rest) = u16_of(bytes)?;
-            Ok((u32::from(page), rest))
-        }
-        Version::Two => u32_of(bytes),
-    }
-}
 
 #[tactic(auto, unfolding(crate::specs::MapReading::take_start))]
 fn start_of(version: Version, bytes: &[u8]) -> Result<(MapEntry, &[u8]), DecodeError>
@@ -49,7 +36,7 @@ fn pages_of(
     let mut pages = Vec::new(alloc);
     let mut rest = bytes;
     for _ in 0..count {
-        let (page, after) = page_of(version, rest)?;
+        let (page, after) = page_number_of(version, rest)?;
         pages.push(page)?;
         rest = after;
     }

@@ -1,7 +1,6 @@
 //! The Maplog, from the bodies of its records.
 
-ghost use Rattle.std.specs.Prelude.{◌≡◌, ◌≤◌, ◌<◌, ◌↔◌, ◌∷◌, [], nat_lt, ℕ, IsTrue, List, Err, OnOk};
-ghost use Rattle.std.specs.List.{AllByRecursion, list_all};
+ghost use Rattle.std.specs.Prelude.{◌≡◌, ◌≤◌, ◌↔◌, ◌∷◌, [], ℕ, IsTrue, List, Err, OnOk};
 ghost use Rattle.records.specs.declared.decoding.DecodeError.TheVariants.{Malformed};
 ghost use Rattle.retro_base.specs.declared.limits.TheConstants.{MAX_CAPTURES};
 ghost use Rattle.skippy.specs.Mappings as ghosts;
@@ -15,14 +14,15 @@ use crate::map_decoding::decode_mapping;
 use crate::map_entry::MapEntry;
 use crate::unread::stopped_at;
 use gate_log::Unread;
-use history::Version;
+use history::{Version, are_pages};
 use retro_base::MAX_CAPTURES;
 use skippy::Mappings;
 use std::alloc::{AllocError, Global};
 
 // The mappings behind a start, if its number and its capacity are right.
 fn right_start(alloc: Global, capacity: u32, low: u64, told: u32) -> Result<Mappings, DecodeError>
-    ensures { Finds (λ (found : ghosts.Mappings). (told ≡ capacity) × (low ≤ MAX_CAPTURES) × (found ≡ record { low = low; pages = [] })) result }
+    ensures { Finds (λ (found : ghosts.Mappings). (told ≡ capacity) × (low ≤ MAX_CAPTURES) ×
+        (found ≡ record { low = low; pages = [] })) result }
 {
     if told != capacity || low > MAX_CAPTURES {
         return Err(DecodeError::Malformed);
@@ -91,8 +91,8 @@ fn allowed(page_count: u32, mappings: &Mappings, entry: MapEntry) -> Result<MapE
 }
 
 // Adds what a record says that is right there.
-fn add(page_count: u32, mappings: &mut Mappings, entry: &MapEntry) -> Result<(), AllocError>
-    requires { IsRightMapping page_count mappings.old entry.now }
+fn add(mappings: &mut Mappings, entry: &MapEntry) -> Result<(), AllocError>
+    requires { (page_count : ℕ) × IsRightMapping page_count mappings.old entry.now }
     ensures { OnOk result (mappings.new ≡ mappings_after mappings.old entry.now) }
 {
     match entry {
@@ -127,13 +127,14 @@ fn mappings_of(
     start: Mappings,
     bodies: &[Vec<u8>],
 ) -> Result<Mappings, Unread>
-    ensures { (capacity : ℕ) (first : List ℕ) → IsStartBody version capacity first start → Reads (IsMaplog version page_count capacity) (first ∷ bodies_of bodies.now) result }
+    ensures { (capacity : ℕ) (first : List ℕ) → IsStartBody version capacity first start →
+        Reads (IsMaplog version page_count capacity) (first ∷ bodies_of bodies.now) result }
 {
     let mut mappings = start;
     for (count, body) in bodies.iter().enumerate() {
         match record_of(alloc, version, page_count, &mappings, body) {
             Err(error) => return Err(stopped_at(error, count + 1)),
-            Ok(entry) => add(page_count, &mut mappings, &entry)?,
+            Ok(entry) => add(&mut mappings, &entry)?,
         }
     }
     Ok(mappings)
@@ -158,16 +159,4 @@ pub fn read_maplog(
         Ok(start) => mappings_of(alloc, version, page_count, start, others),
         Err(error) => Err(stopped_at(error, 0)),
     }
-}
-
-fn are_pages_below(limit: u32, pages: &[u32]) -> bool
-    ensures { result ≡ list_all (λ page. nat_lt page limit) pages.now }
-{
-    pages.iter().all(|page| *page < limit)
-}
-
-fn are_pages(page_count: u32, pages: &[u32]) -> bool
-    ensures { IsTrue result ↔ AllByRecursion (λ page. page < page_count) pages.now }
-{
-    are_pages_below(page_count, pages)
 }

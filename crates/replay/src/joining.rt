@@ -7,7 +7,7 @@ ghost use Rattle.history.specs.Writes.{is_among};
 ghost use Rattle.skippy.specs.Mappings.{end_of};
 ghost use Rattle.replay.specs.Joined.{are_among, begins_with, differ, mapped_since, HoldsBase, HoldsChanges};
 
-use history::{Base, newest_start, oldest_start};
+use history::{Base, RunningBase, newest_start, oldest_start};
 use skippy::Mappings;
 use std::alloc::{AllocError, Global};
 
@@ -84,13 +84,18 @@ pub fn holds_base(alloc: Global, base: &Base, mappings: &Mappings) -> Result<boo
 /// Whether the mappings fit the changes behind a base with that count of captures: the archive holds no more captures
 /// than there are behind the changes, keeps each that a retained snapshot needs, and from the base on maps the pages
 /// that the changes captured. These are told by their pages alone. It takes a step for each mapping, and no memory.
-pub fn holds_changes(count: u64, behind: &Base, captured: &[u32], mappings: &Mappings) -> bool
+pub fn holds_changes(
+    count: u64,
+    behind: &RunningBase,
+    captured: &[u32],
+    mappings: &Mappings,
+) -> bool
     requires counted { count ≤ end_of mappings.now }
     requires captured { behind.now.captures ≡ count + length captured.now }
     ensures { IsTrue result ↔ HoldsChanges count behind.now captured.now mappings.now }
 {
     let low = mappings.low();
-    if mappings.end() > behind.captures || low > oldest_start(behind.marks.as_slice()) {
+    if mappings.end() > behind.captures() || low > oldest_start(behind.marks()) {
         return false;
     }
     let mapped = &mappings.pages()[count.saturating_sub(low) as usize..];

@@ -1,6 +1,6 @@
 //! The store that the contents of its devices open to.
 
-ghost use Rattle.std.specs.Prelude.{◌≡◌, ◌++◌, ◌≤◌, ◌<◌, ◌↔◌, length, drop, IfOk, IfSome, IsSome};
+ghost use Rattle.std.specs.Prelude.{◌≡◌, ◌++◌, ◌≤◌, ◌<◌, ◌↔◌, [], length, drop, IfOk, IfSome, IsSome};
 ghost use Rattle.history.specs.History.{run, captures_of};
 ghost use Rattle.history.specs.Replayed.{page_in, state_of};
 ghost use Rattle.history.specs.Right.{IsBase, AreRight};
@@ -9,7 +9,7 @@ ghost use Rattle.replay.specs.Joined.{AreJoined};
 ghost use Rattle.replay.specs.Opened.{contents_of, slot_images, Opens};
 
 use crate::joining::{holds_base, holds_changes};
-use history::{Base, Change, Log, PageImage, Replayed};
+use history::{Base, Change, Log, PageImage, Replayed, RunningBase};
 use retro_base::Page;
 use skippy::Mappings;
 use std::alloc::{AllocError, Global};
@@ -30,12 +30,25 @@ pub struct Opened {
     pub captures: Seq<PageImage>,
 }
 
+// The store where the log begins.
+fn begun(alloc: Global, base: Base, pages: Seq<Page>) -> Result<Replayed, AllocError>
+    requires { IsBase base }
+    ensures { IfOk result (λ store. store ≡ record { base = base; pages = pages; captures = [] }) }
+{
+    Ok(Replayed {
+        base: RunningBase::new(alloc, base)?,
+        pages,
+        captures: Seq::new(alloc),
+    })
+}
+
 // The store behind all these changes, which are right in turn.
 fn replayed(alloc: Global, store: Replayed, changes: &[Change]) -> Result<Replayed, AllocError>
     requires whole { length store.pages ≡ store.base.page_count }
     requires right { AreRight store.base changes.now }
     ensures state { IfOk result (λ behind. state_of behind ≡ run (state_of store) changes.now) }
-    ensures captures { IfOk result (λ behind. behind.captures ≡ store.captures ++ captures_of (state_of store) changes.now) }
+    ensures captures { IfOk result (λ behind.
+        behind.captures ≡ store.captures ++ captures_of (state_of store) changes.now) }
     ensures whole { IfOk result (λ behind. length behind.pages ≡ behind.base.page_count) }
 {
     let mut place = store;
@@ -55,7 +68,8 @@ fn images_of(
     slots: &[Page],
 ) -> Result<Vec<PageImage>, AllocError>
     requires { 0 < length slots.now }
-    ensures { IfOk result (λ images. images.items ≡ slot_images (page_in slots.now) (length slots.now) mappings.now.low mappings.now.pages) }
+    ensures { IfOk result (λ images. images.items ≡
+        slot_images (page_in slots.now) (length slots.now) mappings.now.low mappings.now.pages) }
 {
     let low = mappings.low();
     let pages = mappings.pages();
@@ -105,11 +119,7 @@ pub fn join(
     }
     let captures = log.base.captures;
     let Log { base, changes, .. } = log;
-    let first = Replayed {
-        base,
-        pages,
-        captures: Seq::new(alloc),
-    };
+    let first = begun(alloc, base, pages)?;
     let store = replayed(alloc, first, changes.as_slice())?;
     let captured = captured_pages(alloc, store.captures.as_slice())?;
     if !holds_changes(captures, &store.base, &captured, mappings) {
@@ -120,7 +130,7 @@ pub fn join(
     let behind = (held - captures) as usize;
     images.extend_from_slice(from_place(store.captures.as_slice(), behind))?;
     Ok(Some(Opened {
-        base: store.base,
+        base: store.base.to_base(alloc)?,
         pages: store.pages,
         low: mappings.low(),
         held,

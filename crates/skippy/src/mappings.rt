@@ -72,7 +72,8 @@ impl Mappings {
         self.pages.extend_from_slice(pages)
     }
 
-    /// Keeps the mappings from `low` on; in all calls together each mapping is moved at most once.
+    /// Keeps the mappings from `low` on. Those that are kept are moved to the front where they are fewer than those
+    /// forgotten since the last move, so over all calls each forgotten mapping costs at most one move.
     pub fn trim(&mut self, low: u64)
         requires kept { self.old.low ≤ low }
         requires known { low ≤ end_of self.old }

@@ -36,6 +36,6 @@ loop-body-preserved c =
           subst (λ (l : List (List ℕ)). InTurn (IsChangeBody c.args.version) base_after base l c.push.new.self.items) (sym front)
           (subst (λ (l : List Change). InTurn (IsChangeBody c.args.version) base_after base (take i bodies ++ c.deref.result.now ∷ []) l) (sym items) more);
       place =
-          c.in_ok-place-in-Ok.ensures ∙ ap (λ (p : Base). base_after p change) c.loop-body.invariant.place ∙ sym (reached-push (IsChangeBody c.args.version) base_after base old change) ∙ ap (reached base_after base) (sym items);
+          c.in_ok-apply-in-Ok.ensures.done ∙ ap (λ (p : Base). base_after p change) c.loop-body.invariant.place ∙ sym (reached-push (IsChangeBody c.args.version) base_after base old change) ∙ ap (reached base_after base) (sym items);
       count = omega (arith, ap (λ (l : List Change). length l) items, length_push old change, c.loop-body.invariant.count);
     }

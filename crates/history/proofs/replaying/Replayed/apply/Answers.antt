@@ -26,4 +26,4 @@ returns-clause-state c =
           ∙ ap (λ (x : Change). pages_after (page_in old.pages) x p) (sym w.in-Commit.is)
       | in-Drop w ↦ ap (λ (s : Replayed). page_in s.pages p) w.store-is ∙ ap (λ (x : Change). pages_after (page_in old.pages) x p) (sym w.in-Drop.is)
     ] in
-    same_state c.in_ok-base.base (base_after old.base change) (page_in store.pages) (pages_after (page_in old.pages) change) (c.in_ok-base.ensures ∙ ap (λ (b : Base). base_after b change) base_is) pages_are
+    same_state c.apply.new.self (base_after old.base change) (page_in store.pages) (pages_after (page_in old.pages) change) (c.in_ok-apply.ensures.done ∙ ap (λ (b : Base). base_after b change) base_is) pages_are
