@@ -1,8 +1,8 @@
 use crate::faults::{Act, FAULT, Trial, wrong_in_four, wrong_in_six};
 use crate::support::{
-    again, append, are_these, crash, fetch, fill, framed, make, open, put, replace, zeros,
+    again, append, are_these, calls_of, crash, fetch, fill, framed, make, open, put, replace, zeros,
 };
-use disk_mem::{Call, MemDisk};
+use disk_mem::{Call, MemDisk, RamDisk};
 use disk_model::Disk;
 use retro_base::{Device, Refusal};
 use std::alloc::Global;
@@ -106,6 +106,21 @@ fn a_fault_of_an_opening_changes_nothing(rt: HostRuntime) -> Result<(), Fail> {
         opened_twice(alloc, &disk, Call::Read, 3),
     ];
     assert!(rt; opened == [Ok((FAULT.err(), true)); 4]);
+    Ok(())
+}
+
+// What an opening gives whose first call fails, and which calls were made.
+fn opened_in_vain(alloc: Global, disk: &MemDisk) -> Result<(Option<Refusal>, [u64; 3]), Refusal> {
+    let mut stopped = again(alloc, disk, Some(0))?;
+    let refusal = open(alloc, &mut stopped).err();
+    Ok((refusal, calls_of(&stopped)))
+}
+
+#[test]
+fn an_opening_syncs_before_it_reads(rt: HostRuntime) -> Result<(), Fail> {
+    let alloc = rt.alloc();
+    let opened = opened_in_vain(alloc, &log_of(alloc, &[1])?);
+    assert!(rt; opened == Ok((FAULT.err(), [0, 0, 1])));
     Ok(())
 }
 
@@ -223,5 +238,37 @@ fn holds_much(alloc: Global, size: u64, count: usize) -> Result<bool, Refusal> {
 fn a_log_of_4_mib_holds_a_body_of_1_mib(rt: HostRuntime) -> Result<(), Fail> {
     let held = holds_much(rt.alloc(), 4_194_304, 1_048_576);
     assert!(rt; held == Ok(true));
+    Ok(())
+}
+
+// Appends the numbers from 1 on and below this one, each in four bytes.
+fn append_numbers<D: Disk>(alloc: Global, disk: &mut D, end: u32) -> Result<(), Refusal> {
+    let (mut log, _bodies) = fetch(alloc, disk)?;
+    for number in 1..end {
+        let framed = framed(alloc, &number.to_be_bytes())?;
+        log.append(disk, &framed)?;
+    }
+    Ok(())
+}
+
+// Whether the bodies are the numbers from 0 on, each in four bytes.
+fn are_numbers(bodies: &[Vec<u8>]) -> bool {
+    bodies.iter().zip(0u32..u32::MAX).all(|(body, number)| body.as_slice()
+        == number.to_be_bytes().as_slice())
+}
+
+// How many bodies a log of the numbers below this one holds, and whether they are the numbers in order.
+fn holds_numbers(alloc: Global, end: u32) -> Result<(usize, bool), Refusal> {
+    let mut disk = RamDisk::new(alloc, 131_072)?;
+    make(alloc, &mut disk, &[0, 0, 0, 0])?;
+    append_numbers(alloc, &mut disk, end)?;
+    let bodies = open(alloc, &mut disk)?;
+    Ok((bodies.len(), are_numbers(&bodies)))
+}
+
+#[test]
+fn a_log_of_five_thousand_bodies_is_read_back(rt: HostRuntime) -> Result<(), Fail> {
+    let held = holds_numbers(rt.alloc(), 5000);
+    assert!(rt; held == Ok((5000, true)));
     Ok(())
 }

@@ -45,6 +45,15 @@ pub fn calls_of(disk: &MemDisk) -> [u64; 3] {
     [Call::Read, Call::Write, Call::Sync].map(|call| disk.calls(call))
 }
 
+/// Writes these bytes.
+pub fn write<D: Disk>(disk: &mut D, place: u64, bytes: &[u8]) -> Result<(), Refusal> {
+    let size = disk.size();
+    if place > size || size - place < bytes.len() as u64 {
+        return Err(Refusal::BadSizes);
+    }
+    disk.write_at(place, bytes).map_err(|_| Refusal::BadSizes)
+}
+
 /// Writes these bytes, and syncs.
 pub fn put<D: Disk>(disk: &mut D, place: u64, bytes: &[u8]) -> Result<(), Refusal> {
     let size = disk.size();

@@ -1,4 +1,5 @@
-ghost use Rattle.std.specs.Prelude.{◌≡◌, ◌<◌, ◌≤◌, ◌^◌, ◌++◌, [], ◌∷◌, length, OnOk, IfOk, OnErr, IfErr, drop};
+ghost use Rattle.std.specs.Prelude.{◌≡◌, ◌<◌, ◌≤◌, ◌+◌, ◌^◌, ◌++◌, [], ◌∷◌, length, OnOk, IfOk, OnErr, IfErr, drop};
+ghost use Rattle.retro_base.specs.Fields.{field_bytes};
 ghost use Rattle.retro_base.specs.Framing.{sized};
 ghost use Rattle.retro_base.specs.declared.refusal.Refusal.TheVariants.{OutOfMemory};
 
@@ -121,6 +122,36 @@ impl FramedBuilder {
     {
         self.bytes.extend_from_slice(bytes)?;
         Ok(())
+    }
+
+    /// Adds a number in two bytes, the highest first. The only refusal is want of memory.
+    #[tactic(auto, unfolding(retro_base::specs::Fields::field_bytes))]
+    pub fn put_u16(&mut self, value: u16) -> Result<(), Refusal>
+        ensures bytes { OnOk result (self.new ≡ self.old ++ field_bytes 2 value) }
+        ensures count { OnOk result (length self.new ≡ length self.old + 2) }
+        ensures memory { IfErr result (λ refusal. refusal ≡ OutOfMemory) }
+    {
+        self.extend_from_slice(&value.to_be_bytes())
+    }
+
+    /// Adds a number in four bytes, the highest first. The only refusal is want of memory.
+    #[tactic(auto, unfolding(retro_base::specs::Fields::field_bytes))]
+    pub fn put_u32(&mut self, value: u32) -> Result<(), Refusal>
+        ensures bytes { OnOk result (self.new ≡ self.old ++ field_bytes 4 value) }
+        ensures count { OnOk result (length self.new ≡ length self.old + 4) }
+        ensures memory { IfErr result (λ refusal. refusal ≡ OutOfMemory) }
+    {
+        self.extend_from_slice(&value.to_be_bytes())
+    }
+
+    /// Adds a number in eight bytes, the highest first. The only refusal is want of memory.
+    #[tactic(auto, unfolding(retro_base::specs::Fields::field_bytes))]
+    pub fn put_u64(&mut self, value: u64) -> Result<(), Refusal>
+        ensures bytes { OnOk result (self.new ≡ self.old ++ field_bytes 8 value) }
+        ensures count { OnOk result (length self.new ≡ length self.old + 8) }
+        ensures memory { IfErr result (λ refusal. refusal ≡ OutOfMemory) }
+    {
+        self.extend_from_slice(&value.to_be_bytes())
     }
 
     /// Frames the body. The only refusal is want of memory.

@@ -80,8 +80,8 @@ DevicesBreak devices Pagelog broken = PagelogRefused devices broken
 DevicesBreak devices Maplog broken = MaplogRefused devices broken ⊎ NotJoined devices broken
 DevicesBreak devices Cabinet broken = ⊥
 
--- a refused opening: memory ran out, or the devices break
-abbrev pub IsOpenRefusal : Four (List ℕ) → Refusal → Type 0
-IsOpenRefusal devices OutOfMemory = Unit {0}
-IsOpenRefusal devices (NotAStore device place) = DevicesBreak devices device place
-IsOpenRefusal devices _ = ⊥
+-- the contents do not open: memory ran out, or they do not belong together, which is told of the Maplog at its end
+abbrev pub IsApart : Contents → ℕ → Refusal → Type 0
+IsApart contents end OutOfMemory = Unit {0}
+IsApart contents end (NotAStore device place) = (device ≡ Maplog) × (place ≡ end) × (AreJoined contents → ⊥)
+IsApart contents end _ = ⊥

@@ -1,44 +1,114 @@
-//! The list of a device of two halves, from its bytes.
+//! The lists of the log and of the Maplog, and the pages, from their devices.
 
-ghost use Rattle.std.specs.Prelude.{◌≡◌, ◌≤◌, ◌<◌, ◌*◌, ◌^◌, IfOk, IfErr};
-ghost use Rattle.retro_base.specs.declared.refusal.Refusal.TheVariants.{OutOfMemory};
-ghost use Rattle.gate_log.specs.Bodies.{bodies_of};
-ghost use Rattle.opening.specs.Devices.{IsListed, IsListRefusal};
+ghost use Rattle.std.specs.Prelude.{◌≡◌, ◌≤◌, ◌+◌, ◌*◌, ℕ, length, IfOk, OnOk, MatchResult};
+ghost use Rattle.disk_model.specs.Runs.{OnlyReads, SameDevice, WritesNothing};
+ghost use Rattle.disk_model.specs.Sizes.{log_bytes, maplog_bytes};
+ghost use Rattle.retro_base.specs.Cause.{FaultsAlone};
+ghost use Rattle.retro_base.specs.declared.device.Device.TheVariants as kinds;
+ghost use Rattle.retro_base.specs.declared.limits.TheConstants.{LOG_REGION_BYTES, MAX_CAPACITY, PAGE_BYTES};
+ghost use Rattle.gate_log.specs.Cause.{IsReadRefusal};
+ghost use Rattle.area_log.specs.Listed.{DeviceStandsFor};
+ghost use Rattle.history.specs.Replayed.{page_in};
+ghost use Rattle.history.specs.Right.{AreRight, IsBase};
+ghost use Rattle.history.specs.declared.log.Version.TheVariants.{One};
+ghost use Rattle.records.specs.Log.{IsLog};
+ghost use Rattle.records.specs.Maplog.{IsMaplog};
+ghost use Rattle.opening.specs.Devices.{IsRefused, StandsWithGate};
+ghost use Rattle.opening.specs.Opening.{maplog_half, page_at};
 
-use area_log::{AreaLog, listed};
-use disk_mem::RamDisk;
+use area_log::listed;
 use disk_model::{Disk, Failed};
-use retro_base::{Device, Refusal};
+use gate_log::fault_of;
+use history::{Log, Version};
+use records::{read_log, read_maplog};
+use retro_base::{Device, LOG_REGION_BYTES, PAGE_BYTES, Page, Refusal};
+use skippy::Mappings;
 use std::alloc::Global;
 
-// A device in memory with these bytes.
-fn disk_of(alloc: Global, bytes: &[u8]) -> Result<RamDisk, Refusal>
-    ensures ok { IfOk result (λ disk. disk ≡ bytes.now) }
-    ensures err { IfErr result (λ e. e ≡ OutOfMemory) }
+/// What the log lists. Its device is read, and synced before that.
+pub fn log_of<D: Disk>(alloc: Global, disk: &mut D) -> Result<Log, Refusal>
+    ensures same { SameDevice D.extent D.is_honest disk.old disk.new }
+    ensures cause { MatchResult result
+        (λ _. D.faults disk.new ≡ D.faults disk.old)
+        (IsReadRefusal (IsRefused LOG_REGION_BYTES (IsLog One) (D.is_honest disk.old) (D.extent disk.old)
+        (D.state disk.old).seen) kinds.Log (D.faults disk.old) (D.faults disk.new)) }
+    ensures size { OnOk result (D.extent disk.old ≡ log_bytes) }
+    ensures right { IfOk result (λ log. IsBase log.base × AreRight log.base log.changes) }
+    ensures stands { D.is_honest disk.old
+        → IfOk result (DeviceStandsFor LOG_REGION_BYTES (IsLog One) (D.state disk.old).seen) }
+    ensures quiet { D.is_honest disk.old → WritesNothing D.remembers D.state D.clock disk.old disk.new }
 {
-    let mut disk = RamDisk::new(alloc, bytes.len() as u64)?;
-    match disk.write_at(0, bytes) {
-        Ok(()) => Ok(disk),
-        Err(Failed) => unreachable!(),
+    let (area, bodies) = listed(alloc, disk, Device::Log, LOG_REGION_BYTES)?;
+    match read_log(alloc, Version::One, &bodies) {
+        Ok(log) => Ok(log),
+        Err(error) => Err(area.refusal_of(&bodies, error)),
     }
 }
 
-/// The log and the bodies of a device with these bytes. Refused where the device has another size than two halves of
-/// that many bytes, where it lists nothing, and for want of memory.
-pub fn list_of(
+/// The mappings, and where the closed gate behind their list stands. Their device is read, and synced before that.
+pub fn mappings_of<D: Disk>(
     alloc: Global,
-    device: Device,
-    bytes: &[u8],
-    half: u64,
-) -> Result<(AreaLog, Vec<Vec<u8>>), Refusal>
-    requires least { 17 ≤ half }
-    requires fits { 2 * half < 2 ^ 63 }
-    ensures ok { IfOk result (λ p. IsListed device half bytes.now (bodies_of p.1.items) p.0) }
-    ensures err { IfErr result (IsListRefusal device half bytes.now) }
+    disk: &mut D,
+    page_count: u32,
+    capacity: u32,
+) -> Result<(Mappings, u64), Refusal>
+    requires { capacity ≤ MAX_CAPACITY }
+    ensures same { SameDevice D.extent D.is_honest disk.old disk.new }
+    ensures cause { MatchResult result
+        (λ _. D.faults disk.new ≡ D.faults disk.old)
+        (IsReadRefusal (IsRefused (maplog_half capacity) (IsMaplog One page_count capacity) (D.is_honest disk.old)
+        (D.extent disk.old) (D.state disk.old).seen) kinds.Maplog (D.faults disk.old) (D.faults disk.new)) }
+    ensures size { OnOk result (D.extent disk.old ≡ maplog_bytes capacity) }
+    ensures stands { D.is_honest disk.old → IfOk result (λ p.
+        StandsWithGate (maplog_half capacity) (IsMaplog One page_count capacity) (D.state disk.old).seen p.0 p.1) }
+    ensures quiet { D.is_honest disk.old → WritesNothing D.remembers D.state D.clock disk.old disk.new }
 {
-    let mut disk = disk_of(alloc, bytes)?;
-    match listed(alloc, &mut disk, device, half) {
-        Ok(found) => Ok(found),
-        Err(refusal) => Err(refusal),
+    let half = 32 * u64::from(capacity) + 4096;
+    let (area, bodies) = listed(alloc, disk, Device::Maplog, half)?;
+    match read_maplog(alloc, Version::One, page_count, capacity, &bodies) {
+        Ok(mappings) => Ok((mappings, area.end())),
+        Err(error) => Err(area.refusal_of(&bodies, error)),
     }
+}
+
+// The page of that number of a device of pages.
+fn read_page<D: Disk>(disk: &mut D, device: Device, number: u32) -> Result<Page, Refusal>
+    requires { PAGE_BYTES * number + PAGE_BYTES ≤ D.extent disk.old }
+    ensures same { SameDevice D.extent D.is_honest disk.old disk.new }
+    ensures cause { FaultsAlone device (D.faults disk.old) (D.faults disk.new) result }
+    ensures read { D.is_honest disk.old → IfOk result (λ page. page ≡ page_at (D.state disk.old).seen number) }
+    ensures quiet { D.is_honest disk.old → OnlyReads D.remembers D.state D.clock disk.old disk.new }
+{
+    let mut bytes = [0; PAGE_BYTES];
+    match disk.read_at(PAGE_BYTES as u64 * u64::from(number), &mut bytes) {
+        Ok(()) => Ok(Page::of(bytes)),
+        Err(Failed) => Err(fault_of(disk, device)),
+    }
+}
+
+/// So many pages of a device of pages, which is read.
+pub fn pages_of<D: Disk>(
+    alloc: Global,
+    disk: &mut D,
+    device: Device,
+    count: u32,
+) -> Result<Vec<Page>, Refusal>
+    requires { D.extent disk.old ≡ PAGE_BYTES * count }
+    ensures same { SameDevice D.extent D.is_honest disk.old disk.new }
+    ensures cause { MatchResult result
+        (λ _. D.faults disk.new ≡ D.faults disk.old)
+        (IsReadRefusal (λ _. ⊥) device (D.faults disk.old) (D.faults disk.new)) }
+    ensures count { IfOk result (λ pages. length pages.items ≡ count) }
+    ensures read { D.is_honest disk.old → IfOk result (λ pages. (number : ℕ)
+        → page_in pages.items number ≡ page_at (D.state disk.old).seen number) }
+    ensures quiet { D.is_honest disk.old → OnlyReads D.remembers D.state D.clock disk.old disk.new }
+{
+    let mut pages = Vec::with_capacity(alloc, count as usize)?;
+    'pages: for number in 0..count {
+        match read_page(disk, device, number) {
+            Ok(page) => pages.push_reserved(page),
+            Err(refusal) => return Err(refusal),
+        }
+    }
+    Ok(pages)
 }

@@ -1,13 +1,9 @@
-//! What the bytes of the four devices of a store open to, computed plainly: the store, or the first device that
-//! breaks and where.
+//! What the four devices of a store open to, computed plainly: the store, or the first device that breaks and where.
 #![tactic(auto)]
 
 mod devices;
 mod laws;
-mod pages;
 mod store;
-#[cfg(test)]
-mod tests;
 
 pub use laws::devices_are_read_one_way;
 pub use store::open_devices;

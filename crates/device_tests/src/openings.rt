@@ -1,15 +1,16 @@
-//! What no clause says: devices worked by hand, byte for byte, and what they open to.
+//! Four devices, and what they open to.
 
-use crate::open_devices;
-use disk_model::Four;
+use crate::support::{calls_of, write};
+use disk_mem::{MemDisk, RamDisk};
+use disk_model::{Disk, Four};
+use opening::open_devices;
 use retro_base::{Device, Refusal};
-use std::alloc::{AllocError, Global};
+use std::alloc::Global;
 use std::test::Fail;
-use values::Seq;
 
-const LOG_BYTES: usize = 33_554_432;
+const LOG_BYTES: u64 = 33_554_432;
 
-const MAPLOG_BYTES: usize = 12_288;
+const MAPLOG_BYTES: u64 = 12_288;
 
 // A region of generation 1, and a base of sixteen pages and capacity 64 with nothing declared.
 const LOG: [u8; 60] = [
@@ -38,11 +39,11 @@ const MAPLOG_OF_PAGE_7: [u8; 56] = [
 // others are 0.
 #[derive(Clone, Copy)]
 struct Case {
-    log: (&'static [u8], usize),
-    pages: usize,
-    slots: usize,
-    maplog: (&'static [u8], usize),
-    damage: &'static [(Device, usize, u8)],
+    log: (&'static [u8], u64),
+    pages: u64,
+    slots: u64,
+    maplog: (&'static [u8], u64),
+    damage: &'static [(Device, u64, u8)],
 }
 
 const GOOD: Case = Case {
@@ -54,7 +55,7 @@ const GOOD: Case = Case {
 };
 
 // Bytes that are written over a made store, and the device and the place that are then told.
-type Damage = (&'static [(Device, usize, u8)], Device, u64);
+type Damage = (&'static [(Device, u64, u8)], Device, u64);
 
 const DAMAGES: [Damage; 9] = [
     // No header is open.
@@ -81,52 +82,55 @@ const DAMAGES: [Damage; 9] = [
     (&[(Device::Maplog, 31, 1)], Device::Maplog, 36),
 ];
 
-fn device(
+// A device in memory of so many bytes, with these at its front, and with its damage.
+fn ram(
     alloc: Global,
     which: Device,
-    (front, size): (&[u8], usize),
-    damage: &[(Device, usize, u8)],
-) -> Result<Seq<u8>, AllocError> {
-    let mut bytes = front.to_vec(alloc)?;
-    bytes.resize(size, 0)?;
+    (front, size): (&[u8], u64),
+    damage: &[(Device, u64, u8)],
+) -> Result<RamDisk, Refusal> {
+    let mut disk = RamDisk::new(alloc, size)?;
+    write(&mut disk, 0, front)?;
     for (device, place, byte) in damage {
-        if *device == which && *place < bytes.len() {
-            bytes[*place] = *byte;
+        if *device == which {
+            write(&mut disk, *place, &[*byte])?;
         }
     }
-    Ok(Seq::from(bytes))
+    Ok(disk)
 }
 
-// How many pages and captures the store has, or the device that breaks and where.
-fn opened(alloc: Global, case: &Case) -> Result<Result<(usize, usize), Refusal>, AllocError> {
-    let devices = Four {
-        log: device(alloc, Device::Log, case.log, case.damage)?,
-        pages: device(alloc, Device::Pages, (&[], case.pages), case.damage)?,
-        pagelog: device(alloc, Device::Pagelog, (&[], case.slots), case.damage)?,
-        maplog: device(alloc, Device::Maplog, case.maplog, case.damage)?,
+// How many pages and captures the store on the devices has.
+fn open<D: Disk>(alloc: Global, disks: &mut Four<D>) -> Result<(usize, usize), Refusal> {
+    let store = open_devices(alloc, disks)?;
+    Ok((store.pages.len(), store.captures.len()))
+}
+
+fn opened(alloc: Global, case: &Case) -> Result<(usize, usize), Refusal> {
+    let mut disks = Four {
+        log: ram(alloc, Device::Log, case.log, case.damage)?,
+        pages: ram(alloc, Device::Pages, (&[], case.pages), case.damage)?,
+        pagelog: ram(alloc, Device::Pagelog, (&[], case.slots), case.damage)?,
+        maplog: ram(alloc, Device::Maplog, case.maplog, case.damage)?,
     };
-    match open_devices(alloc, &devices) {
-        Ok(store) => Ok(Ok((store.pages.len(), store.captures.len()))),
-        Err(refusal) => Ok(Err(refusal)),
-    }
+    open(alloc, &mut disks)
 }
 
 #[test]
 fn a_made_store_opens(rt: HostRuntime) -> Result<(), Fail> {
-    assert_eq!(rt; opened(rt.alloc(), &GOOD)?, Ok((16, 0)));
+    assert_eq!(rt; opened(rt.alloc(), &GOOD), Ok((16, 0)));
     Ok(())
 }
 
 // Whether the devices break first in this one, at this place.
-fn break_at(alloc: Global, case: &Case, device: Device, place: u64) -> Result<bool, AllocError> {
-    Ok(opened(alloc, case)? == Err(Refusal::NotAStore { device, place }))
+fn break_at(alloc: Global, case: &Case, device: Device, place: u64) -> bool {
+    opened(alloc, case) == Err(Refusal::NotAStore { device, place })
 }
 
 #[test]
 fn a_damaged_device_is_told_with_its_place(rt: HostRuntime) -> Result<(), Fail> {
     for (damage, device, place) in DAMAGES {
         let case = Case { damage, ..GOOD };
-        assert!(rt; break_at(rt.alloc(), &case, device, place)?);
+        assert!(rt; break_at(rt.alloc(), &case, device, place));
     }
     Ok(())
 }
@@ -139,7 +143,7 @@ fn a_bad_frame_beats_a_bad_body_before_it(rt: HostRuntime) -> Result<(), Fail> {
         damage: &[(Device::Log, 26, 0xA5), (Device::Log, 27, 0xFF)],
         ..GOOD
     };
-    assert!(rt; break_at(rt.alloc(), &case, Device::Log, 26)?);
+    assert!(rt; break_at(rt.alloc(), &case, Device::Log, 26));
     Ok(())
 }
 
@@ -168,7 +172,38 @@ fn a_device_of_another_size_or_list_is_told(rt: HostRuntime) -> Result<(), Fail>
         (not_captured, Device::Maplog, 56),
     ];
     for (case, device, place) in table {
-        assert!(rt; break_at(rt.alloc(), &case, device, place)?);
+        assert!(rt; break_at(rt.alloc(), &case, device, place));
     }
+    Ok(())
+}
+
+// A device of so many bytes that tells its calls, with these at its front.
+fn counting(alloc: Global, front: &[u8], size: u64) -> Result<MemDisk, Refusal> {
+    let mut disk = MemDisk::new(alloc, size, Vec::new(alloc), None)?;
+    write(&mut disk, 0, front)?;
+    Ok(disk)
+}
+
+// What an opening gives, and the calls that each device then had.
+fn calls_of_an_opening(alloc: Global) -> Result<[[u64; 3]; 4], Refusal> {
+    let mut disks = Four {
+        log: counting(alloc, &LOG, LOG_BYTES)?,
+        pages: counting(alloc, &[], 16_384)?,
+        pagelog: counting(alloc, &[], 65_536)?,
+        maplog: counting(alloc, &MAPLOG, MAPLOG_BYTES)?,
+    };
+    open(alloc, &mut disks)?;
+    Ok([
+        calls_of(&disks.log),
+        calls_of(&disks.pages),
+        calls_of(&disks.pagelog),
+        calls_of(&disks.maplog),
+    ])
+}
+
+#[test]
+fn an_opening_reads_each_page_once_and_syncs_the_lists(rt: HostRuntime) -> Result<(), Fail> {
+    let calls = calls_of_an_opening(rt.alloc());
+    assert!(rt; calls == Ok([[3, 1, 1], [16, 1, 0], [64, 1, 0], [3, 1, 1]]));
     Ok(())
 }
