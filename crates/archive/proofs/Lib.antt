@@ -1,0 +1,11 @@
+pub mod Batches
+pub mod Enters
+pub mod Finding
+pub mod Laying
+pub mod Numbered
+pub mod Opens
+pub mod Refusals
+pub mod Sides
+pub mod LaidSlots
+pub mod Tables
+pub mod Trims

@@ -1,0 +1,4 @@
+pub mod Causes
+pub mod Making
+pub mod Records
+pub mod Runs
