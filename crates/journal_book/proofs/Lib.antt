@@ -1,0 +1,3 @@
+pub mod EditLists
+pub mod Ends
+pub mod Slots

@@ -1,0 +1,5 @@
+pub mod Adding
+pub mod Apart
+pub mod Caches
+pub mod Counts
+pub mod Steps

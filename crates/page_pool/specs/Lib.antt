@@ -1,0 +1,4 @@
+pub mod Cause
+pub mod Clean
+pub mod Frames
+pub mod Side

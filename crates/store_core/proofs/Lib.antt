@@ -1,0 +1,12 @@
+pub mod Committed
+pub mod Cores
+pub mod Drops
+pub mod Edits
+pub mod Faulted
+pub mod Fetching
+pub mod Ledgers
+pub mod Looked
+pub mod Opened
+pub mod Pinned
+pub mod Pins
+pub mod Released

@@ -1,0 +1,5 @@
+pub mod Laws
+pub mod Ledger
+pub mod PinLaws
+pub mod Refused
+pub mod WorksFit
