@@ -117,6 +117,7 @@ module _ {O W A B : Type 0} (o : OpeningMeaning O) (a : DeskMeaning O W A) (b : 
             (lock_more r.words.vault_ticket r.words.vault_serving (Vault r.vault) r.vault_slot (map vault_of s.views) r.vault_lock);
         seats = record {
           few = r.seats.few;
+          differ = r.seats.differ;
           parts = totals parts_of sums.parts ∙ r.seats.parts;
           numbers = λ n. subst (AreParts limit n) (sym (totals (parts_at n) (sums.numbers n))) (r.seats.numbers n);
           foreign = r.seats.foreign;
@@ -164,6 +165,7 @@ module _ {O W A B : Type 0} (o : OpeningMeaning O) (a : DeskMeaning O W A) (b : 
             (sym (same_places vault_of vs other w spent at' (sym w_out') ∙ same_places vault_of s.views id v both at (both_out' ∙ sym out'))) r.vault_lock;
         seats = record {
           few = r.seats.few;
+          differ = r.seats.differ;
           parts = totals parts_of refl sums.parts ∙ r.seats.parts;
           numbers = λ n. subst (AreParts limit n) (sym (totals (parts_at n) refl (sums.numbers n))) (r.seats.numbers n);
           foreign = r.seats.foreign;
@@ -194,6 +196,7 @@ module _ {O W A B : Type 0} (o : OpeningMeaning O) (a : DeskMeaning O W A) (b : 
               (lock_more r.words.vault_ticket r.words.vault_serving (Vault r.vault) r.vault_slot (map vault_of s.views) r.vault_lock);
           seats = record {
             few = r.seats.few;
+            differ = r.seats.differ;
             parts = totals parts_of refl ∙ r.seats.parts;
             numbers = λ n. subst (AreParts limit n) (sym (totals (parts_at n) refl)) (r.seats.numbers n);
             foreign = r.seats.foreign;

@@ -17,16 +17,16 @@ use Rattle.turn.specs.declared.view.Place.{Place}
 use Rattle.turn.specs.declared.view.Place.TheVariants.{Outside, Waits, Inside}
 use Rattle.turn.specs.declared.view.View.{View}
 use Rattle.turn.specs.Faults.{fault_lines, fault_times}
-use Rattle.history.specs.Lines.{horizon_of, lines_of}
+use Rattle.history.specs.Lines.{FaultsDiffer, horizon_of, lines_of}
 use Rattle.turn.specs.Meanings.{OpeningMeaning, DeskMeaning, VaultMeaning}
 use Rattle.turn.specs.Queue.{Lock, Stands, total, tickets_in, is_inside}
-use Rattle.turn.specs.Rule.{IsHorizon, IsNewer, IsOwn, IsRuled, Knows}
+use Rattle.turn.specs.Rule.{IsCounted, IsHorizon, IsNewer, IsOwn, IsRuled, Knows, count_now, told_times}
 use Rattle.turn.specs.Seats.{AreClosed, AreNew, AreRight, AreWhole, Covers, IsRight, MayOpen, Rests, mine, seen, view_of}
 use Rattle.turn.specs.Seats as at
 use Rattle.turn.specs.Views.{PARTS, dealt, desk_of, first_of, first_view, fresh, fresh_from, joined, parts_in, parts_of, undealt, vault_of, view}
 use Rattle.turn.proofs.Cuts.{Each, front_each, back_each, none_each}
 use Rattle.turn.proofs.Seating.{at_mapped}
-use Rattle.turn.proofs.Totals.{total_append, total_some, total_two}
+use Rattle.turn.proofs.Totals.{total_append, total_at, total_some, total_two}
 
 fresh_parts : (W : Type 0) (k n : ℕ) → total (λ (h : Holding W). h.parts) (fresh_from k n) ≡ PARTS * n
 fresh_parts W k zero = refl
@@ -117,6 +117,7 @@ module _ {O W A B : Type 0} (o : OpeningMeaning O) (a : DeskMeaning O W A) (b : 
       parts = let x = fresh_parts W 0 limit in omega arith;
       numbers = λ n. ((λ lt. let x = fresh_within W n 0 limit (omega arith) (omega arith) in omega arith), (λ ge. let x = fresh_above W n 0 limit (omega arith) in omega arith));
       foreign = λ n ge. (ap (lines_of n) may.empty, may.idle n);
+      differ = subst FaultsDiffer (sym may.empty) (λ d. tt);
       faults = λ d c. let x = fresh_told W d c 0 limit in let y = ap (fault_lines d c) may.empty in record { once = λ lt. omega arith; above = λ lt h. absurd (omega arith); below = λ h. absurd (omega arith) };
       known = λ i v e. known i v e;
     };
@@ -148,7 +149,7 @@ module _ {O W A B : Type 0} (o : OpeningMeaning O) (a : DeskMeaning O W A) (b : 
 
   -- with all parts in one seat, both values are at home
   pub ends : (opened : O) (id : ℕ) (v : View O W A B) (words : List ℕ) (slots : List (Option (Kept A B))) → v.desk ≡ Outside → v.vault ≡ Outside → parts_of v ≡ PARTS * limit → Final (Seen (IsRuled o a b opened limit) id v) words slots
-      → (desk : A) × (vault : B) × (get_elem? slots 0 ≡ some (Some (Desk desk))) × (get_elem? slots 1 ≡ some (Some (Vault vault))) × AreClosed o a b limit desk vault × (a.opening desk ≡ opened) × Knows o a b desk vault v
+      → (desk : A) × (vault : B) × (get_elem? slots 0 ≡ some (Some (Desk desk))) × (get_elem? slots 1 ≡ some (Some (Vault vault))) × AreClosed o a b limit (λ d c. told_times d c v) desk vault × (a.opening desk ≡ opened) × Knows o a b desk vault v
   ends opened id v words slots out out' all fin =
       let s = fin.0 in
       let r : IsRuled o a b opened limit s = fin.1.0 in
@@ -168,7 +169,10 @@ module _ {O W A B : Type 0} (o : OpeningMeaning O) (a : DeskMeaning O W A) (b : 
           vault_fits = r.agree.vault_fits;
           acked = r.agree.acked;
           foreign = r.seats.foreign;
-          faults = λ d c lt h. let f = r.seats.faults d c in let once = f.once lt in (omega arith, f.above lt (omega arith), f.below (omega arith));
+          counts = r.agree.counts;
+          faults = λ d c. let f = r.seats.faults d c in let told = total_at (told_times d c) s.views id v at in
+              record { once = λ lt. let most = f.once lt in omega arith; above = λ lt h. f.above lt (omega arith); below = λ h. f.below (omega arith) };
+          differ = r.seats.differ;
         },
         r.opened,
         r.seats.known id v at,
@@ -240,6 +244,26 @@ module _ {O W A B : Type 0} where
   pub parts_joined : (v w : View O W A B) → parts_of (joined v w) ≡ parts_of v + parts_of w
   parts_joined v w = total_append (λ (h : Holding W). h.parts) v.holds w.holds
 
+  -- the faults that two views were told, and that one seat was
+  pub told_joined : (d : Device) (c : ℕ) (v w : View O W A B) → told_times d c (joined v w) ≡ told_times d c v + told_times d c w
+  told_joined d c v w = total_append (λ (h : Holding W). fault_times d c h.faults) v.holds w.holds
+
+  pub told_one : (z : TableId) (d : Device) (c : ℕ) (s : SeatOver O W A B) → Rests z s → told_times d c (view_of s) ≡ fault_times d c (mine s).faults
+  told_one z d c s r = let e = ap (total (λ (h : Holding W). fault_times d c h.faults)) r.seat.one in omega arith
+
+  pub closed_as : (o : OpeningMeaning O) (a : DeskMeaning O W A) (b : VaultMeaning O B) (limit : ℕ) (told other : Device → ℕ → ℕ) (desk : A) (vault : B) → ((d : Device) (c : ℕ) → told d c ≡ other d c)
+      → AreClosed o a b limit told desk vault → AreClosed o a b limit other desk vault
+  closed_as o a b limit told other desk vault same x = record {
+    lawful = x.lawful;
+    desk_fits = x.desk_fits;
+    vault_fits = x.vault_fits;
+    acked = x.acked;
+    foreign = x.foreign;
+    counts = x.counts;
+    faults = λ d c. subst (λ (n : ℕ). IsCounted (o.counts (a.opening desk) d) (count_now o a b desk vault d) c (fault_lines d c (a.journal desk) + n)) (same d c) (x.faults d c);
+    differ = x.differ;
+  }
+
   -- a seat that rests with all its parts
   pub parts_whole : (z : TableId) (s : SeatOver O W A B) → Rests z s → (mine s).parts ≡ PARTS → parts_of (view_of s) ≡ PARTS
   parts_whole z s r whole = let e = ap (total (λ (h : Holding W). h.parts)) r.seat.one in omega arith
@@ -251,11 +275,13 @@ module _ {O W A B : Type 0} where
       own : IsOwn (a.journal desk) (a.work_of desk) (mine s)
       own = back_each (IsOwn (a.journal desk) (a.work_of desk)) v.holds s.seat.me.0.holds k.own 0 (mine s) (ap (λ (hs : List (Holding W)). get_elem? hs 0) r.seat.one)
 
-      right : IsRight a desk s
+      right : IsRight a b desk vault s
       right = record {
         front = back_each (λ (f : List Line). IsPrefix f (a.journal desk)) v.heard (seen s ∷ s.seat.me.0.heard) k.heard 0 (seen s) refl;
         lines = (own r.seat.part).0 ∙ ap (λ (n : ℕ). lines_of n (a.journal desk)) r.seat.number;
         work = (own r.seat.part).1 ∙ ap (a.work_of desk) r.seat.number;
+        held = let x = k.held in omega arith;
+        newer = back_each IsNewer v.holds s.seat.me.0.holds k.newer 0 (mine s) (ap (λ (hs : List (Holding W)). get_elem? hs 0) r.seat.one);
       }
 
       before : Knows o a b desk vault v
@@ -271,6 +297,6 @@ module _ {O W A B : Type 0} where
         part = λ p. let x = ap tickets_in out in let y = ap tickets_in out' in absurd (omega arith);
       }
 
-      go : AreRight a desk (s ∷ seats)
-      go zero t e = let same : s ≡ t = cc e in subst (IsRight a desk) same right
+      go : AreRight a b desk vault (s ∷ seats)
+      go zero t e = let same : s ≡ t = cc e in subst (IsRight a b desk vault) same right
       go (suc i) t e = h desk vault before i t e

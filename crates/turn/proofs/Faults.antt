@@ -1,5 +1,5 @@
 -- How often a fault stands in lines and among faults that were told.
-use Rattle.std.proofs.Common.{◌≡◌, ◌≢◌, ℕ, zero, suc, ◌+◌, ◌<◌, ◌≤◌, List, [], ◌∷◌, ◌++◌, cond, eqb, ltb, ◌||◌, Bool, true, false, refl, ap, sym, ◌∙◌, subst, arith, eq-eqb, ne_eqb}
+use Rattle.std.proofs.Common.{◌≡◌, ℕ, ◌+◌, ◌<◌, ◌≤◌, List, [], ◌∷◌, ◌++◌, cond, eqb, ltb, ◌||◌, Bool, true, false, refl, ap, sym, ◌∙◌, subst, arith, ne_eqb}
 use Rattle.std.proofs.lemmas.Bool.{ltb-true}
 use mathlib.Core.Logic.{dite}
 use native.Mathlib.Decide.{ℕ_discrete, dec_lt}
@@ -8,8 +8,8 @@ use Rattle.retro_base.specs.declared.device.Device.TheVariants.{Log, Pages, Page
 use Rattle.history.specs.declared.journal.Line.{Line}
 use Rattle.history.specs.declared.journal.What.{What}
 use Rattle.history.specs.declared.journal.What.TheVariants.{Began, Done, Overlapped, RolledBack, Looked, LookedAll, Unlooked, Dropped, Refused, Fault}
-use Rattle.turn.specs.Faults.{LAST, device_number, is_of_desk, one_fault, fault_times, line_fault, fault_lines, rose, desk_faults, vault_faults}
-use Rattle.history.specs.Lines.{lines_of}
+use Rattle.turn.specs.Faults.{LAST, is_of_desk, one_fault, fault_times, line_fault, fault_lines, rose, desk_faults, vault_faults}
+use Rattle.history.specs.Lines.{lines_of, same_device}
 use Rattle.turn.proofs.Totals.{total_append}
 
 pub lines_append : (d : Device) (c : ℕ) (J : List Line) (l : Line) → fault_lines d c (J ++ l ∷ []) ≡ fault_lines d c J + line_fault d c l.what
@@ -27,31 +27,31 @@ lines_within d c n (l ∷ J) = go (lines_within d c n J) (eqb l.who.session n) r
     go r true e = let is : lines_of n (l ∷ J) ≡ l ∷ lines_of n J = ap (λ (b : Bool). cond b (l ∷ lines_of n J) (lines_of n J)) e in let q = ap (fault_lines d c) is in omega arith
     go r false e = let is : lines_of n (l ∷ J) ≡ lines_of n J = ap (λ (b : Bool). cond b (l ∷ lines_of n J) (lines_of n J)) e in let q = ap (fault_lines d c) is in omega arith
 
-device_at : ℕ → Device
-device_at zero = Log
-device_at (suc zero) = Pages
-device_at (suc (suc zero)) = Pagelog
-device_at (suc (suc (suc zero))) = Maplog
-device_at (suc (suc (suc (suc n)))) = Cabinet
+is_device : (d e : Device) → same_device d e ≡ true → d ≡ e
+is_device Log Log is = refl
+is_device Pages Pages is = refl
+is_device Pagelog Pagelog is = refl
+is_device Maplog Maplog is = refl
+is_device Cabinet Cabinet is = refl
+is_device _ _ is = absurd (cc is)
 
-its_number : (d : Device) → device_at (device_number d) ≡ d
-unfolding device_at
-its_number Log = refl
-its_number Pages = refl
-its_number Pagelog = refl
-its_number Maplog = refl
-its_number Cabinet = refl
-
-same_device : (d e : Device) → device_number d ≡ device_number e → d ≡ e
-same_device d e same = sym (its_number d) ∙ (ap device_at same ∙ its_number e)
+same_self : (d : Device) → same_device d d ≡ true
+same_self Log = refl
+same_self Pages = refl
+same_self Pagelog = refl
+same_self Maplog = refl
+same_self Cabinet = refl
 
 one_is : (d : Device) (c : ℕ) (e : Device) (k : ℕ) → 0 < one_fault d c (e, k) → (e ≡ d) × (k ≡ c)
-one_is d c e k h = dite (ℕ_discrete (device_number e) (device_number d)) (λ p. dite (ℕ_discrete k c) (λ q. (same_device e d p, q))
-    (λ ne. let z : one_fault d c (e, k) ≡ 0 = ap (λ (b : Bool). cond b (cond (eqb k c) 1 0) 0) (eq-eqb (device_number e) (device_number d) p) ∙ ap (λ (b : Bool). cond b 1 0) (ne_eqb k c ne) in absurd (omega arith)))
-    (λ ne. let z : one_fault d c (e, k) ≡ 0 = ap (λ (b : Bool). cond b (cond (eqb k c) 1 0) 0) (ne_eqb (device_number e) (device_number d) ne) in absurd (omega arith))
+one_is d c e k h = go (same_device e d) refl
+  where
+    go : (t : Bool) → same_device e d ≡ t → (e ≡ d) × (k ≡ c)
+    go true is = dite (ℕ_discrete k c) (λ q. (is_device e d is, q))
+        (λ ne. let z : one_fault d c (e, k) ≡ 0 = ap (λ (b : Bool). cond b (cond (eqb k c) 1 0) 0) is ∙ ap (λ (b : Bool). cond b 1 0) (ne_eqb k c ne) in absurd (omega arith))
+    go false is = let z : one_fault d c (e, k) ≡ 0 = ap (λ (b : Bool). cond b (cond (eqb k c) 1 0) 0) is in absurd (omega arith)
 
 one_most : (d : Device) (c : ℕ) (e : Device) (k : ℕ) → one_fault d c (e, k) ≤ 1
-one_most d c e k = go (eqb (device_number e) (device_number d)) (eqb k c)
+one_most d c e k = go (same_device e d) (eqb k c)
   where
     go : (a b : Bool) → cond a (cond b 1 0) 0 ≤ 1
     go true true = omega arith
@@ -111,18 +111,18 @@ module _ (old new : Device → ℕ) (d : Device) (c : ℕ) where
           (omega arith, λ h. absurd (omega arith))
 
   -- a fault is of one device
-  apart : (e f : Device) → device_number e ≢ device_number f → fault_times d c (rose old new e) + fault_times d c (rose old new f) ≤ 1
+  apart : (e f : Device) → same_device e f ≡ false → fault_times d c (rose old new e) + fault_times d c (rose old new f) ≤ 1
   apart e f ne =
       let x = rose_is e in let y = rose_is f in let one = x.0 in let two = y.0 in
       dite (dec_lt 0 (fault_times d c (rose old new e)))
-      (λ p. dite (dec_lt 0 (fault_times d c (rose old new f))) (λ q. absurd (ne (ap device_number ((x.1 p).0 ∙ sym (y.1 q).0)))) (λ q. omega arith))
+      (λ p. dite (dec_lt 0 (fault_times d c (rose old new f))) (λ q. absurd (cc (sym ne ∙ ap (same_device e) (sym ((x.1 p).0 ∙ sym (y.1 q).0)) ∙ same_self e))) (λ q. omega arith))
       (λ p. omega arith)
 
   -- what an entry to the desk tells
   pub desk_told : (fault_times d c (desk_faults old new) ≤ 1) × (0 < fault_times d c (desk_faults old new) → (is_of_desk d ≡ true) × IsNew old new d c)
   desk_told =
       let sum = times_append d c (rose old new Log) (rose old new Pages) in
-      let most = apart Log Pages (λ e. absurd (omega arith)) in (
+      let most = apart Log Pages refl in (
         omega arith,
         λ h. dite (dec_lt 0 (fault_times d c (rose old new Log)))
             (λ p. let x = (rose_is Log).1 p in (ap is_of_desk (sym x.0), x.1))
@@ -134,9 +134,9 @@ module _ (old new : Device → ℕ) (d : Device) (c : ℕ) where
   vault_told =
       let sum = times_append d c (rose old new Pagelog) (rose old new Maplog ++ rose old new Cabinet) in
       let sum' = times_append d c (rose old new Maplog) (rose old new Cabinet) in
-      let one = apart Pagelog Maplog (λ e. absurd (omega arith)) in
-      let two = apart Pagelog Cabinet (λ e. absurd (omega arith)) in
-      let three = apart Maplog Cabinet (λ e. absurd (omega arith)) in (
+      let one = apart Pagelog Maplog refl in
+      let two = apart Pagelog Cabinet refl in
+      let three = apart Maplog Cabinet refl in (
         omega arith,
         λ h. dite (dec_lt 0 (fault_times d c (rose old new Pagelog)))
             (λ p. let x = (rose_is Pagelog).1 p in (ap is_of_desk (sym x.0), x.1))

@@ -11,12 +11,11 @@ use Rattle.turn.specs.declared.view.Kept.TheVariants.{Desk, Vault}
 use Rattle.turn.specs.declared.view.Place.TheVariants.{Outside, Inside}
 use Rattle.turn.specs.declared.view.View.{View}
 use Rattle.history.specs.Lines.{lines_of}
-use Rattle.turn.specs.Meanings.{DeskMeaning, VaultMeaning}
+use Rattle.turn.specs.Meanings.{OpeningMeaning, DeskMeaning, VaultMeaning}
 use Rattle.turn.specs.Queue.{total}
 use Rattle.turn.specs.Rule.{AreOwn}
-use Rattle.turn.specs.Seats.{IsSeat, Rests, mine, opening, view_of}
+use Rattle.turn.specs.Seats.{Agrees, IsSeat, Rests, mine, opening, seen, view_of}
 use Rattle.turn.specs.Views.{behind_desk, behind_vault, first_of, parts_of}
-use Rattle.turn.proofs.Fronts.{lines_front}
 
 pub some_of : {X : Type 0} (x : Option X) → is_some x ≡ true → (y : X) × (x ≡ Some y)
 some_of None e = absurd (cc e)
@@ -42,11 +41,13 @@ same_desk k l x y e f g = ap (desk_or x) (sym f ∙ (e ∙ g))
 pub same_vault : {A B : Type 0} (k l : Option (Kept A B)) (x y : B) → k ≡ l → k ≡ Some (Vault x) → l ≡ Some (Vault y) → x ≡ y
 same_vault k l x y e f g = ap (vault_or x) (sym f ∙ (e ∙ g))
 
--- the own lines that a seat has seen begin its lines
-pub own_front : {W : Type 0} (journal : List Line) (works : ℕ → Option W) (front : List Line) (hs : List (Holding W)) (g : Holding W) (n : ℕ) → IsPrefix front journal → AreOwn journal works hs → hs ≡ g ∷ [] → 0 < g.parts → g.number ≡ n → IsPrefix (lines_of n front) g.lines
-own_front {W = W} journal works front hs g n begins own one part same =
-    let lines : g.lines ≡ lines_of n journal = (own 0 g (ap (λ (xs : List (Holding W)). get_elem? xs 0) one) part).0 ∙ ap (λ (k : ℕ). lines_of k journal) same in
-    subst (IsPrefix (lines_of n front)) (sym lines) (lines_front n front journal begins)
+abbrev first_or : {A B : Type 0} → Option (Kept A B) → List (ℕ × Option (Kept A B)) → Option (Kept A B)
+first_or k [] = k
+first_or k (c ∷ cs) = c.1
+
+-- the value in hand is the one that was found
+pub same_taken : {A B : Type 0} (cs xs ys : List (ℕ × Option (Kept A B))) (k : Option (Kept A B)) (x y : A) → cs ≡ (0, Some (Desk x)) ∷ xs → cs ≡ (0, k) ∷ ys → k ≡ Some (Desk y) → x ≡ y
+same_taken cs xs ys k x y e f g = same_desk (Some (Desk x)) k x y (ap (first_or None) (sym e ∙ f)) refl g
 
 module _ {O W A B : Type 0} where
   pub parts_here : (z : TableId) (s : SeatOver O W A B) → IsSeat z s → 0 < parts_of (view_of s)
@@ -70,6 +71,16 @@ module _ {O W A B : Type 0} where
         vault = ap (λ (v : View O W A B). v.vault) is ∙ vault;
         slots = slots;
       }
+
+  -- a seat of one holding, of which this journal is told
+  pub agrees_so : (o : OpeningMeaning O) (s : SeatOver O W A B) (h : Holding W) (journal : List Line) (works : ℕ → Option W) (hs : List (Holding W)) → IsPrefix (seen s) journal → AreOwn journal works hs → hs ≡ h ∷ []
+      → s.seat.me.0.holds ≡ h ∷ [] → 0 < h.parts → h.number ≡ s.number → ((x : O) → opening s ≡ Some x → o.Lawful x journal) → Agrees o s
+  agrees_so o s h journal works hs begins own was one part number lawful = record {
+    journal = journal;
+    begins = begins;
+    own = ap (λ (gs : List (Holding W)). (first_of gs).lines) one ∙ ((own 0 h (ap (λ (gs : List (Holding W)). get_elem? gs 0) was) part).0 ∙ ap (λ (n : ℕ). lines_of n journal) number);
+    lawful = lawful;
+  }
 
   -- the view of a seat that has left the desk, and the vault
   pub left_desk : (a : DeskMeaning O W A) (n : ℕ) (old new : A) (v v1 v2 v3 : View O W A B) → v1 ≡ v → v2 ≡ record v1 { desk = Inside n new; seen = a.journal new; holds = map (behind_desk a old new) v1.holds } → v3 ≡ record v2 { desk = Outside }

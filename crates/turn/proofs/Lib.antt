@@ -1,4 +1,5 @@
 pub mod Cuts
+pub mod Differing
 pub mod Ends
 pub mod Faults
 pub mod Fronts

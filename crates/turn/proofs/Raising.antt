@@ -127,6 +127,7 @@ module _ {O W A B : Type 0} (o : OpeningMeaning O) (a : DeskMeaning O W A) (b : 
     raise_seats : ((j : ℕ) (p : Place B) → j ≢ id → get_elem? (map vault_of views) j ≡ some p → is_inside p ≡ 0) → AreSeats o a b limit desk new (set views id w)
     raise_seats alone = record {
       few = s.few;
+      differ = s.differ;
       parts = keep_total parts_of views id v w at (total_map (λ (x : Holding W). x.parts) (behind_vault b old new) v.holds) ∙ s.parts;
       numbers = λ i. subst (AreParts limit i) (sym (keep_total (parts_at i) views id v w at (total_map (parts_in i) (behind_vault b old new) v.holds))) (s.numbers i);
       foreign = s.foreign;

@@ -16,17 +16,18 @@ use Rattle.turn.specs.declared.view.Place.{Place}
 use Rattle.turn.specs.declared.view.Place.TheVariants.{Inside}
 use Rattle.turn.specs.declared.view.View.{View}
 use Rattle.turn.specs.Faults.{LAST, desk_faults, fault_lines, fault_times, is_of_desk, line_fault}
-use Rattle.history.specs.Lines.{horizon_of, lines_of}
+use Rattle.history.specs.Lines.{FaultsDiffer, horizon_of, lines_of}
 use Rattle.turn.specs.Meanings.{OpeningMeaning, DeskMeaning, VaultMeaning}
 use Rattle.turn.specs.Plays.{Sat, records}
 use Rattle.turn.specs.Queue.{Lock, total, is_inside, ticket_of}
 use Rattle.turn.specs.Rule.{AreOwn, AreParts, AreSeats, IsCounted, IsHorizon, IsNewer, AreNewer, IsOwn, IsRuled, Knows, count_now, told_times}
 use Rattle.turn.specs.Seats.{AddsLine, IsOwnChange, IsQuiet, MayLeave}
 use Rattle.turn.specs.Views.{PARTS, behind_desk, desk_of, vault_of, parts_at, parts_in, parts_of, still_told}
+use Rattle.turn.proofs.Differing.{still_differ}
 use Rattle.turn.proofs.Faults.{desk_told, fault_most, lines_append, lines_within, times_append}
 use Rattle.turn.proofs.Fronts.{other_line, prefix_self, prefix_trans}
 use Rattle.turn.proofs.Locks.{lock_alone, lock_changes}
-use Rattle.turn.proofs.Seating.{keep_total, moved, new_places, place_at, same_places, same_value}
+use Rattle.turn.proofs.Seating.{desk_count, keep_total, moved, new_places, place_at, same_places, same_value}
 use Rattle.turn.proofs.Steps.{no_step}
 use Rattle.turn.proofs.Totals.{total_at, total_map, total_set, total_two}
 
@@ -145,9 +146,6 @@ module _ {O W A B : Type 0} (o : OpeningMeaning O) (a : DeskMeaning O W A) (b : 
       dite (dec_lt h.number limit) (λ lt. lt) (λ ge. let x = all.1 (omega arith) in absurd (omega arith))
 
   -- the counts of faults behind a change of the desk
-  desk_count : (desk : A) (vault : B) (d : Device) → is_of_desk d ≡ true → count_now o a b desk vault d ≡ a.counts desk d
-  desk_count desk vault d is = ap (λ (t : Bool). cond t (a.counts desk d) (b.counts vault d)) is
-
   pub desk_rises : (old new : A) (vault : B) (d : Device) → a.counts old d ≤ a.counts new d → count_now o a b old vault d ≤ count_now o a b new vault d
   desk_rises old new vault d up = go (is_of_desk d)
     where
@@ -173,7 +171,7 @@ module _ {O W A B : Type 0} (o : OpeningMeaning O) (a : DeskMeaning O W A) (b : 
     told part =
         let own : IsOwn (a.journal old) (a.work_of old) h = k.own 0 h (ap (λ (hs : List (Holding W)). get_elem? hs 0) one) in
         is_told a h old new may.change (own part).0 (k.newer 0 h (ap (λ (hs : List (Holding W)). get_elem? hs 0) one))
-        (λ d e of_desk some_. let below = (s.faults d e).below (omega arith) in let c = desk_count old vault d of_desk in omega arith)
+        (λ d e of_desk some_. let below = (s.faults d e).below (omega arith) in let c = desk_count o a b limit old vault d of_desk in omega arith)
 
     record_faults : 0 < h.parts → (d : Device) (c : ℕ) → IsCounted (o.counts (a.opening new) d) (count_now o a b new vault d) c (fault_lines d c (a.journal new) + total (told_times d c) (set views id w))
     record_faults part d c =
@@ -186,8 +184,19 @@ module _ {O W A B : Type 0} (o : OpeningMeaning O) (a : DeskMeaning O W A) (b : 
         (counted_after (o.counts (a.opening old) d) (count_now o a b old vault d) (count_now o a b new vault d) c
         (fault_lines d c (a.journal old) + total (told_times d c) views) (fault_lines d c (a.journal new) + total (told_times d c) (set views id w)) (fault_times d c (desk_faults (a.counts old) (a.counts new)))
         (s.faults d c) (start d) (desk_rises old new vault d (may.counts d)) (omega arith) tells.0
-        (λ p. let t = tells.1 p in let x = desk_count old vault d t.0 in let y = desk_count new vault d t.0 in
+        (λ p. let t = tells.1 p in let x = desk_count o a b limit old vault d t.0 in let y = desk_count o a b limit new vault d t.0 in
         (t.1.now ∙ sym y, λ lt. let up = t.1.above lt in omega arith)))
+
+    record_differ : 0 < h.parts → FaultsDiffer (a.journal new)
+    record_differ part =
+        let at_first = ap (λ (hs : List (Holding W)). get_elem? hs 0) one in
+        go may.change (still_differ a h old new (k.own 0 h at_first part).0 (k.newer 0 h at_first)
+        (λ d e of_desk some_. let under = (s.faults d e).below (omega arith) in let c = desk_count o a b limit old vault d of_desk in omega arith)
+        (λ d c lt. let most = (record_faults part d c).once lt in omega arith) s.differ)
+      where
+        go : IsQuiet a old new ⊎ IsOwnChange a h old new → ((a.journal new ≡ a.journal old) ⊎ AddsLine a h old new → FaultsDiffer (a.journal new)) → FaultsDiffer (a.journal new)
+        go (inl quiet) f = f (inl quiet.journal)
+        go (inr change) f = f change.journal
 
     their_own : (j : ℕ) (u : View O W A B) → j ≢ id → get_elem? views j ≡ some u → AreOwn (a.journal new) (a.work_of new) u.holds
     their_own j u other at' i g in_u part =
@@ -240,6 +249,7 @@ module _ {O W A B : Type 0} (o : OpeningMeaning O) (a : DeskMeaning O W A) (b : 
       numbers = λ i. subst (AreParts limit i) (sym (keep_total (parts_at i) views id v w at (total_map (parts_in i) (behind_desk a old new) v.holds))) (s.numbers i);
       foreign = record_foreign;
       faults = record_faults part;
+      differ = record_differ part;
       known = moved (Knows o a b new vault) views id w (mine_knows part) (their_knows alone);
     }
 

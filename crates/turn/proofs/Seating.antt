@@ -1,5 +1,5 @@
 -- A step of one seat, and the facts of all seats.
-use Rattle.std.proofs.Common.{◌≡◌, ◌≢◌, ℕ, zero, suc, ◌+◌, ◌<◌, ◌≤◌, List, [], ◌∷◌, map, set, refl, ap, sym, ◌∙◌, subst, ⊎_elim, arith}
+use Rattle.std.proofs.Common.{◌≡◌, ◌≢◌, ℕ, zero, suc, ◌+◌, ◌<◌, ◌≤◌, List, [], ◌∷◌, map, set, refl, ap, sym, ◌∙◌, subst, ⊎_elim, arith, Bool, true, cond}
 use mathlib.Core.Option.{some, some-injective, some-ne-none}
 use lib.ListN.{get_elem?}
 use lib.Seq.{map-set}
@@ -8,12 +8,13 @@ use Rattle.turn.specs.declared.view.Holding.{Holding}
 use Rattle.turn.specs.declared.view.Place.{Place}
 use Rattle.turn.specs.declared.view.Place.TheVariants.{Outside, Waits, Inside}
 use Rattle.turn.specs.declared.view.View.{View}
-use Rattle.turn.specs.Faults.{fault_lines, fault_times}
+use Rattle.retro_base.specs.declared.device.Device.{Device}
+use Rattle.turn.specs.Faults.{fault_lines, fault_times, is_of_desk}
 use Rattle.turn.specs.Meanings.{OpeningMeaning, DeskMeaning, VaultMeaning}
 use Rattle.turn.specs.Queue.{total, tickets_in, ticket_of}
-use Rattle.turn.specs.Rule.{AreParts, AreSeats, IsCounted, Knows, count_now, told_times}
+use Rattle.turn.specs.Rule.{AreParts, AreSeats, IsCounted, Knows, TellsFaults, count_now, told_times}
 use Rattle.turn.specs.Views.{parts_at, parts_in, parts_of, desk_of, vault_of}
-use Rattle.turn.proofs.Totals.{total_set, total_le, total_map}
+use Rattle.turn.proofs.Totals.{total_at, total_set, total_le, total_map}
 
 -- what one step does to the other elements
 pub moved : {X : Type 0} (K : X → Type 0) (xs : List X) (me : ℕ) (w : X) → K w → ((j : ℕ) (x : X) → j ≢ me → get_elem? xs j ≡ some x → K x)
@@ -70,11 +71,29 @@ module _ {O W A B : Type 0} (o : OpeningMeaning O) (a : DeskMeaning O W A) (b : 
       let same = total_map tickets_in vault_of views in
       let p = s.parts in let few = s.few in omega arith
 
+  -- the desk has the counts of its own devices
+  pub desk_count : (desk : A) (vault : B) (d : Device) → is_of_desk d ≡ true → count_now o a b desk vault d ≡ a.counts desk d
+  desk_count desk vault d is = ap (λ (t : Bool). cond t (a.counts desk d) (b.counts vault d)) is
+
+  -- what the desk's value tells of faults to a seat that has this holding
+  pub tells : (desk : A) (vault : B) (views : List (View O W A B)) (id k : ℕ) (v : View O W A B) (h : Holding W) → AreSeats o a b limit desk vault views → get_elem? views id ≡ some v → get_elem? v.holds k ≡ some h
+      → TellsFaults a desk h
+  tells desk vault views id k v h s at in_v = record {
+    differ = s.differ;
+    counted = λ d c of_desk some_. let under = (s.faults d c).below (omega arith) in let now = desk_count desk vault d of_desk in omega arith;
+    told = λ d c lt t.
+        let most = (s.faults d c).once lt in
+        let mine = total_at (λ (g : Holding W). fault_times d c g.faults) v.holds k h in_v in
+        let all = total_at (told_times d c) views id v at in omega arith;
+    newer = (s.known id v at).newer k h in_v;
+  }
+
   -- a step of one seat that changes neither value, nor what it holds
   pub reseated : (desk : A) (vault : B) (views : List (View O W A B)) (id : ℕ) (v w : View O W A B) → AreSeats o a b limit desk vault views → get_elem? views id ≡ some v → w.holds ≡ v.holds → Knows o a b desk vault w
       → AreSeats o a b limit desk vault (set views id w)
   reseated desk vault views id v w s at same mine = record {
     few = s.few;
+    differ = s.differ;
     parts = keep_total parts_of views id v w at (ap (total (λ (h : Holding W). h.parts)) same) ∙ s.parts;
     numbers = λ n. subst (AreParts limit n) (sym (keep_total (parts_at n) views id v w at (ap (total (parts_in n)) same))) (s.numbers n);
     foreign = s.foreign;

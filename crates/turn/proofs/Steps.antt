@@ -23,7 +23,7 @@ use Rattle.turn.specs.Rule.{IsHorizon, IsRuled, Knows}
 use Rattle.turn.specs.Views.{desk_of, vault_of, parts_of, longest}
 use Rattle.turn.proofs.Fronts.{prefix_self, prefix_both, longest_of}
 use Rattle.turn.proofs.Locks.{lock_draws, lock_served, lock_serves}
-use Rattle.turn.proofs.Seating.{same_value, same_ticket, same_places, new_places, place_at, few_desk, few_vault, reseated}
+use Rattle.turn.proofs.Seating.{same_value, same_ticket, same_places, new_places, place_at, few_desk, few_vault, reseated, tells}
 
 abbrev M : ℕ
 M = 18446744073709551616
@@ -189,6 +189,7 @@ module _ {O W A B : Type 0} (o : OpeningMeaning O) (a : DeskMeaning O W A) (b : 
                 lawful = r.agree.lawful;
                 acked = r.agree.acked;
                 own = k.own;
+                faults = λ j h e. tells o a b limit r.desk r.vault s.views id j m.0 h r.seats at e;
                 opening = k.opening;
               }),
               (λ ne. absurd (ne (found ∙ ap (λ (t : ℕ). t % M) (same_ticket n x m.0.desk waits is)))),

@@ -5,18 +5,12 @@ use Rattle.retro_base.specs.declared.device.Device.TheVariants.{Log, Pages, Page
 use Rattle.history.specs.declared.journal.Line.{Line}
 use Rattle.history.specs.declared.journal.What.{What}
 use Rattle.history.specs.declared.journal.What.TheVariants.{Fault}
+use Rattle.history.specs.Lines.{same_device}
 use Rattle.turn.specs.Queue.{total}
 
 -- the value at which a count of faults stays
 abbrev pub LAST : ℕ
 LAST = 18446744073709551615
-
-abbrev pub device_number : Device → ℕ
-device_number Log = 0
-device_number Pages = 1
-device_number Pagelog = 2
-device_number Maplog = 3
-device_number Cabinet = 4
 
 -- the log and the pages are the desk's, the others the vault's
 abbrev pub is_of_desk : Device → Bool
@@ -26,7 +20,7 @@ is_of_desk _ = false
 
 -- 1 where a fault is of this device and count
 abbrev pub one_fault : Device → ℕ → Device × ℕ → ℕ
-one_fault device count fault = if device_number fault.0 == device_number device then (if fault.1 == count then 1 else 0) else 0
+one_fault device count fault = if same_device fault.0 device then (if fault.1 == count then 1 else 0) else 0
 
 -- how often it is among these
 abbrev pub fault_times : Device → ℕ → List (Device × ℕ) → ℕ

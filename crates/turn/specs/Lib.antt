@@ -5,3 +5,4 @@ pub mod Queue
 pub mod Rule
 pub mod Seats
 pub mod Views
+pub mod Tables

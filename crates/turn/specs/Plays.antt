@@ -5,13 +5,14 @@ use mathlib.Core.List.{IsPrefix}
 use lib.ListN.{get_elem?}
 use Rattle.atomic_table.specs.Table.{Me, Step}
 use Rattle.history.specs.declared.journal.Line.{Line}
+use Rattle.turn.specs.declared.view.Holding.{Holding}
 use Rattle.turn.specs.declared.view.Kept.{Kept}
 use Rattle.turn.specs.declared.view.Kept.TheVariants.{Desk, Vault}
 use Rattle.turn.specs.declared.view.Place.TheVariants.{Outside, Waits, Inside}
 use Rattle.turn.specs.declared.view.View.{View}
 use Rattle.history.specs.Lines.{horizon_of}
 use Rattle.turn.specs.Meanings.{OpeningMeaning, DeskMeaning, VaultMeaning}
-use Rattle.turn.specs.Rule.{AreOwn, IsHorizon}
+use Rattle.turn.specs.Rule.{AreOwn, IsHorizon, TellsFaults}
 use Rattle.turn.specs.Views.{behind_desk, behind_vault, longest, spent}
 
 -- a seat's view, and what it has taken
@@ -51,6 +52,7 @@ module _ {O W A B : Type 0} where
       pub lawful : o.Lawful (a.opening value) (a.journal value)
       pub acked : a.acked value ≤ held
       pub own : AreOwn (a.journal value) (a.work_of value) m.0.holds
+      pub faults : (k : ℕ) (h : Holding W) → get_elem? m.0.holds k ≡ some h → TellsFaults a value h
       pub opening : (x : O) → m.0.opening ≡ Some x → x ≡ a.opening value
 
     -- it is served, and finds the value; or it is not, and waits on

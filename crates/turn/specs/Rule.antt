@@ -1,5 +1,5 @@
 -- The rule of the two locks: what holds of the table between any two steps.
-use Rattle.std.specs.Prelude.{◌≡◌, ℕ, ◌+◌, ◌*◌, ◌<◌, ◌≤◌, List, [], ◌∷◌, map, Option, Some, None}
+use Rattle.std.specs.Prelude.{◌≡◌, ℕ, ◌+◌, ◌*◌, ◌<◌, ◌≤◌, true, List, [], ◌∷◌, map, Option, Some, None}
 use mathlib.Core.Option.{some}
 use mathlib.Core.Option as maybe
 use mathlib.Core.List.{IsPrefix}
@@ -12,8 +12,8 @@ use Rattle.turn.specs.declared.view.Kept.{Kept}
 use Rattle.turn.specs.declared.view.Kept.TheVariants.{Desk, Vault}
 use Rattle.turn.specs.declared.view.Place.TheVariants.{Inside}
 use Rattle.turn.specs.declared.view.View.{View}
-use Rattle.turn.specs.Faults.{LAST, count_of, fault_lines, fault_times}
-use Rattle.history.specs.Lines.{horizon_of, lines_of}
+use Rattle.turn.specs.Faults.{LAST, count_of, fault_lines, fault_times, is_of_desk}
+use Rattle.history.specs.Lines.{FaultsDiffer, horizon_of, lines_of}
 use Rattle.turn.specs.Meanings.{OpeningMeaning, DeskMeaning, VaultMeaning}
 use Rattle.turn.specs.Queue.{Lock, total, tickets_in}
 use Rattle.turn.specs.Views.{PARTS, desk_of, parts_at, parts_of, vault_of}
@@ -52,6 +52,14 @@ IsNewer h = (d : Device) (c e : ℕ) → c < LAST → 0 < fault_times d c h.faul
 
 abbrev pub AreNewer : {W : Type 0} → List (Holding W) → Type 0
 AreNewer {W} hs = (k : ℕ) (h : Holding W) → get_elem? hs k ≡ some h → IsNewer h
+
+-- What the desk's value tells of faults, where a seat has this holding: no two of its lines tell one fault; none tells one above the desk's own counts; and a fault
+-- that the seat was told is new: no line tells it, and its count is above each that the seat's lines tell of that device.
+pub record TellsFaults {O W A : Type 0} (a : DeskMeaning O W A) (desk : A) (h : Holding W) : Type 0 where
+  pub differ : FaultsDiffer (a.journal desk)
+  pub counted : (d : Device) (c : ℕ) → is_of_desk d ≡ true → 0 < fault_lines d c (a.journal desk) → c ≤ a.counts desk d
+  pub told : (d : Device) (c : ℕ) → c < LAST → 0 < fault_times d c h.faults → fault_lines d c (a.journal desk) ≡ 0
+  pub newer : IsNewer h
 
 -- how often a fault was told to the seats, since the last line of each
 abbrev pub told_times : {O W A B : Type 0} → Device → ℕ → View O W A B → ℕ
@@ -101,6 +109,7 @@ module _ {O W A B : Type 0} (o : OpeningMeaning O) (a : DeskMeaning O W A) (b : 
     pub numbers : (n : ℕ) → AreParts limit n (total (parts_at n) views)
     pub foreign : (n : ℕ) → limit ≤ n → (lines_of n (a.journal desk) ≡ []) × (a.work_of desk n ≡ None)
     pub faults : (d : Device) (c : ℕ) → IsCounted (o.counts (a.opening desk) d) (count_now desk vault d) c (fault_lines d c (a.journal desk) + total (told_times d c) views)
+    pub differ : FaultsDiffer (a.journal desk)
     pub known : (i : ℕ) (v : View O W A B) → get_elem? views i ≡ some v → Knows desk vault v
 
   -- `desk` and `vault` are the two values as they were last recorded, `first` the opening.

@@ -2,9 +2,10 @@
 
 ghost use Rattle.std.specs.Prelude.{◌≡◌, ◌≤◌, Some};
 ghost use mathlib.Core.List.{IsPrefix};
-ghost use Rattle.turn.specs.Seats.{IsInDesk, IsSame, MayLeave, Rests, held, mine, opening, seen};
-ghost use Rattle.turn.specs.Rule.{IsOwn};
-ghost use Rattle.turn.specs.Views.{behind_desk};
+ghost use Rattle.history.specs.Lines.{lines_of};
+ghost use Rattle.turn.specs.Seats.{IsBehindDesk, IsInDesk, IsSame, LeavesDesk, Rests, held, mine, opening, seen};
+ghost use Rattle.turn.specs.Rule.{TellsFaults};
+ghost use Rattle.turn.specs.Tables.{table_of};
 
 use crate::locked::{DeskValue, VaultValue};
 use crate::plays::{DrawsDesk, ReadsDesk, Records, ServesDesk};
@@ -19,12 +20,14 @@ impl<A: DeskValue, B: VaultValue<A::Opening>> Turn<A, B> {
     /// Waits for its turn at the desk, and takes its value, as the last one inside left it. The seat has then seen
     /// the journal that the value keeps.
     pub fn enter_desk<R: Wait>(&self, rt: &R, seat: &mut Seat<A, B>) -> A
-        requires { Rests self.now.table.shared.table_id seat.old }
-        ensures inside { IsInDesk self.now.table.shared.table_id seat.new result }
+        requires { Rests (table_of self.now) seat.old }
+        ensures inside { IsInDesk (table_of self.now) seat.new result }
         ensures same { IsSame seat.old seat.new × (mine seat.new ≡ mine seat.old) }
         ensures seen { seen seat.new ≡ A.meaning.journal result }
         ensures front { IsPrefix (seen seat.old) (A.meaning.journal result) }
-        ensures own { IsOwn (A.meaning.journal result) (A.meaning.work_of result) (mine seat.old) }
+        ensures lines { (mine seat.old).lines ≡ lines_of seat.old.number (A.meaning.journal result) }
+        ensures work { (mine seat.old).work ≡ A.meaning.work_of result seat.old.number }
+        ensures faults { TellsFaults A.meaning result (mine seat.old) }
         ensures opening { opening seat.old ≡ Some (A.meaning.opening result) }
         ensures fits { A.meaning.Fits result }
         ensures lawful { A.Opening.meaning.Lawful (A.meaning.opening result) (A.meaning.journal result) }
@@ -51,11 +54,11 @@ impl<A: DeskValue, B: VaultValue<A::Opening>> Turn<A, B> {
 
     /// Gives the desk's value back, with what the seat has made of it, and serves the next.
     pub fn leave_desk(&self, seat: &mut Seat<A, B>, desk: A)
-        requires { (old : A) × IsInDesk self.now.table.shared.table_id seat.old old × MayLeave A.meaning A.Opening.meaning (held seat.old) (mine seat.old) old desk }
-        ensures rests { Rests self.now.table.shared.table_id seat.new }
+        requires { LeavesDesk A.Opening.meaning A.meaning (table_of self.now) seat.old desk }
+        ensures rests { Rests (table_of self.now) seat.new }
         ensures same { IsSame seat.old seat.new × (held seat.new ≡ held seat.old) }
         ensures seen { seen seat.new ≡ A.meaning.journal desk }
-        ensures mine { (old : A) → IsInDesk self.now.table.shared.table_id seat.old old → mine seat.new ≡ behind_desk A.meaning old desk (mine seat.old) }
+        ensures mine { IsBehindDesk A.meaning (table_of self.now) seat.old desk seat.new }
     {
         let word = word_of(desk.horizon());
         let left = self

@@ -9,7 +9,8 @@ pub trait Opening {
     ghost meaning: { OpeningMeaning Self };
 
     /// Each front of a lawful journal is lawful.
-    ghost fronts: { (o : Self) (lines more : List Line) → Self.meaning.Lawful o (lines ++ more) → Self.meaning.Lawful o lines };
+    ghost fronts: { (o : Self) (lines more : List Line)
+        → Self.meaning.Lawful o (lines ++ more) → Self.meaning.Lawful o lines };
 }
 
 /// What lies in the desk's lock: the side of a store that keeps its journal.
@@ -26,7 +27,9 @@ pub trait DeskValue {
 
     /// The oldest and the newest snapshot behind the journal.
     fn horizon(&self) -> (u32, u32)
-        ensures { result ≡ horizon_of (Self.Opening.meaning.base (Self.meaning.opening self.now)) (Self.meaning.journal self.now) };
+        requires { Self.meaning.Fits self.now }
+        ensures { result ≡ horizon_of (Self.Opening.meaning.base (Self.meaning.opening self.now))
+            (Self.meaning.journal self.now) };
 }
 
 /// What lies in the vault's lock: the side of a store that keeps its pre-states.
@@ -42,5 +45,6 @@ pub trait VaultValue<O: Opening> {
         ensures { result ≡ Self.meaning.held self.now };
 
     /// It stands for each lawful journal that goes on from one that it stands for.
-    ghost outlives: { (b : Self) (o : O) (lines more : List Line) → Self.meaning.Fits b o lines → O.meaning.Lawful o (lines ++ more) → Self.meaning.Fits b o (lines ++ more) };
+    ghost outlives: { (b : Self) (o : O) (lines more : List Line) → Self.meaning.Fits b o lines
+        → O.meaning.Lawful o (lines ++ more) → Self.meaning.Fits b o (lines ++ more) };
 }

@@ -1,11 +1,12 @@
 //! The table with the two locks: how it is made and closed.
 
 ghost use Rattle.std.specs.Prelude.{◌≡◌, ◌≤◌, ◌*◌, ◌∷◌, ℕ, [], length, Some, IfOk, IfErr};
-ghost use Rattle.turn.specs.Rule.{Knows};
+ghost use Rattle.retro_base.specs.declared.device.Device.{Device};
+ghost use Rattle.turn.specs.Rule.{Knows, told_times};
 ghost use Rattle.turn.specs.declared.view.Kept.TheVariants.{Desk, Vault};
 ghost use Rattle.turn.specs.declared.view.Place.TheVariants.{Outside};
 ghost use Rattle.turn.specs.Views.{PARTS, parts_of};
-ghost use Rattle.turn.specs.Seats.{AreClosed, AreNew, AreRight, AreWhole, Covers, MayOpen};
+ghost use Rattle.turn.specs.Seats.{AreClosed, AreNew, AreRight, AreWhole, Covers, MayOpen, told_to};
 
 use crate::locked::{DeskValue, VaultValue};
 use crate::plays::{Comes, Deal, Gather};
@@ -38,7 +39,8 @@ impl<A: DeskValue, B: VaultValue<A::Opening>> TableRule<
     ghost use Rattle.turn.specs.Rule.{IsRuled};
     ghost use Rattle.turn.specs.Views.{first_view};
 
-    ghost holds = { λ key. IsRuled A.Opening.meaning A.meaning B.meaning (A.meaning.opening key.first.value) key.seats };
+    ghost holds = { λ key. IsRuled A.Opening.meaning A.meaning B.meaning (A.meaning.opening key.first.value)
+        key.seats };
 
     ghost first = { λ key. first_view (A.meaning.opening key.first.value) key.seats };
 }
@@ -68,7 +70,8 @@ impl<A: DeskValue, B: VaultValue<A::Opening>> Turn<A, B> {
         requires seats { seats ≤ 65536 }
         requires open { MayOpen A.Opening.meaning A.meaning B.meaning desk vault }
         ensures seats { IfOk result (λ r. (r.0.table.shared.key.seats ≡ seats) × (length r.1.items ≡ seats)) }
-        ensures opening { IfOk result (λ r. A.meaning.opening r.0.table.shared.key.first.value ≡ A.meaning.opening desk) }
+        ensures opening { IfOk result (λ r.
+            A.meaning.opening r.0.table.shared.key.first.value ≡ A.meaning.opening desk) }
         ensures new { IfOk result (λ r. AreNew r.0.table.shared.table_id (A.meaning.opening desk) r.1.items) }
         ensures back { IfErr result (λ r. (r.0 ≡ desk) × (r.1 ≡ vault)) }
     {
@@ -102,9 +105,10 @@ impl<A: DeskValue, B: VaultValue<A::Opening>> Turn<A, B> {
     pub fn close(self, seats: Vec<Seat<A, B>>) -> (A, B)
         requires all { length seats.items ≡ self.table.shared.key.seats }
         requires whole { AreWhole self.table.shared.table_id seats.items }
-        ensures closed { AreClosed A.Opening.meaning A.meaning B.meaning self.table.shared.key.seats result.0 result.1 }
+        ensures closed { AreClosed A.Opening.meaning A.meaning B.meaning self.table.shared.key.seats
+            (λ d c. told_to d c seats.items) result.0 result.1 }
         ensures opening { A.meaning.opening result.0 ≡ A.meaning.opening self.table.shared.key.first.value }
-        ensures right { AreRight A.meaning result.0 seats.items }
+        ensures right { AreRight A.meaning B.meaning result.0 result.1 seats.items }
     {
         let all = self.gather(seats);
         self.take_home(all)
@@ -119,6 +123,7 @@ impl<A: DeskValue, B: VaultValue<A::Opening>> Turn<A, B> {
         ensures table { result.table_id ≡ self.now.table.shared.table_id }
         ensures outside { (result.me.0.desk ≡ Outside) × (result.me.0.vault ≡ Outside) × (result.me.1 ≡ []) }
         ensures parts { parts_of result.me.0 ≡ PARTS * length seats.items }
+        ensures told { (d : Device) (c : ℕ) → told_times d c result.me.0 ≡ told_to d c seats.items }
         ensures covers { Covers A.Opening.meaning A.meaning B.meaning result.me.0 seats.items }
     {
         let (_, mut all) = self.table.shared.load_new_seat::<Comes>(0);
@@ -138,7 +143,8 @@ impl<A: DeskValue, B: VaultValue<A::Opening>> Turn<A, B> {
         requires table { all.table_id ≡ self.table.shared.table_id }
         requires outside { (all.me.0.desk ≡ Outside) × (all.me.0.vault ≡ Outside) }
         requires parts { parts_of all.me.0 ≡ PARTS * self.table.shared.key.seats }
-        ensures closed { AreClosed A.Opening.meaning A.meaning B.meaning self.table.shared.key.seats result.0 result.1 }
+        ensures closed { AreClosed A.Opening.meaning A.meaning B.meaning self.table.shared.key.seats
+            (λ d c. told_times d c all.me.0) result.0 result.1 }
         ensures opening { A.meaning.opening result.0 ≡ A.meaning.opening self.table.shared.key.first.value }
         ensures known { Knows A.Opening.meaning A.meaning B.meaning result.0 result.1 all.me.0 }
     {

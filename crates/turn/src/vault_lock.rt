@@ -3,8 +3,8 @@
 ghost use Rattle.std.specs.Prelude.{◌≡◌, ◌≤◌, IfSome};
 ghost use mathlib.Core.List.{IsPrefix};
 ghost use Rattle.history.specs.Lines.{lines_of};
-ghost use Rattle.turn.specs.Seats.{IsInVault, IsSame, MayLeaveVault, Rests, held, mine, opening, seen};
-ghost use Rattle.turn.specs.Views.{behind_vault};
+ghost use Rattle.turn.specs.Seats.{IsBehindVault, IsInVault, IsSame, LeavesVault, Rests, held, mine, opening, seen};
+ghost use Rattle.turn.specs.Tables.{table_of};
 
 use crate::locked::{DeskValue, VaultValue};
 use crate::plays::{DrawsVault, Raises, ReadsVault, ServesVault};
@@ -18,8 +18,8 @@ impl<A: DeskValue, B: VaultValue<A::Opening>> Turn<A, B> {
     /// Waits for its turn at the vault, and takes its value, as the last one inside left it. The seat has then seen
     /// a journal that the value stands for, with all its own lines.
     pub fn enter_vault<R: Wait>(&self, rt: &R, seat: &mut Seat<A, B>) -> B
-        requires { Rests self.now.table.shared.table_id seat.old }
-        ensures inside { IsInVault self.now.table.shared.table_id seat.new result }
+        requires { Rests (table_of self.now) seat.old }
+        ensures inside { IsInVault (table_of self.now) seat.new result }
         ensures same { IsSame seat.old seat.new × (mine seat.new ≡ mine seat.old) }
         ensures front { IsPrefix (seen seat.old) (seen seat.new) }
         ensures own { (mine seat.old).lines ≡ lines_of seat.old.number (seen seat.new) }
@@ -51,11 +51,11 @@ impl<A: DeskValue, B: VaultValue<A::Opening>> Turn<A, B> {
 
     /// Gives the vault's value back, with what the seat has made of it, and serves the next.
     pub fn leave_vault(&self, seat: &mut Seat<A, B>, vault: B)
-        requires { (old : B) × IsInVault self.now.table.shared.table_id seat.old old × MayLeaveVault B.meaning (opening seat.old) (seen seat.old) old vault }
-        ensures rests { Rests self.now.table.shared.table_id seat.new }
+        requires { LeavesVault B.meaning (table_of self.now) seat.old vault }
+        ensures rests { Rests (table_of self.now) seat.new }
         ensures same { IsSame seat.old seat.new × (seen seat.new ≡ seen seat.old) }
         ensures held { held seat.new ≡ B.meaning.held vault }
-        ensures mine { (old : B) → IsInVault self.now.table.shared.table_id seat.old old → mine seat.new ≡ behind_vault B.meaning old vault (mine seat.old) }
+        ensures mine { IsBehindVault B.meaning (table_of self.now) seat.old vault seat.new }
     {
         let held = vault.held();
         let left = self

@@ -1,9 +1,10 @@
 use Rattle.std.proofs.Common.{rules, arith, refl, ap, sym, ◌∙◌, ◌≡◌, subst, List, ◌∷◌, [], ◌++◌, append-nil, append_assoc, length}
 use Rattle.turn.specs.declared.view.View.{View}
-use Rattle.turn.specs.Seats.{AreWhole, Covers}
+use Rattle.turn.specs.Rule.{told_times}
+use Rattle.turn.specs.Seats.{AreWhole, Covers, told_to}
 use Rattle.turn.specs.Views.{joined, parts_of}
 use Rattle.turn.proofs.Cuts.{enters, gathers}
-use Rattle.turn.proofs.Ends.{covers_one, parts_joined, parts_whole, whole_front, whole_last}
+use Rattle.turn.proofs.Ends.{covers_one, parts_joined, parts_whole, told_joined, told_one, whole_front, whole_last}
 use Rattle.turn.proofs.turn.Turn.gather.Goals as goal
 
 pub load_new_seat-all-requires : goal.load_new_seat-all-requires
@@ -16,7 +17,7 @@ gather-init g c =
       seated = new.0;
       outside = (ap (λ (v : View _ _ _ _). v.desk) new.2, ap (λ (v : View _ _ _ _). v.vault) new.2, new.1);
       rest = c.requires;
-      done = ([], sym (append-nil c.args.seats.items), ap parts_of new.2, λ x y k i s e. absurd (cc));
+      done = ([], sym (append-nil c.args.seats.items), ap parts_of new.2, (λ d k. ap (told_times d k) new.2), λ x y k i s e. absurd (cc));
     }
 
 pub join_seat-requires : goal.join_seat-requires
@@ -53,7 +54,8 @@ gather-preserved g c =
         s ∷ d.0,
         d.1 ∙ (ap (λ xs. xs ++ d.0) c.in-Some.ensures.items ∙ append_assoc left (s ∷ []) d.0),
         ap parts_of now ∙ omega (arith, parts, here, one),
-        subst (λ (v : View _ _ _ _). Covers g.A.Opening.Opening.meaning g.A.DeskValue.meaning g.B.VaultValue.meaning v (s ∷ d.0)) (sym now) (covers_one _ _ _ z c.gather.all.me.0 s d.0 inv.outside.0 inv.outside.1 last.0 d.3),
+        (λ x k. let sum = told_joined x k c.gather.all.me.0 s.seat.me.0 in let mine = told_one z x k s last.0 in let before = d.3 x k in ap (told_times x k) now ∙ omega (arith, sum, mine, before)),
+        subst (λ (v : View _ _ _ _). Covers g.A.Opening.Opening.meaning g.A.DeskValue.meaning g.B.VaultValue.meaning v (s ∷ d.0)) (sym now) (covers_one _ _ _ z c.gather.all.me.0 s d.0 inv.outside.0 inv.outside.1 last.0 d.4),
       );
     }
 
@@ -66,4 +68,11 @@ returns-clause-covers g c =
     let d = c.gather.invariant.done in
     let z = c.in_default.ensures.cases in
     let left = nothing c.gather.seats.items (omega (arith, z.0)) in
-    subst (Covers g.A.Opening.Opening.meaning g.A.DeskValue.meaning g.B.VaultValue.meaning c.gather.all.me.0) (sym (d.1 ∙ ap (λ xs. xs ++ d.0) left)) d.3
+    subst (Covers g.A.Opening.Opening.meaning g.A.DeskValue.meaning g.B.VaultValue.meaning c.gather.all.me.0) (sym (d.1 ∙ ap (λ xs. xs ++ d.0) left)) d.4
+
+pub returns-clause-told : goal.returns-clause-told
+returns-clause-told g c =
+    let d = c.gather.invariant.done in
+    let z = c.in_default.ensures.cases in
+    let left = nothing c.gather.seats.items (omega (arith, z.0)) in
+    λ x k. d.3 x k ∙ ap (told_to x k) (sym (d.1 ∙ ap (λ xs. xs ++ d.0) left))

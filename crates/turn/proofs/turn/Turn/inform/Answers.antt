@@ -1,4 +1,4 @@
-use Rattle.std.proofs.Common.{rules, ap, ◌∙◌, ◌≡◌, subst, List, ◌∷◌, [], ◌++◌}
+use Rattle.std.proofs.Common.{rules, sym, ap, ◌∙◌, ◌≡◌, subst, List, ◌∷◌, [], ◌++◌}
 use mathlib.Core.List.{IsPrefix}
 use mathlib.Core.Option.{some}
 use lib.ListN.{get_elem?}
@@ -8,7 +8,7 @@ use Rattle.turn.specs.declared.view.View.{View}
 use Rattle.turn.specs.Seats.{mine}
 use Rattle.turn.specs.Views.{joined, note_of}
 use Rattle.turn.proofs.Cuts.{gathers, notes}
-use Rattle.turn.proofs.Handing.{own_front}
+use Rattle.turn.proofs.Handing.{agrees_so}
 use Rattle.turn.proofs.Steps.{settle}
 use Rattle.turn.proofs.turn.Turn.inform.Goals as goal
 
@@ -42,8 +42,8 @@ returns-clause-fronts g c =
           ∙ (ap (λ (ts : List (List Line)). get_elem? (ts ++ w.seen ∷ w.heard) 0) c.requires.0.seat.heard ∙ ap (λ (v : View _ _ _ _). some v.seen) is)),
     )
 
-pub returns-clause-own : goal.returns-clause-own
-returns-clause-own g c =
+pub returns-clause-agrees : goal.returns-clause-agrees
+returns-clause-agrees g c =
     let r = c.requires.0 in
     let n = c.split_seat-note.ensures in
     let w : View _ _ _ _ = c.split_seat-note.result.me.0 in
@@ -53,4 +53,6 @@ returns-clause-own g c =
     let h : Holding _ = mine c.args.one.now in
     let one : c.join_seat.new.seat.me.0.holds ≡ h ∷ [] = ap (λ (v : View _ _ _ _). v.holds) j
     ∙ (ap (λ (x : List (Holding _)). x ++ w.holds) r.seat.one ∙ ap (λ (v : View _ _ _ _). h ∷ v.holds) is) in
-    own_front l.journal l.works c.load.new.seat.me.0.seen c.join_seat.new.seat.me.0.holds h c.args.one.now.number l.begins l.own one r.seat.part r.seat.number
+    let opened = ap (λ (v : View _ _ _ _). v.opening) l.view_is in
+    agrees_so g.A.Opening.Opening.meaning record { number = c.args.one.now.number; seat = c.load.new.seat } h l.journal l.works c.join_seat.new.seat.me.0.holds l.begins l.own one
+    (ap (λ (v : View _ _ _ _). v.holds) l.view_is ∙ one) r.seat.part r.seat.number (λ x e. l.lawful x (sym opened ∙ e))

@@ -4,11 +4,10 @@ use lib.ListN.{get_elem?}
 use Rattle.history.specs.declared.journal.Line.{Line}
 use Rattle.turn.specs.declared.view.Holding.{Holding}
 use Rattle.turn.specs.declared.view.View.{View}
-use Rattle.history.specs.Lines.{lines_of}
 use Rattle.turn.specs.Seats.{mine}
-use Rattle.turn.specs.Views.{first_of, returned, returned_view}
+use Rattle.turn.specs.Views.{returned, returned_view}
 use Rattle.turn.proofs.Cuts.{returns}
-use Rattle.turn.proofs.Handing.{own_front}
+use Rattle.turn.proofs.Handing.{agrees_so}
 use Rattle.turn.proofs.Steps.{settle}
 use Rattle.turn.proofs.turn.Turn.take_back.Goals as goal
 
@@ -35,13 +34,14 @@ returns-clause-fronts g c =
       l.heard 0 w.seen (ap (λ (v : View _ _ _ _). get_elem? v.heard 0) j ∙ ap (λ (ts : List (List Line)). get_elem? (ts ++ w.seen ∷ w.heard) 0) c.requires.rests.0.seat.heard),
     )
 
-pub returns-clause-own : goal.returns-clause-own
-returns-clause-own g c =
+pub returns-clause-agrees : goal.returns-clause-agrees
+returns-clause-agrees g c =
     let r = c.requires.rests in
     let j = ap (λ m. m.0) c.join_seat.ensures.2 in
     let l = c.load.ensures.2 in
     let h : Holding _ = returned (mine c.args.helper) (mine c.args.seat.now) in
     let one : c.join_seat.new.seat.me.0.holds ≡ h ∷ [] = ap (λ (v : View _ _ _ _). v.holds) j ∙ ap (λ (x : List (Holding _)). map (returned (mine c.args.helper)) x) r.0.seat.one in
     let now : c.load.new.seat.me.0.holds ≡ h ∷ [] = ap (λ (v : View _ _ _ _). v.holds) l.view_is ∙ one in
-    subst (λ (x : List (Holding _)). IsPrefix (lines_of c.args.seat.now.number c.load.new.seat.me.0.seen) (first_of x).lines) (sym now)
-    (own_front l.journal l.works c.load.new.seat.me.0.seen c.join_seat.new.seat.me.0.holds h c.args.seat.now.number l.begins l.own one (let p = r.0.seat.part in omega (arith, p)) r.0.seat.number)
+    let opened = ap (λ (v : View _ _ _ _). v.opening) l.view_is in
+    agrees_so g.A.Opening.Opening.meaning record { number = c.args.seat.now.number; seat = c.load.new.seat } h l.journal l.works c.join_seat.new.seat.me.0.holds l.begins l.own one now
+    (let p = r.0.seat.part in omega (arith, p)) r.0.seat.number (λ x e. l.lawful x (sym opened ∙ e))

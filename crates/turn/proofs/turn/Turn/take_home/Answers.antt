@@ -1,7 +1,7 @@
 use Rattle.std.proofs.Common.{refl, sym, ap, ◌∙◌, ◌≡◌, subst}
 use mathlib.Core.Option.{some-injective}
 use lib.ListN.{get_elem?}
-use Rattle.turn.specs.Rule.{Knows}
+use Rattle.turn.specs.Rule.{Knows, told_times}
 use Rattle.turn.specs.Seats.{AreClosed}
 use Rattle.turn.proofs.Ends.{ends}
 use Rattle.turn.proofs.Handing.{same_desk, same_vault}
@@ -21,7 +21,7 @@ returns-clause-closed g c =
     let second = some-injective _ _ (sym e.3 ∙ (sym (ap (λ xs. get_elem? xs 1) c.take-first.ensures.others.0) ∙ c.take-second.ensures.value)) in
     let x : e.0 ≡ c.both_of.result.0 = same_desk _ _ _ _ first refl c.both_of.ensures.0 in
     let y : e.1 ≡ c.both_of.result.1 = same_vault _ _ _ _ second refl c.both_of.ensures.1 in
-    subst (λ (v : g.row.A.Denot × g.row.B.Denot). AreClosed g.A.Opening.Opening.meaning g.A.DeskValue.meaning g.B.VaultValue.meaning c.args.self.table.shared.key.seats v.0 v.1) (λ i. (x i, y i)) e.4
+    subst (λ (v : g.row.A.Denot × g.row.B.Denot). AreClosed g.A.Opening.Opening.meaning g.A.DeskValue.meaning g.B.VaultValue.meaning c.args.self.table.shared.key.seats (λ d k. told_times d k c.args.all.me.0) v.0 v.1) (λ i. (x i, y i)) e.4
 
 pub returns-clause-opening : goal.returns-clause-opening
 returns-clause-opening g c =
