@@ -1,3 +1,5 @@
+//! Standard input and output as a source and a sink.
+
 ghost use Rattle.std.specs.Prelude.{◌≡◌, ◌≤◌, ◌<◌, None, IfOk, length, take};
 ghost use Rattle.std.specs.Io.KnownBytes.{Appends, ReadConsumes};
 ghost use Rattle.retro_base.specs.Cause.{HasCause};

@@ -1,3 +1,5 @@
+//! A sink in memory.
+
 ghost use Rattle.std.specs.Prelude.{◌≡◌, ◌<◌, [], ◌++◌, Some, IfOk, OnErr, OnOk, IsErr, Contains, length};
 ghost use Rattle.retro_base.specs.Cause.{HasCause, raised};
 

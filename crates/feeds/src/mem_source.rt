@@ -1,3 +1,5 @@
+//! A source in memory.
+
 ghost use Rattle.std.specs.Prelude.{◌≡◌, ◌<◌, ◌↔◌, Some, IfOk, OnErr, IsErr, Contains, min, length, take, drop};
 ghost use Rattle.retro_base.specs.Cause.{HasCause, raised};
 

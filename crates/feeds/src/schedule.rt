@@ -1,3 +1,5 @@
+//! Which calls of a source or a sink fail.
+
 ghost use Rattle.std.specs.Prelude.{◌≡◌, ◌≤◌, ◌↔◌, IsTrue, Contains, cond};
 ghost use Rattle.retro_base.specs.Cause.{raised};
 

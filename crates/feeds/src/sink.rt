@@ -1,3 +1,5 @@
+//! Where the bytes of a transcript go.
+
 ghost use Rattle.std.specs.Prelude.{◌≡◌, ◌≤◌, ◌<◌, ℕ, List, Option, IfOk, OnErr, OnOk, length, take};
 ghost use Rattle.retro_base.specs.Cause.{HasCause};
 ghost use Rattle.feeds.specs.Feeds.{added};

@@ -1,3 +1,5 @@
+//! Where the bytes of a script come from.
+
 ghost use Rattle.std.specs.Prelude.{◌≡◌, ◌≤◌, ◌<◌, ℕ, List, Option, IfOk, IfSome, OnErr, OnOk, length, take, drop};
 ghost use Rattle.std.specs.Option.{option_map};
 ghost use Rattle.retro_base.specs.Cause.{Rose, HasCause};

@@ -1,3 +1,5 @@
+//! The ways to combine two numbers.
+
 /// How two numbers are combined.
 #[derive(Clone, Copy, Debug, PartialEq, Eq)]
 pub enum How {

@@ -1,3 +1,5 @@
+//! Why a call of the vault failed.
+
 use retro_base::Refusal;
 
 /// Why a call of the vault failed.

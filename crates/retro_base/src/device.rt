@@ -1,3 +1,5 @@
+//! The devices of a store.
+
 use std::fmt;
 
 /// A device of a store.

@@ -1,3 +1,5 @@
+//! Numbers in bytes.
+
 ghost use Rattle.std.specs.Prelude.{◌≡◌, ◌≤◌, ◌+◌, ◌++◌, length, take, drop};
 ghost use Rattle.retro_base.specs.Fields.{number_at, field_bytes};
 

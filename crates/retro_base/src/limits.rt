@@ -1,3 +1,5 @@
+//! The bounds of a store.
+
 /// Bytes in a page.
 pub const PAGE_BYTES: usize = 1024;
 /// The fewest pages that a store may have.

@@ -1,3 +1,5 @@
+//! Pages.
+
 use crate::fields;
 use crate::limits::PAGE_BYTES;
 use std::marker::Model;

@@ -1,3 +1,5 @@
+//! Why a call is refused.
+
 use crate::Device;
 use std::alloc::{AllocError, AllocFailed};
 use thiserror::Error;

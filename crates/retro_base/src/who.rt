@@ -1,3 +1,5 @@
+//! Whose a line of the journal is.
+
 /// Whose a line is: the phase, the session in it, and the item of that session.
 #[derive(Clone, Copy, Debug, PartialEq, Eq)]
 pub struct Who {
