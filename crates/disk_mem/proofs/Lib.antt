@@ -1,3 +1,4 @@
 pub mod Room
+pub mod Shelved
 pub mod Steps
 pub mod Taken

@@ -2,3 +2,4 @@ pub mod Disks
 pub mod History
 pub mod Moments
 pub mod Plan
+pub mod Shelves

@@ -1,0 +1,130 @@
+//! The devices of a small store, whose sessions these are.
+
+use crate::made::make;
+use crate::trial::Trial;
+use disk_mem::{Call, MemDisk, RamDisk};
+use disk_model::{Disk, Sizes};
+use retro_base::{LOG_REGION_BYTES, PAGE_BYTES, Refusal, Who};
+use skippy::Mappings;
+use std::alloc::Global;
+
+pub const A: Who = Who {
+    phase: 1,
+    session: 0,
+    item: 3,
+};
+
+pub const B: Who = Who {
+    phase: 1,
+    session: 1,
+    item: 7,
+};
+
+pub const C: Who = Who {
+    phase: 1,
+    session: 5,
+    item: 2,
+};
+/// The worker that copies, and the one that writes back.
+pub const COPIER: Who = Who {
+    phase: 1,
+    session: 16,
+    item: 0,
+};
+
+pub const FLUSHER: Who = Who {
+    phase: 1,
+    session: 17,
+    item: 0,
+};
+
+/// The devices of the log and of the pages.
+pub type Pair = (MemDisk, MemDisk);
+
+fn size_of(pages: u32) -> u64 {
+    PAGE_BYTES as u64 * u64::from(pages)
+}
+
+/// The devices of a store of these sizes in which nothing was declared.
+pub fn devices(alloc: Global, pages: u32, capacity: u32) -> Result<Pair, Refusal> {
+    let mut log = MemDisk::new(alloc, 2 * LOG_REGION_BYTES, Vec::new(alloc), None)?;
+    make(alloc, &mut log, Sizes { pages, capacity })?;
+    Ok((
+        log,
+        MemDisk::new(alloc, size_of(pages), Vec::new(alloc), None)?,
+    ))
+}
+
+/// Opens them beside a Maplog of these mappings, which ends at 99.
+pub fn open<D: Disk + Drop>(
+    alloc: Global,
+    log: D,
+    pages: D,
+    mapped: &[u32],
+) -> Result<Trial<D>, Refusal> {
+    let mut mappings = Mappings::new(alloc, 0);
+    if mapped.len() > 4 {
+        return Err(Refusal::BadSizes);
+    }
+    mappings.push(mapped)?;
+    Trial::open(alloc, log, pages, &mappings, 99)
+}
+
+/// An empty store on devices that remember nothing.
+pub fn empty(alloc: Global, pages: u32, capacity: u32) -> Result<Trial<RamDisk>, Refusal> {
+    let mut log = RamDisk::new(alloc, 2 * LOG_REGION_BYTES)?;
+    make(alloc, &mut log, Sizes { pages, capacity })?;
+    open(alloc, log, RamDisk::new(alloc, size_of(pages))?, &[])
+}
+
+/// The bytes of these devices, on devices of which that call fails.
+pub fn failing(
+    alloc: Global,
+    devices: &Pair,
+    log: &[(Call, u64)],
+    pages: &[(Call, u64)],
+) -> Result<Pair, Refusal> {
+    Ok((
+        devices.0.again(alloc, Vec::from_slice(alloc, log)?, None)?,
+        devices
+            .1
+            .again(alloc, Vec::from_slice(alloc, pages)?, None)?,
+    ))
+}
+
+/// The bytes of these devices, on devices that stop after so many calls.
+pub fn stopping(
+    alloc: Global,
+    devices: &Pair,
+    log: Option<u64>,
+    pages: Option<u64>,
+) -> Result<Pair, Refusal> {
+    Ok((
+        devices.0.again(alloc, Vec::new(alloc), log)?,
+        devices.1.again(alloc, Vec::new(alloc), pages)?,
+    ))
+}
+
+/// What a crash leaves of them where each loose byte becomes `fill`.
+pub fn crashed(alloc: Global, devices: &Pair, fill: u8) -> Result<Pair, Refusal> {
+    Ok((devices.0.crash(alloc, fill)?, devices.1.crash(alloc, fill)?))
+}
+
+// What a crash leaves of a device where every second of the loose bytes is as it was written.
+fn half_crashed(alloc: Global, disk: &MemDisk) -> Result<MemDisk, Refusal> {
+    let mut left = disk.bytes().to_vec(alloc)?;
+    for (place, byte) in left.iter_mut().enumerate() {
+        if place % 2 == 1 {
+            *byte = !*byte;
+        }
+    }
+    disk.crash_as(alloc, &left)
+}
+
+/// What a crash leaves of them where every second of the loose bytes is as it was written.
+pub fn half_written(alloc: Global, devices: &Pair) -> Result<Pair, Refusal> {
+    Ok((
+        half_crashed(alloc, &devices.0)?,
+        half_crashed(alloc, &devices.1)?,
+    ))
+}
