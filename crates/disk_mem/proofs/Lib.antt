@@ -1,4 +1,3 @@
 pub mod Room
-pub mod Shelved
 pub mod Steps
 pub mod Taken

@@ -1,8 +1,5 @@
 -- A device in memory that fails as planned.
-use Rattle.std.specs.Prelude.{◌≡◌, ◌⊎◌, ℕ, List, [], ◌∷◌, Option, None, replicate}
-use Rattle.disk_model.specs.Sizes.{log_bytes, maplog_bytes, pagelog_bytes, pages_bytes}
-use Rattle.disk_model.specs.declared.four.Four.{Four}
-use Rattle.disk_model.specs.declared.four.Sizes.{Sizes}
+use Rattle.std.specs.Prelude.{◌≡◌, ◌⊎◌, ℕ, List, [], ◌∷◌, Option}
 use Rattle.retro_base.specs.Cause.{raised}
 use Rattle.disk_mem.specs.History.{Past, synced}
 use Rattle.disk_mem.specs.Plan.{Plan, counted, IsFate, IsListed, IsStopped}
@@ -54,11 +51,3 @@ MustFail device call = IsStopped device.plan ⊎ IsListed device.plan call
 pub record WriteFailed (old new : Device) (place count : ℕ) : Type 0 where
   pub listed : IsFate old.plan Write Fails → new ≡ with_step (failed old Write) (Lost place count)
   pub other : (IsFate old.plan Write Fails → ⊥) → new ≡ failed old Write
-
--- a device of that many bytes, all of them 0, of which no call fails
-abbrev pub blank : ℕ → Device
-blank size = fresh (replicate size 0) [] None
-
--- the devices of a new store of these sizes
-abbrev pub blank_store : Sizes → Four Device
-blank_store sizes = record { log = blank log_bytes; pages = blank (pages_bytes sizes.pages); pagelog = blank (pagelog_bytes sizes.capacity); maplog = blank (maplog_bytes sizes.capacity) }

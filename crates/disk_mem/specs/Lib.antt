@@ -2,4 +2,3 @@ pub mod Disks
 pub mod History
 pub mod Moments
 pub mod Plan
-pub mod Shelves

@@ -1,8 +1,7 @@
 //! Devices in memory: one that fails and stops as a test says and remembers what a crash might have left, and
-//! a plain one of which no call fails; and a cabinet of the former.
+//! a plain one of which no call fails.
 #![tactic(auto)]
 
-mod cabinet;
 mod crash;
 mod mem_disk;
 mod ram_disk;
@@ -11,7 +10,6 @@ mod schedule;
 #[cfg(test)]
 mod tests;
 
-pub use cabinet::MemCabinet;
 pub use mem_disk::MemDisk;
 pub use ram_disk::RamDisk;
 pub use schedule::Call;
