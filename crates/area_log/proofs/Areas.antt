@@ -47,11 +47,19 @@ holds_lists area bodies state holds = record {
 pub at_rest : (area : Area) (bodies : List (List ℕ)) (state : State) → Holds area bodies state → (image : List ℕ) → IsImage state image → DeviceLists area.log.size bodies image
 at_rest area bodies state holds image is = subst (λ (l : List ℕ). DeviceLists area.log.size bodies l) (sym (image-durable state image holds.durable is)) (holds_lists area bodies state holds)
 
+-- of as many bytes
+pub whole_at_rest : (area : Area) (bodies : List (List ℕ)) (state : State) → Holds area bodies state → (image : List ℕ) → IsImage state image → length image ≡ 2 * area.log.size
+whole_at_rest area bodies state holds image is = is.size ∙ holds.whole
+
+-- so each image lists what was there before a write
+pub either_at_rest : (area : Area) (bodies new : List (List ℕ)) (state : State) → Holds area bodies state → (image : List ℕ) → IsImage state image → ListsEither area.log.size bodies new image
+either_at_rest area bodies new state holds image is = record { whole = whole_at_rest area bodies state holds image is; lists = inl (at_rest area bodies state holds image is) }
+
 -- as a log of the half that counts it holds the same
 pub holds_log : (area : Area) (bodies : List (List ℕ)) (state : State) → Holds area bodies state → log.Holds area.log bodies state
 holds_log area bodies state holds = record { lists = holds.lists; gate = holds.gate; durable = λ i low high. holds.durable i }
 
-module _ (area : Area) (bodies : List (List ℕ)) (state : State) (holds : Holds area bodies state) (fits : 2 * area.log.size ≤ length state.seen) where
+module _ (area : Area) (bodies : List (List ℕ)) (state : State) (holds : Holds area bodies state) where
   abbrev place : ℕ
   place = area.log.place
 
@@ -62,10 +70,10 @@ module _ (area : Area) (bodies : List (List ℕ)) (state : State) (holds : Holds
   other = other_place area
 
   inside : place + size ≤ length state.seen
-  inside = elim holds.half [ inl first ↦ omega (arith, fits, first) | inr second ↦ omega (arith, fits, second) ]
+  inside = elim holds.half [ inl first ↦ omega (arith, holds.whole, first) | inr second ↦ omega (arith, holds.whole, second) ]
 
   other_inside : other + size ≤ length state.seen
-  other_inside = elim holds.half [ inl first ↦ omega (arith, fits, first) | inr second ↦ omega (arith, fits, second) ]
+  other_inside = elim holds.half [ inl first ↦ omega (arith, holds.whole, first) | inr second ↦ omega (arith, holds.whole, second) ]
 
   header : 16 < size
   header = header-fits place size bodies state.seen inside holds.lists
@@ -100,10 +108,13 @@ module _ (area : Area) (bodies : List (List ℕ)) (state : State) (holds : Holds
   pub appending : (body : List ℕ) → HasRoom area.log (length body) → (image : List ℕ) → Appending area.log bodies body state image → ListsEither size bodies (bodies ++ body ∷ []) image
   appending body room image is =
       let same = outside_alone state (place + area.log.gate) (length body + 6) state.seen image holds.durable is.same in
-      elim is.lists [
-        | inl without ↦ inl (still image bodies (this_header body room image same) (other_header body room image same) without)
-        | inr with ↦ inr (still image (bodies ++ body ∷ []) (this_header body room image same) (other_header body room image same) with)
-      ]
+      record {
+        whole = same.size ∙ holds.whole;
+        lists = elim is.lists [
+          | inl without ↦ inl (still image bodies (this_header body room image same) (other_header body room image same) without)
+          | inr with ↦ inr (still image (bodies ++ body ∷ []) (this_header body room image same) (other_header body room image same) with)
+        ];
+      }
 
   pub holds_appended : (body : List ℕ) → HasRoom area.log (length body) → (new : State) → Appending area.log bodies body state new.seen → log.Holds (after_append area.log body true) (bodies ++ body ∷ []) new → IsDurable new
       → Holds (appended area body) (bodies ++ body ∷ []) new
@@ -112,6 +123,7 @@ module _ (area : Area) (bodies : List (List ℕ)) (state : State) (holds : Holds
       let this = this_header body room new.seen same in
       let that = other_header body room new.seen same in
       record {
+        whole = same.size ∙ holds.whole;
         half = holds.half;
         lists = more.lists;
         gate = more.gate;
@@ -154,13 +166,16 @@ module _ (area : Area) (bodies : List (List ℕ)) (state : State) (holds : Holds
     }
 
   pub rewriting : (new : List (List ℕ)) (image : List ℕ) → Rewriting other size (next_generation area.generation) new state.seen image → ListsEither size bodies new image
-  rewriting new image is = elim (cases_eq (get_or image other 0) OPEN_GATE) [
-    | inr shut ↦ inl (old_lists image is.same (λ opens. absurd (shut opens)))
-    | inl opens ↦ elim (is.whole opens) [
-      | inl was ↦ inl (old_lists image is.same (λ _. holds.newer was.0 ∙ ap next_generation (sym was.1)))
-      | inr filled ↦ inr (new_lists image is.same new opens filled.lists filled.under)
-    ]
-  ]
+  rewriting new image is = record {
+    whole = is.same.size ∙ holds.whole;
+    lists = elim (cases_eq (get_or image other 0) OPEN_GATE) [
+      | inr shut ↦ inl (old_lists image is.same (λ opens. absurd (shut opens)))
+      | inl opens ↦ elim (is.whole opens) [
+        | inl was ↦ inl (old_lists image is.same (λ _. holds.newer was.0 ∙ ap next_generation (sym was.1)))
+        | inr filled ↦ inr (new_lists image is.same new opens filled.lists filled.under)
+      ]
+    ];
+  }
 
   pub holds_replaced : (new : List (List ℕ)) (next : State) → Rewritten other size (next_generation area.generation) new state next → Holds (replaced area new) new next
   holds_replaced new next is =
@@ -168,6 +183,7 @@ module _ (area : Area) (bodies : List (List ℕ)) (state : State) (holds : Holds
       let back = other_other size place holds.half in
       let was_open : IsOpen (other_half size other) next.seen = ap (λ (p : ℕ). get_or next.seen p 0) back ∙ kept.gate ∙ holds.is_open in
       record {
+        whole = is.same.size ∙ holds.whole;
         half = other_is_half size place holds.half;
         lists = is.filled.lists;
         gate = refl;
@@ -190,16 +206,16 @@ replaced_is area bodies written generation device place size gate number none =
     ∙ ap (λ (f : Option ℕ). record { log = written; generation = generation; is_other_open = true; fault = f }) none
 
 -- the same of a rewrite whose numbers are only known to be equal to the log's
-pub rewriting_of : (area : Area) (bodies : List (List ℕ)) (state : State) → Holds area bodies state → 2 * area.log.size ≤ length state.seen → (new : List (List ℕ)) (other size generation : ℕ) → other ≡ other_place area → size ≡ area.log.size → generation ≡ next_generation area.generation
+pub rewriting_of : (area : Area) (bodies : List (List ℕ)) (state : State) → Holds area bodies state → (new : List (List ℕ)) (other size generation : ℕ) → other ≡ other_place area → size ≡ area.log.size → generation ≡ next_generation area.generation
     → (image : List ℕ) → Rewriting other size generation new state.seen image → ListsEither area.log.size bodies new image
-rewriting_of area bodies state holds fits new other size generation is_other is_size is_next image step =
-    rewriting area bodies state holds fits new image
+rewriting_of area bodies state holds new other size generation is_other is_size is_next image step =
+    rewriting area bodies state holds new image
     (subst (λ (o : ℕ). Rewriting o area.log.size (next_generation area.generation) new state.seen image) is_other
     (subst (λ (s : ℕ). Rewriting other s (next_generation area.generation) new state.seen image) is_size (subst (λ (n : ℕ). Rewriting other size n new state.seen image) is_next step)))
 
-pub holds_replaced_of : (area : Area) (bodies : List (List ℕ)) (state : State) → Holds area bodies state → 2 * area.log.size ≤ length state.seen → (new : List (List ℕ)) (other size generation : ℕ) → other ≡ other_place area → size ≡ area.log.size → generation ≡ next_generation area.generation
+pub holds_replaced_of : (area : Area) (bodies : List (List ℕ)) (state : State) → Holds area bodies state → (new : List (List ℕ)) (other size generation : ℕ) → other ≡ other_place area → size ≡ area.log.size → generation ≡ next_generation area.generation
     → (next : State) → Rewritten other size generation new state next → Holds (replaced area new) new next
-holds_replaced_of area bodies state holds fits new other size generation is_other is_size is_next next step =
-    holds_replaced area bodies state holds fits new next
+holds_replaced_of area bodies state holds new other size generation is_other is_size is_next next step =
+    holds_replaced area bodies state holds new next
     (subst (λ (o : ℕ). Rewritten o area.log.size (next_generation area.generation) new state next) is_other
     (subst (λ (s : ℕ). Rewritten other s (next_generation area.generation) new state next) is_size (subst (λ (n : ℕ). Rewritten other size n new state next) is_next step)))

@@ -1,10 +1,11 @@
 -- What a device that was all zero lists while its first half is filled.
-use Rattle.std.proofs.Common.{◌≡◌, ◌⊎◌, inl, inr, ◌∙◌, ◌-◌, ◌≤◌, ◌<◌, ℕ, List, get_or, replicate, refl, sym, ap, arith}
+use Rattle.std.proofs.Common.{◌≡◌, ◌⊎◌, inl, inr, ◌∙◌, ◌-◌, ◌/◌, ◌≤◌, ◌<◌, ℕ, List, length, get_or, replicate, refl, sym, ap, subst, arith}
 use Rattle.std.proofs.lemmas.Bool.{cases_eq, cases_lt}
 use Rattle.std.proofs.lemmas.List.{get_or-replicate, get_or_past, length-replicate}
 use Rattle.disk_model.specs.Disk.{State, InRange, SameOutside}
 use Rattle.retro_base.specs.declared.limits.TheConstants.{OPEN_GATE}
 use Rattle.gate_log.specs.Region.{IsOpen, Lists}
+use Rattle.area_log.specs.Making.{ListsOrNone}
 use Rattle.area_log.specs.Regions.{DeviceLists, NoneCounts}
 use Rattle.area_log.specs.Rewrite.{Rewriting, Rewritten}
 
@@ -33,8 +34,8 @@ module _ (size count : ℕ) (bodies : List (List ℕ)) (old image : List ℕ) (z
       lists = lists;
     }
 
-  pub making : Rewriting 0 size 1 bodies old image → NoneCounts size image 0 ⊎ DeviceLists size bodies image
-  making is = elim (cases_eq (get_or image 0 0) OPEN_GATE) [
+  making_lists : Rewriting 0 size 1 bodies old image → NoneCounts size image 0 ⊎ DeviceLists size bodies image
+  making_lists is = elim (cases_eq (get_or image 0 0) OPEN_GATE) [
     | inl opens ↦ elim (is.whole opens) [ inl was ↦ absurd (old_shut 0 was.0) | inr filled ↦ inr (first_lists is.same opens filled.lists) ]
     | inr shut ↦ inl (record {
       at_start = refl;
@@ -44,6 +45,12 @@ module _ (size count : ℕ) (bodies : List (List ℕ)) (old image : List ℕ) (z
       ];
     })
   ]
+
+  pub making : size ≡ count / 2 → Rewriting 0 size 1 bodies old image → ListsOrNone count bodies image
+  making half is = record {
+    whole = is.same.size ∙ ap length zeros ∙ length-replicate {A = ℕ} count 0;
+    lists = subst (λ (h : ℕ). NoneCounts h image 0 ⊎ DeviceLists h bodies image) half (making_lists is);
+  }
 
 -- at the end the device lists the bodies, and its second half is closed
 module _ (size count : ℕ) (bodies : List (List ℕ)) (old new : State) (zeros : old.seen ≡ replicate count 0) (some : 0 < size) (is : Rewritten 0 size 1 bodies old new) where

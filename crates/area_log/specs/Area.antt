@@ -1,5 +1,6 @@
 -- What a log over the two halves of a device knows, and what the device holds.
-use Rattle.std.specs.Prelude.{◌≡◌, ◌⊎◌, ◌↔◌, ◌*◌, ℕ, Bool, true, IsTrue, Option, Some, None, List, Result, Ok, Err, OnOk}
+use Rattle.std.specs.Prelude.{◌≡◌, ◌⊎◌, ◌↔◌, ◌*◌, ℕ, Bool, true, IsTrue, Option, Some, None, List, length, Result, Ok}
+use Rattle.std.specs.Prelude.{Err, OnOk}
 use Rattle.disk_model.specs.Disk.{State, IsDurable}
 use Rattle.disk_model.specs.Moments.{Clock, LeavesOnly}
 use Rattle.retro_base.specs.Framing.{next_generation}
@@ -22,20 +23,23 @@ pub record Area : Type 0 where
 abbrev pub other_place : Area → ℕ
 other_place area = other_half area.log.size area.log.place
 
--- The device lists these bodies as the log knows it, and all of it is durable.
+-- The device lists these bodies as the log knows it, in its two halves, and all of it is durable.
 pub record Holds (area : Area) (bodies : List (List ℕ)) (state : State) : Type 0 where
+  pub whole : length state.seen ≡ 2 * area.log.size
   pub half : IsHalf area.log.size area.log.place
   pub lists : Lists area.log.place area.log.size bodies state.seen
   pub gate : area.log.gate ≡ gate_behind bodies
   pub is_open : IsOpen area.log.place state.seen
   pub generation : generation_at area.log.place state.seen ≡ area.generation
   pub other : IsTrue area.is_other_open ↔ IsOpen (other_place area) state.seen
-  pub newer : IsOpen (other_place area) state.seen → area.generation ≡ next_generation (generation_at (other_place area) state.seen)
+  pub newer : IsOpen (other_place area) state.seen
+      → area.generation ≡ next_generation (generation_at (other_place area) state.seen)
   pub durable : IsDurable state
 
--- the device lists the old bodies or the new ones
-abbrev pub ListsEither : ℕ → List (List ℕ) → List (List ℕ) → List ℕ → Type 0
-ListsEither size old new image = DeviceLists size old image ⊎ DeviceLists size new image
+-- the bytes are those of two halves of that size, and list the old bodies or the new ones
+pub record ListsEither (size : ℕ) (old new : List (List ℕ)) (image : List ℕ) : Type 0 where
+  pub whole : length image ≡ 2 * size
+  pub lists : DeviceLists size old image ⊎ DeviceLists size new image
 
 -- the log after an append of this body
 abbrev pub appended : Area → List ℕ → Area
@@ -60,17 +64,23 @@ abbrev pub after_write : Area → Area → Result (Unit {0}) Refusal → Area
 after_write area done (Ok _) = done
 after_write area done (Err refusal) = after_refusal area refusal
 
--- The log behind a write, which has made it `done` where it succeeded. After a fault of an earlier write it is refused, with the first.
+-- The log behind a write, which has made it `done` where it succeeded. After a fault of an earlier write it is refused,
+-- with the first.
 pub record AfterWrite (old done : Area) (result : Result (Unit {0}) Refusal) (new : Area) : Type 0 where
   pub is : new ≡ after_write old done result
   pub device : new.log.device ≡ old.log.device
   pub size : new.log.size ≡ old.log.size
   pub stopped : (count : ℕ) → old.fault ≡ Some count → result ≡ Err (Stopped old.log.device count)
 
--- A write that makes a list of another. After a success the log holds the new list, durably. A crash at any moment leaves the old list or the new one.
-pub record Writes {Disk : Type 0} (area after : Area) (list : List (List ℕ) → List (List ℕ)) (remembers : Type 0) (state : Disk → State) (clock : Disk → Clock) (old new : Disk) (result : Result (Unit {0}) Refusal) : Type 0 where
-  pub holds : (bodies : List (List ℕ)) → Holds area bodies (state old) → OnOk result (Holds after (list bodies) (state new))
-  pub any_moment : (bodies : List (List ℕ)) → Holds area bodies (state old) → LeavesOnly remembers (clock old) (clock new) (ListsEither area.log.size bodies (list bodies))
+-- A write that makes a list of another. After a success the log holds the new list, durably. A crash at any moment
+-- leaves a device of the same size with the old list or the new one.
+pub record Writes {Disk : Type 0} (area after : Area) (list : List (List ℕ) → List (List ℕ))
+    (remembers : Type 0) (state : Disk → State) (clock : Disk → Clock)
+    (old new : Disk) (result : Result (Unit {0}) Refusal) : Type 0 where
+  pub holds : (bodies : List (List ℕ)) → Holds area bodies (state old)
+      → OnOk result (Holds after (list bodies) (state new))
+  pub any_moment : (bodies : List (List ℕ)) → Holds area bodies (state old)
+      → LeavesOnly remembers (clock old) (clock new) (ListsEither area.log.size bodies (list bodies))
 
 -- a log that was read of a device of so many bytes, whatever it tells
 pub record IsRead (which : Device) (extent : ℕ) (bodies : List (List ℕ)) (area : Area) : Type 0 where

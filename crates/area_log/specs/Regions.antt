@@ -12,11 +12,13 @@ IsHalf size place = (place ≡ 0) ⊎ (place ≡ size)
 abbrev pub other_half : ℕ → ℕ → ℕ
 other_half size place = size - place
 
--- The half that begins there counts: it is open, and if the other is open too, its generation is the next of the other's.
+-- The half that begins there counts: it is open, and if the other is open too, its generation is the next of the
+-- other's.
 pub record Counts (size place : ℕ) (bytes : List ℕ) : Type 0 where
   pub half : IsHalf size place
   pub is_open : IsOpen place bytes
-  pub newer : IsOpen (other_half size place) bytes → generation_at place bytes ≡ next_generation (generation_at (other_half size place) bytes)
+  pub newer : IsOpen (other_half size place) bytes
+      → generation_at place bytes ≡ next_generation (generation_at (other_half size place) bytes)
 
 -- the device lists these bodies: those of the half that counts
 pub record DeviceLists (size : ℕ) (bodies : List (List ℕ)) (bytes : List ℕ) : Type 0 where
@@ -50,6 +52,9 @@ IsPlaceOfRefusal size broken = (broken ≡ 0) ⊎ (InRecords 0 size broken ⊎ I
 
 -- a device lists one list at most, or is refused with one place at most, and not both
 pub record DeviceReadOneWay : Type 0 where
-  pub one_list : (size : ℕ) (bytes : List ℕ) (bodies others : List (List ℕ)) → DeviceLists size bodies bytes → DeviceLists size others bytes → bodies ≡ others
-  pub one_place : (size : ℕ) (bytes : List ℕ) (broken other : ℕ) → DeviceBreaks size bytes broken → DeviceBreaks size bytes other → broken ≡ other
-  pub not_both : (size : ℕ) (bytes : List ℕ) (bodies : List (List ℕ)) (broken : ℕ) → DeviceLists size bodies bytes → DeviceBreaks size bytes broken → ⊥
+  pub one_list : (size : ℕ) (bytes : List ℕ) (bodies others : List (List ℕ)) → DeviceLists size bodies bytes
+      → DeviceLists size others bytes → bodies ≡ others
+  pub one_place : (size : ℕ) (bytes : List ℕ) (broken other : ℕ) → DeviceBreaks size bytes broken
+      → DeviceBreaks size bytes other → broken ≡ other
+  pub not_both : (size : ℕ) (bytes : List ℕ) (bodies : List (List ℕ)) (broken : ℕ) → DeviceLists size bodies bytes
+      → DeviceBreaks size bytes broken → ⊥

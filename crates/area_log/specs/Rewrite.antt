@@ -20,7 +20,8 @@ shut_at is_open place bytes = if is_open then written place (0 ∷ []) bytes els
 -- Nothing has changed outside the region. Where it is open, it was and its generation is the old one, or it is filled.
 pub record Rewriting (place size generation : ℕ) (bodies : List (List ℕ)) (old image : List ℕ) : Type 0 where
   pub same : SameOutside (InRange place size) old image
-  pub whole : IsOpen place image → (IsOpen place old × (generation_at place image ≡ generation_at place old)) ⊎ IsFilled place size generation bodies image
+  pub whole : IsOpen place image → (IsOpen place old × (generation_at place image ≡ generation_at place old))
+      ⊎ IsFilled place size generation bodies image
 
 -- the region is open and filled, nothing has changed outside it, and nothing is loose
 pub record Rewritten (place size generation : ℕ) (bodies : List (List ℕ)) (old new : State) : Type 0 where

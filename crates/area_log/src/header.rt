@@ -1,9 +1,10 @@
+//! The headers of the two halves, and which half counts.
+
 ghost use Rattle.std.specs.Prelude.{◌≡◌, ◌≤◌, ◌<◌, ◌+◌, ◌*◌, ◌↔◌, ℕ, List, IsTrue, IfOk, IfSome, MatchOption, MatchResult};
 ghost use Rattle.disk_model.specs.Runs.{OnlyReads, SameDevice};
 ghost use Rattle.retro_base.specs.Framing.{next_generation};
 ghost use Rattle.retro_base.specs.Cause.{FaultsAlone};
-ghost use Rattle.gate_log.specs.Cause.{IsReadRefusal};
-ghost use Rattle.area_log.specs.Header.{HeaderCounts, IsCounting, IsHeader};
+ghost use Rattle.area_log.specs.Header.{HeaderCounts, IsCounting, IsHeader, IsUnfound};
 ghost use Rattle.area_log.specs.Regions.{Counts, IsHalf, NoneCounts};
 
 use disk_model::{Disk, Failed};
@@ -32,7 +33,7 @@ pub fn find_counting<D: Disk>(disk: &mut D, device: Device, size: u64) -> Result
     ensures same { SameDevice D.extent D.is_honest disk.old disk.new }
     ensures cause { MatchResult result
         (λ _. D.faults disk.new ≡ D.faults disk.old)
-        (IsReadRefusal
+        (IsUnfound
         (λ broken. (broken ≡ 0) × (D.is_honest disk.old → NoneCounts size (D.state disk.old).seen broken))
         device (D.faults disk.old) (D.faults disk.new)) }
     ensures half { IfOk result (λ counting. IsHalf size counting.place) }

@@ -1,3 +1,5 @@
+//! What follows from the definitions.
+
 ghost use Rattle.area_log.specs.Regions.{DeviceReadOneWay};
 
 /// The list of a device of two halves is a function of its bytes, and so is the place with which it is refused.

@@ -1,4 +1,7 @@
-ghost use Rattle.std.specs.Prelude.{◌≡◌, ◌≤◌, ◌+◌, ◌-◌, ◌*◌, ◌/◌, ◌%◌, ◌∷◌, [], ◌++◌, None, length, Ok, Err, IfOk, IfErr, MatchOption, MatchResult};
+//! The list of a device of two halves.
+
+ghost use Rattle.std.specs.Prelude.{◌≡◌, ◌≤◌, ◌+◌, ◌-◌, ◌*◌, ◌/◌, ◌%◌, ◌∷◌, [], ◌++◌, None, length};
+ghost use Rattle.std.specs.Prelude.{Ok, Err, IfOk, IfErr, MatchOption, MatchResult};
 ghost use Rattle.disk_model.specs.Runs.{SameDevice, WritesNothing};
 ghost use Rattle.retro_base.specs.declared.refusal.Refusal.TheVariants.{NotAStore};
 ghost use Rattle.gate_log.specs.Bodies.{bodies_of};

@@ -1,3 +1,5 @@
+//! The rewrite of a region.
+
 ghost use Rattle.std.specs.Prelude.{◌≡◌, ◌≤◌, ◌<◌, ◌+◌, ◌^◌, ◌↔◌, ℕ, List, IsTrue, length, OnOk, IfOk};
 ghost use Rattle.disk_model.specs.Disk.{IsDurable};
 ghost use Rattle.disk_model.specs.Moments.{LeavesOnly};

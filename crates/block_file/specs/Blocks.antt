@@ -35,10 +35,13 @@ pub record ChangesOnly (changed : ℕ → Type 0) (old new : State) : Type 0 whe
 -- the image has each block that was settled as it was, but those of `changed`
 pub record KeepsSettled (changed : ℕ → Type 0) (old : State) (image : List ℕ) : Type 0 where
   pub size : length image ≡ length old.seen
-  pub kept : (number : ℕ) → (changed number → ⊥) → IsSettled old number → block_at image number ≡ block_at old.seen number
+  pub kept : (number : ℕ) → (changed number → ⊥) → IsSettled old number
+      → block_at image number ≡ block_at old.seen number
 
--- A run that writes these blocks alone: each other block stays as it was, and a crash at any moment of it leaves each other settled block.
-pub record WritesOnly {D : Type 0} (changed : ℕ → Type 0) (remembers : Type 0) (state : D → State) (clock : D → Clock) (old new : D) : Type 0 where
+-- A run that writes these blocks alone: each other block stays as it was, and a crash at any moment of it leaves each
+-- other settled block.
+pub record WritesOnly {D : Type 0} (changed : ℕ → Type 0) (remembers : Type 0) (state : D → State) (clock : D → Clock)
+    (old new : D) : Type 0 where
   pub others : ChangesOnly changed (state old) (state new)
   pub any_moment : LeavesOnly remembers (clock old) (clock new) (KeepsSettled changed (state old))
 

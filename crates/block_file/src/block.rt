@@ -1,3 +1,5 @@
+//! Blocks of a device, read and written.
+
 ghost use Rattle.std.specs.Prelude.{◌≡◌, ◌*◌, OnOk, OnErr};
 ghost use Rattle.block_file.specs.Blocks.{block_at, HasBlock, WritesOnly};
 ghost use Rattle.disk_model.specs.Runs.{OnlyReads, SameDevice};

@@ -1,3 +1,5 @@
+//! The pages of a store.
+
 ghost use Rattle.std.specs.Prelude.{◌≡◌, ◌<◌, ◌*◌, OnOk, OnErr};
 ghost use Rattle.block_file.specs.Blocks.{block_at, SameFile, WritesOnly};
 ghost use Rattle.disk_model.specs.Disk.{IsDurable};

@@ -1,3 +1,5 @@
+//! The page images of an archive.
+
 ghost use Rattle.std.specs.Prelude.{◌≡◌, ◌<◌, ◌≤◌, ◌*◌, OnOk, OnErr};
 ghost use Rattle.block_file.specs.Blocks.{block_at, SameFile, slot_of, WritesOnly};
 ghost use Rattle.disk_model.specs.Disk.{IsDurable};

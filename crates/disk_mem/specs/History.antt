@@ -51,7 +51,8 @@ state_of past = record { seen = seen_after past.first past.steps; is_loose = IsL
 abbrev pub LeftAfter : List ℕ → List Step → ℕ → List ℕ → Type 0
 LeftAfter first [] since image = IsImage (state_of (record { first = first; steps = [] })) image
 LeftAfter first (step ∷ before) since image =
-    IsImage (state_of (record { first = first; steps = step ∷ before })) image ⊎ ((since ≤ length before) × LeftAfter first before since image)
+    IsImage (state_of (record { first = first; steps = step ∷ before })) image
+    ⊎ ((since ≤ length before) × LeftAfter first before since image)
 
 abbrev pub LeftSince : Past → ℕ → List ℕ → Type 0
 LeftSince past since image = LeftAfter past.first past.steps since image

@@ -6,7 +6,8 @@ use Rattle.disk_mem.specs.declared.schedule.Call.TheVariants.{Read, Write, Sync}
 use Rattle.disk_mem.specs.declared.schedule.Fate.{Fate}
 use Rattle.disk_mem.specs.declared.schedule.Fate.TheVariants.{Goes, Fails, Stopped}
 
--- the calls that fail, each by its kind and its number among those of its kind, and the number of calls after which each fails; and how many calls of each kind there were
+-- the calls that fail, each by its kind and its number among those of its kind, and the number of calls after which
+-- each fails; and how many calls of each kind there were
 pub record Plan : Type 0 where
   pub failing : List (Call × ℕ)
   pub stop : Option ℕ

@@ -1,4 +1,5 @@
-// What a crash leaves.
+//! What a crash leaves.
+
 ghost use Rattle.std.specs.Prelude.{◌≡◌, ◌+◌, ◌≤◌, length, take, drop, replicate};
 ghost use Rattle.std.specs.List.{AllByRecursion};
 ghost use Rattle.disk_mem.specs.History.{Filled, FitsIn, IsLoose, TakenFrom};

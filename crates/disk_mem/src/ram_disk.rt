@@ -1,3 +1,5 @@
+//! A plain device in memory.
+
 ghost use Rattle.std.specs.Prelude.{◌≡◌, ◌≤◌, ◌+◌, length, take, drop, replicate, refl, Ok, IfOk, IfErr};
 ghost use Rattle.disk_model.specs.Disk.{IsImage, written};
 ghost use Rattle.retro_base.specs.declared.refusal.Refusal.TheVariants.{OutOfMemory};

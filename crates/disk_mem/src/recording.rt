@@ -1,4 +1,5 @@
-// The bytes of a device in memory, and what made them so.
+//! The bytes of a device in memory, and what made them so.
+
 ghost use Rattle.std.specs.Prelude.{◌≡◌, ◌+◌, ◌-◌, ◌^◌, ◌<◌, ◌≤◌, [], length, OnOk, OnErr, IfOk};
 ghost use Rattle.std.specs.VecDeque.{deque_capacity, deque_len};
 ghost use Rattle.disk_mem.specs.declared.recording.Step.TheVariants.{Wrote, Lost};

@@ -1,4 +1,5 @@
-// Which calls of a device fail.
+//! Which calls of a device fail.
+
 ghost use Rattle.std.specs.Prelude.{◌≡◌, ◌≤◌, ◌↔◌, IsTrue};
 ghost use Rattle.disk_mem.specs.Plan.{counted, IsFate, IsListed, IsStopped, made};
 

@@ -1,4 +1,5 @@
--- Counts of faults.
+-- Counts of faults. `retro_base` says the same of sources and sinks: this crate stands on no other, so that the longest
+-- chain of crates stays eight.
 use Rattle.std.specs.Prelude.{◌≡◌, ◌≤◌, ℕ, ◌+◌, ◌-◌, ◌^◌, min, Result, OnOk, OnErr}
 
 -- the count rose, or stands at the last value of a u64

@@ -1,5 +1,6 @@
 -- A device: what it reads, what a crash may leave of it, and what its calls do to both.
-use Rattle.std.specs.Prelude.{◌≡◌, ◌⊎◌, ◌↔◌, ℕ, ◌+◌, ◌<◌, ◌≤◌, List, ◌++◌, length, take, drop, slice_index, Result, OnOk}
+use Rattle.std.specs.Prelude.{◌≡◌, ◌⊎◌, ◌↔◌, ℕ, ◌+◌, ◌<◌, ◌≤◌, List, ◌++◌, length, take, drop, slice_index, Result}
+use Rattle.std.specs.Prelude.{OnOk}
 
 -- what reads return, and at which places a crash may leave any byte
 pub record State : Type 1 where
@@ -38,7 +39,8 @@ pub record Reads {E : Type 0} (place : ℕ) (out : List ℕ) (old new : State) (
   pub unchanged : Unchanged old new
 
 -- a write of these bytes, which are loose then; a failed one leaves any bytes in its range
-pub record Writes {E : Type 0} (place : ℕ) (bytes : List ℕ) (old new : State) (result : Result (Unit {0}) E) : Type 0 where
+pub record Writes {E : Type 0} (place : ℕ) (bytes : List ℕ) (old new : State) (result : Result (Unit {0}) E)
+    : Type 0 where
   pub done : OnOk result (new.seen ≡ written place bytes old.seen)
   pub outside : SameOutside (InRange place (length bytes)) old.seen new.seen
   pub loose : (i : ℕ) → new.is_loose i → old.is_loose i ⊎ InRange place (length bytes) i

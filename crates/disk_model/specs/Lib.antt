@@ -1,3 +1,4 @@
+pub mod Cabinet
 pub mod Cause
 pub mod Disk
 pub mod Moments

@@ -1,7 +1,8 @@
 -- What a crash may have left at some moment of a run of calls.
 use Rattle.std.specs.Prelude.{◌⊎◌, ℕ, ◌≤◌, List}
 
--- the present moment, as a number that does not fall, and what a crash at some moment from a given one on might have left
+-- the present moment, as a number that does not fall, and what a crash at some moment from a given one on might have
+-- left
 pub record Clock : Type 1 where
   pub moment : ℕ
   pub left_since : ℕ → List ℕ → Type 0
@@ -10,10 +11,13 @@ pub record Clock : Type 1 where
 -- before, or an image. Where the device remembers, what a crash might have left before is still counted.
 pub record Elapses (remembers : Type 0) (before now : Clock) (IsImage : List ℕ → Type 0) : Type 0 where
   pub later : before.moment ≤ now.moment
-  pub nothing_else : (t : ℕ) (image : List ℕ) → t ≤ before.moment → now.left_since t image → before.left_since t image ⊎ IsImage image
-  pub kept : remembers → (t : ℕ) (image : List ℕ) → t ≤ before.moment → before.left_since t image → now.left_since t image
+  pub nothing_else : (t : ℕ) (image : List ℕ) → t ≤ before.moment → now.left_since t image
+      → before.left_since t image ⊎ IsImage image
+  pub kept : remembers → (t : ℕ) (image : List ℕ) → t ≤ before.moment → before.left_since t image
+      → now.left_since t image
 
--- A crash at any moment from old to new leaves an image that has P. Where the device remembers, what a crash might have left before is still counted.
+-- A crash at any moment from old to new leaves an image that has P. Where the device remembers, what a crash might have
+-- left before is still counted.
 pub record LeavesOnly (remembers : Type 0) (old new : Clock) (P : List ℕ → Type 0) : Type 0 where
   pub later : old.moment ≤ new.moment
   pub each : (image : List ℕ) → new.left_since old.moment image → P image

@@ -1,5 +1,7 @@
+//! The four devices of a store, and the bytes that each has.
+
 ghost use Rattle.std.specs.Prelude.{◌≡◌};
-ghost use Rattle.disk_model.specs.Sizes.{log_bytes, maplog_bytes, pagelog_bytes, pages_bytes};
+ghost use Rattle.disk_model.specs.Sizes.{log_bytes, maplog_bytes, maplog_half, pagelog_bytes, pages_bytes};
 
 /// The four devices of a store.
 #[derive(Debug, Drop)]
@@ -21,6 +23,8 @@ pub struct Sizes {
     pub capacity: u32,
 }
 
+// A page's bytes and a log region's. `retro_base` has the same two for what is no device; neither crate stands on the
+// other, and the proofs of `opening` fail where they differ.
 const PAGE_BYTES: u64 = 1024;
 
 const LOG_REGION_BYTES: u64 = 16_777_216;
@@ -47,11 +51,18 @@ impl Sizes {
         PAGE_BYTES * u64::from(self.capacity)
     }
 
+    /// The bytes of one of the two regions of the device of the mappings: 32 for each page image, and 4,096 more.
+    pub fn maplog_half(self) -> u64
+        ensures { result ≡ maplog_half self.capacity }
+    {
+        32 * u64::from(self.capacity) + 4096
+    }
+
     /// The bytes of the device of the mappings: two regions.
     pub fn maplog_bytes(self) -> u64
         ensures { result ≡ maplog_bytes self.capacity }
     {
-        2 * (32 * u64::from(self.capacity) + 4096)
+        2 * self.maplog_half()
     }
 }
 

@@ -1,6 +1,6 @@
 -- Bodies, and the bytes of their records.
-use Rattle.std.proofs.Common.{◌≡◌, ◌∙◌, ◌<◌, ◌+◌, ◌-◌, ◌^◌, ℕ, List, [], ◌∷◌, ◌++◌, length, get_or, take, drop, refl, sym, ap, subst, arith, length-append}
-use Rattle.std.proofs.lemmas.List.{take_at, take_more, drop_at, flat_map_more}
+use Rattle.std.proofs.Common.{◌≡◌, ◌∙◌, ◌<◌, ◌+◌, ◌-◌, ◌^◌, ℕ, List, [], ◌∷◌, ◌++◌, length, get_or, take, drop, refl, sym, ap, subst, arith, append_assoc, length-append}
+use Rattle.std.proofs.lemmas.List.{take_at, take_more, take-append-drop, drop_at, flat_map_more}
 use Rattle.retro_base.specs.Fields.{field_bytes}
 use Rattle.retro_base.specs.Framing.{sized, record_of, records_of, AreBodies}
 use Rattle.gate_log.specs.Framed.{body_of, IsFramed}
@@ -15,6 +15,20 @@ records-push bodies body = sym (flat_map_more record_of [] bodies body)
 
 pub length-records-push : (bodies : List (List ℕ)) (body : List ℕ) → length (records_of (bodies ++ body ∷ [])) ≡ length (records_of bodies) + length body + 5
 length-records-push bodies body = omega (arith, ap length (records-push bodies body), length-append (records_of bodies) (record_of body), length-sized body)
+
+records-append : (xs ys : List (List ℕ)) → records_of (xs ++ ys) ≡ records_of xs ++ records_of ys
+records-append [] ys = refl
+records-append (x ∷ xs) ys = ap (λ (t : List ℕ). record_of x ++ t) (records-append xs ys) ∙ sym (append_assoc (record_of x) (records_of xs) (records_of ys))
+
+-- the records of a front, and of what is behind it
+pub length-records-split : (bodies : List (List ℕ)) (n : ℕ) → length (records_of bodies) ≡ length (records_of (take n bodies)) + length (records_of (drop n bodies))
+length-records-split bodies n =
+    ap (λ (bs : List (List ℕ)). length (records_of bs)) (sym (take-append-drop n bodies)) ∙ ap (λ (t : List ℕ). length t) (records-append (take n bodies) (drop n bodies)) ∙ length-append (records_of (take n bodies)) (records_of (drop n bodies))
+
+-- the record of one body more
+pub length-records-next : (bodies : List (List ℕ)) (i : ℕ) (body : List ℕ) → i < length bodies → body ≡ get_or bodies i body → length (records_of (take (i + 1) bodies)) ≡ length (records_of (take i bodies)) + length body + 5
+length-records-next bodies i body lt is =
+    ap (λ (bs : List (List ℕ)). length (records_of bs)) (take_more bodies i body lt ∙ ap (λ (b : List ℕ). take i bodies ++ b ∷ []) (sym is)) ∙ length-records-push (take i bodies) body
 
 pub AreBodies-push : (bodies : List (List ℕ)) (body : List ℕ) → AreBodies bodies → length body < 2 ^ 32 → AreBodies (bodies ++ body ∷ [])
 AreBodies-push [] body all short = (short, tt)

@@ -18,7 +18,8 @@ HasRoom log count = count + 6 ≤ log.size - log.gate
 
 -- a refused append: there is no room, or a call of the device failed
 abbrev pub IsAppendRefusal : Region → ℕ → ℕ → ℕ → Refusal → Type 0
-IsAppendRefusal log count before now (NoRoom needed free) = (needed ≡ count + 6) × (free ≡ log.size - log.gate) × (free < needed) × (now ≡ before)
+IsAppendRefusal log count before now (NoRoom needed free) =
+    (needed ≡ count + 6) × (free ≡ log.size - log.gate) × (free < needed) × (now ≡ before)
 IsAppendRefusal log count before now e = HasRoom log count × IsFault log.device before now e
 
 -- the records of these bodies and the gate behind them fit behind the header of a region of that size
@@ -28,18 +29,22 @@ Fit size bodies = length (records_of bodies) + 1 ≤ size - 16
 -- a refused preparation: memory ran out, or the records do not fit
 abbrev pub IsPrepareRefusal : ℕ → List (List ℕ) → Refusal → Type 0
 IsPrepareRefusal size bodies OutOfMemory = Unit {0}
-IsPrepareRefusal size bodies (NoRoom needed free) = (needed ≡ length (records_of bodies) + 1) × (free ≡ size - 16) × (free < needed)
+IsPrepareRefusal size bodies (NoRoom needed free) =
+    (needed ≡ length (records_of bodies) + 1) × (free ≡ size - 16) × (free < needed)
 IsPrepareRefusal size bodies _ = ⊥
 
 -- a region that was not filled: it was not prepared, or a call of the device failed
 abbrev pub IsFillRefusal : ℕ → List (List ℕ) → Device → ℕ → ℕ → Refusal → Type 0
-IsFillRefusal size bodies device before now (DiskFault which count) = Fit size bodies × IsFault device before now (DiskFault which count)
+IsFillRefusal size bodies device before now (DiskFault which count) =
+    Fit size bodies × IsFault device before now (DiskFault which count)
 IsFillRefusal size bodies device before now e = IsPrepareRefusal size bodies e × (now ≡ before)
 
--- bytes, from that place of that device on, that were refused as records: memory ran out, or a record breaks at the place told
+-- bytes, from that place of that device on, that were refused as records: memory ran out, or a record breaks at the
+-- place told
 abbrev pub IsRecordsRefusal : Device → ℕ → List ℕ → Refusal → Type 0
 IsRecordsRefusal device place bytes OutOfMemory = Unit {0}
-IsRecordsRefusal device place bytes (NotAStore which broken) = (which ≡ device) × ((at : ℕ) × (broken ≡ place + at) × BreaksAt bytes at)
+IsRecordsRefusal device place bytes (NotAStore which broken) =
+    (which ≡ device) × ((at : ℕ) × (broken ≡ place + at) × BreaksAt bytes at)
 IsRecordsRefusal device place bytes _ = ⊥
 
 -- a refused read of a region: memory ran out, a call of the device failed, or a record breaks

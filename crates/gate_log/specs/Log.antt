@@ -29,7 +29,8 @@ pub record IsPrepared (bytes : List ℕ) (generation : ℕ) (bodies : List (List
   pub small : generation < 2 ^ 64
   pub short : AreBodies bodies
 
--- The region was filled with these bodies under that generation, and nothing is loose. Its header's gate and all that stands outside the region are as before.
+-- The region was filled with these bodies under that generation, and nothing is loose. Its header's gate and all that
+-- stands outside the region are as before.
 pub record Fills (place size generation : ℕ) (bodies : List (List ℕ)) (old new : State) : Type 0 where
   pub lists : Lists place size bodies new.seen
   pub under : generation_at place new.seen ≡ generation

@@ -1,4 +1,5 @@
--- A region of a device: a header of 16 bytes, which begins with a gate and ends with a generation, and then the records of a list.
+-- A region of a device: a header of 16 bytes, which begins with a gate and ends with a generation, and then the records
+-- of a list.
 use Rattle.std.specs.Prelude.{◌≡◌, ◌+◌, ◌<◌, ◌≤◌, ℕ, List, length, slice_index, take, drop}
 use Rattle.retro_base.specs.Fields.{number_at}
 use Rattle.retro_base.specs.Framing.{records_of, AreRecords, BreaksAt}

@@ -1,3 +1,5 @@
+//! Pairs of device calls, and the refusal that tells a fault.
+
 ghost use Rattle.std.specs.Prelude.{◌≡◌, ◌≤◌, ◌+◌, length, OnOk};
 ghost use Rattle.disk_model.specs.Cause.{HasCause};
 ghost use Rattle.disk_model.specs.Disk.{IsDurable, SameOutside};

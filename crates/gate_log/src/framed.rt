@@ -1,3 +1,5 @@
+//! Bodies as an append writes them.
+
 ghost use Rattle.std.specs.Prelude.{◌≡◌, ◌<◌, ◌≤◌, ◌+◌, ◌^◌, ◌++◌, [], ◌∷◌, length, OnOk, IfOk, OnErr, IfErr, drop};
 ghost use Rattle.retro_base.specs.Fields.{field_bytes};
 ghost use Rattle.retro_base.specs.Framing.{sized};

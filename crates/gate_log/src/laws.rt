@@ -1,3 +1,5 @@
+//! What follows from the definitions.
+
 ghost use Rattle.gate_log.specs.Laws.{ReadOneWay};
 
 /// The list of a region is a function of its bytes, and so is the place at which they break.

@@ -1,4 +1,6 @@
-ghost use Rattle.std.specs.Prelude.{◌≡◌, ◌≤◌, ◌+◌, ◌-◌, ◌^◌, ◌<◌, ◌++◌, ℕ, List, length, OnOk, IfOk, IfErr};
+//! The bytes of a region that is to be filled.
+
+ghost use Rattle.std.specs.Prelude.{◌≡◌, ◌≤◌, ◌+◌, ◌-◌, ◌^◌, ◌<◌, ◌++◌, ℕ, List, length, OnOk, IfOk, IfErr, MatchOption};
 ghost use Rattle.disk_model.specs.Disk.{SameOutside};
 ghost use Rattle.disk_model.specs.Moments.{LeavesOnly};
 ghost use Rattle.disk_model.specs.Runs.{SameDevice};
@@ -6,7 +8,7 @@ ghost use Rattle.gate_log.specs.Appending.{LooseOrIn};
 ghost use Rattle.retro_base.specs.Cause.{FaultsAlone};
 ghost use Rattle.gate_log.specs.Cause.{Fit, IsPrepareRefusal};
 ghost use Rattle.gate_log.specs.Log.{Fills, IsPrepared, region_tail};
-ghost use Rattle.retro_base.specs.Framing.{record_of, AreBodies};
+ghost use Rattle.retro_base.specs.Framing.{record_of, records_of, AreBodies};
 ghost use Rattle.retro_base.specs.declared.refusal.Refusal.TheVariants.{OutOfMemory};
 
 use crate::durable::put_durably;
@@ -49,13 +51,14 @@ impl Prepared {
         ensures fit { OnOk result (Fit size bodies.now) }
         ensures cause { IfErr result (IsPrepareRefusal size bodies.now) }
     {
-        let bytes = region_bytes(alloc, generation, bodies)?;
-        let needed = bytes.len() as u64 - 15;
         let free = size - 16;
-        if free < needed {
-            return Err(Refusal::NoRoom { needed, free });
+        match bytes_needed(bodies) {
+            Some(needed) if free < needed => Err(Refusal::NoRoom { needed, free }),
+            _ => {
+                let bytes = region_bytes(alloc, generation, bodies)?;
+                Ok(Prepared { bytes })
+            }
         }
-        Ok(Prepared { bytes })
     }
 
     /// Fills the region: two calls of the device. The log that it gives is one to use only once the gate of
@@ -84,6 +87,22 @@ impl Prepared {
         let gate = self.bytes.len() as u64;
         Ok(GateLog::at(device, place, size, gate))
     }
+}
+
+// How many bytes the records of these bodies and the gate behind them have. There is no number for more than any memory
+// holds.
+fn bytes_needed(bodies: &[Framed]) -> Option<u64>
+    ensures { MatchOption result (2 ^ 64 ≤ length (records_of bodies.now) + 1)
+        (λ needed. needed ≡ length (records_of bodies.now) + 1) }
+{
+    let mut needed: u64 = 1;
+    for framed in bodies {
+        let Some(sum) = needed.checked_add(framed.len() + 5) else {
+            return None;
+        };
+        needed = sum;
+    }
+    Some(needed)
 }
 
 // What stands behind the gate of the header of a region with these bodies.

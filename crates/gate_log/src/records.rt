@@ -1,4 +1,7 @@
-ghost use Rattle.std.specs.Prelude.{◌≡◌, ◌<◌, ◌≤◌, ◌+◌, ◌^◌, ◌++◌, length, take, drop, slice_index, IfOk, IfErr, IfSome, IfNone, MatchResult};
+//! The records of a region, read.
+
+ghost use Rattle.std.specs.Prelude.{◌≡◌, ◌<◌, ◌≤◌, ◌+◌, ◌^◌, ◌++◌, length, take, drop, slice_index};
+ghost use Rattle.std.specs.Prelude.{IfOk, IfErr, IfSome, IfNone, MatchResult};
 ghost use Rattle.disk_model.specs.Runs.{OnlyReads, SameDevice};
 ghost use Rattle.gate_log.specs.Bodies.{bodies_of};
 ghost use Rattle.gate_log.specs.Cause.{IsReadRefusal, IsRecordsRefusal};

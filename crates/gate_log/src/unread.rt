@@ -1,3 +1,5 @@
+//! Why bodies were not read.
+
 use std::alloc::{AllocError, AllocFailed};
 
 /// Why a list of bodies was not read.

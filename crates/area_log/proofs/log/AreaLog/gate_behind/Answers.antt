@@ -1,7 +1,8 @@
 use Rattle.std.proofs.Common.{List, ℕ, length, ap, arith}
 use Rattle.retro_base.specs.Framing.{records_of}
 use Rattle.gate_log.specs.Bodies.{bodies_of}
-use Rattle.area_log.proofs.Records.{bodies_behind, length-records-split}
+use Rattle.gate_log.proofs.Framing.{length-records-split}
+use Rattle.area_log.proofs.Records.{bodies_behind}
 use Rattle.area_log.proofs.log.AreaLog.gate_behind.Goals as goal
 
 pub records_bytes-requires : goal.records_bytes-requires

@@ -1,11 +1,10 @@
-use Rattle.std.proofs.Common.{◌≡◌, ◌⊎◌, ◌/◌, ◌<◌, ℕ, ap, subst, arith}
+use Rattle.std.proofs.Common.{◌≡◌, ◌/◌, ◌<◌, ℕ, ap, subst, arith}
 use Rattle.std.proofs.lemmas.Bool.{false≢true}
-use Rattle.disk_model.specs.Moments.{LeavesOnly}
 use Rattle.disk_model.proofs.Moments.{weaker}
 use Rattle.gate_log.specs.Region.{IsOpen}
 use Rattle.gate_log.proofs.Fills.{length-prepared}
 use Rattle.gate_log.proofs.Results.{err_owes}
-use Rattle.area_log.specs.Regions.{DeviceLists, NoneCounts}
+use Rattle.area_log.specs.Regions.{DeviceLists}
 use Rattle.area_log.proofs.Made.{made, making, second_closed, zero_shut}
 use Rattle.area_log.proofs.log.AreaLog.make.Goals as goal
 
@@ -26,10 +25,10 @@ returns-in_err-_log-clause-makes g c = λ honest.
       shut = λ zeros. err_owes c.from_residual-in_err-_log.result _ _ c.from_residual-in_err-_log.ensures.1;
       durable = err_owes c.from_residual-in_err-_log.result _ _ c.from_residual-in_err-_log.ensures.1;
       any_moment = λ zeros durable.
-          subst (λ (s : ℕ). LeavesOnly g.D.Disk.remembers (g.D.Disk.clock disk) (g.D.Disk.clock next) (λ image. NoneCounts s image 0 ⊎ DeviceLists s bodies image)) (ap (λ (n : ℕ). n / 2) c.size-size.ensures)
-          (weaker g.D.Disk.remembers (g.D.Disk.clock disk) (g.D.Disk.clock next) _ _ (λ image step. making size (g.D.Disk.extent disk) bodies (g.D.Disk.state disk).seen image zeros some step)
+          weaker g.D.Disk.remembers (g.D.Disk.clock disk) (g.D.Disk.clock next) _ _
+          (λ image step. making size (g.D.Disk.extent disk) bodies (g.D.Disk.state disk).seen image zeros some (ap (λ (n : ℕ). n / 2) c.size-size.ensures) step)
           (c.in_err-_log.ensures.any_moment 1 bodies c.in_ok-prepared.ensures.ok honest durable
-          (λ opens. absurd (false≢true opens), λ is. absurd (zero_shut (g.D.Disk.extent disk) (g.D.Disk.state disk).seen zeros 0 is))));
+          (λ opens. absurd (false≢true opens), λ is. absurd (zero_shut (g.D.Disk.extent disk) (g.D.Disk.state disk).seen zeros 0 is)));
     }
 
 pub returns-clause-makes : goal.returns-clause-makes
@@ -49,8 +48,7 @@ returns-clause-makes g c = λ honest.
       shut = λ zeros. subst (λ (s : ℕ). IsOpen s new.seen → ⊥) half (second_closed size (g.D.Disk.extent disk) bodies old new zeros some rewritten);
       durable = rewritten.durable;
       any_moment = λ zeros durable.
-          subst (λ (s : ℕ). LeavesOnly g.D.Disk.remembers (g.D.Disk.clock disk) (g.D.Disk.clock next) (λ image. NoneCounts s image 0 ⊎ DeviceLists s bodies image)) half
-          (weaker g.D.Disk.remembers (g.D.Disk.clock disk) (g.D.Disk.clock next) _ _ (λ image step. making size (g.D.Disk.extent disk) bodies old.seen image zeros some step)
+          weaker g.D.Disk.remembers (g.D.Disk.clock disk) (g.D.Disk.clock next) _ _ (λ image step. making size (g.D.Disk.extent disk) bodies old.seen image zeros some half step)
           (c.in_ok-_log.ensures.any_moment 1 bodies c.in_ok-prepared.ensures.ok honest durable
-          (λ opens. absurd (false≢true opens), λ is. absurd (zero_shut (g.D.Disk.extent disk) old.seen zeros 0 is))));
+          (λ opens. absurd (false≢true opens), λ is. absurd (zero_shut (g.D.Disk.extent disk) old.seen zeros 0 is)));
     }
