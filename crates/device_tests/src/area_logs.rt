@@ -1,3 +1,5 @@
+//! Logs of two halves.
+
 use crate::faults::{Act, FAULT, Trial, wrong_in_four, wrong_in_six};
 use crate::support::{
     again, append, are_these, calls_of, crash, fetch, fill, framed, make, open, put, replace, zeros,
@@ -257,18 +259,55 @@ fn are_numbers(bodies: &[Vec<u8>]) -> bool {
         == number.to_be_bytes().as_slice())
 }
 
-// How many bodies a log of the numbers below this one holds, and whether they are the numbers in order.
-fn holds_numbers(alloc: Global, end: u32) -> Result<(usize, bool), Refusal> {
+// How many bodies a log of the numbers below this one holds, and whether they are the numbers in order; and what an
+// opening gives once a record stands behind them, at that place, whose length passes the half.
+fn numbers_and_break(
+    alloc: Global,
+    end: u32,
+    place: u64,
+) -> Result<(usize, bool, Option<Refusal>), Refusal> {
     let mut disk = RamDisk::new(alloc, 131_072)?;
     make(alloc, &mut disk, &[0, 0, 0, 0])?;
     append_numbers(alloc, &mut disk, end)?;
+    let bodies = open(alloc, &mut disk)?;
+    put(&mut disk, place, &[0xa5, 0xff])?;
+    let refusal = open(alloc, &mut disk).err();
+    Ok((bodies.len(), are_numbers(&bodies), refusal))
+}
+
+#[test]
+fn five_thousand_bodies_are_read_back_and_a_break_behind_them_is_told(
+    rt: HostRuntime,
+) -> Result<(), Fail> {
+    // Each record has nine bytes, and the first stands behind a header of sixteen.
+    let (device, place) = (Device::Log, 45_016);
+    let held = numbers_and_break(rt.alloc(), 5000, place);
+    assert!(rt; held == Ok((5000, true, Some(Refusal::NotAStore { device, place }))));
+    Ok(())
+}
+
+// Puts the numbers below this one, each in four bytes, in the place of all bodies.
+fn replace_by_numbers<D: Disk>(alloc: Global, disk: &mut D, end: u32) -> Result<(), Refusal> {
+    let mut bodies = Vec::new(alloc);
+    for number in 0..end {
+        bodies.push(framed(alloc, &number.to_be_bytes())?)?;
+    }
+    let (mut log, _bodies) = fetch(alloc, disk)?;
+    log.replace(alloc, disk, &bodies)
+}
+
+// How many bodies a log holds whose one body was replaced by the numbers below this one, and whether they are those.
+fn holds_replaced(alloc: Global, end: u32) -> Result<(usize, bool), Refusal> {
+    let mut disk = RamDisk::new(alloc, 131_072)?;
+    make(alloc, &mut disk, &[9])?;
+    replace_by_numbers(alloc, &mut disk, end)?;
     let bodies = open(alloc, &mut disk)?;
     Ok((bodies.len(), are_numbers(&bodies)))
 }
 
 #[test]
-fn a_log_of_five_thousand_bodies_is_read_back(rt: HostRuntime) -> Result<(), Fail> {
-    let held = holds_numbers(rt.alloc(), 5000);
-    assert!(rt; held == Ok((5000, true)));
+fn a_body_is_replaced_by_a_thousand(rt: HostRuntime) -> Result<(), Fail> {
+    let held = holds_replaced(rt.alloc(), 1000);
+    assert!(rt; held == Ok((1000, true)));
     Ok(())
 }

@@ -1,4 +1,5 @@
-// The device calls of a write of a log, each failing in turn, and what a crash then leaves.
+//! The device calls of a write of a log, each failing in turn, and what a crash then leaves.
+
 use crate::support::{append, are_these, crash, crash_half, make, open, replace};
 use disk_mem::{Call, MemDisk};
 use retro_base::{Device, Refusal};

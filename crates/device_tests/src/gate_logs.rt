@@ -1,3 +1,5 @@
+//! Logs of one region.
+
 use crate::support::{are_these, fill, framed, put, zeros};
 use disk_mem::MemDisk;
 use disk_model::Disk;

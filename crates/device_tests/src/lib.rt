@@ -1,5 +1,5 @@
 //! The crash clauses of the logs and of the files of blocks on a device that remembers, and tests of both over
-//! devices that fail and stop, and of what four devices open to.
+//! devices that fail and stop.
 #![tactic(auto)]
 
 #[cfg(test)]
@@ -9,8 +9,6 @@ mod faults;
 #[cfg(test)]
 mod gate_logs;
 mod on_mem_disk;
-#[cfg(test)]
-mod openings;
 #[cfg(test)]
 mod page_files;
 #[cfg(test)]

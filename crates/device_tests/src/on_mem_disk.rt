@@ -1,3 +1,5 @@
+//! The crash clauses at a device that remembers.
+
 ghost use Rattle.std.specs.Prelude.{◌≡◌, ◌*◌, ◌<◌, ◌++◌, [], ◌∷◌, ℕ, List, length, OnOk};
 ghost use Rattle.area_log.specs.Area.{Holds, ListsEither};
 ghost use Rattle.block_file.specs.Blocks.{block_at, KeepsSettled};

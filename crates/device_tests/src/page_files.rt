@@ -1,3 +1,5 @@
+//! Files of pages.
+
 ghost use Rattle.std.specs.Prelude.{◌≡◌, ◌<◌, IfOk};
 
 use crate::support::{calls_of, crash, failing, page, zeros};

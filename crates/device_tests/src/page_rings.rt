@@ -1,3 +1,5 @@
+//! Rings of page images.
+
 use crate::support::{calls_of, crash, failing, page, zeros};
 use block_file::Pagelog;
 use disk_mem::{Call, MemDisk};

@@ -1,5 +1,6 @@
-// Calls of the logs and of the devices. Each stands in a function with no clause but one that a caller needs, so
-// that the tests stay cheap to prove, and fails where a condition of the call does not hold.
+//! Calls of the logs and of the devices. Each stands in a function with no clause but one that a caller needs, so
+//! that the tests stay cheap to prove, and fails where a condition of the call does not hold.
+
 ghost use Rattle.std.specs.Prelude.{◌≡◌, ◌*◌, IfOk};
 
 use area_log::AreaLog;

@@ -1,6 +1,6 @@
 -- Why calls of the log were refused.
-use Rattle.std.proofs.Common.{◌≡◌, inl, inr, ◌∙◌, ◌+◌, ◌*◌, ◌≤◌, ℕ, List, None, length, Result, Ok, Err, MatchResult, OnOk, ap, subst, arith}
-use Rattle.disk_model.specs.Disk.{State}
+use Rattle.std.proofs.Common.{◌≡◌, ◌∙◌, ◌+◌, ◌*◌, ◌≤◌, ℕ, List, None, length, Result, Ok, Err, MatchResult, OnOk, ap, subst, arith}
+use Rattle.disk_model.specs.Sizes.{maplog_half}
 use Rattle.retro_base.specs.Cause.{IsFault}
 use Rattle.retro_base.specs.Framing.{records_of}
 use Rattle.retro_base.specs.declared.device.Device.{Device}
@@ -8,49 +8,13 @@ use Rattle.retro_base.specs.declared.device.Device.TheVariants.{Maplog}
 use Rattle.retro_base.specs.declared.limits.TheConstants.{BATCH}
 use Rattle.retro_base.specs.declared.refusal.Refusal.{Refusal}
 use Rattle.retro_base.specs.declared.refusal.Refusal.TheVariants as refusals
-use Rattle.gate_log.specs.Bodies.{BreaksAs}
-use Rattle.gate_log.specs.Cause.{Fit, HasRoom, IsFillRefusal, IsReadRefusal}
-use Rattle.gate_log.specs.declared.unread.Unread.{Unread}
-use Rattle.gate_log.specs.declared.unread.Unread.TheVariants.{OutOfMemory, Broken}
-use Rattle.area_log.specs.Area.{Area, Fetched, after_write, replaced}
+use Rattle.gate_log.specs.Cause.{Fit, HasRoom, IsFillRefusal}
+use Rattle.area_log.specs.Area.{Area, after_write, replaced}
 use Rattle.area_log.specs.Cause.{IsWriteRefusal}
-use Rattle.area_log.specs.Listed.{IsUnlisted, NotListed, refusal_of}
-use Rattle.area_log.proofs.Fetches.{fetched_breaks, not_listed_refused}
 use Rattle.history.specs.declared.log.Version.{Version}
 use Rattle.history.specs.declared.log.Version.TheVariants.{One, Two}
-use Rattle.records.specs.Maplog.{IsMaplog}
 use Rattle.map_log.specs.Bodies.{run_length}
-use Rattle.map_log.specs.Cause.{IsCallRefusal, IsRewriteRefusal, NotMaplog}
-use Rattle.map_log.specs.Log.{maplog_half}
-
-module _ (version : Version) (page_count capacity extent : ℕ) (is_honest : Type 0) (old new : State) where
-  -- a device that is not listed is no Maplog
-  unlisted : (broken : ℕ) → IsUnlisted (maplog_half capacity) extent broken × (is_honest → NotListed (maplog_half capacity) old new broken) → NotMaplog version page_count capacity extent is_honest old.seen broken
-  unlisted broken is = record {
-    size = elim is.0 [ inl size ↦ inl size | inr place ↦ inr place.0 ];
-    bytes_refused = λ honest. not_listed_refused (maplog_half capacity) (IsMaplog version page_count capacity) old new broken (is.1 honest);
-  }
-
-  pub not_listed : (before now : ℕ) (e : Refusal) → IsReadRefusal (λ broken. IsUnlisted (maplog_half capacity) extent broken × (is_honest → NotListed (maplog_half capacity) old new broken)) Maplog before now e
-      → IsReadRefusal (NotMaplog version page_count capacity extent is_honest old.seen) Maplog before now e
-  not_listed before now refusals.OutOfMemory is = is
-  not_listed before now (refusals.NotAStore which broken) is = (is.0, is.1, unlisted broken is.2)
-  not_listed before now (refusals.DiskFault which count) is = is
-  not_listed before now _ is = absurd is
-
-  -- bodies that are not those of a Maplog
-  pub not_read : (area : Area) (bodies : List (List ℕ)) (error : Unread) (before now : ℕ) → area.log.device ≡ Maplog → area.log.size ≡ maplog_half capacity → extent ≡ 2 * maplog_half capacity → now ≡ before
-      → (is_honest → Fetched (maplog_half capacity) area bodies old new) → (is_honest → length old.seen ≡ extent) → (is_honest → new.seen ≡ old.seen) → BreaksAs (IsMaplog version page_count capacity) bodies error
-      → IsReadRefusal (NotMaplog version page_count capacity extent is_honest old.seen) Maplog before now (refusal_of area bodies error)
-  not_read area bodies OutOfMemory before now device size whole steady fetched long same breaks = steady
-  not_read area bodies (Broken behind) before now device size whole steady fetched long same breaks = (
-    device,
-    steady,
-    record {
-      size = inr whole;
-      bytes_refused = λ honest. fetched_breaks (maplog_half capacity) (IsMaplog version page_count capacity) area bodies old new (fetched honest) (long honest ∙ whole) (same honest) size behind breaks;
-    },
-  )
+use Rattle.map_log.specs.Cause.{IsCallRefusal, IsRewriteRefusal}
 
 -- a list that fits is not refused for want of room
 fill_alone : (bodies : List (List ℕ)) (size before now : ℕ) (e : Refusal) → length (records_of bodies) + 17 ≤ size → IsFillRefusal size bodies Maplog before now e → IsCallRefusal before now e

@@ -5,6 +5,7 @@ use Rattle.std.proofs.lemmas.List.{length-drop}
 use Rattle.std.specs.List.{AllByRecursion}
 use Rattle.disk_model.specs.Disk.{State, IsImage}
 use Rattle.disk_model.specs.Moments.{Clock}
+use Rattle.disk_model.specs.Sizes.{maplog_half}
 use Rattle.disk_model.proofs.Moments.{weaker, started}
 use Rattle.skippy.specs.Mappings.{Mappings}
 use Rattle.history.specs.declared.log.Version.{Version}
@@ -17,9 +18,9 @@ use Rattle.retro_base.specs.declared.refusal.Refusal.{Refusal}
 use Rattle.gate_log.specs.Region.{gate_behind}
 use Rattle.area_log.specs.Area.{Area, Fetched, ListsEither, Writes}
 use Rattle.area_log.specs.Regions.{DeviceLists}
-use Rattle.area_log.proofs.Areas.{at_rest}
+use Rattle.area_log.proofs.Areas.{at_rest, whole_at_rest}
 use Rattle.area_log.proofs.Fetches.{place_there}
-use Rattle.map_log.specs.Log.{AreSound, FetchedMappings, maplog_half, IsMapArea, Keeps, ListsMappings, ListsOneOf, MapArea, Puts, with_area}
+use Rattle.map_log.specs.Log.{AreSound, FetchedMappings, IsMapArea, Keeps, ListsMappings, ListsOneOf, MapArea, Puts, with_area}
 
 -- one body more is the mappings behind its record
 pub maplog_more : (version : Version) (page_count capacity : ℕ) (bodies : List (List ℕ)) (mappings : Mappings) (body : List ℕ) (entry : MapEntry) → IsMaplog version page_count capacity bodies mappings
@@ -38,13 +39,13 @@ pub maplog_alone : (version : Version) (page_count capacity : ℕ) (body : List 
 maplog_alone version page_count capacity body mappings is = record { start = mappings; entries = []; first = is; others = tt; kept = refl }
 
 module _ (log : MapArea) (is : IsMapArea log) (mappings : Mappings) where
-  lists_there : (bodies : List (List ℕ)) → IsMaplog log.version log.page_count log.capacity bodies mappings → (image : List ℕ) → DeviceLists log.area.log.size bodies image
+  lists_there : (bodies : List (List ℕ)) → IsMaplog log.version log.page_count log.capacity bodies mappings → (image : List ℕ) → length image ≡ 2 * log.area.log.size → DeviceLists log.area.log.size bodies image
       → ListsMappings log.version log.page_count log.capacity mappings image
-  lists_there bodies stands image lists = record { bodies = bodies; stands = stands; lists = subst (λ (s : ℕ). DeviceLists s bodies image) is.size lists }
+  lists_there bodies stands image whole lists = record { size = whole ∙ ap (λ (s : ℕ). 2 * s) is.size; bodies = bodies; lists = subst (λ (s : ℕ). DeviceLists s bodies image) is.size lists; stands = stands }
 
   -- what is kept is what each image lists
   pub keeps_lists : (state : State) → Keeps log mappings state → (image : List ℕ) → IsImage state image → ListsMappings log.version log.page_count log.capacity mappings image
-  keeps_lists state keeps image at = lists_there keeps.bodies keeps.stands image (at_rest log.area keeps.bodies state keeps.holds image at)
+  keeps_lists state keeps image at = lists_there keeps.bodies keeps.stands image (whole_at_rest log.area keeps.bodies state keeps.holds image at) (at_rest log.area keeps.bodies state keeps.holds image at)
 
 -- what follows on success
 on_ok : {T E P Q : Type 0} (r : Result T E) → OnOk r P → (P → Q) → OnOk r Q
@@ -59,7 +60,7 @@ module _ {Disk : Type 0} (log after : MapArea) (is : IsMapArea log) (mappings ne
     keeps = on_ok result (writes.holds keeps.bodies keeps.holds)
         (λ holds. subst (λ (l : MapArea). Keeps l next (state new)) (sym behind) (record { bodies = list keeps.bodies; stands = stands; holds = holds }));
     any_moment = weaker remembers (clock old) (clock new) (ListsEither log.area.log.size keeps.bodies (list keeps.bodies)) (ListsOneOf log mappings next)
-        (λ image one. ⊎_elim (λ lists. inl (lists_there log is mappings keeps.bodies keeps.stands image lists)) (λ lists. inr (lists_there log is next (list keeps.bodies) stands image lists)) one)
+        (λ image one. ⊎_elim (λ lists. inl (lists_there log is mappings keeps.bodies keeps.stands image one.whole lists)) (λ lists. inr (lists_there log is next (list keeps.bodies) stands image one.whole lists)) one.lists)
         (writes.any_moment keeps.bodies keeps.holds);
   }
 

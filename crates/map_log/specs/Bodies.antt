@@ -23,7 +23,9 @@ run_at low pages index = Run (low + index * RUN_PAGES) (take RUN_PAGES (drop (in
 
 -- a start, and so many runs
 abbrev pub bodies_to : Version → ℕ → ℕ → List ℕ → ℕ → List (List ℕ)
-bodies_to version capacity low pages count = map_entry_bytes version (Start low capacity) ∷ map (λ index. map_entry_bytes version (run_at low pages index)) (range_with_len 0 count)
+bodies_to version capacity low pages count =
+    map_entry_bytes version (Start low capacity) ∷ map (λ index. map_entry_bytes version (run_at low pages index))
+    (range_with_len 0 count)
 
 -- a start, and runs of all mappings
 abbrev pub maplog_bodies : Version → ℕ → ℕ → List ℕ → List (List ℕ)

@@ -1,24 +1,21 @@
 -- A log of mappings on a device in two halves.
-use Rattle.std.specs.Prelude.{◌≡◌, ◌⊎◌, ◌+◌, ◌*◌, ◌≤◌, ◌<◌, ◌^◌, ℕ, None, List, [], Result, OnOk, replicate}
+use Rattle.std.specs.Prelude.{◌≡◌, ◌⊎◌, ◌+◌, ◌≤◌, ◌<◌, ◌^◌, ℕ, None, List, [], Result, OnOk, replicate}
 use Rattle.std.specs.List.{AllByRecursion}
 use Rattle.disk_model.specs.Disk.{State, IsDurable}
 use Rattle.disk_model.specs.Moments.{Clock, LeavesOnly}
+use Rattle.disk_model.specs.Sizes.{maplog_half}
 use Rattle.retro_base.specs.declared.device.Device.TheVariants.{Maplog}
 use Rattle.retro_base.specs.declared.limits.TheConstants.{MAX_CAPACITY, MAX_CAPTURES}
 use Rattle.retro_base.specs.declared.refusal.Refusal.{Refusal}
 use Rattle.gate_log.specs.Cause.{HasRoom}
 use Rattle.area_log.specs.Area.{Area, AfterWrite, after_write, Holds}
 use Rattle.area_log.specs.Listed.{closed_gate, DeviceStandsFor}
-use Rattle.area_log.specs.Regions.{DeviceLists, NoneCounts}
+use Rattle.area_log.specs.Regions.{NoneCounts}
 use Rattle.history.specs.declared.log.Version.{Version}
 use Rattle.records.specs.Entries.{page_width}
 use Rattle.records.specs.Maplog.{IsMaplog}
 use Rattle.skippy.specs.Mappings.{Mappings, end_of}
 use Rattle.map_log.specs.Bodies.{low_length, run_length}
-
--- the bytes of each half of the device of an archive of that many page images
-abbrev pub maplog_half : ℕ → ℕ
-maplog_half capacity = 32 * capacity + 4096
 
 -- the log, in records of a version, of a store of that many pages, and its capacity
 pub record MapArea : Type 0 where
@@ -61,19 +58,21 @@ pub record Keeps (log : MapArea) (mappings : Mappings) (state : State) : Type 0 
   pub stands : IsMaplog log.version log.page_count log.capacity bodies mappings
   pub holds : Holds log.area bodies state
 
--- the bytes list these mappings, in records of the version and beside a log of these sizes
-pub record ListsMappings (version : Version) (page_count capacity : ℕ) (mappings : Mappings) (bytes : List ℕ) : Type 0 where
-  pub bodies : List (List ℕ)
-  pub stands : IsMaplog version page_count capacity bodies mappings
-  pub lists : DeviceLists (maplog_half capacity) bodies bytes
+-- a whole device lists these mappings, in records of the version and beside a log of these sizes
+abbrev pub ListsMappings : Version → ℕ → ℕ → Mappings → List ℕ → Type 0
+ListsMappings version page_count capacity mappings bytes =
+    DeviceStandsFor (maplog_half capacity) (IsMaplog version page_count capacity) bytes mappings
 
 -- the bytes list the one mappings or the other
 abbrev pub ListsOneOf : MapArea → Mappings → Mappings → List ℕ → Type 0
 ListsOneOf log mappings other bytes =
-    ListsMappings log.version log.page_count log.capacity mappings bytes ⊎ ListsMappings log.version log.page_count log.capacity other bytes
+    ListsMappings log.version log.page_count log.capacity mappings bytes
+    ⊎ ListsMappings log.version log.page_count log.capacity other bytes
 
--- A write that makes these mappings of those. After a success the device keeps them, durably. A crash at any moment leaves the ones or the others.
-pub record Puts {Disk : Type 0} (log after : MapArea) (mappings next : Mappings) (remembers : Type 0) (state : Disk → State) (clock : Disk → Clock) (old new : Disk) (result : Result (Unit {0}) Refusal) : Type 0 where
+-- A write that makes these mappings of those. After a success the device keeps them, durably. A crash at any moment
+-- leaves the ones or the others.
+pub record Puts {Disk : Type 0} (log after : MapArea) (mappings next : Mappings) (remembers : Type 0)
+    (state : Disk → State) (clock : Disk → Clock) (old new : Disk) (result : Result (Unit {0}) Refusal) : Type 0 where
   pub keeps : OnOk result (Keeps after next (state new))
   pub any_moment : LeavesOnly remembers (clock old) (clock new) (ListsOneOf log mappings next)
 
@@ -82,9 +81,10 @@ pub record AreSound (page_count : ℕ) (mappings : Mappings) : Type 0 where
   pub end : end_of mappings ≤ MAX_CAPTURES
   pub pages : AllByRecursion (λ page. page < page_count) mappings.pages
 
--- the device lists these mappings, the log that was read keeps them, and it knows where the closed gate behind their list stands
+-- the device lists these mappings, the log that was read keeps them, and it knows where the closed gate behind their
+-- list stands
 pub record FetchedMappings (log : MapArea) (mappings : Mappings) (old new : State) : Type 0 where
-  pub lists : DeviceStandsFor (maplog_half log.capacity) (IsMaplog log.version log.page_count log.capacity) old.seen mappings
+  pub lists : ListsMappings log.version log.page_count log.capacity mappings old.seen
   pub keeps : Keeps log mappings new
   pub closed : log.area.log.place + log.area.log.gate ≡ closed_gate lists
 
@@ -93,10 +93,12 @@ abbrev pub none_yet : Mappings
 none_yet = record { low = 0; pages = [] }
 
 -- Their list is made on a device of zeros. A crash at any moment leaves no list, or theirs.
-pub record MakesNone {Disk : Type 0} (version : Version) (page_count capacity : ℕ) (remembers : Type 0) (state : Disk → State) (clock : Disk → Clock) (old new : Disk) (result : Result (Unit {0}) Refusal) : Type 0 where
-  pub lists : OnOk result (DeviceStandsFor (maplog_half capacity) (IsMaplog version page_count capacity) (state new).seen none_yet)
+pub record MakesNone {Disk : Type 0} (version : Version) (page_count capacity : ℕ) (remembers : Type 0)
+    (state : Disk → State) (clock : Disk → Clock) (old new : Disk) (result : Result (Unit {0}) Refusal) : Type 0 where
+  pub lists : OnOk result (ListsMappings version page_count capacity none_yet (state new).seen)
   pub durable : OnOk result (IsDurable (state new))
-  pub any_moment : LeavesOnly remembers (clock old) (clock new) (λ image. NoneCounts (maplog_half capacity) image 0 ⊎ ListsMappings version page_count capacity none_yet image)
+  pub any_moment : LeavesOnly remembers (clock old) (clock new) (λ image. NoneCounts (maplog_half capacity) image 0
+      ⊎ ListsMappings version page_count capacity none_yet image)
 
 -- a device of so many bytes that are all zero, and none of them loose
 pub record IsBlank (extent : ℕ) (state : State) : Type 0 where

@@ -3,6 +3,7 @@
 ghost use Rattle.std.specs.Prelude.{◌≡◌, ◌≤◌, ◌<◌, ◌+◌, ◌*◌, ◌^◌, ◌↔◌, ℕ, None, IsTrue, length, Ok, OnOk, IfOk, IfErr, MatchResult};
 ghost use Rattle.std.specs.List.{AllByRecursion};
 ghost use Rattle.disk_model.specs.Runs.{SameDevice, WritesNothing};
+ghost use Rattle.disk_model.specs.Sizes.{maplog_half};
 ghost use Rattle.retro_base.specs.declared.device.Device.TheVariants.{Maplog};
 ghost use Rattle.retro_base.specs.declared.limits.TheConstants.{BATCH, MAX_CAPACITY, MAX_CAPTURES};
 ghost use Rattle.retro_base.specs.declared.refusal.Refusal.TheVariants.{OutOfMemory};
@@ -17,7 +18,8 @@ ghost use Rattle.records.specs.declared.map_entry.TheConstants.{RUN_PAGES};
 ghost use Rattle.skippy.specs.Mappings as ghosts;
 ghost use Rattle.map_log.specs.Bodies.{low_length, maplog_bodies, run_length};
 ghost use Rattle.map_log.specs.Cause.{IsCallRefusal, IsRewriteRefusal, NotMaplog};
-ghost use Rattle.map_log.specs.Log.{AfterCall, AreSound, FetchedMappings, HasRoomFor, IsBlank, IsFetched, Keeps, maplog_half, MakesNone, Puts};
+ghost use Rattle.map_log.specs.Log.{AfterCall, AreSound, FetchedMappings, HasRoomFor, IsBlank, IsFetched, Keeps};
+ghost use Rattle.map_log.specs.Log.{MakesNone, Puts};
 
 use crate::encoding::maplog_bodies;
 use area_log::{AreaLog, listed};
@@ -114,8 +116,7 @@ impl MapLog {
             → IfOk result (λ p. FetchedMappings p.0 p.1 (D.state disk.old) (D.state disk.new)) }
         ensures quiet { D.is_honest disk.old → WritesNothing D.remembers D.state D.clock disk.old disk.new }
     {
-        let half = 32 * u64::from(sizes.capacity) + 4096;
-        let (log, bodies) = listed(alloc, disk, Device::Maplog, half)?;
+        let (log, bodies) = listed(alloc, disk, Device::Maplog, sizes.maplog_half())?;
         match read_maplog(alloc, version, sizes.pages, sizes.capacity, &bodies) {
             Ok(mappings) => {
                 let log = MapLog {

@@ -5,7 +5,7 @@ use Rattle.std.proofs.Math.Path.{fun_ext}
 use Rattle.disk_model.specs.Disk.{State, IsImage}
 use Rattle.disk_model.specs.Moments.{Clock}
 use Rattle.disk_model.specs.Runs.{OnlyReads, SameDevice}
-use Rattle.disk_model.specs.Sizes.{log_bytes, maplog_bytes, pagelog_bytes, pages_bytes}
+use Rattle.disk_model.specs.Sizes.{log_bytes, maplog_bytes, maplog_half, pagelog_bytes, pages_bytes}
 use Rattle.disk_model.specs.declared.four.Four.{Four}
 use Rattle.disk_model.proofs.Moments.{reads_write_nothing, started}
 use Rattle.retro_base.specs.declared.device.Device.{Device}
@@ -14,7 +14,7 @@ use Rattle.retro_base.specs.declared.limits.TheConstants.{LOG_REGION_BYTES}
 use Rattle.retro_base.specs.declared.refusal.Refusal.{Refusal}
 use Rattle.retro_base.specs.declared.refusal.Refusal.TheVariants as refusals
 use Rattle.gate_log.specs.Cause.{IsReadRefusal}
-use Rattle.area_log.specs.Listed.{DeviceStandsFor}
+use Rattle.area_log.specs.Listed.{DeviceStandsFor, IsRefused}
 use Rattle.history.specs.Replayed.{page_in}
 use Rattle.history.specs.declared.log.Log as declared
 use Rattle.history.specs.declared.log.Version.TheVariants.{One}
@@ -24,8 +24,8 @@ use Rattle.replay.specs.Joined.{AreJoined}
 use Rattle.replay.specs.Opened.{contents_of, Opens}
 use Rattle.replay.specs.declared.opened.Opened.{Opened}
 use Rattle.skippy.specs.Mappings.{Mappings}
-use Rattle.opening.specs.Devices.{AreHonest, IsRefused, IsUnopened, of_each, SameCounts, seen_of, SizesTell, StandsWithGate, Unwritten}
-use Rattle.opening.specs.Opening.{AreSized, DevicesBreak, DevicesOpen, IsApart, maplog_half, page_at}
+use Rattle.opening.specs.Devices.{AreHonest, IsUnopened, of_each, SameCounts, seen_of, SizesTell, StandsWithGate, Unwritten}
+use Rattle.opening.specs.Opening.{AreSized, DevicesBreak, DevicesOpen, IsApart, page_at}
 
 -- a refusal that is passed on
 pub passed_on : {T : Type 0} (r : Result T Refusal) (Q : T → Type 0) (P : Refusal → Type 0) (why : Refusal) → IsErrAnd r (λ e. e ≡ why) → P why → MatchResult r Q P

@@ -1,5 +1,6 @@
 -- Four devices are read in one way.
 use Rattle.std.proofs.Common.{◌≡◌, inl, inr, ◌∙◌, ◌+◌, ◌*◌, ℕ, List, length, refl, sym, ap, subst}
+use Rattle.disk_model.specs.Sizes.{maplog_half}
 use Rattle.disk_model.specs.declared.four.Four.{Four}
 use Rattle.retro_base.specs.declared.device.Device.{Device}
 use Rattle.retro_base.specs.declared.device.Device.TheVariants.{Log, Pages, Pagelog, Maplog, Cabinet}
@@ -20,7 +21,7 @@ use Rattle.records.proofs.Logs.{log_one_way}
 use Rattle.records.proofs.Maps.{maplog_one_way}
 use Rattle.opening.specs.Laws.{AreReadOneWay}
 use Rattle.area_log.specs.Listed.{DeviceRefused, DeviceStandsFor, ListBreaks}
-use Rattle.opening.specs.Opening.{maplog_half, LogStandsFor, AreSized, Hold, PagesRefused, PagelogRefused, MaplogRefused, DevicesBreak}
+use Rattle.opening.specs.Opening.{LogStandsFor, AreSized, Hold, PagesRefused, PagelogRefused, MaplogRefused, DevicesBreak}
 
 -- ---- a device of two halves
 

@@ -1,5 +1,5 @@
 -- What an opening says of one device, and of the four.
-use Rattle.std.specs.Prelude.{◌≡◌, ◌≢◌, ◌⊎◌, ◌*◌, ℕ, List}
+use Rattle.std.specs.Prelude.{◌≡◌, ◌≢◌, ℕ, List}
 use Rattle.disk_model.specs.Disk.{State}
 use Rattle.disk_model.specs.Moments.{Clock}
 use Rattle.disk_model.specs.Runs.{SameDevice, WritesNothing}
@@ -10,28 +10,22 @@ use Rattle.retro_base.specs.declared.device.Device.{Device}
 use Rattle.retro_base.specs.declared.device.Device.TheVariants.{Log, Pages, Pagelog, Maplog, Cabinet}
 use Rattle.retro_base.specs.declared.refusal.Refusal.{Refusal}
 use Rattle.retro_base.specs.declared.refusal.Refusal.TheVariants.{OutOfMemory, NotAStore, DiskFault}
-use Rattle.area_log.specs.Listed.{closed_gate, DeviceRefused, DeviceStandsFor, WrongSize}
+use Rattle.area_log.specs.Listed.{closed_gate, DeviceStandsFor, TellsSize, WrongSize}
 
 -- a device whose list stands for the value, and where its closed gate stands
-pub record StandsWithGate {X : Type 0} (half : ℕ) (StandsFor : List (List ℕ) → X → Type 0) (bytes : List ℕ) (x : X) (gate : ℕ) : Type 0 where
+pub record StandsWithGate {X : Type 0} (half : ℕ) (StandsFor : List (List ℕ) → X → Type 0) (bytes : List ℕ) (x : X)
+    (gate : ℕ) : Type 0 where
   pub device : DeviceStandsFor half StandsFor bytes x
   pub closed : gate ≡ closed_gate device
 
--- the place told is the size that a device has in place of this one; or it has this one
-abbrev pub TellsSize : ℕ → ℕ → ℕ → Type 0
-TellsSize size extent broken = WrongSize size extent broken ⊎ (extent ≡ size)
-
--- a device of two halves of so many bytes is refused with that place: whatever it tells, and by its bytes where it is honest
-pub record IsRefused {X : Type 0} (half : ℕ) (StandsFor : List (List ℕ) → X → Type 0) (honest : Type 0) (extent : ℕ) (bytes : List ℕ) (broken : ℕ) : Type 0 where
-  pub size : TellsSize (2 * half) extent broken
-  pub breaks : honest → DeviceRefused half StandsFor bytes broken
-
 -- nothing was written on the device: it was read, and may have been synced
-pub record Unwritten {D : Type 0} (extent : D → ℕ) (is_honest : D → Type 0) (remembers : Type 0) (state : D → State) (clock : D → Clock) (old new : D) : Type 0 where
+pub record Unwritten {D : Type 0} (extent : D → ℕ) (is_honest : D → Type 0) (remembers : Type 0) (state : D → State)
+    (clock : D → Clock) (old new : D) : Type 0 where
   pub same : SameDevice extent is_honest old new
   pub quiet : is_honest old → WritesNothing remembers state clock old new
 
-pub record AreUnwritten {D : Type 0} (extent : D → ℕ) (is_honest : D → Type 0) (remembers : Type 0) (state : D → State) (clock : D → Clock) (old new : Four D) : Type 0 where
+pub record AreUnwritten {D : Type 0} (extent : D → ℕ) (is_honest : D → Type 0) (remembers : Type 0) (state : D → State)
+    (clock : D → Clock) (old new : Four D) : Type 0 where
   pub log : Unwritten extent is_honest remembers state clock old.log new.log
   pub pages : Unwritten extent is_honest remembers state clock old.pages new.pages
   pub pagelog : Unwritten extent is_honest remembers state clock old.pagelog new.pagelog
@@ -70,25 +64,31 @@ pub record HaveSizes (extent : Device → ℕ) : Type 0 where
   pub pagelog : extent Pagelog ≡ pagelog_bytes capacity
   pub maplog : extent Maplog ≡ maplog_bytes capacity
 
--- A device is refused with that place, whatever it tells: a wrong size is told, and each device is looked at behind those before it.
+-- A device is refused with that place, whatever it tells: a wrong size is told, and each device is looked at behind
+-- those before it.
 abbrev pub SizesTell : (Device → ℕ) → Device → ℕ → Type 0
 SizesTell extent Log broken = TellsSize log_bytes (extent Log) broken
-SizesTell extent Pages broken = (extent Log ≡ log_bytes) × ((page_count : ℕ) × WrongSize (pages_bytes page_count) (extent Pages) broken)
+SizesTell extent Pages broken =
+    (extent Log ≡ log_bytes) × ((page_count : ℕ) × WrongSize (pages_bytes page_count) (extent Pages) broken)
 SizesTell extent Pagelog broken =
-    (extent Log ≡ log_bytes) × ((page_count : ℕ) × (extent Pages ≡ pages_bytes page_count)) × ((capacity : ℕ) × WrongSize (pagelog_bytes capacity) (extent Pagelog) broken)
+    (extent Log ≡ log_bytes) × ((page_count : ℕ) × (extent Pages ≡ pages_bytes page_count))
+    × ((capacity : ℕ) × WrongSize (pagelog_bytes capacity) (extent Pagelog) broken)
 SizesTell extent Maplog broken =
     (extent Log ≡ log_bytes) × ((page_count : ℕ) × (extent Pages ≡ pages_bytes page_count))
-    × ((capacity : ℕ) × (extent Pagelog ≡ pagelog_bytes capacity) × TellsSize (maplog_bytes capacity) (extent Maplog) broken)
+    × ((capacity : ℕ) × (extent Pagelog ≡ pagelog_bytes capacity)
+    × TellsSize (maplog_bytes capacity) (extent Maplog) broken)
 SizesTell extent Cabinet broken = ⊥
 
 -- the counts of faults are as they were
 abbrev pub SameCounts : (Device → ℕ) → (Device → ℕ) → Type 0
 SameCounts before now = (device : Device) → now device ≡ before device
 
--- Why four devices did not open: memory ran out, or a device breaks, and no call failed; or a call of one device failed, and none of the others.
+-- Why four devices did not open: memory ran out, or a device breaks, and no call failed; or a call of one device
+-- failed, and none of the others.
 abbrev pub IsUnopened : (Device → ℕ → Type 0) → (Device → ℕ) → (Device → ℕ) → Refusal → Type 0
 IsUnopened Breaks before now OutOfMemory = SameCounts before now
 IsUnopened Breaks before now (NotAStore device broken) = SameCounts before now × Breaks device broken
 IsUnopened Breaks before now (DiskFault device count) =
-    IsFault device (before device) (now device) (DiskFault device count) × ((other : Device) → other ≢ device → now other ≡ before other)
+    IsFault device (before device) (now device) (DiskFault device count)
+    × ((other : Device) → other ≢ device → now other ≡ before other)
 IsUnopened Breaks before now _ = ⊥

@@ -1,6 +1,6 @@
 -- What the bytes of the four devices of a store open to, and where they break.
-use Rattle.std.specs.Prelude.{◌≡◌, ◌⊎◌, ◌+◌, ◌*◌, ℕ, List, length, take, drop}
-use Rattle.disk_model.specs.Sizes.{pages_bytes, pagelog_bytes}
+use Rattle.std.specs.Prelude.{◌≡◌, ◌⊎◌, ◌*◌, ℕ, List, length, take, drop}
+use Rattle.disk_model.specs.Sizes.{maplog_half, pages_bytes, pagelog_bytes}
 use Rattle.disk_model.specs.declared.four.Four.{Four}
 use Rattle.retro_base.specs.declared.device.Device.{Device}
 use Rattle.retro_base.specs.declared.device.Device.TheVariants.{Log, Pages, Pagelog, Maplog, Cabinet}
@@ -15,10 +15,6 @@ use Rattle.replay.specs.Joined.{AreJoined}
 use Rattle.records.specs.Log.{IsLog}
 use Rattle.records.specs.Maplog.{IsMaplog}
 use Rattle.replay.specs.Opened.{Contents, Opens}
-
--- the bytes of each half of the Maplog's device
-abbrev pub maplog_half : ℕ → ℕ
-maplog_half capacity = 32 * capacity + 4096
 
 -- the page that stands at that place of a device of pages
 abbrev pub page_at : List ℕ → ℕ → List ℕ
@@ -39,7 +35,8 @@ pub record Hold (devices : Four (List ℕ)) (contents : Contents) : Type 0 where
   pub sized : AreSized devices contents.log
   pub pages : contents.pages ≡ page_at devices.pages
   pub slots : contents.slots ≡ page_at devices.pagelog
-  pub maplog : DeviceStandsFor (maplog_half contents.log.base.capacity) (IsMaplog One contents.log.base.page_count contents.log.base.capacity) devices.maplog contents.mappings
+  pub maplog : DeviceStandsFor (maplog_half contents.log.base.capacity)
+      (IsMaplog One contents.log.base.page_count contents.log.base.capacity) devices.maplog contents.mappings
 
 -- the devices open to this store: they hold contents that belong together and open to it
 pub record DevicesOpen (devices : Four (List ℕ)) (store : Opened) : Type 0 where
@@ -48,7 +45,8 @@ pub record DevicesOpen (devices : Four (List ℕ)) (store : Opened) : Type 0 whe
   pub joined : AreJoined contents
   pub opens : Opens contents store
 
--- The log is read first, then the sizes of the pages and the page images, then the Maplog, and then whether the Maplog belongs to the log; where it does not, it is told with its closed gate.
+-- The log is read first, then the sizes of the pages and the page images, then the Maplog, and then whether the Maplog
+-- belongs to the log; where it does not, it is told with its closed gate.
 pub record PagesRefused (devices : Four (List ℕ)) (broken : ℕ) : Type 0 where
   pub log : declared.Log
   pub stands : LogStandsFor devices log
@@ -64,7 +62,8 @@ pub record MaplogRefused (devices : Four (List ℕ)) (broken : ℕ) : Type 0 whe
   pub log : declared.Log
   pub stands : LogStandsFor devices log
   pub sized : AreSized devices log
-  pub refused : DeviceRefused (maplog_half log.base.capacity) (IsMaplog One log.base.page_count log.base.capacity) devices.maplog broken
+  pub refused : DeviceRefused (maplog_half log.base.capacity)
+      (IsMaplog One log.base.page_count log.base.capacity) devices.maplog broken
 
 pub record NotJoined (devices : Four (List ℕ)) (broken : ℕ) : Type 0 where
   pub contents : Contents

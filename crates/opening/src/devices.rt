@@ -2,22 +2,22 @@
 
 ghost use Rattle.std.specs.Prelude.{◌≡◌, ◌≤◌, ◌+◌, ◌*◌, ℕ, length, IfOk, OnOk, MatchResult};
 ghost use Rattle.disk_model.specs.Runs.{OnlyReads, SameDevice, WritesNothing};
-ghost use Rattle.disk_model.specs.Sizes.{log_bytes, maplog_bytes};
+ghost use Rattle.disk_model.specs.Sizes.{log_bytes, maplog_bytes, maplog_half};
 ghost use Rattle.retro_base.specs.Cause.{FaultsAlone};
 ghost use Rattle.retro_base.specs.declared.device.Device.TheVariants as kinds;
 ghost use Rattle.retro_base.specs.declared.limits.TheConstants.{LOG_REGION_BYTES, MAX_CAPACITY, PAGE_BYTES};
 ghost use Rattle.gate_log.specs.Cause.{IsReadRefusal};
-ghost use Rattle.area_log.specs.Listed.{DeviceStandsFor};
+ghost use Rattle.area_log.specs.Listed.{DeviceStandsFor, IsRefused};
 ghost use Rattle.history.specs.Replayed.{page_in};
 ghost use Rattle.history.specs.Right.{AreRight, IsBase};
 ghost use Rattle.history.specs.declared.log.Version.TheVariants.{One};
 ghost use Rattle.records.specs.Log.{IsLog};
 ghost use Rattle.records.specs.Maplog.{IsMaplog};
-ghost use Rattle.opening.specs.Devices.{IsRefused, StandsWithGate};
-ghost use Rattle.opening.specs.Opening.{maplog_half, page_at};
+ghost use Rattle.opening.specs.Devices.{StandsWithGate};
+ghost use Rattle.opening.specs.Opening.{page_at};
 
 use area_log::listed;
-use disk_model::{Disk, Failed};
+use disk_model::{Disk, Failed, Sizes};
 use gate_log::fault_of;
 use history::{Log, Version};
 use records::{read_log, read_maplog};
@@ -49,23 +49,22 @@ pub fn log_of<D: Disk>(alloc: Global, disk: &mut D) -> Result<Log, Refusal>
 pub fn mappings_of<D: Disk>(
     alloc: Global,
     disk: &mut D,
-    page_count: u32,
-    capacity: u32,
+    sizes: Sizes,
 ) -> Result<(Mappings, u64), Refusal>
-    requires { capacity ≤ MAX_CAPACITY }
+    requires { sizes.capacity ≤ MAX_CAPACITY }
     ensures same { SameDevice D.extent D.is_honest disk.old disk.new }
     ensures cause { MatchResult result
         (λ _. D.faults disk.new ≡ D.faults disk.old)
-        (IsReadRefusal (IsRefused (maplog_half capacity) (IsMaplog One page_count capacity) (D.is_honest disk.old)
-        (D.extent disk.old) (D.state disk.old).seen) kinds.Maplog (D.faults disk.old) (D.faults disk.new)) }
-    ensures size { OnOk result (D.extent disk.old ≡ maplog_bytes capacity) }
-    ensures stands { D.is_honest disk.old → IfOk result (λ p.
-        StandsWithGate (maplog_half capacity) (IsMaplog One page_count capacity) (D.state disk.old).seen p.0 p.1) }
+        (IsReadRefusal (IsRefused (maplog_half sizes.capacity) (IsMaplog One sizes.pages sizes.capacity)
+        (D.is_honest disk.old) (D.extent disk.old) (D.state disk.old).seen)
+        kinds.Maplog (D.faults disk.old) (D.faults disk.new)) }
+    ensures size { OnOk result (D.extent disk.old ≡ maplog_bytes sizes.capacity) }
+    ensures stands { D.is_honest disk.old → IfOk result (λ p. StandsWithGate (maplog_half sizes.capacity)
+        (IsMaplog One sizes.pages sizes.capacity) (D.state disk.old).seen p.0 p.1) }
     ensures quiet { D.is_honest disk.old → WritesNothing D.remembers D.state D.clock disk.old disk.new }
 {
-    let half = 32 * u64::from(capacity) + 4096;
-    let (area, bodies) = listed(alloc, disk, Device::Maplog, half)?;
-    match read_maplog(alloc, Version::One, page_count, capacity, &bodies) {
+    let (area, bodies) = listed(alloc, disk, Device::Maplog, sizes.maplog_half())?;
+    match read_maplog(alloc, Version::One, sizes.pages, sizes.capacity, &bodies) {
         Ok(mappings) => Ok((mappings, area.end())),
         Err(error) => Err(area.refusal_of(&bodies, error)),
     }

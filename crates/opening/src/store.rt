@@ -76,7 +76,7 @@ pub fn open_devices<D: Disk>(alloc: Global, disks: &mut Four<D>) -> Result<Opene
     };
     sized(Device::Pages, disks.pages.size(), sizes.pages_bytes())?;
     sized(Device::Pagelog, disks.pagelog.size(), sizes.pagelog_bytes())?;
-    let (mappings, end) = mappings_of(alloc, &mut disks.maplog, page_count, capacity)?;
+    let (mappings, end) = mappings_of(alloc, &mut disks.maplog, sizes)?;
     let pages = pages_of(alloc, &mut disks.pages, Device::Pages, page_count)?;
     let slots = pages_of(alloc, &mut disks.pagelog, Device::Pagelog, capacity)?;
     joined(alloc, log, pages, &mappings, &slots, end)

@@ -1,5 +1,5 @@
 -- A list of bodies as a log.
-use Rattle.std.proofs.Common.{◌≡◌, false, ◌/◌, ◌+◌, replicate, take, ◌⊎◌, ⊎_elim, inl, inr, ℕ, List, [], ◌∷◌, ◌++◌, ◌*◌, refl, sym, subst, ap, arith}
+use Rattle.std.proofs.Common.{◌≡◌, ◌∙◌, false, ◌/◌, length, replicate, ◌⊎◌, ⊎_elim, inl, inr, ℕ, List, [], ◌∷◌, ◌++◌, ◌*◌, refl, sym, subst, ap, arith}
 use Rattle.std.specs.Prelude.{Some, Result, Ok, Err, IsErr, OnOk}
 use Rattle.std.proofs.lemmas.Bool.{both_ways}
 use Rattle.disk_model.specs.Disk.{State, IsImage}
@@ -19,16 +19,10 @@ use Rattle.history.specs.Right.{AreRight, IsBase}
 use Rattle.records.specs.InTurn.{InTurn}
 use Rattle.records.specs.Log.{IsLog, IsChangeBody}
 use Rattle.area_log.specs.Area.{Area, Holds, IsRead, ListsEither, Writes}
-use Rattle.gate_log.specs.Bodies.{BreaksAs, BreaksBehind}
-use Rattle.gate_log.specs.Cause.{IsReadRefusal}
-use Rattle.gate_log.specs.Region.{gate_behind}
-use Rattle.gate_log.specs.declared.unread.Unread.{Unread}
-use Rattle.gate_log.specs.declared.unread.Unread.TheVariants.{OutOfMemory, Broken}
-use Rattle.area_log.specs.Listed.{DeviceRefused, refusal_of}
-use Rattle.area_log.specs.Making.{Makes}
+use Rattle.area_log.specs.Making.{ListsOrNone, Makes}
 use Rattle.area_log.specs.Regions.{DeviceLists, NoneCounts}
 use Rattle.redo_log.specs.Made.{MakesLog}
-use Rattle.area_log.proofs.Areas.{at_rest}
+use Rattle.area_log.proofs.Areas.{at_rest, whole_at_rest}
 use Rattle.redo_log.specs.Redo.{base_alone, base_at_end, IsReadLog, IsRedo, Keeps, ListsLog, ListsOneOf, one_more, Redo, WritesLog}
 
 turn_more : (version : Version) (base : Base) (bodies : List (List ℕ)) (changes : List Change) (body : List ℕ) (change : Change) → InTurn (IsChangeBody version) base_after base bodies changes → IsChangeBody version (bases_after base changes) body change → InTurn (IsChangeBody version) base_after base (bodies ++ body ∷ []) (changes ++ change ∷ [])
@@ -54,8 +48,9 @@ pub base_fits : (version : Version) (bodies : List (List ℕ)) (log : Log) → I
 base_fits version [] log is = absurd is
 base_fits version (first ∷ bodies) log is = is.1.fits
 
-pub lists_log : (version : Version) (size : ℕ) (log : Log) (bodies : List (List ℕ)) (bytes : List ℕ) → size ≡ LOG_REGION_BYTES → IsLog version bodies log → DeviceLists size bodies bytes → ListsLog log bytes
-lists_log version size log bodies bytes is stands lists = record {
+pub lists_log : (version : Version) (size : ℕ) (log : Log) (bodies : List (List ℕ)) (bytes : List ℕ) → size ≡ LOG_REGION_BYTES → IsLog version bodies log → length bytes ≡ 2 * size → DeviceLists size bodies bytes → ListsLog log bytes
+lists_log version size log bodies bytes is stands whole lists = record {
+  size = whole ∙ ap (λ (n : ℕ). 2 * n) is;
   bodies = bodies;
   stands = subst (λ (v : Version). IsLog v bodies log) (sym (listed_version version bodies log stands)) stands;
   lists = subst (λ (n : ℕ). DeviceLists n bodies bytes) is lists;
@@ -63,7 +58,7 @@ lists_log version size log bodies bytes is stands lists = record {
 
 -- what is kept is what each image lists
 pub keeps_lists : (redo : Redo) (log : Log) (state : State) → IsRedo redo → Keeps redo log state → (image : List ℕ) → IsImage state image → ListsLog log image
-keeps_lists redo log state known keeps image is = lists_log redo.version redo.area.log.size log keeps.bodies image known.size keeps.stands (at_rest redo.area keeps.bodies state keeps.holds image is)
+keeps_lists redo log state known keeps image is = lists_log redo.version redo.area.log.size log keeps.bodies image known.size keeps.stands (whole_at_rest redo.area keeps.bodies state keeps.holds image is) (at_rest redo.area keeps.bodies state keeps.holds image is)
 
 -- so it is in records of its own version
 pub own_version : (version : Version) (bodies : List (List ℕ)) (log : Log) → IsLog version bodies log → IsLog log.version bodies log
@@ -113,8 +108,8 @@ module _ {Disk : Type 0} (remembers : Type 0) (state : Disk → State) (clock : 
     keeps = go result (writes.holds bodies holds) same;
     any_moment = weaker remembers (clock old) (clock new) (ListsEither before.log.size bodies (list bodies)) (ListsOneOf log (Some done))
         (λ image either. ⊎_elim
-        (λ lists. record { log = log; may = inl refl; lists = lists_log version before.log.size log bodies image known stands lists })
-        (λ lists. record { log = done; may = inr refl; lists = lists_log done.version before.log.size done (list bodies) image known more lists }) either)
+        (λ lists. record { log = log; may = inl refl; lists = lists_log version before.log.size log bodies image known stands either.whole lists })
+        (λ lists. record { log = done; may = inr refl; lists = lists_log done.version before.log.size done (list bodies) image known more either.whole lists }) either.lists)
         (writes.any_moment bodies holds);
   } where
     go : (r : Result (Unit {0}) Refusal) → OnOk r (Holds after (list bodies) (state new)) → OnOk r (next ≡ done.version) → OnOk r (Keeps (record { area = after; version = next }) done (state new))
@@ -123,22 +118,17 @@ module _ {Disk : Type 0} (remembers : Type 0) (state : Disk → State) (clock : 
 
   -- a list that is made is a log
   pub makes_log : (extent : ℕ) (version : Version) (base : Base) (body : List ℕ) (result : Result (Unit {0}) Refusal) → extent ≡ 2 * LOG_REGION_BYTES → body ≡ entry_bytes version (entries.Base base) → BaseFits version base → IsBase base
-      → (state old).seen ≡ replicate extent 0 → Makes extent (body ∷ []) remembers state clock old new result → MakesLog (base_alone version base) remembers state clock old new result
-  makes_log extent version base body result size spelled fits right zeros makes =
+      → (state old).seen ≡ replicate extent 0 → length (state new).seen ≡ extent → Makes extent (body ∷ []) remembers state clock old new result → MakesLog (base_alone version base) remembers state clock old new result
+  makes_log extent version base body result size spelled fits right zeros long makes =
       let half : extent / 2 ≡ LOG_REGION_BYTES = ap (λ (n : ℕ). n / 2) size in
       let stands : IsLog version (body ∷ []) (base_alone version base) = (refl, record { spelled = spelled; fits = fits; right = right }, tt) in
-      let listed : (bytes : List ℕ) → DeviceLists (extent / 2) (body ∷ []) bytes → ListsLog (base_alone version base) bytes = λ bytes lists. lists_log version (extent / 2) (base_alone version base) (body ∷ []) bytes half stands lists in
+      let twice : extent ≡ 2 * (extent / 2) = omega (arith, size) in
+      let listed : (bytes : List ℕ) → length bytes ≡ extent → DeviceLists (extent / 2) (body ∷ []) bytes → ListsLog (base_alone version base) bytes =
+      λ bytes whole lists. lists_log version (extent / 2) (base_alone version base) (body ∷ []) bytes half stands (whole ∙ twice) lists in
       record {
-        lists = on_ok result (makes.lists zeros) (listed (state new).seen);
+        lists = on_ok result (makes.lists zeros) (listed (state new).seen long);
         durable = makes.durable;
         any_moment = λ durable.
-            weaker remembers (clock old) (clock new) (λ image. NoneCounts (extent / 2) image 0 ⊎ DeviceLists (extent / 2) (body ∷ []) image) (λ image. NoneCounts LOG_REGION_BYTES image 0 ⊎ ListsLog (base_alone version base) image)
-            (λ image either. ⊎_elim (λ none. inl (subst (λ (n : ℕ). NoneCounts n image 0) half none)) (λ lists. inr (listed image lists)) either) (makes.any_moment zeros durable);
+            weaker remembers (clock old) (clock new) (ListsOrNone extent (body ∷ [])) (λ image. NoneCounts LOG_REGION_BYTES image 0 ⊎ ListsLog (base_alone version base) image)
+            (λ image either. ⊎_elim (λ none. inl (subst (λ (n : ℕ). NoneCounts n image 0) half none)) (λ lists. inr (listed image either.whole lists)) either.lists) (makes.any_moment zeros durable);
       }
-
--- bodies that are no log
-pub unread_refused : (version : Version) (e : Unread) (area : Area) (bodies : List (List ℕ)) (bytes : List ℕ) (Honest : Type 0) (before now : ℕ) → now ≡ before → area.log.device ≡ kinds.Log → BreaksAs (IsLog version) bodies e
-    → (Honest → (behind : ℕ) → BreaksBehind (IsLog version) bodies (take behind bodies) → DeviceRefused LOG_REGION_BYTES (IsLog version) bytes (area.log.place + gate_behind (take behind bodies)))
-    → IsReadRefusal (λ broken. Honest → DeviceRefused LOG_REGION_BYTES (IsLog version) bytes broken) kinds.Log before now (refusal_of area bodies e)
-unread_refused version OutOfMemory area bodies bytes Honest before now same device breaks refused = same
-unread_refused version (Broken behind) area bodies bytes Honest before now same device breaks refused = (device, same, λ honest. refused honest behind breaks)

@@ -12,9 +12,12 @@ use Rattle.records.specs.Entries.{BaseFits, ChangeFits, page_width}
 
 -- a base that fits its record does so behind a change that fits its own
 abbrev pub FittingBasesStay : Type 0
-FittingBasesStay = (version : Version) (base : Base) (change : Change) → IsBase base → BaseFits version base → ChangeFits version change → IsRight base change → BaseFits version (base_after base change)
+FittingBasesStay =
+    (version : Version) (base : Base) (change : Change) → IsBase base → BaseFits version base
+    → ChangeFits version change → IsRight base change → BaseFits version (base_after base change)
 
 -- a change within the limits of its record: what its parts do not keep by themselves
 abbrev pub IsWithinRecord : Version → Change → Type 0
-IsWithinRecord version (Commit label writes) = (length writes ≤ EDITED_PAGES) × AllByRecursion (λ write. write.page < 256 ^ page_width version) writes
+IsWithinRecord version (Commit label writes) =
+    (length writes ≤ EDITED_PAGES) × AllByRecursion (λ write. write.page < 256 ^ page_width version) writes
 IsWithinRecord version (Drop below) = Unit {0}

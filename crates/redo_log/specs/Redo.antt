@@ -15,7 +15,6 @@ use Rattle.records.specs.Entries.{BaseFits}
 use Rattle.records.specs.Log.{IsLog}
 use Rattle.area_log.specs.Area.{Area, Holds}
 use Rattle.area_log.specs.Listed.{DeviceStandsFor}
-use Rattle.area_log.specs.Regions.{DeviceLists}
 
 -- what the log knows of its device, and the version of its records
 pub record Redo : Type 0 where
@@ -45,11 +44,9 @@ pub record Keeps (redo : Redo) (log : Log) (state : State) : Type 0 where
   pub stands : IsLog redo.version bodies log
   pub holds : Holds redo.area bodies state
 
--- the bytes of the device list the bodies of this log
-pub record ListsLog (log : Log) (bytes : List ℕ) : Type 0 where
-  pub bodies : List (List ℕ)
-  pub stands : IsLog log.version bodies log
-  pub lists : DeviceLists LOG_REGION_BYTES bodies bytes
+-- a whole device lists the bodies of this log
+abbrev pub ListsLog : Log → List ℕ → Type 0
+ListsLog log bytes = DeviceStandsFor LOG_REGION_BYTES (IsLog log.version) bytes log
 
 -- the bytes of the device list the one log or, where there is another, that
 pub record ListsOneOf (sure : Log) (other : Option Log) (bytes : List ℕ) : Type 0 where
@@ -74,7 +71,9 @@ pub record FetchedLog (version : Version) (redo : Redo) (log : Log) (old new : S
   pub lists : DeviceStandsFor LOG_REGION_BYTES (IsLog version) old.seen log
   pub keeps : Keeps redo log new
 
--- A write that makes the log `after` of a log. After a success it is kept. A crash at any moment leaves the one or the other.
-pub record WritesLog {Disk : Type 0} (redo : Redo) (log after : Log) (remembers : Type 0) (state : Disk → State) (clock : Disk → Clock) (old new : Disk) (result : Result (Unit {0}) Refusal) : Type 0 where
+-- A write that makes the log `after` of a log. After a success it is kept. A crash at any moment leaves the one or the
+-- other.
+pub record WritesLog {Disk : Type 0} (redo : Redo) (log after : Log) (remembers : Type 0) (state : Disk → State)
+    (clock : Disk → Clock) (old new : Disk) (result : Result (Unit {0}) Refusal) : Type 0 where
   pub keeps : OnOk result (Keeps redo after (state new))
   pub any_moment : LeavesOnly remembers (clock old) (clock new) (ListsOneOf log (Some after))

@@ -8,7 +8,7 @@ ghost use Rattle.retro_base.specs.declared.refusal.Refusal.TheVariants.{OutOfMem
 ghost use Rattle.gate_log.specs.Cause.{Fit, HasRoom, IsAppendRefusal, IsDiskFault, IsFillRefusal, IsReadRefusal};
 ghost use Rattle.area_log.specs.Area.{AfterWrite, appended, replaced};
 ghost use Rattle.area_log.specs.Cause.{IsWriteRefusal};
-ghost use Rattle.area_log.specs.Listed.{DeviceRefused};
+ghost use Rattle.area_log.specs.Listed.{IsRefused};
 ghost use Rattle.history.specs.declared.entry.Base.{Base};
 ghost use Rattle.history.specs.declared.entry.Change.{Change};
 ghost use Rattle.history.specs.declared.log.Log.{Log};
@@ -83,9 +83,8 @@ impl RedoLog {
         ensures same { SameDevice D.extent D.is_honest disk.old disk.new }
         ensures cause { MatchResult result
             (λ _. D.faults disk.new ≡ D.faults disk.old)
-            (IsReadRefusal (λ broken. D.is_honest disk.old
-            → DeviceRefused LOG_REGION_BYTES (IsLog version) (D.state disk.old).seen broken)
-            kinds.Log (D.faults disk.old) (D.faults disk.new)) }
+            (IsReadRefusal (IsRefused LOG_REGION_BYTES (IsLog version) (D.is_honest disk.old)
+            (D.extent disk.old) (D.state disk.old).seen) kinds.Log (D.faults disk.old) (D.faults disk.new)) }
         ensures size { OnOk result (D.extent disk.old ≡ 2 * LOG_REGION_BYTES) }
         ensures read { IfOk result (λ p. IsReadLog version p.0 p.1) }
         ensures fetched { D.is_honest disk.old

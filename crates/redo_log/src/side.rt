@@ -9,7 +9,7 @@ ghost use Rattle.retro_base.specs.declared.refusal.Refusal.TheVariants.{OutOfMem
 ghost use Rattle.gate_log.specs.Cause.{HasRoom, IsAppendRefusal, IsDiskFault, IsReadRefusal};
 ghost use Rattle.area_log.specs.Area.{AfterWrite, appended, replaced};
 ghost use Rattle.area_log.specs.Cause.{IsWriteRefusal};
-ghost use Rattle.area_log.specs.Listed.{DeviceRefused, DeviceStandsFor};
+ghost use Rattle.area_log.specs.Listed.{DeviceStandsFor, IsRefused};
 ghost use Rattle.history.specs.declared.entry.Base.{Base};
 ghost use Rattle.history.specs.declared.entry.Change.{Change};
 ghost use Rattle.history.specs.declared.log.Log.{Log};
@@ -52,6 +52,13 @@ impl<D: Disk> Model for LogSide<D> {
 }
 
 impl<D: Disk> LogSide<D> {
+    /// A fault of its device is told as one of the log's.
+    pub fn names_log(&self)
+        ensures { self.now.log.area.log.device ≡ kinds.Log }
+    {
+        let _ = &self.disk;
+    }
+
     /// Reads the log of a device, as `RedoLog::fetch` does. The device comes back where it is refused.
     pub fn fetch(
         alloc: Global,
@@ -63,9 +70,8 @@ impl<D: Disk> LogSide<D> {
             (λ e. SameDevice D.extent D.is_honest disk e.0) }
         ensures cause { MatchResult result
             (λ p. D.faults p.0.disk ≡ D.faults disk)
-            (λ e. IsReadRefusal (λ broken. D.is_honest disk
-            → DeviceRefused LOG_REGION_BYTES (IsLog version) (D.state disk).seen broken)
-            kinds.Log (D.faults disk) (D.faults e.0) e.1) }
+            (λ e. IsReadRefusal (IsRefused LOG_REGION_BYTES (IsLog version) (D.is_honest disk)
+            (D.extent disk) (D.state disk).seen) kinds.Log (D.faults disk) (D.faults e.0) e.1) }
         ensures read { IfOk result (λ p. IsReadLog version p.0.log p.1) }
         ensures lists { D.is_honest disk → IfOk result (λ p.
             DeviceStandsFor LOG_REGION_BYTES (IsLog version) (D.state disk).seen p.1) }

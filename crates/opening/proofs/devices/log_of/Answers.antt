@@ -5,8 +5,8 @@ use Rattle.retro_base.specs.declared.limits.TheConstants.{LOG_REGION_BYTES}
 use Rattle.history.specs.declared.log.Version.TheVariants.{One}
 use Rattle.gate_log.specs.Bodies.{BreaksAs, bodies_of}
 use Rattle.area_log.specs.Listed.{refusal_of}
+use Rattle.area_log.proofs.Fetches.{unread_told}
 use Rattle.records.specs.Log.{IsLog}
-use Rattle.opening.proofs.Reading.{unread_told}
 use Rattle.opening.proofs.devices.log_of.Goals as goal
 
 pub returns-clause-cause : goal.returns-clause-cause

@@ -1,4 +1,4 @@
-use Rattle.std.proofs.Common.{ℕ, List, [], ◌∷◌, ◌/◌, ap, sym, subst}
+use Rattle.std.proofs.Common.{◌∙◌, ℕ, List, [], ◌∷◌, ◌/◌, ap, sym, subst}
 use Rattle.retro_base.specs.declared.device.Device.TheVariants as kinds
 use Rattle.gate_log.specs.Cause.{Fit}
 use Rattle.redo_log.proofs.Causes.{made_with_room}
@@ -15,4 +15,4 @@ returns-clause-cause g c =
 pub returns-clause-makes : goal.returns-clause-makes
 returns-clause-makes g c = λ honest zeros.
     makes_log g.D.Disk.remembers g.D.Disk.state g.D.Disk.clock c.args.disk.now c.make.new.disk (g.D.Disk.extent c.args.disk.now) c.args.version c.args.base.now c.in_ok-base_body.field-0 c.make.result c.requires.whole c.in_ok-base_body.ensures.bytes
-    c.requires.fits c.requires.right zeros (c.make.ensures.makes honest)
+    c.requires.fits c.requires.right zeros (g.met.D.Disk.sized c.make.new.disk (c.make.ensures.same.honest.0 honest) ∙ c.make.ensures.same.size) (c.make.ensures.makes honest)
