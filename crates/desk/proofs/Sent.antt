@@ -37,7 +37,7 @@ use Rattle.race_model.proofs.DeskKeeps.{may_write_back}
 use Rattle.race_model.proofs.Histories.{page_count_after}
 use Rattle.race_model.proofs.LogKeeps.{base_whole}
 use Rattle.desk.specs.declared.desk.RunningDesk.{RunningDesk}
-use Rattle.desk.specs.declared.desk.Stop.{Stop}
+use Rattle.history.specs.declared.stop.Stop.{Stop}
 use Rattle.desk.specs.Cause.{IsWriteRefusal}
 use Rattle.desk.specs.Desk.{HoldsPagesOf, IsDesk, pending_of}
 use Rattle.desk.specs.Steps.{IsLeastWritable}

@@ -40,7 +40,7 @@ use Rattle.race_model.proofs.Histories.{page_count_after}
 use Rattle.race_model.proofs.Lists.{drop-to, pages_of-append, pages_of-drop, pages_of-length}
 use Rattle.race_model.proofs.LogKeeps.{base_whole}
 use Rattle.desk.specs.declared.desk.RunningDesk.{RunningDesk}
-use Rattle.desk.specs.declared.desk.Stop.{Stop}
+use Rattle.history.specs.declared.stop.Stop.{Stop}
 use Rattle.desk.specs.Cause.{IsWriteRefusal, IsChangeRefusal, stop_behind}
 use Rattle.desk.specs.Desk.{IsDesk, IsWhole, log_of, other_log, pending_of}
 use Rattle.desk.specs.Steps.{IsRightChange}

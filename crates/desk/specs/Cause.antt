@@ -4,7 +4,7 @@ use Rattle.retro_base.specs.declared.refusal.Refusal.{Refusal}
 use Rattle.retro_base.specs.declared.refusal.Refusal.TheVariants.{DiskFault, OutOfMemory, Stopped}
 use Rattle.gate_log.specs.Cause.{IsAppendRefusal}
 use Rattle.gate_log.specs.Log.{Region}
-use Rattle.desk.specs.declared.desk.Stop.{Stop}
+use Rattle.history.specs.declared.stop.Stop.{Stop}
 
 -- a refused write: the desk has stopped, which is told with the first fault, or the write is refused for a cause of its own
 abbrev pub IsWriteRefusal : Option Stop → (Refusal → Type 0) → Refusal → Type 0

@@ -6,7 +6,7 @@ use Rattle.retro_base.specs.declared.device.Device.TheVariants as kinds
 use Rattle.retro_base.specs.declared.limits.TheConstants.{LOG_REGION_BYTES, PAGE_BYTES}
 use Rattle.retro_base.specs.declared.refusal.Refusal.{Refusal}
 use Rattle.retro_base.specs.declared.refusal.Refusal.TheVariants.{NotAStore, OutOfMemory}
-use Rattle.area_log.specs.Listed.{DeviceRefused, DeviceStandsFor, WrongSize}
+use Rattle.area_log.specs.Listed.{DeviceStandsFor, IsRefused, WrongSize}
 use Rattle.gate_log.specs.Cause.{IsReadRefusal}
 use Rattle.block_file.specs.Blocks.{block_at}
 use Rattle.copy_queue.specs.Pending.{Pending}
@@ -84,9 +84,10 @@ IsPagesRefusal list extent bytes mappings end before now (NotAStore kinds.Maplog
 IsPagesRefusal list extent bytes mappings end before now e = IsFault kinds.Pages before now e
 
 -- the log was refused, and the pages were left alone
-abbrev pub IsLogUnread : {D : Type 0} → (D → Type 0) → (D → ℕ) → (D → State) → Version → D → D → Unopened D → Type 0
-IsLogUnread is_honest faults state version log pages e =
-    IsReadRefusal (λ broken. is_honest log → DeviceRefused LOG_REGION_BYTES (IsLog version) (state log).seen broken) kinds.Log (faults log) (faults e.log) e.why × (e.pages ≡ pages)
+abbrev pub IsLogUnread : {D : Type 0} → (D → Type 0) → (D → ℕ) → (D → ℕ) → (D → State) → Version → D → D → Unopened D → Type 0
+IsLogUnread is_honest extent faults state version log pages e =
+    IsReadRefusal (IsRefused LOG_REGION_BYTES (IsLog version) (is_honest log) (extent log) (state log).seen) kinds.Log (faults log) (faults e.log) e.why
+    × (e.pages ≡ pages)
 
 -- the log was read, and the pages were refused beside it
 pub record ArePagesUnread {D : Type 0} (is_honest : D → Type 0) (extent faults : D → ℕ) (state : D → State) (version : Version) (log pages : D) (mappings : Mappings) (end : ℕ) (e : Unopened D) : Type 0 where

@@ -85,6 +85,15 @@ impl<D: Disk + Drop> RunningDesk<D> {
         true
     }
 
+    /// The start of a retained snapshot.
+    pub fn start(&self, snapshot: u32) -> u64
+        requires whole { IsWhole D.is_honest D.state self.now }
+        requires retained { is_retained snapshot self.now.base.marks ≡ true }
+        ensures { result ≡ start_of snapshot self.now.base.marks }
+    {
+        start_of(self.base.marks(), snapshot)
+    }
+
     /// Reads what a reader of a page as of a retained snapshot is told: the bytes that the page had at its first
     /// pending capture from the snapshot's start on, else as it is. Answers the count of captures up to which the
     /// archive is to be asked before. The only refusal is a fault of the pages' device; then `out` is as before.
@@ -108,7 +117,7 @@ impl<D: Disk + Drop> RunningDesk<D> {
             → OnlyReads D.remembers D.state D.clock self.old.pool.file.disk self.new.pool.file.disk }
     {
         let upto = self.queue.first();
-        match self.queue.find(page, start_of(self.base.marks(), snapshot)) {
+        match self.queue.find(page, self.start(snapshot)) {
             Some(place) => {
                 *out = self.queue.image(place).bytes;
                 Ok(upto)

@@ -1,8 +1,7 @@
 //! The running desk, and what it tells of itself.
 
-ghost use Rattle.std.specs.Prelude.{◌≡◌, ◌-◌, ℕ, List, length};
-ghost use Rattle.retro_base.specs.declared.limits.TheConstants.{LOG_REGION_BYTES};
-ghost use Rattle.retro_base.specs.declared.refusal.Refusal.TheVariants.{Stopped};
+ghost use Rattle.std.specs.Prelude.{◌≡◌, ◌-◌, ◌*◌, ℕ, List, length};
+ghost use Rattle.retro_base.specs.declared.limits.TheConstants.{LOG_REGION_BYTES, PAGE_BYTES};
 ghost use Rattle.history.specs.Marks.{newest, oldest};
 ghost use Rattle.page_pool.specs.Frames.{count_below};
 ghost use Rattle.page_pool.specs.Side.{soiled};
@@ -11,29 +10,10 @@ ghost use Rattle.desk.specs.Desk.{IsDesk};
 
 use copy_queue::CopyQueue;
 use disk_model::{Disk, Sizes};
-use history::{RunningBase, Version, newest, oldest};
+use history::{RunningBase, Stop, Version, newest, oldest};
 use page_pool::PagePool;
 use redo_log::LogSide;
-use retro_base::{Device, Refusal};
-
-/// The first fault of a write or a sync: since then the desk writes nothing.
-#[derive(Clone, Copy, Debug, PartialEq, Eq)]
-pub struct Stop {
-    pub device: Device,
-    pub count: u64,
-}
-
-impl Stop {
-    /// The refusal of every later write.
-    pub fn refusal(self) -> Refusal
-        ensures { result ≡ Stopped self.device self.count }
-    {
-        Refusal::Stopped {
-            device: self.device,
-            count: self.count,
-        }
-    }
-}
+use retro_base::Refusal;
 
 /// The desk over its two devices.
 #[derive(Drop)]
@@ -115,7 +95,8 @@ impl<D: Disk + Drop> RunningDesk<D> {
 
     /// The devices of the log and of the pages.
     pub fn into_disks(self) -> (D, D)
-        ensures { result ≡ (self.log.disk, self.pool.file.disk) }
+        ensures disks { result ≡ (self.log.disk, self.pool.file.disk) }
+        ensures whole { D.extent result.1 ≡ PAGE_BYTES * self.pool.file.blocks }
     {
         (self.log.into_disk(), self.pool.into_disk())
     }

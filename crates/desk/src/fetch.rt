@@ -1,10 +1,11 @@
 //! The desk that its devices open to.
 
-ghost use Rattle.std.specs.Prelude.{◌≡◌, ◌<◌, ◌++◌, ◌∷◌, ◌⊎◌, ◌↔◌, ◌&&◌, ◌||◌, ◌-◌, [], drop, false, None, not, ℕ, Bool, List, OnOk, IfOk, MatchResult};
+ghost use Rattle.std.specs.Prelude.{◌≡◌, ◌<◌, ◌++◌, ◌∷◌, ◌⊎◌, ◌↔◌, ◌&&◌, ◌||◌, ◌-◌, ◌*◌, [], drop, false, None, not, ℕ, Bool, List, OnOk, IfErr, IfOk, MatchResult};
 ghost use Rattle.std.specs.List.{AllByRecursion};
 ghost use Rattle.disk_model.specs.Runs.{OnlyReads, SameDevice, WritesNothing};
 ghost use Rattle.retro_base.specs.Cause.{IsFault};
 ghost use Rattle.retro_base.specs.declared.device.Device.TheVariants.{Pages as OfPages};
+ghost use Rattle.retro_base.specs.declared.limits.TheConstants.{PAGE_BYTES};
 ghost use Rattle.block_file.specs.Blocks.{block_at, SameFile};
 ghost use Rattle.history.specs.declared.entry.Change.{Change};
 ghost use Rattle.history.specs.History.{base_after, bases_after, State as Place};
@@ -181,8 +182,9 @@ fn redo_all<D: Disk>(
 
 // The pages of a device of the size that the log says, settled, and none of them in memory.
 fn settled_pool<D: Disk>(alloc: Global, pages: D, count: u32) -> Result<PagePool<D>, (D, Refusal)>
-    ensures honest { MatchResult result
-        (λ pool. D.is_honest pages ↔ D.is_honest pool.file.disk) (λ e. D.is_honest pages ↔ D.is_honest e.0) }
+    ensures honest { IfOk result (λ pool. D.is_honest pages ↔ D.is_honest pool.file.disk) }
+    ensures back { IfErr result (λ e. SameDevice D.extent D.is_honest pages e.0) }
+    ensures size { IfOk result (λ pool. D.extent pages ≡ PAGE_BYTES * pool.file.blocks) }
     ensures cause { MatchResult result (λ pool. D.faults pool.file.disk ≡ D.faults pages)
         (λ e. IsSizeRefusal count (D.extent pages) (D.faults pages) (D.faults e.0) e.1) }
     ensures whole { IfOk result (λ pool. pool.file.blocks ≡ count) }
@@ -205,9 +207,9 @@ fn settled_pool<D: Disk>(alloc: Global, pages: D, count: u32) -> Result<PagePool
 }
 
 fn settle<D: Disk>(pool: PagePool<D>) -> Result<PagePool<D>, (D, Refusal)>
-    ensures honest { MatchResult result
-        (λ new. D.is_honest pool.file.disk ↔ D.is_honest new.file.disk)
-        (λ e. D.is_honest pool.file.disk ↔ D.is_honest e.0) }
+    ensures honest { IfOk result (λ new. D.is_honest pool.file.disk ↔ D.is_honest new.file.disk) }
+    ensures back { IfErr result (λ e. (D.is_honest pool.file.disk ↔ D.is_honest e.0)
+        × (D.extent e.0 ≡ PAGE_BYTES * pool.file.blocks)) }
     ensures cause { MatchResult result (λ new. D.faults new.file.disk ≡ D.faults pool.file.disk)
         (λ e. IsFault OfPages (D.faults pool.file.disk) (D.faults e.0) e.1) }
     ensures whole { IfOk result (λ new. new.file.blocks ≡ pool.file.blocks) }
@@ -286,6 +288,8 @@ fn open<D: Disk + Drop>(
     ensures honest { MatchResult result
         (λ desk. D.is_honest pool.file.disk ↔ D.is_honest desk.pool.file.disk)
         (λ e. D.is_honest pool.file.disk ↔ D.is_honest e.pages) }
+    ensures size { MatchResult result (λ desk. desk.pool.file.blocks ≡ pool.file.blocks)
+        (λ e. D.extent e.pages ≡ PAGE_BYTES * pool.file.blocks) }
     ensures cause { (extent : ℕ) (bytes : List ℕ)
         → IsPageSide D.is_honest D.state pool (block_at bytes) (block_at bytes) (λ _. false) (λ _. false)
         → MatchResult result (λ desk. D.faults desk.pool.file.disk ≡ D.faults pool.file.disk)
@@ -336,10 +340,11 @@ impl<D: Disk + Drop> RunningDesk<D> {
         ensures same { MatchResult result
             (λ desk. SameDevice D.extent D.is_honest log desk.log.disk
             × (D.is_honest pages ↔ D.is_honest desk.pool.file.disk))
-            (λ e. SameDevice D.extent D.is_honest log e.log × (D.is_honest pages ↔ D.is_honest e.pages)) }
+            (λ e. SameDevice D.extent D.is_honest log e.log × SameDevice D.extent D.is_honest pages e.pages) }
+        ensures size { IfOk result (λ desk. D.extent pages ≡ PAGE_BYTES * desk.pool.file.blocks) }
         ensures cause { MatchResult result
             (λ desk. (D.faults desk.log.disk ≡ D.faults log) × (D.faults desk.pool.file.disk ≡ D.faults pages))
-            (λ e. IsLogUnread D.is_honest D.faults D.state version log pages e
+            (λ e. IsLogUnread D.is_honest D.extent D.faults D.state version log pages e
             ⊎ ArePagesUnread D.is_honest D.extent D.faults D.state version log pages mappings.now end e) }
         ensures desk { IfOk result (FetchesDesk D.is_honest D.state version log pages mappings.now) }
         ensures goes { IfOk result (λ desk. desk.stop ≡ None) }

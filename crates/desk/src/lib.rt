@@ -8,10 +8,11 @@ mod desk;
 mod fetch;
 mod laws;
 mod reading;
+mod telling;
 #[cfg(test)]
 mod tests;
 mod writing;
 
-pub use desk::{RunningDesk, Stop};
+pub use desk::RunningDesk;
 pub use fetch::Unopened;
 pub use laws::desk_bytes_open;

@@ -18,8 +18,9 @@ ghost use Rattle.desk.specs.Cause.{IsWriteRefusal, stop_behind};
 ghost use Rattle.desk.specs.Desk.{HoldsPagesOf, IsDesk, IsWhole, ListsLogOf};
 ghost use Rattle.desk.specs.Steps.{IsLeastWritable, NoneWritable};
 
-use crate::desk::{RunningDesk, Stop, stop_behind};
+use crate::desk::{RunningDesk, stop_behind};
 use disk_model::Disk;
+use history::Stop;
 use retro_base::Refusal;
 use std::alloc::Global;
 

@@ -10,6 +10,7 @@ use Rattle.history.specs.declared.journal.Line.{Line}
 use Rattle.history.specs.declared.journal.What.{What}
 use Rattle.history.specs.declared.journal.What.TheVariants.{Began, Done, Overlapped, RolledBack, Looked, LookedAll, Unlooked, Dropped, Refused, Fault}
 use Rattle.history.specs.LineLaws.{ends_look, IsBeginning, NoLineOf, NoStop, EndedPinsNothing, OthersPinsStay, LooksPin, OpenWhereLastBegins, OpenByALine, NoneStops, FirstStops}
+use Rattle.history.specs.declared.stop.Stop.{Stop}
 use Rattle.history.specs.Lines.{base_of, pinned_by, begins, open_behind, open_from, open_in, is_open, stop_of, first_stop}
 use Rattle.history.specs.Sound.{Pin, same_item, unpinned, pins_behind, pins_of}
 use Rattle.history.proofs.Lines.{pins_of_one_more, open-append}
@@ -179,11 +180,11 @@ pub or-parts : {X : Type 0} (a b : Option X) → option_or a b ≡ None → (a �
 or-parts None b is = (refl, is)
 or-parts (Some x) b is = absurd cc
 
-some_stop : (stop : Device × ℕ) → Some stop ≡ None → ⊥
+some_stop : (stop : Stop) → Some stop ≡ None → ⊥
 some_stop stop is = absurd cc
 
 tells_none : (what : What) → stop_of what ≡ None → (device : Device) (count : ℕ) → what ≡ Fault device count true → ⊥
-tells_none what none device count is = some_stop (device, count) (sym (ap stop_of is) ∙ none)
+tells_none what none device count is = some_stop (record { device = device; count = count }) (sym (ap stop_of is) ∙ none)
 
 none_told : (what : What) → ((device : Device) (count : ℕ) → what ≡ Fault device count true → ⊥) → stop_of what ≡ None
 none_told Began never = refl
@@ -206,11 +207,11 @@ no_stop (line ∷ lines) none =
 
 pub behind_no_stop : (before more : List Line) → NoStop before → first_stop (before ++ more) ≡ first_stop more
 behind_no_stop [] more none = refl
-behind_no_stop (line ∷ before) more none = ap (λ (o : Option (Device × ℕ)). option_or o (first_stop (before ++ more))) (none_told line.what none.0) ∙ behind_no_stop before more none.1
+behind_no_stop (line ∷ before) more none = ap (λ (o : Option Stop). option_or o (first_stop (before ++ more))) (none_told line.what none.0) ∙ behind_no_stop before more none.1
 
 none_stop : (lines : List Line) → NoStop lines → first_stop lines ≡ None
 none_stop [] none = refl
-none_stop (line ∷ lines) none = ap (λ (o : Option (Device × ℕ)). option_or o (first_stop lines)) (none_told line.what none.0) ∙ none_stop lines none.1
+none_stop (line ∷ lines) none = ap (λ (o : Option Stop). option_or o (first_stop lines)) (none_told line.what none.0) ∙ none_stop lines none.1
 
 pub none_stops : NoneStops
 none_stops lines = (no_stop lines, none_stop lines)

@@ -11,6 +11,7 @@ use Rattle.history.specs.declared.entry.Change.TheVariants.{Commit}
 use Rattle.history.specs.declared.journal.Line.{Line}
 use Rattle.history.specs.declared.journal.What.{What}
 use Rattle.history.specs.declared.journal.What.TheVariants.{Began, Done, Overlapped, RolledBack, Looked, LookedAll, Unlooked, Dropped, Refused, Fault}
+use Rattle.history.specs.declared.stop.Stop.{Stop}
 use Rattle.history.specs.History.{bases_after, base_after, State, History, now, with_change, with_changes, pages_as_of}
 use Rattle.history.specs.Journal.{change_of, changes_of, base_behind, after_journal}
 use Rattle.history.specs.Laws.{AllKeepNewest}
@@ -81,7 +82,7 @@ changed_since_in_one_more who page place lines line le = ap (last_change who pag
 pub first_stop_in_one_more : FirstStopInOneMore
 first_stop_in_one_more [] line = or-none (stop_of line.what)
 first_stop_in_one_more (first ∷ lines) line =
-    ap (λ (o : Option (Device × ℕ)). option_or (stop_of first.what) o) (first_stop_in_one_more lines line) ∙ sym (or-assoc (stop_of first.what) (first_stop lines) (stop_of line.what))
+    ap (λ (o : Option Stop). option_or (stop_of first.what) o) (first_stop_in_one_more lines line) ∙ sym (or-assoc (stop_of first.what) (first_stop lines) (stop_of line.what))
 
 -- ---- faults
 

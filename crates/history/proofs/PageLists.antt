@@ -1,5 +1,5 @@
 -- Pages in their places, and writes of pages.
-use Rattle.std.proofs.Common.{◌≡◌, ◌<◌, ◌≤◌, ◌+◌, ◌∙◌, ℕ, suc, Bool, true, false, cond, not, ltb, leb, eqb, List, [], ◌∷◌, ◌++◌, length, take, drop, get_or, map, refl, sym, ap, subst, arith}
+use Rattle.std.proofs.Common.{◌≡◌, ◌<◌, ◌+◌, ◌∙◌, ℕ, suc, Bool, true, false, cond, not, ltb, leb, eqb, List, [], ◌∷◌, ◌++◌, length, take, drop, get_or, map, refl, sym, ap, subst, arith}
 use Rattle.std.specs.Prelude.{unwrap_or, Some, None}
 use Rattle.std.specs.List.{AllByRecursion, position, position_or_len, slice_set}
 use Rattle.std.proofs.lemmas.List.Elements.{All-from_recursion}

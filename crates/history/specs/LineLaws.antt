@@ -163,7 +163,7 @@ NoneStops = (lines : List Line) → (first_stop lines ≡ None) ↔ NoStop lines
 -- It is the one behind lines that tell none, by its device and its count.
 abbrev pub FirstStops : Type 0
 FirstStops = (before more : List Line) (line : Line) (device : Device) (count : ℕ) → NoStop before → line.what ≡ Fault device count true →
-    first_stop (before ++ line ∷ more) ≡ Some (device, count)
+    first_stop (before ++ line ∷ more) ≡ Some (record { device = device; count = count })
 
 abbrev pub FaultsOfOneMore : Type 0
 FaultsOfOneMore = (device : Device) (lines : List Line) (line : Line) → faults_of device (lines ++ line ∷ []) ≡ faults_of device lines ++ fault_of device line.who line.what

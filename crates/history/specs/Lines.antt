@@ -9,6 +9,7 @@ use Rattle.history.specs.declared.entry.Base.{Base}
 use Rattle.history.specs.declared.journal.Line.{Line}
 use Rattle.history.specs.declared.journal.What.{What}
 use Rattle.history.specs.declared.journal.What.TheVariants.{Began, Done, Looked, LookedAll, Fault}
+use Rattle.history.specs.declared.stop.Stop.{Stop}
 use Rattle.history.specs.Journal.{changes_of}
 use Rattle.history.specs.History.{bases_after}
 use Rattle.history.specs.Marks.{oldest, newest}
@@ -115,12 +116,12 @@ AreNewer (fault ∷ faults) = AllByRecursion (IsNewer fault) faults × AreNewer 
 abbrev pub FaultsDiffer : List Line → Type 0
 FaultsDiffer lines = (device : Device) → AreNewer (faults_of device lines)
 
--- the device and the count of a fault that a write or a sync met
-abbrev pub stop_of : What → Option (Device × ℕ)
-stop_of (Fault device count wrote) = if wrote then Some (device, count) else None
+-- the fault of a write or a sync that a line tells, if any
+abbrev pub stop_of : What → Option Stop
+stop_of (Fault device count wrote) = if wrote then Some (record { device = device; count = count }) else None
 stop_of _ = None
 
 -- the first such fault
-abbrev pub first_stop : List Line → Option (Device × ℕ)
+abbrev pub first_stop : List Line → Option Stop
 first_stop [] = None
 first_stop (line ∷ lines) = option_or (stop_of line.what) (first_stop lines)

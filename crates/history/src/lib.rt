@@ -10,6 +10,7 @@ mod log;
 mod replaying;
 mod right;
 mod running;
+mod stop;
 #[cfg(test)]
 mod tests;
 mod writes;
@@ -24,5 +25,6 @@ pub use laws::{
 pub use log::{Log, Version};
 pub use replaying::Replayed;
 pub use right::{are_pages, is_base, oldest_start_behind};
-pub use running::RunningBase;
+pub use running::{RunningBase, copied_marks};
+pub use stop::Stop;
 pub use writes::{PageImage, Writes};

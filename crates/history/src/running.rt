@@ -94,7 +94,8 @@ fn captured_pages(alloc: Global, marks: &[Mark], stamps: &[u32]) -> Result<Vec<u
     Ok(pages)
 }
 
-fn copied_marks(alloc: Global, marks: &[Mark]) -> Result<Vec<Mark>, AllocError>
+/// A copy of these marks. Refused for want of memory alone.
+pub fn copied_marks(alloc: Global, marks: &[Mark]) -> Result<Vec<Mark>, AllocError>
     ensures { IfOk result (λ copied. copied.items ≡ marks.now) }
 {
     let mut copied = Vec::with_capacity(alloc, marks.len())?;

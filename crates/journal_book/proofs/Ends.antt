@@ -1,17 +1,16 @@
 -- A book with one line more, and its table of last changes.
 use Rattle.std.proofs.Common.{◌≡◌, ◌∙◌, ◌<◌, ◌≤◌, ◌+◌, ◌-◌, ◌||◌, ◌&&◌, not, ℕ, zero, suc, Bool, true, false, cond, eqb, ltb, List, [], ◌∷◌, ◌++◌, length, drop, set, get_or, Option, Some, None, refl, sym, ap, subst, arith, length-append}
-use Rattle.std.specs.Prelude.{option_map}
 use Rattle.std.specs.Option.{option_or}
 use Rattle.std.specs.List.{AllByRecursion}
 use Rattle.std.proofs.lemmas.List.{get_or-set_same, get_or-set_other, get_or-drop, length-set, drop_more}
 use Rattle.std.proofs.lemmas.Bool.{eqb-true, eqb-false}
 use Rattle.std.proofs.lemmas.Bool.Decides.{nat_tests}
-use Rattle.retro_base.specs.declared.device.Device.{Device}
 use Rattle.retro_base.specs.declared.limits.TheConstants.{JOURNAL_IMAGES, WORKER_LINES}
 use Rattle.retro_base.specs.declared.who.Who.{Who}
 use Rattle.history.specs.declared.journal.Line.{Line}
 use Rattle.history.specs.declared.journal.What.{What}
 use Rattle.history.specs.declared.journal.What.TheVariants.{Began, Done, Overlapped, RolledBack, Looked, LookedAll, Unlooked, Dropped, Refused, Fault}
+use Rattle.history.specs.declared.stop.Stop.{Stop}
 use Rattle.history.specs.declared.writes.PageImage.{PageImage}
 use Rattle.history.specs.LineLaws.{NoCommitOf}
 use Rattle.history.specs.Lines.{images_of, images_in, changes_page, change_by, last_change, changed_since, stop_of, first_stop}
@@ -19,8 +18,7 @@ use Rattle.history.specs.Sound.{same_item}
 use Rattle.history.specs.Writes.{pages_of, is_among}
 use Rattle.history.proofs.Items.{apart_items}
 use Rattle.history.proofs.Lines.{images_in_one_more, first_stop_in_one_more}
-use Rattle.journal_book.specs.declared.stop.Stop.{Stop}
-use Rattle.journal_book.specs.Book.{Book, writes_of, change_end, AreEnds, marked, stop_at, stop_in, IsBook}
+use Rattle.journal_book.specs.Book.{Book, writes_of, change_end, AreEnds, marked, IsBook}
 
 abbrev book : ℕ → List Line → ℕ → ℕ → Book
 book pages lines kept workers = record { pages = pages; lines = lines; kept = kept; workers = workers }
@@ -174,17 +172,10 @@ since_some who page place lines d own lt =
     ∙ ap (λ (l : Line). Some l.who) (get_or-drop place lines (change_end page lines - place - 1) d)
     ∙ ap (λ (n : ℕ). Some (get_or lines n d).who) (omega arith)
 
-or_map : (a b : Option (Device × ℕ)) → option_map stop_at (option_or a b) ≡ option_or (option_map stop_at a) (option_map stop_at b)
-or_map None b = refl
-or_map (Some x) b = refl
-
-pub stop_more : (lines : List Line) (line : Line) → stop_in (lines ++ line ∷ []) ≡ option_or (stop_in lines) (option_map stop_at (stop_of line.what))
-stop_more lines line = ap (option_map stop_at) (first_stop_in_one_more lines line) ∙ or_map (first_stop lines) (stop_of line.what)
-
 pub book_pushed : (lines new : List Line) (line : Line) (capacity images kept workers new_capacity new_kept new_workers : ℕ) (stop new_stop : Option Stop) (ends new_ends : List ℕ) (writes : List PageImage)
     → IsBook lines capacity images kept workers stop ends → new_kept + new_workers + 1 ≤ kept + workers → new_workers ≤ WORKER_LINES → capacity ≤ new_capacity
     → images_in lines + length (writes_of line.what) ≤ JOURNAL_IMAGES
-    → new ≡ lines ++ line ∷ [] → writes ≡ writes_of line.what → new_stop ≡ option_or stop (option_map stop_at (stop_of line.what)) → new_ends ≡ marked ends (length lines + 1) writes
+    → new ≡ lines ++ line ∷ [] → writes ≡ writes_of line.what → new_stop ≡ option_or stop (stop_of line.what) → new_ends ≡ marked ends (length lines + 1) writes
     → IsBook new new_capacity (images + length writes) new_kept new_workers new_stop new_ends
 book_pushed lines new line capacity images kept workers new_capacity new_kept new_workers stop new_stop ends new_ends writes is room two more few items written first marks =
     let count : length new ≡ length lines + 1 = ap (λ (l : List Line). length l) items ∙ length-append lines (line ∷ []) in
@@ -196,7 +187,7 @@ book_pushed lines new line capacity images kept workers new_capacity new_kept ne
       memory = omega (arith, count, is.memory);
       places = omega (arith, count, is.places);
       two_workers = two;
-      stops = first ∙ ap (λ (o : Option Stop). option_or o (option_map stop_at (stop_of line.what))) is.stops ∙ sym (stop_more lines line) ∙ ap stop_in (sym items);
+      stops = first ∙ ap (λ (o : Option Stop). option_or o (stop_of line.what)) is.stops ∙ sym (first_stop_in_one_more lines line) ∙ ap first_stop (sym items);
       changes = subst (λ (l : List Line). AreEnds new_ends l) (sym items)
           (subst (λ (e : List ℕ). AreEnds e (lines ++ line ∷ [])) (sym (marks ∙ ap (marked ends (length lines + 1)) written)) (ends_more ends lines line is.changes));
     }

@@ -1,15 +1,14 @@
 -- The journal of a run, with the places that are kept for lines to come.
-use Rattle.std.specs.Prelude.{◌≡◌, ◌+◌, ◌-◌, ◌≤◌, ◌<◌, ◌++◌, nat_lt, ℕ, Option, Some, None, option_map, if◌then◌else◌, List, [], ◌∷◌, length, slice_index, set}
-use Rattle.retro_base.specs.declared.device.Device.{Device}
+use Rattle.std.specs.Prelude.{◌≡◌, ◌+◌, ◌-◌, ◌≤◌, ◌<◌, ◌++◌, nat_lt, ℕ, Option, Some, None, if◌then◌else◌, List, [], ◌∷◌, length, slice_index, set}
 use Rattle.retro_base.specs.declared.limits.TheConstants.{JOURNAL_IMAGES, JOURNAL_LINES, WORKER_LINES}
 use Rattle.retro_base.specs.declared.refusal.Refusal.{Refusal}
 use Rattle.retro_base.specs.declared.refusal.Refusal.TheVariants.{JournalFull}
 use Rattle.history.specs.declared.journal.Line.{Line}
 use Rattle.history.specs.declared.journal.What.{What}
 use Rattle.history.specs.declared.journal.What.TheVariants.{Done}
+use Rattle.history.specs.declared.stop.Stop.{Stop}
 use Rattle.history.specs.declared.writes.PageImage.{PageImage}
 use Rattle.history.specs.Lines.{images_in, changes_page, first_stop}
-use Rattle.journal_book.specs.declared.stop.Stop.{Stop}
 
 -- the pages of the store, the lines so far, how many closing lines are kept for what is open, and how many for faults of the workers
 pub record Book : Type 0 where
@@ -51,13 +50,6 @@ abbrev pub writes_of : What → List PageImage
 writes_of (Done label writes) = writes
 writes_of _ = []
 
--- the device and the count of the fault that stopped the desk
-abbrev pub stop_at : Device × ℕ → Stop
-stop_at fault = record { device = fault.0; count = fault.1 }
-
-abbrev pub stop_in : List Line → Option Stop
-stop_in lines = option_map stop_at (first_stop lines)
-
 -- how many lines there are up to the last that changes the page; 0 where none does
 abbrev pub change_end : ℕ → List Line → ℕ
 change_end page [] = 0
@@ -80,5 +72,5 @@ pub record IsBook (lines : List Line) (capacity images kept workers : ℕ) (stop
   pub memory : length lines + kept + workers ≤ capacity
   pub places : length lines + kept + workers ≤ JOURNAL_LINES
   pub two_workers : workers ≤ WORKER_LINES
-  pub stops : stop ≡ stop_in lines
+  pub stops : stop ≡ first_stop lines
   pub changes : AreEnds ends lines

@@ -1,16 +1,15 @@
 //! The journal, with places kept for lines to come.
 
-ghost use Rattle.std.specs.Prelude.{◌≡◌, ◌+◌, ◌≤◌, ◌<◌, ◌++◌, ◌∷◌, [], Some, OnOk, OnErr, IfOk, length, drop, option_map};
+ghost use Rattle.std.specs.Prelude.{◌≡◌, ◌+◌, ◌≤◌, ◌<◌, ◌++◌, ◌∷◌, [], Some, OnOk, OnErr, IfOk, length, drop};
 ghost use Rattle.std.specs.Option.{option_or};
 ghost use Rattle.std.specs.List.{AllByRecursion};
 ghost use Rattle.retro_base.specs.declared.limits.TheConstants.{JOURNAL_IMAGES, WORKER_LINES};
-ghost use Rattle.history.specs.Lines.{images_in, changed_since, stop_of};
+ghost use Rattle.history.specs.Lines.{images_in, changed_since, first_stop, stop_of};
 ghost use Rattle.history.specs.LineLaws.{NoCommitOf};
-ghost use Rattle.journal_book.specs.Book.{closing_with, giving_up, keeping, lines_needed, lines_refused, noting, stop_at, stop_in, writes_of, SESSION_LINES};
+ghost use Rattle.journal_book.specs.Book.{closing_with, giving_up, keeping, lines_needed, lines_refused, noting, writes_of, SESSION_LINES};
 
 use crate::mark::mark;
-use crate::stop::Stop;
-use history::{Journal, Line, PageImage, What};
+use history::{Journal, Line, PageImage, Stop, What};
 use retro_base::{JOURNAL_LINES, Refusal, WORKER_LINES, Who};
 use std::alloc::{AllocError, Global};
 use std::marker::Model;
@@ -73,7 +72,7 @@ impl Book {
 
     /// The first fault that a write or a sync met, where a line tells one.
     pub fn stop(&self) -> Option<Stop>
-        ensures { result ≡ stop_in self.now.lines }
+        ensures { result ≡ first_stop self.now.lines }
     {
         self.stop
     }
@@ -193,7 +192,7 @@ fn written(what: &What) -> &[PageImage]
 
 // The stop behind a line: the one before it, or else its own.
 fn first_of(stop: Option<Stop>, what: &What) -> Option<Stop>
-    ensures { result ≡ option_or stop (option_map stop_at (stop_of what.now)) }
+    ensures { result ≡ option_or stop (stop_of what.now) }
 {
     if stop.is_some() {
         return stop;

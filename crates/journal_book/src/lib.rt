@@ -4,12 +4,10 @@
 mod book;
 mod edits;
 mod mark;
-mod stop;
 mod work;
 mod works;
 
 pub use book::Book;
 pub use edits::{edit_of, has_page};
-pub use stop::Stop;
 pub use work::{Look, Transaction, Work};
 pub use works::Works;

@@ -87,7 +87,8 @@ impl<D: Disk> PagePool<D> {
 
     /// The device.
     pub fn into_disk(self) -> D
-        ensures { result ≡ self.file.disk }
+        ensures disk { result ≡ self.file.disk }
+        ensures whole { D.extent result ≡ PAGE_BYTES * self.file.blocks }
     {
         let PagePool { file, .. } = self;
         file.into_disk()

@@ -1,9 +1,9 @@
 -- The core behind a commit.
-use Rattle.std.proofs.Common.{◌≡◌, ◌∙◌, ◌≤◌, ◌<◌, ◌+◌, ◌&&◌, ◌||◌, not, ℕ, Bool, true, false, cond, eqb, ltb, List, [], ◌∷◌, ◌++◌, length, refl, sym, ap, subst, arith, Option, Some, None}
-use Rattle.std.specs.Prelude.{IsSome, is_some, option_map, ◌^◌}
-use Rattle.std.specs.Option.{option_or, option_to_list}
+use Rattle.std.proofs.Common.{◌≡◌, ◌∙◌, ◌≤◌, ◌<◌, ◌+◌, ◌&&◌, ◌||◌, not, ℕ, Bool, true, false, cond, eqb, List, [], ◌∷◌, length, refl, sym, ap, subst, arith, Option, Some, None}
+use Rattle.std.specs.Prelude.{IsSome, is_some, ◌^◌}
+use Rattle.std.specs.Option.{option_to_list}
 use Rattle.std.specs.List.{AllByRecursion}
-use Rattle.std.proofs.lemmas.Bool.{eqb-true, eqb-false, eq-eqb, ltb-false}
+use Rattle.std.proofs.lemmas.Bool.{eq-eqb, ltb-false}
 use Rattle.std.proofs.lemmas.List.Filters.{length-filter_both}
 use Rattle.disk_model.specs.Disk.{State}
 use Rattle.retro_base.specs.declared.limits.TheConstants.{EDITED_PAGES, JOURNAL_IMAGES, MAX_PAGES, PAGE_BYTES}
@@ -11,38 +11,32 @@ use Rattle.retro_base.specs.declared.who.Who.{Who}
 use Rattle.history.specs.declared.entry.Base.{Base}
 use Rattle.history.specs.declared.entry.Change.{Change}
 use Rattle.history.specs.declared.entry.Change.TheVariants.{Commit}
-use Rattle.history.specs.declared.journal.Line.{Line}
 use Rattle.history.specs.declared.journal.What.TheVariants as whats
 use Rattle.history.specs.declared.log.Version.{Version}
 use Rattle.history.specs.declared.log.Version.TheVariants.{One, Two}
 use Rattle.history.specs.declared.writes.PageImage.{PageImage}
 use Rattle.history.specs.History.{History, base_after, captures_page, now, with_changes}
 use Rattle.history.specs.Journal.{change_of}
-use Rattle.history.specs.Lines.{base_of, images_in}
-use Rattle.history.specs.Right.{DoesSomething, IsBase, IsRight, MayFollow}
+use Rattle.history.specs.Lines.{base_of, images_in, first_stop, stop_of}
+use Rattle.history.specs.Right.{DoesSomething, IsBase, IsRight}
 use Rattle.history.specs.Sound.{KeepsRules, MayCommit, pins_of}
-use Rattle.history.specs.Writes.{is_among, pages_of, rises}
+use Rattle.history.specs.Writes.{is_among, pages_of}
 use Rattle.history.proofs.SoundLaws.{sound_with_one_more}
 use Rattle.page_pool.specs.Side.{Pool, held}
 use Rattle.records.specs.Entries.{ChangeFits, LabelFits, WriteFits, page_width}
 use Rattle.race_model.specs.Desk.{Desk}
-use Rattle.race_model.specs.Fits.{DeskFits}
 use Rattle.race_model.specs.Machine.{changed}
 use Rattle.race_model.proofs.DeskKeeps.{change_keeps}
 use Rattle.desk.specs.declared.desk.RunningDesk.{RunningDesk}
-use Rattle.desk.specs.declared.desk.Stop.{Stop as DeskStop}
 use Rattle.desk.specs.Desk.{IsDesk}
 use Rattle.desk.specs.Steps.{AreHeld}
 use Rattle.desk.proofs.Steps.{going}
-use Rattle.journal_book.specs.declared.stop.Stop.{Stop}
 use Rattle.journal_book.specs.declared.work.Transaction.{Transaction}
 use Rattle.journal_book.specs.declared.work.Work.{Work}
 use Rattle.journal_book.specs.declared.work.Work.TheVariants.{Open}
-use Rattle.journal_book.specs.Book.{stop_in}
-use Rattle.journal_book.specs.Works.{edits_of, edits_page, work_at, with_work}
+use Rattle.journal_book.specs.Works.{edits_of, edits_page, work_at}
 use Rattle.txn_set.specs.declared.ledger.Ledger.{Ledger}
 use Rattle.txn_set.specs.Ledger.{committed, line_of, taken}
-use Rattle.txn_set.specs.declared.counts.Counts.{Counts}
 use Rattle.txn_set.specs.Refused.{captures_behind, commit_refused, counts_of, leaves_record}
 use Rattle.txn_set.specs.WorksFit.{TransactionFits, WorksFit}
 use Rattle.txn_set.proofs.Commits.{commits_are_right, commits_stay_sound, desk_goes_on, images_fit}
@@ -50,8 +44,8 @@ use Rattle.txn_set.proofs.LedgerSteps.{some_kept}
 use Rattle.store_core.specs.declared.desk_core.Core.{Core}
 use Rattle.journal_book.proofs.Slots.{work_at_with}
 use Rattle.store_core.specs.Commits.{IsAllowed, IsMayCommit}
-use Rattle.store_core.specs.Core.{IsCore, IsLedger, desk_stop}
-use Rattle.store_core.proofs.Cores.{base_is, core_line, holds_ended, line_stop, with_nothing}
+use Rattle.store_core.specs.Core.{IsCore}
+use Rattle.store_core.proofs.Cores.{base_is, core_line, holds_ended, with_nothing}
 use Rattle.store_core.proofs.Ledgers.{ledger_committed}
 use Rattle.store_core.proofs.Opened.{and_true, stop_stays}
 
@@ -90,9 +84,6 @@ writes_fit version pages (write ∷ writes) few inside whole = (record { page = 
   width One = omega (arith, few, inside.0)
   width Two = omega (arith, few, inside.0)
 
-none_stopped : (stop : Option DeskStop) (told : Option Stop) → stop ≡ option_map desk_stop told → told ≡ None → stop ≡ None
-none_stopped stop told same none = same ∙ ap (option_map desk_stop) none
-
 module _ {D : Type 0} (honest : D → Type 0) (state : D → State) (opening : History) (core : Core D) (plain : Desk) (is : IsCore honest state opening core plain) where
   pub base_right : IsBase core.desk.base
   base_right = subst IsBase (sym is.is.base) is.fits.history.right
@@ -114,16 +105,16 @@ module _ {D : Type 0} (honest : D → Type 0) (state : D → State) (opening : H
     pub kept_one : 1 ≤ core.ledger.book.kept
     kept_one = subst (λ (n : ℕ). 1 ≤ n) (sym is.ledger.works.kept) (some_kept core.ledger.works.slots who.session (subst IsSome (sym there) refl))
 
-    module _ (none : commit_refused (stop_in core.ledger.book.lines) (counts_of core.desk.base t.edits) core.ledger.book.lines t label ≡ None) where
+    module _ (none : commit_refused (first_stop core.ledger.book.lines) (counts_of core.desk.base t.edits) core.ledger.book.lines t (is_some label) ≡ None) where
       pub images_room : images_in core.ledger.book.lines + length t.edits ≤ JOURNAL_IMAGES
-      images_room = images_fit core.desk.base (stop_in core.ledger.book.lines) core.ledger.book.lines t label none
+      images_room = images_fit core.desk.base (first_stop core.ledger.book.lines) core.ledger.book.lines t label none
 
       module _ (leaves : leaves_record label t.edits ≡ true) where
         pub goes_on : core.desk.stop ≡ None
-        goes_on = none_stopped core.desk.stop (stop_in core.ledger.book.lines) is.stop (desk_goes_on core.desk.base (stop_in core.ledger.book.lines) core.ledger.book.lines t label none leaves)
+        goes_on = is.stop ∙ (desk_goes_on core.desk.base (first_stop core.ledger.book.lines) core.ledger.book.lines t label none leaves)
 
         pub commit_right : IsRight core.desk.base (Commit label t.edits)
-        commit_right = commits_are_right core.desk.base (stop_in core.ledger.book.lines) core.ledger.book.lines t label base_right edits_inside none (does_so label t.edits leaves)
+        commit_right = commits_are_right core.desk.base (first_stop core.ledger.book.lines) core.ledger.book.lines t label base_right edits_inside none (does_so label t.edits leaves)
 
         pub may_commit : IsMayCommit honest state core.desk plain label t.edits
         may_commit = record {
@@ -149,7 +140,7 @@ module _ {D : Type 0} (honest : D → Type 0) (state : D → State) (opening : H
             (ap (λ (c : Option Change). with_changes plain.history (option_to_list c)) (sym (change_done core.desk.base label t.edits leaves)))
             (holds_ended core.desk.pool desk.pool core.ledger.works.slots who.session is.edits is.ledger.works.apart
             (λ page. released page ∙ ap (λ (w : Option Work). held core.desk.pool page && not (is_among page (pages_of (edits_of w)))) (sym there)))
-            (stop ∙ stop_stays core.desk.stop (line_stop (whats.Done label t.edits)) refl) (ap (λ (b : Base). b.page_count) base))
+            (stop ∙ stop_stays core.desk.stop (stop_of (whats.Done label t.edits)) refl) (ap (λ (b : Base). b.page_count) base))
 
 -- ---- the open transaction of a session is one
 
@@ -173,16 +164,16 @@ pub core_pair : {D : Type 0} (a b : Core D) → a.desk ≡ b.desk → a.ledger �
 core_pair {D = D} a b desk ledger = ap (λ (d : RunningDesk D). let c : Core D = record a { desk = d } in c) desk ∙ ap (λ (l : Ledger). let c : Core D = record b { ledger = l } in c) ledger
 
 module _ {D : Type 0} (honest : D → Type 0) (state : D → State) (opening : History) (core : Core D) (plain : Desk) (is : IsCore honest state opening core plain) (who : Who) (t : Transaction) (label : Option (List ℕ))
-    (there : work_at core.ledger.works.slots who.session ≡ Some (Open t)) (none : commit_refused (stop_in core.ledger.book.lines) (counts_of core.desk.base t.edits) core.ledger.book.lines t label ≡ None) where
+    (there : work_at core.ledger.works.slots who.session ≡ Some (Open t)) (none : commit_refused (first_stop core.ledger.book.lines) (counts_of core.desk.base t.edits) core.ledger.book.lines t (is_some label) ≡ None) where
   any_rules : KeepsRules (base_of (now opening).base core.ledger.book.lines) (pins_of (now opening).base [] core.ledger.book.lines) (whats.Done label t.edits)
   any_rules =
       let base = base_is honest state opening core plain is in
       ((sound_with_one_more (now opening).base core.ledger.book.lines (line_of who (whats.Done label t.edits))).0
-      (commits_stay_sound (now opening).base (stop_in core.ledger.book.lines) core.ledger.book.lines (line_of who (whats.Done label t.edits)) t label is.ledger.sound
+      (commits_stay_sound (now opening).base (first_stop core.ledger.book.lines) core.ledger.book.lines (line_of who (whats.Done label t.edits)) t label is.ledger.sound
       (omega (arith, is.ledger.places.places, kept_one honest state opening core plain is who t label there))
       (fitting honest state opening core plain is who t label there).edits_rise
       (subst (λ (b : Base). AllByRecursion (λ (edit : PageImage). edit.page < b.page_count) t.edits) base (edits_inside honest state opening core plain is who t label there))
-      (subst (λ (b : Base). commit_refused (stop_in core.ledger.book.lines) (counts_of b t.edits) core.ledger.book.lines t label ≡ None) base none) refl)).2
+      (subst (λ (b : Base). commit_refused (first_stop core.ledger.book.lines) (counts_of b t.edits) core.ledger.book.lines t (is_some label) ≡ None) base none) refl)).2
 
   -- behind a commit that neither writes nor declares
   pub core_nothing : (ledger : Ledger) → ledger ≡ committed who label t.edits (taken who core.ledger) → WorksFit ledger → leaves_record label t.edits ≡ false → IsCore honest state opening (record { desk = core.desk; ledger = ledger }) plain
@@ -197,14 +188,7 @@ module _ {D : Type 0} (honest : D → Type 0) (state : D → State) (opening : H
       ∙ ap (λ (w : List PageImage). with_changes plain.history (option_to_list (change_of core.desk.base (whats.Done None w)))) empty.1))
       (holds_ended core.desk.pool core.desk.pool core.ledger.works.slots who.session is.edits is.ledger.works.apart
       (λ page. and_true (held core.desk.pool page) ∙ ap (λ (l : List PageImage). held core.desk.pool page && not (is_among page (pages_of l))) (sym empty.1 ∙ sym (ap edits_of there))))
-      (stop_stays core.desk.stop (line_stop (whats.Done label t.edits)) refl) refl)
-
--- why a commit is refused goes by whether there is a label
-pub refused_alike : (fault : Option Stop) (counts : Counts) (lines : List Line) (t : Transaction) (a b : Option (List ℕ)) → is_some a ≡ is_some b → commit_refused fault counts lines t a ≡ commit_refused fault counts lines t b
-refused_alike fault counts lines t None None e = refl
-refused_alike fault counts lines t None (Some b) e = absurd cc
-refused_alike fault counts lines t (Some a) None e = absurd cc
-refused_alike fault counts lines t (Some a) (Some b) e = refl
+      (stop_stays core.desk.stop (stop_of (whats.Done label t.edits)) refl) refl)
 
 -- the captures behind a commit stay below 2^64
 pub captures_below : (base : Base) (writes : List PageImage) → IsBase base → length writes ≤ EDITED_PAGES → captures_behind (counts_of base writes) < 2 ^ 64

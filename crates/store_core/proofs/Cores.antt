@@ -1,15 +1,13 @@
 -- The core behind a line, and behind a change of one session's work.
-use Rattle.std.proofs.Common.{◌≡◌, ◌∙◌, ◌≤◌, ◌<◌, ◌+◌, ◌&&◌, ◌||◌, not, ℕ, Bool, true, false, cond, eqb, List, [], ◌∷◌, ◌++◌, refl, sym, ap, subst, Option, Some, None}
-use Rattle.std.specs.Prelude.{option_map}
+use Rattle.std.proofs.Common.{◌≡◌, ◌∙◌, ◌&&◌, not, ℕ, Bool, true, false, cond, eqb, List, [], ◌∷◌, ◌++◌, refl, sym, ap, Option, Some, None}
 use Rattle.std.specs.Option.{option_or, option_to_list}
-use Rattle.std.proofs.lemmas.Bool.{eqb-true, eqb-false, eq-eqb}
+use Rattle.std.proofs.lemmas.Bool.{eqb-true, eqb-false}
 use Rattle.disk_model.specs.Disk.{State}
-use Rattle.retro_base.specs.declared.device.Device.{Device}
 use Rattle.history.specs.declared.entry.Base.{Base}
 use Rattle.history.specs.declared.entry.Change.{Change}
 use Rattle.history.specs.declared.journal.Line.{Line}
 use Rattle.history.specs.declared.journal.What.{What}
-use Rattle.history.specs.History.{History, now, with_change, with_changes}
+use Rattle.history.specs.History.{History, now, with_changes}
 use Rattle.history.specs.Journal.{after_journal, change_of, changes_of}
 use Rattle.history.specs.Lines.{base_of, first_stop, stop_of}
 use Rattle.history.specs.Writes.{is_among, pages_of}
@@ -18,38 +16,18 @@ use Rattle.history.proofs.Lines.{base_after_journal, first_stop_in_one_more}
 use Rattle.page_pool.specs.Side.{Pool, held}
 use Rattle.race_model.specs.Desk.{Desk}
 use Rattle.race_model.specs.Fits.{DeskFits}
-use Rattle.desk.specs.declared.desk.RunningDesk.{RunningDesk}
-use Rattle.desk.specs.declared.desk.Stop.{Stop as DeskStop}
+use Rattle.history.specs.declared.stop.Stop.{Stop}
 use Rattle.desk.specs.Desk.{IsDesk}
-use Rattle.journal_book.specs.declared.stop.Stop.{Stop}
-use Rattle.journal_book.specs.declared.work.Transaction.{Transaction}
 use Rattle.journal_book.specs.declared.work.Work.{Work}
-use Rattle.journal_book.specs.declared.work.Work.TheVariants.{Open, Looking, KeptDrop}
-use Rattle.journal_book.specs.Book.{stop_at, stop_in}
 use Rattle.journal_book.specs.Works.{edits_of, edits_page, work_at, with_work}
 use Rattle.journal_book.proofs.Slots.{work_at_with}
-use Rattle.txn_set.specs.declared.ledger.Ledger.{Ledger}
 use Rattle.store_core.specs.declared.desk_core.Core.{Core}
-use Rattle.store_core.specs.Core.{HoldsEdits, IsCore, IsLedger, desk_stop}
+use Rattle.store_core.specs.Core.{HoldsEdits, IsCore, IsLedger}
 
 -- a line that tells no stop and leaves no change in the log
 pub record IsQuiet (what : What) : Type 0 where
   pub stops : stop_of what ≡ None
   pub changes : (base : Base) → change_of base what ≡ None
-
-map_or : {X Y : Type 0} (f : X → Y) (a b : Option X) → option_map f (option_or a b) ≡ option_or (option_map f a) (option_map f b)
-map_or f None b = refl
-map_or f (Some x) b = refl
-
--- the stop of a line, as the desk keeps it
-abbrev pub line_stop : What → Option DeskStop
-line_stop what = option_map desk_stop (option_map stop_at (stop_of what))
-
-stop_more : (lines : List Line) (line : Line) → option_map desk_stop (stop_in (lines ++ line ∷ [])) ≡ option_or (option_map desk_stop (stop_in lines)) (line_stop line.what)
-stop_more lines line =
-    ap (λ (s : Option (Device × ℕ)). option_map desk_stop (option_map stop_at s)) (first_stop_in_one_more lines line)
-    ∙ ap (option_map desk_stop) (map_or stop_at (first_stop lines) (stop_of line.what))
-    ∙ map_or desk_stop (stop_in lines) (option_map stop_at (stop_of line.what))
 
 -- ---- the pages that are held
 
@@ -124,7 +102,7 @@ module _ {D : Type 0} (honest : D → Type 0) (state : D → State) (opening : H
   -- behind a line
   pub core_line : (new : Core D) (other : Desk) (line : Line) → new.ledger.book.lines ≡ core.ledger.book.lines ++ line ∷ [] → new.ledger.book.pages ≡ core.ledger.book.pages → IsLedger (now opening).base new.ledger
       → IsDesk honest state new.desk other → DeskFits other → other.history ≡ with_changes plain.history (option_to_list (change_of core.desk.base line.what)) → HoldsEdits new.desk.pool new.ledger.works.slots
-      → new.desk.stop ≡ option_or core.desk.stop (line_stop line.what) → new.desk.base.page_count ≡ core.desk.base.page_count → IsCore honest state opening new other
+      → new.desk.stop ≡ option_or core.desk.stop (stop_of line.what) → new.desk.base.page_count ≡ core.desk.base.page_count → IsCore honest state opening new other
   core_line new other line lines pages ledger desk fits history holds stop count = record {
     ledger = ledger;
     is = desk;
@@ -132,10 +110,10 @@ module _ {D : Type 0} (honest : D → Type 0) (state : D → State) (opening : H
     journal = history ∙ sym (behind_line line) ∙ ap (after_journal opening) (sym lines);
     pages = pages ∙ is.pages ∙ sym count;
     edits = holds;
-    stop = stop ∙ ap (λ (s : Option DeskStop). option_or s (line_stop line.what)) is.stop ∙ sym (stop_more core.ledger.book.lines line) ∙ ap (λ (l : List Line). option_map desk_stop (stop_in l)) (sym lines);
+    stop = stop ∙ ap (λ (s : Option Stop). option_or s (stop_of line.what)) is.stop ∙ sym (first_stop_in_one_more core.ledger.book.lines line) ∙ ap first_stop (sym lines);
   }
 
-  or_none : (s : Option DeskStop) → option_or s None ≡ s
+  or_none : (s : Option Stop) → option_or s None ≡ s
   or_none None = refl
   or_none (Some x) = refl
 
@@ -148,7 +126,7 @@ module _ {D : Type 0} (honest : D → Type 0) (state : D → State) (opening : H
   core_quiet new other line lines pages ledger desk fits history holds quiet stop base =
       core_line new other line lines pages ledger desk fits
       (history ∙ sym (with_nothing plain.history) ∙ ap (λ (c : Option Change). with_changes plain.history (option_to_list c)) (sym (quiet.changes core.desk.base)))
-      holds (stop ∙ sym (or_none core.desk.stop) ∙ ap (λ (s : Option (Device × ℕ)). option_or core.desk.stop (option_map desk_stop (option_map stop_at s))) (sym quiet.stops)) (ap (λ (b : Base). b.page_count) base)
+      holds (stop ∙ sym (or_none core.desk.stop) ∙ ap (option_or core.desk.stop) (sym quiet.stops)) (ap (λ (b : Base). b.page_count) base)
 
   -- behind no line
   pub core_still : (new : Core D) (other : Desk) → new.ledger.book.lines ≡ core.ledger.book.lines → new.ledger.book.pages ≡ core.ledger.book.pages → IsLedger (now opening).base new.ledger
@@ -160,5 +138,5 @@ module _ {D : Type 0} (honest : D → Type 0) (state : D → State) (opening : H
     journal = history ∙ is.journal ∙ ap (after_journal opening) (sym lines);
     pages = pages ∙ is.pages ∙ ap (λ (b : Base). b.page_count) (sym base);
     edits = holds;
-    stop = stop ∙ is.stop ∙ ap (λ (l : List Line). option_map desk_stop (stop_in l)) (sym lines);
+    stop = stop ∙ is.stop ∙ ap first_stop (sym lines);
   }

@@ -1,5 +1,5 @@
 -- The core behind pages that are read and edited.
-use Rattle.std.proofs.Common.{◌≡◌, ◌∙◌, ◌<◌, ◌&&◌, ◌||◌, not, ℕ, Bool, true, false, cond, eqb, ltb, List, [], ◌∷◌, length, refl, sym, ap, subst, Bor, Option, Some, None, Result, Ok, Err}
+use Rattle.std.proofs.Common.{◌≡◌, ◌∙◌, ◌&&◌, ◌||◌, not, ℕ, Bool, true, false, cond, eqb, ltb, List, [], ◌∷◌, length, refl, sym, ap, subst, Bor, Option, Some, None, Result, Ok, Err}
 use Rattle.std.specs.Prelude.{MatchResult, OnOk, OnErr, IfErr, is_some, option_copied}
 use Rattle.std.specs.List.{AllByRecursion}
 use Rattle.std.proofs.lemmas.Bool.{eqb-true, eqb-false, eq-eqb}
@@ -10,7 +10,6 @@ use Rattle.retro_base.specs.declared.refusal.Refusal.{Refusal}
 use Rattle.retro_base.specs.declared.limits.TheConstants.{PAGE_BYTES}
 use Rattle.retro_base.specs.declared.refusal.Refusal.TheVariants.{OutOfMemory}
 use Rattle.retro_base.specs.declared.who.Who.{Who}
-use Rattle.history.specs.declared.entry.Base.{Base}
 use Rattle.history.specs.declared.writes.PageImage.{PageImage}
 use Rattle.history.specs.History.{History, now}
 use Rattle.history.specs.Writes.{is_among, pages_of}
@@ -22,7 +21,7 @@ use Rattle.desk.specs.Steps.{SameButPages}
 use Rattle.journal_book.specs.declared.work.Transaction.{Transaction}
 use Rattle.journal_book.specs.declared.work.Work.{Work}
 use Rattle.journal_book.specs.declared.work.Work.TheVariants.{Open}
-use Rattle.journal_book.specs.Works.{editing, edits_of, edits_page, keeping_refusal, own_edit, reading, with_edit, work_at, with_work}
+use Rattle.journal_book.specs.Works.{editing, edits_of, edits_page, keeping_refusal, own_edit, with_edit, work_at, with_work}
 use Rattle.journal_book.proofs.EditLists.{edit_among}
 use Rattle.journal_book.proofs.Slots.{with_work_same, work_at_with}
 use Rattle.txn_set.specs.declared.ledger.Ledger.{Ledger}
@@ -32,7 +31,7 @@ use Rattle.txn_set.specs.WorksFit.{WorksFit}
 use Rattle.txn_set.proofs.FitSteps.{edit_alone}
 use Rattle.store_core.specs.declared.desk_core.Core.{Core}
 use Rattle.store_core.specs.Calls.{HasAnswered}
-use Rattle.store_core.specs.Core.{HoldsEdits, IsCore, IsLedger}
+use Rattle.store_core.specs.Core.{HoldsEdits, IsCore}
 use Rattle.store_core.proofs.Cores.{core_still, holds_moved, same_edits}
 use Rattle.store_core.proofs.Ledgers.{ledger_with}
 

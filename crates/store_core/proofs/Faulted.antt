@@ -1,6 +1,6 @@
 -- The core behind writes, and behind the lines of faults.
-use Rattle.std.proofs.Common.{◌≡◌, ◌∙◌, ◌≤◌, ◌&&◌, not, ℕ, Bool, true, false, cond, List, [], ◌∷◌, ◌++◌, refl, sym, ap, subst, Option, Some, None}
-use Rattle.std.specs.Prelude.{IsSome, is_some}
+use Rattle.std.proofs.Common.{◌≡◌, ◌∙◌, ◌≤◌, ◌&&◌, not, ℕ, Bool, true, false, cond, refl, sym, ap, subst, Option, Some, None}
+use Rattle.std.specs.Prelude.{is_some}
 use Rattle.std.specs.Option.{option_or}
 use Rattle.disk_model.specs.Disk.{State}
 use Rattle.retro_base.specs.declared.device.Device.{Device}
@@ -9,6 +9,7 @@ use Rattle.retro_base.specs.declared.refusal.Refusal.TheVariants.{DiskFault}
 use Rattle.retro_base.specs.declared.refusal.Refusal.TheVariants as refusals
 use Rattle.retro_base.specs.declared.who.Who.{Who}
 use Rattle.gate_log.specs.Cause.{IsDiskFault}
+use Rattle.history.specs.Lines.{stop_of}
 use Rattle.history.specs.declared.entry.Base.{Base}
 use Rattle.history.specs.declared.journal.What.TheVariants as whats
 use Rattle.history.specs.History.{History, now}
@@ -16,7 +17,7 @@ use Rattle.page_pool.specs.Side.{held}
 use Rattle.race_model.specs.Desk.{Desk}
 use Rattle.race_model.specs.Fits.{DeskFits}
 use Rattle.desk.specs.declared.desk.RunningDesk.{RunningDesk}
-use Rattle.desk.specs.declared.desk.Stop.{Stop as DeskStop}
+use Rattle.history.specs.declared.stop.Stop.{Stop}
 use Rattle.desk.specs.Cause.{IsWriteRefusal, stop_behind}
 use Rattle.desk.specs.Desk.{IsDesk}
 use Rattle.desk.specs.Steps.{SameButPages}
@@ -32,7 +33,7 @@ use Rattle.txn_set.proofs.FitSteps.{is_none}
 use Rattle.store_core.specs.declared.desk_core.Core.{Core}
 use Rattle.store_core.specs.Calls.{MayRecord, failed, has_released}
 use Rattle.store_core.specs.Core.{IsCore}
-use Rattle.store_core.proofs.Cores.{core_line, core_still, holds_moved, line_stop, with_nothing}
+use Rattle.store_core.proofs.Cores.{core_line, core_still, holds_moved, with_nothing}
 use Rattle.store_core.proofs.Ledgers.{ledger_noted}
 use Rattle.store_core.proofs.Opened.{and_true, core_ended, ends_fault}
 
@@ -47,7 +48,7 @@ module _ {D : Type 0} (honest : D → Type 0) (state : D → State) (opening : H
   worker_noted : (desk : RunningDesk D) (other : Desk) (who : Who) (device : Device) (count : ℕ) (wrote : Bool) (ledger : Ledger) → work_at core.ledger.works.slots who.session ≡ None → 1 ≤ core.ledger.book.workers
       → ledger ≡ record core.ledger { book = noting core.ledger.book (line_of who (whats.Fault device count wrote)) } → WorksFit ledger → IsDesk honest state desk other → DeskFits other → other.history ≡ plain.history
       → ((page : ℕ) → held desk.pool page ≡ (held core.desk.pool page && not (edits_page page (work_at core.ledger.works.slots who.session))))
-      → desk.stop ≡ option_or core.desk.stop (line_stop (whats.Fault device count wrote)) → desk.base ≡ core.desk.base → IsCore honest state opening (record { desk = desk; ledger = ledger }) other
+      → desk.stop ≡ option_or core.desk.stop (stop_of (whats.Fault device count wrote)) → desk.base ≡ core.desk.base → IsCore honest state opening (record { desk = desk; ledger = ledger }) other
   worker_noted desk other who device count wrote ledger none worker ledger_is works is_desk fits history released stop base =
       let noted : Ledger = record core.ledger { book = noting core.ledger.book (line_of who (whats.Fault device count wrote)) } in
       subst (λ (l : Ledger). IsCore honest state opening (record { desk = desk; ledger = l }) other) (sym ledger_is)
@@ -62,7 +63,7 @@ module _ {D : Type 0} (honest : D → Type 0) (state : D → State) (opening : H
   pub core_faulted : (desk : RunningDesk D) (other : Desk) (who : Who) (device : Device) (count : ℕ) (wrote : Bool) (ledger : Ledger) → ledger ≡ faulted who device count wrote core.ledger → WorksFit ledger
       → MayFault who core.ledger → Closes who (whats.Fault device count wrote) (work_at core.ledger.works.slots who.session) → IsDesk honest state desk other → DeskFits other → other.history ≡ plain.history
       → ((page : ℕ) → held desk.pool page ≡ (held core.desk.pool page && not (edits_page page (work_at core.ledger.works.slots who.session))))
-      → desk.stop ≡ option_or core.desk.stop (line_stop (whats.Fault device count wrote)) → desk.base ≡ core.desk.base → IsCore honest state opening (record { desk = desk; ledger = ledger }) other
+      → desk.stop ≡ option_or core.desk.stop (stop_of (whats.Fault device count wrote)) → desk.base ≡ core.desk.base → IsCore honest state opening (record { desk = desk; ledger = ledger }) other
   core_faulted desk other who device count wrote ledger ledger_is works place closes is_desk fits history released stop base =
       at (is_some (work_at core.ledger.works.slots who.session)) refl ledger_is where
         at : (test : Bool) → is_some (work_at core.ledger.works.slots who.session) ≡ test
@@ -83,7 +84,7 @@ module _ {D : Type 0} (honest : D → Type 0) (state : D → State) (opening : H
     at (DiskFault device count) fault stop released l =
         core_faulted desk other who device count true ledger l works may.0 (may.1 device count) is_desk fits history
         (λ page. released page ∙ ap (λ (b : Bool). b && not (edits_page page (work_at core.ledger.works.slots who.session))) (same page))
-        (ap (λ (r : RunningDesk D). r.stop) rest ∙ stop ∙ ap (λ (s : Option DeskStop). option_or s (line_stop (whats.Fault device count true))) (sym goes)) (ap (λ (r : RunningDesk D). r.base) rest ∙ base)
+        (ap (λ (r : RunningDesk D). r.stop) rest ∙ stop ∙ ap (λ (s : Option Stop). option_or s (stop_of (whats.Fault device count true))) (sym goes)) (ap (λ (r : RunningDesk D). r.base) rest ∙ base)
     at refusals.OutOfMemory fault stop released l = absurd fault
     at refusals.SourceFault fault stop released l = absurd fault
     at refusals.SinkFault fault stop released l = absurd fault
@@ -111,7 +112,7 @@ module _ {D : Type 0} (honest : D → Type 0) (state : D → State) (opening : H
     at refusals.BadSizes fault stop released l = absurd fault
 
 -- a write that failed had not been stopped before
-pub was_going : (stop : Option DeskStop) (IsOwn : Refusal → Type 0) (why : Refusal) → IsDiskFault why → IsWriteRefusal stop IsOwn why → (stop ≡ None) × IsOwn why
+pub was_going : (stop : Option Stop) (IsOwn : Refusal → Type 0) (why : Refusal) → IsDiskFault why → IsWriteRefusal stop IsOwn why → (stop ≡ None) × IsOwn why
 was_going stop IsOwn (DiskFault device count) fault refused = refused
 was_going stop IsOwn refusals.OutOfMemory fault refused = absurd fault
 was_going stop IsOwn refusals.SourceFault fault refused = absurd fault
@@ -140,13 +141,13 @@ was_going stop IsOwn (refusals.NotOneValue s) fault refused = absurd fault
 was_going stop IsOwn refusals.BadSizes fault refused = absurd fault
 
 -- the stop behind a fault
-pub stop_by : (stop : Option DeskStop) (device : Device) (count : ℕ) (wrote : Bool) → cond wrote (option_or stop (Some (record { device = device; count = count }))) stop ≡ option_or stop (line_stop (whats.Fault device count wrote))
+pub stop_by : (stop : Option Stop) (device : Device) (count : ℕ) (wrote : Bool) → cond wrote (option_or stop (Some (record { device = device; count = count }))) stop ≡ option_or stop (stop_of (whats.Fault device count wrote))
 stop_by stop device count true = refl
 stop_by None device count false = refl
 stop_by (Some x) device count false = refl
 
 -- a refused write of a desk that goes on is refused for a cause of its own
-pub going_refusal : (stop : Option DeskStop) (IsOwn : Refusal → Type 0) (why : Refusal) → stop ≡ None → IsWriteRefusal stop IsOwn why → IsOwn why
+pub going_refusal : (stop : Option Stop) (IsOwn : Refusal → Type 0) (why : Refusal) → stop ≡ None → IsWriteRefusal stop IsOwn why → IsOwn why
 going_refusal stop IsOwn (refusals.Stopped d c) none refused = absurd (cc (none, refused))
 going_refusal stop IsOwn (DiskFault device count) none refused = refused.1
 going_refusal stop IsOwn refusals.OutOfMemory none refused = refused.1

@@ -1,10 +1,8 @@
 -- The core behind an opening.
-use Rattle.std.proofs.Common.{◌≡◌, ◌∙◌, ℕ, Bool, true, false, List, [], refl, sym, ap, subst, arith, Option, None}
-use Rattle.std.specs.Prelude.{option_map}
+use Rattle.std.proofs.Common.{◌≡◌, ℕ, false, [], refl, sym, ap, subst, arith, None}
 use Rattle.disk_model.specs.Disk.{State}
-use Rattle.history.specs.declared.entry.Base.{Base}
 use Rattle.history.specs.declared.log.Version.{Version}
-use Rattle.history.specs.History.{History, now}
+use Rattle.history.specs.History.{History}
 use Rattle.page_pool.specs.Side.{held}
 use Rattle.skippy.specs.Mappings.{Mappings}
 use Rattle.race_model.specs.Desk.{Desk}

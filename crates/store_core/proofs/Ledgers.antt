@@ -1,11 +1,9 @@
 -- The ledger behind each call.
-use Rattle.std.proofs.Common.{◌≡◌, ◌∙◌, ◌≤◌, ◌<◌, ◌+◌, ◌-◌, ◌&&◌, not, ℕ, zero, suc, ltb, Bool, true, false, cond, eqb, List, [], ◌∷◌, ◌++◌, length, length-append, map, refl, sym, ap, subst, arith, Option, Some, None}
-use Rattle.std.specs.Prelude.{IsSome, is_some}
+use Rattle.std.proofs.Common.{◌≡◌, ◌∙◌, ◌≤◌, ◌<◌, ◌+◌, ℕ, ltb, Bool, true, false, cond, eqb, List, [], ◌∷◌, ◌++◌, length, length-append, refl, sym, ap, subst, arith, Option, Some, None}
+use Rattle.std.specs.Prelude.{IsSome}
 use Rattle.std.specs.List.{AllByRecursion}
-use Rattle.std.proofs.lemmas.Bool.{eqb-true, eqb-false, eq-eqb, ltb-false}
-use Rattle.retro_base.specs.declared.device.Device.{Device}
-use Rattle.retro_base.specs.declared.limits.TheConstants.{JOURNAL_LINES, PAGE_BYTES, WORKER_LINES}
-use Rattle.retro_base.specs.declared.refusal.Refusal.{Refusal}
+use Rattle.std.proofs.lemmas.Bool.{eqb-true, ltb-false}
+use Rattle.retro_base.specs.declared.limits.TheConstants.{JOURNAL_LINES, PAGE_BYTES}
 use Rattle.retro_base.specs.declared.refusal.Refusal.TheVariants.{JournalFull}
 use Rattle.retro_base.specs.declared.who.Who.{Who}
 use Rattle.history.specs.declared.entry.Base.{Base}
@@ -14,24 +12,23 @@ use Rattle.history.specs.declared.journal.What.{What}
 use Rattle.history.specs.declared.journal.What.TheVariants as whats
 use Rattle.history.specs.declared.writes.PageImage.{PageImage}
 use Rattle.history.specs.Lines.{base_of, begins, images_in, pinned_by}
-use Rattle.history.specs.Sound.{IsSound, KeepsRules, pins_behind, pins_of, unpinned}
-use Rattle.history.proofs.Items.{ended_pins_nothing, looks_pin}
+use Rattle.history.specs.Sound.{IsSound, KeepsRules, pins_behind, pins_of}
+use Rattle.history.proofs.Items.{ended_pins_nothing}
 use Rattle.history.proofs.Lines.{pins_of_one_more}
 use Rattle.history.proofs.SoundLaws.{sound_with_one_more}
-use Rattle.journal_book.specs.declared.work.Look.{Look}
 use Rattle.journal_book.specs.declared.work.Transaction.{Transaction}
 use Rattle.journal_book.specs.declared.work.Work.{Work}
 use Rattle.journal_book.specs.declared.work.Work.TheVariants.{Open, Looking, KeptDrop}
-use Rattle.journal_book.specs.Book.{Book, SESSION_LINES, lines_needed, lines_refused, noting, writes_of}
+use Rattle.journal_book.specs.Book.{Book, SESSION_LINES, lines_needed, lines_refused, noting}
 use Rattle.journal_book.specs.Works.{edits_of, work_at, with_work}
 use Rattle.journal_book.proofs.Slots.{work_at_with}
 use Rattle.txn_set.specs.declared.ledger.Ledger.{Ledger}
-use Rattle.txn_set.specs.Ledger.{IsKeptDrop, closed, committed, faulted, fresh, given_up, gives_up, is_idle, keeping_drop, keeps_other_drop, line_of, looking, opened, taken, told, with_open}
-use Rattle.txn_set.specs.WorksFit.{Closes, PinsFit, WorksFit, kept_lines, pins_at}
+use Rattle.txn_set.specs.Ledger.{IsKeptDrop, closed, committed, given_up, gives_up, keeping_drop, keeps_other_drop, line_of, opened, taken, told, with_open}
+use Rattle.txn_set.specs.WorksFit.{WorksFit, pins_at}
 use Rattle.txn_set.proofs.FitSteps.{fits_gives_up}
-use Rattle.txn_set.proofs.LedgerSteps.{drop_is_some, some_kept}
-use Rattle.store_core.specs.Core.{HasPlaces, IsLedger}
-use Rattle.store_core.proofs.Pins.{PinsForNone, closed_pins, drop_pins, look_pins, none_pins, open_pins, pins_behind_line, pins_same}
+use Rattle.txn_set.proofs.LedgerSteps.{some_kept}
+use Rattle.store_core.specs.Core.{IsLedger}
+use Rattle.store_core.proofs.Pins.{PinsForNone, none_pins, open_pins, pins_behind_line, pins_same}
 
 abbrev Whole : PageImage → Type 0
 Whole edit = length edit.bytes ≡ PAGE_BYTES

@@ -1,9 +1,11 @@
 pub mod Committed
 pub mod Cores
+pub mod Dropped
 pub mod Drops
 pub mod Edits
 pub mod Faulted
 pub mod Fetching
+pub mod Kept
 pub mod Ledgers
 pub mod Looked
 pub mod Opened

@@ -1,43 +1,41 @@
 -- The core behind looks.
-use Rattle.std.proofs.Common.{◌≡◌, ◌∙◌, ◌≤◌, ◌<◌, ◌+◌, ◌&&◌, ◌||◌, not, ℕ, zero, suc, Bool, true, false, cond, eqb, ltb, List, [], ◌∷◌, ◌++◌, length, map, refl, sym, ap, subst, arith, inl, inr, Option, Some, None, Result, Ok, Err}
-use Rattle.std.specs.Prelude.{IsSome, IfErr, OnOk, OnErr, is_some}
+use Rattle.std.proofs.Common.{◌≡◌, ◌∙◌, ◌≤◌, ◌<◌, ◌+◌, ◌&&◌, ◌||◌, not, ℕ, Bool, true, false, cond, eqb, ltb, List, [], ◌∷◌, ◌++◌, length, map, refl, sym, ap, subst, arith, inl, inr, Option, Some, None, Result, Ok, Err}
+use Rattle.std.specs.Prelude.{IfErr, OnOk}
 use Rattle.std.specs.Option.{option_or}
-use Rattle.std.proofs.lemmas.Bool.{eqb-true, eqb-false, eq-eqb, ltb-false}
+use Rattle.std.proofs.lemmas.Bool.{eqb-false, le-leb, ltb-false}
 use Rattle.std.proofs.lemmas.Bool.Decides.{nat_tests}
 use Rattle.disk_model.specs.Disk.{State}
 use Rattle.retro_base.specs.declared.refusal.Refusal.{Refusal}
-use Rattle.retro_base.specs.declared.refusal.Refusal.TheVariants.{Dropped, JournalFull, NoSuchSnapshot, OutOfMemory}
+use Rattle.retro_base.specs.declared.refusal.Refusal.TheVariants.{Dropped, JournalFull, OutOfMemory}
 use Rattle.retro_base.specs.declared.who.Who.{Who}
 use Rattle.history.specs.declared.entry.Base.{Base}
 use Rattle.history.specs.declared.entry.Mark.{Mark}
 use Rattle.history.specs.declared.journal.Line.{Line}
-use Rattle.history.specs.declared.journal.What.{What}
 use Rattle.history.specs.declared.journal.What.TheVariants as whats
 use Rattle.history.specs.History.{History, now}
 use Rattle.history.specs.Lines.{base_of, images_in, pinned_by}
-use Rattle.history.specs.Marks.{is_retained, newest, oldest}
+use Rattle.history.specs.Marks.{MarksRise, is_retained, newest, oldest}
 use Rattle.history.specs.Sound.{pins_of}
-use Rattle.history.specs.Writes.{is_among}
+use Rattle.history.specs.Writes.{rises}
 use Rattle.history.proofs.Items.{looks_pin, same_self}
-use Rattle.page_pool.specs.Side.{held}
 use Rattle.records.specs.Entries.{IsNumberedFrom}
 use Rattle.race_model.specs.Desk.{Desk}
-use Rattle.desk.specs.Desk.{IsDesk}
 use Rattle.journal_book.specs.declared.work.Look.{Look}
-use Rattle.journal_book.specs.declared.work.Work.{Work}
 use Rattle.journal_book.specs.declared.work.Work.TheVariants.{Looking}
 use Rattle.journal_book.specs.Book.{Book, SESSION_LINES, lines_needed, lines_refused}
-use Rattle.journal_book.specs.Works.{edits_of, work_at, with_work}
+use Rattle.journal_book.specs.Works.{work_at}
 use Rattle.txn_set.specs.declared.ledger.Ledger.{Ledger}
 use Rattle.txn_set.specs.Ledger.{IsRefusedWith, given_up, is_idle, line_of, looking, opened, told}
 use Rattle.txn_set.specs.Refused.{look_refused, no_snapshot, where_so}
 use Rattle.txn_set.specs.WorksFit.{WorksFit, pins_at}
 use Rattle.txn_set.proofs.FitSteps.{idle_none}
 use Rattle.store_core.specs.declared.desk_core.Core.{Core}
-use Rattle.store_core.specs.Core.{IsCore, IsLedger}
-use Rattle.store_core.proofs.Cores.{base_is, core_quiet, holds_moved}
-use Rattle.store_core.proofs.Ledgers.{has_room, ledger_given_up, ledger_told, none_pinned}
-use Rattle.store_core.proofs.Opened.{core_given_up, core_opened, quiet_looked, quiet_refused}
+use Rattle.store_core.specs.Core.{IsCore}
+use Rattle.store_core.proofs.Cores.{append-nil, base_is, core_quiet}
+use Rattle.store_core.proofs.Ledgers.{has_room, ledger_told, none_pinned}
+use Rattle.store_core.specs.Calls.{HasOpened}
+use Rattle.store_core.proofs.Committed.{base_right}
+use Rattle.store_core.proofs.Opened.{core_given_up, core_opened, core_opens, quiet_looked, quiet_looked_all, quiet_refused}
 use Rattle.store_core.proofs.Pins.{look_pins}
 
 -- ---- which snapshots are retained
@@ -161,3 +159,36 @@ pub look_allowed : (full refused : Option Refusal) → ((why : Refusal) → full
 look_allowed None None room not = refl
 look_allowed None (Some why) room not = absurd (not why refl refl)
 look_allowed (Some why) refused room not = absurd (room why refl)
+
+-- ---- a look at all
+
+abbrev numbers : List Mark → List ℕ
+numbers marks = map (λ (mark : Mark). mark.number) marks
+
+numbers_rise : (captures number start : ℕ) (marks : List Mark) → MarksRise captures number start marks → (least : ℕ) → least ≤ number + 1 → rises least (numbers marks) ≡ true
+numbers_rise captures number start [] up least low = refl
+numbers_rise captures number start (mark ∷ marks) up least low =
+    ap (λ (b : Bool). b && rises (mark.number + 1) (numbers marks)) (le-leb least mark.number (omega (arith, low, up.0))) ∙ numbers_rise captures mark.number mark.start marks up.2 (mark.number + 1) (omega arith)
+
+module _ {D : Type 0} (honest : D → Type 0) (state : D → State) (opening : History) (core : Core D) (plain : Desk) (is : IsCore honest state opening core plain) where
+  pub retained_rise : rises 0 (numbers core.desk.base.marks) ≡ true
+  retained_rise = numbers_rise core.desk.base.captures 0 0 core.desk.base.marks (base_right honest state opening core plain is).marks 0 (omega arith)
+
+  all_pinned : (who : Who) (began : ℕ) → work_at core.ledger.works.slots who.session ≡ None
+      → pinned_by who (pins_of (now opening).base [] (core.ledger.book.lines ++ line_of who whats.LookedAll ∷ [])) ≡ pins_at who (Some (Looking (record { who = who; began = began; pins = numbers core.desk.base.marks })))
+  all_pinned who began none =
+      (looks_pin (now opening).base core.ledger.book.lines (line_of who whats.LookedAll)).1 refl
+      ∙ ap (λ (l : List ℕ). numbers (base_of (now opening).base core.ledger.book.lines).marks ++ l) (none_pinned (now opening).base core.ledger is.ledger who none)
+      ∙ append-nil (numbers (base_of (now opening).base core.ledger.book.lines).marks)
+      ∙ ap (λ (b : Base). numbers b.marks) (sym (base_is honest state opening core plain is))
+      ∙ sym (ap (λ (b : Bool). cond b (numbers core.desk.base.marks) []) (same_self who))
+
+-- the core behind it
+pub core_looks_all : {D T : Type 0} (honest : D → Type 0) (state : D → State) (opening : History) (core : Core D) (plain : Desk) → IsCore honest state opening core plain → (who : Who) (ledger : Ledger) (result : Result T Refusal)
+    → is_idle who (work_at core.ledger.works.slots who.session) ≡ true → HasOpened who whats.LookedAll (looking who core.ledger.book.lines (numbers core.desk.base.marks)) core.ledger ledger result → WorksFit ledger
+    → IsCore honest state opening (record { desk = core.desk; ledger = ledger }) plain
+core_looks_all {D = D} honest state opening core plain is who ledger result idle has fits =
+    let look : Look = record { who = who; began = length core.ledger.book.lines; pins = numbers core.desk.base.marks } in
+    let given : Core D = record { desk = core.desk; ledger = given_up who core.ledger } in
+    core_opens honest state opening core plain is who whats.LookedAll (Looking look) ledger result idle has fits tt (look_pins who look refl)
+    (all_pinned honest state opening given plain (core_given_up honest state opening core plain is who) who (length core.ledger.book.lines) (idle_none core.ledger who idle)) refl quiet_looked_all

@@ -1,6 +1,6 @@
 -- The core behind works that are opened and ended.
-use Rattle.std.proofs.Common.{◌≡◌, ◌∙◌, ◌≤◌, ◌<◌, ◌+◌, ◌&&◌, ◌||◌, not, ℕ, Bool, true, false, cond, eqb, List, [], ◌∷◌, ◌++◌, map, refl, sym, ap, subst, Option, Some, None, Result, Ok, Err}
-use Rattle.std.specs.Prelude.{IsSome, OnOk, OnErr, is_some}
+use Rattle.std.proofs.Common.{◌≡◌, ◌∙◌, ◌&&◌, not, ℕ, Bool, true, false, cond, List, [], ◌∷◌, ◌++◌, refl, sym, ap, subst, Option, Some, None, Result, Ok, Err}
+use Rattle.std.specs.Prelude.{IsSome}
 use Rattle.std.specs.Option.{option_or, option_to_list}
 use Rattle.disk_model.specs.Disk.{State}
 use Rattle.retro_base.specs.declared.device.Device.{Device}
@@ -9,25 +9,21 @@ use Rattle.retro_base.specs.declared.refusal.Refusal.TheVariants as refusals
 use Rattle.retro_base.specs.declared.who.Who.{Who}
 use Rattle.history.specs.declared.entry.Base.{Base}
 use Rattle.history.specs.declared.entry.Change.{Change}
-use Rattle.history.specs.declared.entry.Mark.{Mark}
-use Rattle.history.specs.declared.journal.Line.{Line}
 use Rattle.history.specs.declared.journal.What.{What}
 use Rattle.history.specs.declared.journal.What.TheVariants as whats
 use Rattle.history.specs.History.{History, now, with_changes}
 use Rattle.history.specs.Journal.{change_of}
 use Rattle.history.specs.LineLaws.{ends_look}
-use Rattle.history.specs.Lines.{base_of, begins, pinned_by}
+use Rattle.history.specs.Lines.{base_of, begins, pinned_by, stop_of}
 use Rattle.history.specs.Sound.{KeepsRules, Pin, pins_of}
 use Rattle.history.specs.Writes.{is_among, pages_of}
-use Rattle.history.proofs.Items.{ended_pins_nothing, looks_pin}
+use Rattle.history.proofs.Items.{ended_pins_nothing}
 use Rattle.history.proofs.Lines.{pins_of_one_more}
 use Rattle.page_pool.specs.Side.{held}
 use Rattle.race_model.specs.Desk.{Desk}
 use Rattle.race_model.specs.Fits.{DeskFits}
 use Rattle.desk.specs.declared.desk.RunningDesk.{RunningDesk}
 use Rattle.desk.specs.Desk.{IsDesk}
-use Rattle.journal_book.specs.declared.work.Look.{Look}
-use Rattle.journal_book.specs.declared.work.Transaction.{Transaction}
 use Rattle.journal_book.specs.declared.work.Work.{Work}
 use Rattle.journal_book.specs.declared.work.Work.TheVariants.{Open, Looking, KeptDrop}
 use Rattle.journal_book.specs.Book.{lines_refused}
@@ -40,8 +36,8 @@ use Rattle.txn_set.specs.WorksFit.{Closes, WorksFit, pins_at}
 use Rattle.txn_set.proofs.FitSteps.{idle_none}
 use Rattle.store_core.specs.declared.desk_core.Core.{Core}
 use Rattle.store_core.specs.Calls.{HasOpened}
-use Rattle.store_core.specs.Core.{HoldsEdits, IsCore, IsLedger}
-use Rattle.store_core.proofs.Cores.{IsQuiet, core_line, core_quiet, core_still, holds_ended, holds_moved, line_stop, same_edits, with_nothing}
+use Rattle.store_core.specs.Core.{IsCore, IsLedger}
+use Rattle.store_core.proofs.Cores.{IsQuiet, core_line, core_quiet, core_still, holds_ended, holds_moved, same_edits, with_nothing}
 use Rattle.store_core.proofs.Ledgers.{ledger_closed, ledger_given_up, ledger_opened, none_pinned, own_ended}
 use Rattle.store_core.proofs.Pins.{PinsForNone, closed_pins}
 
@@ -87,7 +83,7 @@ ended_ends ending.Asked = record { changes = λ base. refl; rules = λ base pins
 ended_ends (ending.Refused why) = ends_refused why
 ended_ends (ending.Failed device count) = ends_fault device count false
 
-pub ended_stop : (why : Ending) → line_stop (ended why) ≡ None
+pub ended_stop : (why : Ending) → stop_of (ended why) ≡ None
 ended_stop ending.Asked = refl
 ended_stop (ending.Refused why) = refl
 ended_stop (ending.Failed device count) = refl
@@ -95,7 +91,7 @@ ended_stop (ending.Failed device count) = refl
 -- how a transaction ends that keeps a refusal
 record Ends (what : What) : Type 0 where
   ends : EndsWork what
-  stop : line_stop what ≡ None
+  stop : stop_of what ≡ None
 
 by_refusal : (why : Refusal) → Ends (whats.Refused why)
 by_refusal why = record { ends = ends_refused why; stop = refl }
@@ -137,12 +133,12 @@ closing_ending (Some kept) why = kept_ends kept why
 pub closing_work : (kept : Option Refusal) (why : Ending) → EndsWork (closing kept why)
 closing_work kept why = (closing_ending kept why).ends
 
-pub closing_stop : (kept : Option Refusal) (why : Ending) → line_stop (closing kept why) ≡ None
+pub closing_stop : (kept : Option Refusal) (why : Ending) → stop_of (closing kept why) ≡ None
 closing_stop kept why = (closing_ending kept why).stop
 
 -- ---- the core behind them
 
-given_book : (l : Ledger) (who : Who) → ((given_up who l).book.lines ≡ l.book.lines) × ((given_up who l).book.pages ≡ l.book.pages)
+pub given_book : (l : Ledger) (who : Who) → ((given_up who l).book.lines ≡ l.book.lines) × ((given_up who l).book.pages ≡ l.book.pages)
 given_book l who = at (keeps_other_drop who (work_at l.works.slots who.session)) where
   at : (test : Bool) → ((cond test (gives_up who.session l) l).book.lines ≡ l.book.lines) × ((cond test (gives_up who.session l) l).book.pages ≡ l.book.pages)
   at true = (refl, refl)
@@ -192,7 +188,7 @@ module _ {D : Type 0} (honest : D → Type 0) (state : D → State) (opening : H
   pub core_ended : (desk : RunningDesk D) (ledger : Ledger) (other : Desk) (who : Who) (what : What) → ledger ≡ closed who what core.ledger → WorksFit ledger → IsSome (work_at core.ledger.works.slots who.session)
       → Closes who what (work_at core.ledger.works.slots who.session) → EndsWork what → IsDesk honest state desk other → DeskFits other → other.history ≡ plain.history
       → ((page : ℕ) → held desk.pool page ≡ (held core.desk.pool page && not (is_among page (pages_of (edits_of (work_at core.ledger.works.slots who.session))))))
-      → desk.stop ≡ option_or core.desk.stop (line_stop what) → desk.base ≡ core.desk.base → IsCore honest state opening (record { desk = desk; ledger = ledger }) other
+      → desk.stop ≡ option_or core.desk.stop (stop_of what) → desk.base ≡ core.desk.base → IsCore honest state opening (record { desk = desk; ledger = ledger }) other
   core_ended desk ledger other who what ledger_is fits some closes ends is_desk desk_fits history released stop base =
       let own = own_closed who what (work_at core.ledger.works.slots who.session) refl some closes in
       let behind : IsLedger (now opening).base (closed who what core.ledger) = ledger_closed (now opening).base core.ledger is.ledger who what some own.0 (ends.rules _ _) (closed_pins who what _ closes) own.1 (subst WorksFit ledger_is fits) in

@@ -1,5 +1,5 @@
 -- What open looks pin is retained.
-use Rattle.std.proofs.Common.{◌≡◌, ◌∙◌, ◌||◌, ℕ, Bool, true, false, cond, eqb, List, [], ◌∷◌, map, filter, refl, sym, ap, subst, Option, Some}
+use Rattle.std.proofs.Common.{◌≡◌, ◌∙◌, ◌||◌, ℕ, Bool, true, false, cond, eqb, List, [], ◌∷◌, map, filter, refl, sym, ap, subst, Some}
 use Rattle.std.specs.List.{AllByRecursion}
 use Rattle.std.proofs.lemmas.Bool.{eqb-true}
 use Rattle.disk_model.specs.Disk.{State}
@@ -13,8 +13,6 @@ use Rattle.history.specs.Writes.{is_among}
 use Rattle.history.proofs.Items.{same_self}
 use Rattle.history.proofs.Journals.{pinned_are_retained}
 use Rattle.race_model.specs.Desk.{Desk}
-use Rattle.journal_book.specs.declared.work.Look.{Look}
-use Rattle.journal_book.specs.declared.work.Work.{Work}
 use Rattle.journal_book.specs.declared.work.Work.TheVariants.{Looking}
 use Rattle.journal_book.specs.Works.{work_at}
 use Rattle.txn_set.specs.WorksFit.{pins_at}

@@ -1,16 +1,13 @@
 -- What looks pin, behind a line and a change of one session's work.
-use Rattle.std.proofs.Common.{◌≡◌, ◌∙◌, ◌&&◌, not, ℕ, Bool, true, false, cond, eqb, List, [], ◌∷◌, ◌++◌, map, refl, sym, ap, subst, Option, Some, None}
-use Rattle.std.proofs.lemmas.Bool.{eqb-true, eqb-false, eq-eqb}
+use Rattle.std.proofs.Common.{◌≡◌, ◌∙◌, ℕ, Bool, true, false, cond, eqb, List, [], ◌∷◌, ◌++◌, refl, sym, ap, subst, Option, Some, None}
+use Rattle.std.proofs.lemmas.Bool.{eqb-true, eq-eqb}
 use Rattle.retro_base.specs.declared.who.Who.{Who}
 use Rattle.history.specs.declared.entry.Base.{Base}
 use Rattle.history.specs.declared.journal.Line.{Line}
 use Rattle.history.specs.declared.journal.What.{What}
-use Rattle.history.specs.declared.journal.What.TheVariants as whats
-use Rattle.history.specs.LineLaws.{ends_look}
-use Rattle.history.specs.Lines.{base_of, begins, pinned_by}
-use Rattle.history.specs.Sound.{Pin, pins_behind, pins_of, same_item}
-use Rattle.history.proofs.Items.{apart_items, ended_pins_nothing, looks_pin, others_pins_stay, same_self}
-use Rattle.history.proofs.Lines.{pins_of_one_more}
+use Rattle.history.specs.Lines.{pinned_by}
+use Rattle.history.specs.Sound.{pins_of, same_item}
+use Rattle.history.proofs.Items.{others_pins_stay, same_self}
 use Rattle.history.proofs.SoundLaws.{items_are}
 use Rattle.journal_book.specs.declared.work.Look.{Look}
 use Rattle.journal_book.specs.declared.work.Transaction.{Transaction}

@@ -1,5 +1,5 @@
 -- Pages released one by one.
-use Rattle.std.proofs.Common.{◌≡◌, ◌∙◌, ◌≤◌, ◌<◌, ◌+◌, ◌&&◌, ◌||◌, not, ℕ, Bool, true, false, eqb, get_or, List, [], ◌∷◌, length, drop, refl, sym, ap}
+use Rattle.std.proofs.Common.{◌≡◌, ◌∙◌, ◌≤◌, ◌<◌, ◌+◌, ◌&&◌, ◌||◌, not, ℕ, Bool, true, false, eqb, get_or, List, ◌∷◌, length, drop, refl, sym, ap}
 use Rattle.std.proofs.lemmas.List.{drop_all, drop_more}
 use Rattle.history.specs.declared.writes.PageImage.{PageImage}
 use Rattle.history.specs.Writes.{is_among, pages_of}

@@ -1,6 +1,7 @@
 -- Commits, as the desk is asked for them.
-use Rattle.std.specs.Prelude.{◌≡◌, true, false, ℕ, Bool, List, Option, Some, None, Result, MatchResult, length, if◌then◌else◌}
+use Rattle.std.specs.Prelude.{◌≡◌, false, ℕ, List, Option, Some, None, Result, is_some, MatchResult, if◌then◌else◌}
 use Rattle.disk_model.specs.Disk.{State}
+use Rattle.history.specs.Lines.{first_stop}
 use Rattle.history.specs.declared.entry.Change.TheVariants.{Commit}
 use Rattle.history.specs.declared.writes.PageImage.{PageImage}
 use Rattle.retro_base.specs.declared.refusal.Refusal.{Refusal}
@@ -17,7 +18,6 @@ use Rattle.desk.specs.declared.desk.RunningDesk.{RunningDesk}
 use Rattle.desk.specs.Desk.{IsDesk}
 use Rattle.journal_book.specs.declared.work.Transaction.{Transaction}
 use Rattle.journal_book.specs.declared.work.Work.TheVariants.{Open}
-use Rattle.journal_book.specs.Book.{stop_in}
 use Rattle.journal_book.specs.Works.{work_at}
 use Rattle.txn_set.specs.declared.ledger.Ledger.{Ledger}
 use Rattle.txn_set.specs.Ledger.{committed, taken}
@@ -40,12 +40,12 @@ pub record IsMayCommit {D : Type 0} (is_honest : D → Type 0) (state : D → St
 -- the transaction is the open one of the session, and its commit is not refused
 pub record IsAllowed {D : Type 0} (core : Core D) (who : Who) (label : Option (List ℕ)) (t : Transaction) : Type 0 where
   pub is_open : work_at core.ledger.works.slots who.session ≡ Some (Open t)
-  pub free : commit_refused (stop_in core.ledger.book.lines) (counts_of core.desk.base t.edits) core.ledger.book.lines t label ≡ None
+  pub free : commit_refused (first_stop core.ledger.book.lines) (counts_of core.desk.base t.edits) core.ledger.book.lines t (is_some label) ≡ None
 
 -- the transaction is the open one of the session, and its commit is refused so
 pub record IsRefusedSo {D : Type 0} (core : Core D) (who : Who) (label : Option (List ℕ)) (t : Transaction) (why : Refusal) : Type 0 where
   pub is_open : work_at core.ledger.works.slots who.session ≡ Some (Open t)
-  pub is : commit_refused (stop_in core.ledger.book.lines) (counts_of core.desk.base t.edits) core.ledger.book.lines t label ≡ Some why
+  pub is : commit_refused (first_stop core.ledger.book.lines) (counts_of core.desk.base t.edits) core.ledger.book.lines t (is_some label) ≡ Some why
 
 -- a transaction of the item is open, and its commit is not refused
 pub record MayCommitAs {D : Type 0} (core : Core D) (who : Who) (label : Option (List ℕ)) : Type 0 where

@@ -1,10 +1,11 @@
 -- When a core is a plain desk behind a journal.
-use Rattle.std.specs.Prelude.{◌≡◌, ◌≤◌, ◌+◌, ℕ, true, List, length, Option, option_map}
+use Rattle.std.specs.Prelude.{◌≡◌, ◌≤◌, ◌+◌, ℕ, true, List, length, Option}
 use Rattle.std.specs.List.{AllByRecursion}
 use Rattle.area_log.specs.Listed.{DeviceStandsFor}
 use Rattle.disk_model.specs.declared.four.Sizes.{Sizes}
 use Rattle.disk_model.specs.Disk.{State}
 use Rattle.retro_base.specs.declared.limits.TheConstants.{JOURNAL_LINES, LOG_REGION_BYTES, PAGE_BYTES, WORKER_LINES}
+use Rattle.history.specs.Lines.{first_stop}
 use Rattle.history.specs.declared.entry.Base.{Base}
 use Rattle.history.specs.declared.log.Log.{Log}
 use Rattle.history.specs.declared.log.Version.{Version}
@@ -18,20 +19,14 @@ use Rattle.replay.specs.Opened.{opened}
 use Rattle.skippy.specs.Mappings.{Mappings}
 use Rattle.race_model.specs.Fits.{DeskFits}
 use Rattle.race_model.specs.Reopened.{opened_desk}
-use Rattle.desk.specs.declared.desk.Stop.{Stop as DeskStop}
 use Rattle.desk.specs.Desk.{IsDesk}
 use Rattle.desk.specs.Fetched.{contents_of}
-use Rattle.journal_book.specs.declared.stop.Stop.{Stop}
 use Rattle.journal_book.specs.declared.work.Work.{Work}
-use Rattle.journal_book.specs.Book.{Book, stop_in}
+use Rattle.journal_book.specs.Book.{Book}
 use Rattle.journal_book.specs.Works.{edits_of, edits_page, work_at}
 use Rattle.txn_set.specs.declared.ledger.Ledger.{Ledger}
 use Rattle.txn_set.specs.WorksFit.{PinsFit, WorksFit}
 use Rattle.store_core.specs.declared.desk_core.Core.{Core}
-
--- the first fault that a line tells, as the desk keeps it
-abbrev pub desk_stop : Stop → DeskStop
-desk_stop stop = record { device = stop.device; count = stop.count }
 
 -- there are places for the lines that are kept
 pub record HasPlaces (book : Book) : Type 0 where
@@ -59,7 +54,7 @@ pub record IsCore {D : Type 0} (is_honest : D → Type 0) (state : D → State) 
   pub journal : plain.history ≡ after_journal opening core.ledger.book.lines
   pub pages : core.ledger.book.pages ≡ core.desk.base.page_count
   pub edits : HoldsEdits core.desk.pool core.ledger.works.slots
-  pub stop : core.desk.stop ≡ option_map desk_stop (stop_in core.ledger.book.lines)
+  pub stop : core.desk.stop ≡ first_stop core.ledger.book.lines
 
 -- an opening and a plain desk that a core is
 pub record IsWholeCore {D : Type 0} (is_honest : D → Type 0) (state : D → State) (core : Core D) : Type 0 where

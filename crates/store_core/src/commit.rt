@@ -43,16 +43,6 @@ pub(crate) fn counts_of(base: &RunningBase, edits: &[PageImage]) -> Counts
     }
 }
 
-// A label without bytes where there is a mark; takes no memory.
-pub(crate) fn blank(alloc: Global, mark: Option<&[u8]>) -> Option<Label>
-    ensures { is_some result ≡ is_some mark.entry }
-{
-    match mark {
-        Some(_) => Some(Label::new(Vec::new(alloc))),
-        None => None,
-    }
-}
-
 pub(crate) fn label_of(alloc: Global, mark: Option<&[u8]>) -> Result<Option<Label>, AllocError>
     requires { IfSome mark (λ bytes. IsTrue (is_label bytes.now)) }
     ensures { IfOk result (λ label. label ≡ option_copied mark.entry) }

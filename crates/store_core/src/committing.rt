@@ -5,6 +5,7 @@ ghost use Rattle.disk_model.specs.Moments.{LeavesOnly};
 ghost use Rattle.disk_model.specs.Runs.{SameDevice};
 ghost use Rattle.retro_base.specs.declared.refusal.Refusal.{Refusal};
 ghost use Rattle.gate_log.specs.Cause.{IsDiskFault};
+ghost use Rattle.history.specs.Lines.{first_stop};
 ghost use Rattle.history.specs.declared.entry.Change.TheVariants.{Commit};
 ghost use Rattle.history.specs.History.{History};
 ghost use Rattle.history.specs.Label.{is_label};
@@ -12,7 +13,6 @@ ghost use Rattle.history.specs.Marks.{newest};
 ghost use Rattle.records.specs.Entries.{change_bytes};
 ghost use Rattle.journal_book.specs.declared.work.Transaction.{Transaction};
 ghost use Rattle.journal_book.specs.declared.work.Work.TheVariants.{Open};
-ghost use Rattle.journal_book.specs.Book.{stop_in};
 ghost use Rattle.journal_book.specs.Works.{work_at};
 ghost use Rattle.race_model.specs.Desk.{Desk};
 ghost use Rattle.race_model.specs.Machine.{changed, change_failed};
@@ -23,7 +23,7 @@ ghost use Rattle.txn_set.specs.Refused.{commit_refused, counts_of, leaves_record
 ghost use Rattle.store_core.specs.Commits.{HasEnded, IsAllowed, IsRefusedSo, MayCommitAs, desk_behind};
 ghost use Rattle.store_core.specs.Core.{IsCore, IsWholeCore, StaysCore};
 
-use crate::commit::{Sent, blank, counts_of, label_of, leaves_record, send};
+use crate::commit::{Sent, counts_of, label_of, leaves_record, send};
 use crate::desk_core::Core;
 use crate::works::{edits_of, release_all};
 use disk_model::Disk;
@@ -206,7 +206,7 @@ impl<D: Disk + Drop> Core<D> {
             → LeavesOnly D.remembers (D.clock self.old.desk.log.disk) (D.clock self.new.desk.log.disk)
             (ListsLogOf (change_failed plain (Commit (option_copied mark.entry) t.edits))) }
     {
-        if let Some(why) = self.why_refused(alloc, who, mark) {
+        if let Some(why) = self.why_refused(who, mark) {
             self.ledger.keep(who, why);
             return Err(why);
         }
@@ -220,18 +220,18 @@ impl<D: Disk + Drop> Core<D> {
     }
 
     // Why a commit is refused before it takes any memory.
-    fn why_refused(&self, alloc: Global, who: Who, mark: Option<&[u8]>) -> Option<Refusal>
+    fn why_refused(&self, who: Who, mark: Option<&[u8]>) -> Option<Refusal>
         requires core { IsWholeCore D.is_honest D.state self.now }
         requires is_open { IsOpenAs self.now.ledger.works.slots who }
         ensures { (t : Transaction) → work_at self.now.ledger.works.slots who.session ≡ Some (Open t)
-            → result ≡ commit_refused (stop_in self.now.ledger.book.lines) (counts_of self.now.desk.base t.edits)
-            self.now.ledger.book.lines t (option_copied mark.entry) }
+            → result ≡ commit_refused (first_stop self.now.ledger.book.lines) (counts_of self.now.desk.base t.edits)
+            self.now.ledger.book.lines t (is_some (option_copied mark.entry)) }
     {
         let edits = edits_of(&self.ledger.works, who.session);
         let counts = counts_of(self.desk.base(), edits);
         let fault = self.ledger.book.stop();
         self.ledger
-            .commit_refused(who, fault, &counts, &blank(alloc, mark))
+            .commit_refused(who, fault, &counts, mark.is_some())
     }
 
     // The number of the newest snapshot, where one was declared.

@@ -1,10 +1,9 @@
 //! The core, and what it tells of itself.
 
-ghost use Rattle.std.specs.Prelude.{◌≡◌, ◌-◌, is_some, length};
-ghost use Rattle.retro_base.specs.declared.limits.TheConstants.{LOG_REGION_BYTES};
+ghost use Rattle.std.specs.Prelude.{◌≡◌, ◌-◌, ◌*◌, is_some, length};
+ghost use Rattle.retro_base.specs.declared.limits.TheConstants.{LOG_REGION_BYTES, PAGE_BYTES};
 ghost use Rattle.history.specs.History.{History, now};
-ghost use Rattle.history.specs.Lines.{horizon_of};
-ghost use Rattle.journal_book.specs.Book.{stop_in};
+ghost use Rattle.history.specs.Lines.{horizon_of, first_stop};
 ghost use Rattle.page_pool.specs.Frames.{count_below};
 ghost use Rattle.page_pool.specs.Side.{soiled};
 ghost use Rattle.race_model.specs.Desk.{Desk};
@@ -25,7 +24,7 @@ pub struct Core<D: Disk> {
 impl<D: Disk + Drop> Core<D> {
     /// Whether the journal tells a fault of a write or a sync: since then the desk writes nothing.
     pub fn stopped(&self) -> bool
-        ensures { result ≡ is_some (stop_in self.now.ledger.book.lines) }
+        ensures { result ≡ is_some (first_stop self.now.ledger.book.lines) }
     {
         self.ledger.book.stop().is_some()
     }
@@ -75,7 +74,8 @@ impl<D: Disk + Drop> Core<D> {
 
     /// The devices of the log and of the pages, and the journal; takes no memory.
     pub fn into_parts(self) -> (D, D, Journal)
-        ensures { result ≡ (self.desk.log.disk, self.desk.pool.file.disk, self.ledger.book.lines) }
+        ensures parts { result ≡ (self.desk.log.disk, self.desk.pool.file.disk, self.ledger.book.lines) }
+        ensures whole { D.extent result.1 ≡ PAGE_BYTES * self.desk.pool.file.blocks }
     {
         let Core { desk, ledger } = self;
         let (log, pages) = desk.into_disks();

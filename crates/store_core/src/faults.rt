@@ -25,8 +25,9 @@ ghost use Rattle.store_core.specs.Core.{IsCore, IsWholeCore, StaysCore};
 
 use crate::desk_core::Core;
 use crate::works::{edits_of, release_all};
-use desk::{RunningDesk, Stop};
+use desk::RunningDesk;
 use disk_model::Disk;
+use history::Stop;
 use retro_base::{Device, Refusal, Who};
 use std::alloc::Global;
 

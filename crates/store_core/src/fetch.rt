@@ -1,11 +1,11 @@
 //! The core that its devices open to.
 
-ghost use Rattle.std.specs.Prelude.{◌≡◌, ◌⊎◌, ◌↔◌, IfOk, MatchResult};
+ghost use Rattle.std.specs.Prelude.{◌≡◌, ◌≤◌, ◌*◌, ◌⊎◌, ◌↔◌, IfOk, MatchResult};
 ghost use Rattle.disk_model.specs.Runs.{SameDevice, WritesNothing};
 ghost use Rattle.retro_base.specs.declared.device.Device.TheVariants.{Log};
-ghost use Rattle.retro_base.specs.declared.limits.TheConstants.{LOG_REGION_BYTES};
+ghost use Rattle.retro_base.specs.declared.limits.TheConstants.{LOG_REGION_BYTES, MAX_CAPACITY, MAX_PAGES, MIN_CAPACITY, PAGE_BYTES};
 ghost use Rattle.gate_log.specs.Cause.{IsReadRefusal};
-ghost use Rattle.area_log.specs.Listed.{DeviceRefused};
+ghost use Rattle.area_log.specs.Listed.{IsRefused};
 ghost use Rattle.records.specs.Log.{IsLog};
 ghost use Rattle.desk.specs.Fetched.{ArePagesUnread, IsLogUnread};
 ghost use Rattle.txn_set.specs.Ledger.{no_lines};
@@ -37,11 +37,12 @@ impl<D: Disk + Drop> Core<D> {
         ensures same { MatchResult result
             (λ core. SameDevice D.extent D.is_honest log core.desk.log.disk
             × (D.is_honest pages ↔ D.is_honest core.desk.pool.file.disk))
-            (λ e. SameDevice D.extent D.is_honest log e.log × (D.is_honest pages ↔ D.is_honest e.pages)) }
+            (λ e. SameDevice D.extent D.is_honest log e.log × SameDevice D.extent D.is_honest pages e.pages) }
+        ensures size { IfOk result (λ core. D.extent pages ≡ PAGE_BYTES * core.desk.pool.file.blocks) }
         ensures cause { MatchResult result
             (λ core. (D.faults core.desk.log.disk ≡ D.faults log) × (D.faults core.desk.pool.file.disk ≡
             D.faults pages))
-            (λ e. IsLogUnread D.is_honest D.faults D.state version log pages e
+            (λ e. IsLogUnread D.is_honest D.extent D.faults D.state version log pages e
             ⊎ ArePagesUnread D.is_honest D.extent D.faults D.state version log pages mappings.now end e) }
         ensures core { IfOk result (FetchesCore D.is_honest D.state version log pages mappings.now) }
         ensures whole { IfOk result (IsWholeCore D.is_honest D.state) }
@@ -75,9 +76,10 @@ impl<D: Disk + Drop> Core<D> {
 pub fn sizes<D: Disk>(alloc: Global, version: Version, log: &mut D) -> Result<Sizes, Refusal>
     ensures same { SameDevice D.extent D.is_honest log.old log.new }
     ensures cause { MatchResult result (λ _. D.faults log.new ≡ D.faults log.old)
-        (IsReadRefusal (λ broken. D.is_honest log.old
-        → DeviceRefused LOG_REGION_BYTES (IsLog version) (D.state log.old).seen broken)
-        Log (D.faults log.old) (D.faults log.new)) }
+        (IsReadRefusal (IsRefused LOG_REGION_BYTES (IsLog version) (D.is_honest log.old)
+        (D.extent log.old) (D.state log.old).seen) Log (D.faults log.old) (D.faults log.new)) }
+    ensures right { IfOk result (λ sizes. (sizes.pages ≤ MAX_PAGES) × (MIN_CAPACITY ≤ sizes.capacity)
+        × (sizes.capacity ≤ MAX_CAPACITY)) }
     ensures listed { D.is_honest log.old → IfOk result (AreSizesOf version (D.state log.old).seen) }
     ensures quiet { D.is_honest log.old → WritesNothing D.remembers D.state D.clock log.old log.new }
 {

@@ -5,10 +5,12 @@ mod commit;
 mod committing;
 mod copying;
 mod desk_core;
+mod dropping;
 mod faults;
 mod fetch;
 mod looks;
 mod pages;
+mod telling;
 mod works;
 
 pub use copying::Peeked;

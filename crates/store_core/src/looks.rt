@@ -1,28 +1,20 @@
 //! Looks at retained snapshots.
 
-ghost use Rattle.std.specs.Prelude.{◌≡◌, true, IfOk};
-ghost use Rattle.history.specs.Marks.{is_retained, newest, oldest, start_of};
+ghost use Rattle.std.specs.Prelude.{◌≡◌, true, map, IfOk};
+ghost use Rattle.history.specs.declared.journal.What.TheVariants.{LookedAll};
+ghost use Rattle.history.specs.Marks.{newest, oldest, start_of};
 ghost use Rattle.journal_book.specs.Works.{work_at};
-ghost use Rattle.records.specs.Entries.{IsNumberedFrom};
-ghost use Rattle.txn_set.specs.Ledger.{IsLookingAs, closed, ended, is_idle};
-ghost use Rattle.store_core.specs.Calls.{HasLooked};
+ghost use Rattle.txn_set.specs.Ledger.{IsLookingAs, closed, ended, is_idle, looking};
+ghost use Rattle.store_core.specs.Calls.{HasLooked, HasOpened};
 ghost use Rattle.store_core.specs.Core.{IsWholeCore, StaysCore};
 
 use crate::desk_core::Core;
 use disk_model::Disk;
-use history::{Mark, oldest};
+use history::Mark;
 use retro_base::{Refusal, Who};
 use std::alloc::Global;
 use txn_set::Ending;
-
-// The start of a retained snapshot, among snapshots that are numbered without gaps.
-fn start_of(marks: &[Mark], snapshot: u32) -> u64
-    requires numbered { IsNumberedFrom (oldest marks.now) marks.now }
-    requires retained { is_retained snapshot marks.now ≡ true }
-    ensures { result ≡ start_of snapshot marks.now }
-{
-    marks[(snapshot - oldest(marks)) as usize].start
-}
+use values::Seq;
 
 impl<D: Disk + Drop> Core<D> {
     /// Ends the look of this item; takes no memory.
@@ -50,6 +42,20 @@ impl<D: Disk + Drop> Core<D> {
     {
         let (oldest, newest) = self.desk.horizon();
         self.ledger.look(alloc, who, number, oldest, newest)?;
-        Ok(start_of(self.desk.base().marks(), number as u32))
+        Ok(self.desk.start(number as u32))
+    }
+
+    /// Opens a look at all retained snapshots, which stay retained until the look is ended, and answers them, in rising
+    /// number. JournalFull comes exactly where its two lines find no room; else it is refused for want of memory alone.
+    pub fn look_all(&mut self, alloc: Global, who: Who) -> Result<Seq<Mark>, Refusal>
+        requires core { IsWholeCore D.is_honest D.state self.old }
+        requires idle { is_idle who (work_at self.old.ledger.works.slots who.session) ≡ true }
+        ensures desk { self.new.desk ≡ self.old.desk }
+        ensures looked { HasOpened who LookedAll (looking who self.old.ledger.book.lines
+            (map (λ mark. mark.number) self.old.desk.base.marks)) self.old.ledger self.new.ledger result }
+        ensures marks { IfOk result (λ marks. marks ≡ self.old.desk.base.marks) }
+        ensures core { StaysCore D.is_honest D.state self.old self.new }
+    {
+        self.ledger.look_all(alloc, who, self.desk.base().marks())
     }
 }

@@ -18,7 +18,7 @@ use Rattle.history.specs.Right.{IsBase, IsWithinLimits}
 use Rattle.history.specs.Sound.{KeepsRules, pins_of}
 use Rattle.history.specs.Writes.{pages_of}
 use Rattle.history.proofs.SoundLaws.{base_stays_right, sound_with_one_more}
-use Rattle.journal_book.specs.declared.stop.Stop.{Stop}
+use Rattle.history.specs.declared.stop.Stop.{Stop}
 use Rattle.journal_book.specs.declared.work.Transaction.{Transaction}
 use Rattle.txn_set.specs.declared.counts.Counts.{Counts}
 use Rattle.txn_set.specs.Laws.{CommitsAreRight, CommitsStaySound, DeskGoesOn, ImagesFit}
@@ -49,12 +49,12 @@ or_none : (a b : Bool) → a || b ≡ false → (a ≡ false) × (b ≡ false)
 or_none true b e = absurd cc
 or_none false b e = (refl, e)
 
-behind_overlap : (fault : Option Stop) (counts : Counts) (lines : List Line) (t : Transaction) (label : Option (List ℕ)) → commit_refused fault counts lines t label ≡ None
-    → option_or (images_refused lines t.edits) (option_or (snapshots_refused counts label) (archive_refused counts label)) ≡ None
-behind_overlap fault counts lines t label none =
-    none_next (option_map overlap (first_changed lines t t.reads.keys)) _ (none_next (stopped_refused fault label t.edits) _ (none_next t.kept _ none))
+behind_overlap : (fault : Option Stop) (counts : Counts) (lines : List Line) (t : Transaction) (declares : Bool) → commit_refused fault counts lines t declares ≡ None
+    → option_or (images_refused lines t.edits) (option_or (snapshots_refused counts declares) (archive_refused counts declares)) ≡ None
+behind_overlap fault counts lines t declares none =
+    none_next (option_map overlap (first_changed lines t t.reads.keys)) _ (none_next (stopped_refused fault declares t.edits) _ (none_next t.kept _ none))
 
-marks_fit : (base : Base) (writes : List PageImage) (count : ℕ) (label : Option (List ℕ)) → IsBase base → snapshots_refused (counts_of base writes) label ≡ None
+marks_fit : (base : Base) (writes : List PageImage) (count : ℕ) (label : Option (List ℕ)) → IsBase base → snapshots_refused (counts_of base writes) (is_some label) ≡ None
     → (length (declared base.marks count label) ≤ RETAINED_SNAPSHOTS) × (newest (declared base.marks count label) < 2 ^ 32)
 marks_fit base writes count None is e = (is.limits.retained, is.limits.newest)
 marks_fit base writes count (Some label) is e =
@@ -74,19 +74,19 @@ start_is (mark ∷ marks) captures (Some label) = ap (λ (b : Bool). cond b capt
   go false e = e
 
 -- what is not refused keeps the limits
-limits_kept : (base : Base) (fault : Option Stop) (lines : List Line) (t : Transaction) (label : Option (List ℕ)) → IsBase base → commit_refused fault (counts_of base t.edits) lines t label ≡ None
+limits_kept : (base : Base) (fault : Option Stop) (lines : List Line) (t : Transaction) (label : Option (List ℕ)) → IsBase base → commit_refused fault (counts_of base t.edits) lines t (is_some label) ≡ None
     → IsWithinLimits base.capacity (base_after base (Commit label t.edits)).captures (base_after base (Commit label t.edits)).marks
 limits_kept base fault lines t label is none =
     let counts : Counts = counts_of base t.edits in
-    let last = none_next (images_refused lines t.edits) _ (behind_overlap fault counts lines t label none) in
-    let snapshots = none_first (snapshots_refused counts label) _ last in
-    let archive = none_next (snapshots_refused counts label) (archive_refused counts label) last in
-    let needed : ℕ = captures_behind counts - start_behind counts label in
+    let last = none_next (images_refused lines t.edits) _ (behind_overlap fault counts lines t (is_some label) none) in
+    let snapshots = none_first (snapshots_refused counts (is_some label)) _ last in
+    let archive = none_next (snapshots_refused counts (is_some label)) (archive_refused counts (is_some label)) last in
+    let needed : ℕ = captures_behind counts - start_behind counts (is_some label) in
     let room = ltb-false _ _ (not_so _ _ (none_first (where_so (ltb counts.capacity needed) (ArchiveFull needed counts.capacity)) _ archive)) in
     let total = ltb-false _ _ (not_so _ _ (none_next (where_so (ltb counts.capacity needed) (ArchiveFull needed counts.capacity)) _ archive)) in
     let same : captures_behind counts ≡ base.captures + length (pages_of (capturing base t.edits)) = ap (λ n. base.captures + n) (sym (pages-length (capturing base t.edits))) in
     let marks = marks_fit base t.edits (base.captures + length (pages_of (capturing base t.edits))) label is snapshots in
-    let start : start_behind counts label ≡ oldest_start (declared base.marks (captures_behind counts) label) = start_is base.marks (captures_behind counts) label in
+    let start : start_behind counts (is_some label) ≡ oldest_start (declared base.marks (captures_behind counts) label) = start_is base.marks (captures_behind counts) label in
     record {
       total = subst (λ n. n ≤ MAX_CAPTURES) same total;
       room = subst (λ n. n - oldest_start (declared base.marks n label) ≤ base.capacity) same (subst (λ n. captures_behind counts - n ≤ base.capacity) start room);
@@ -99,11 +99,11 @@ commits_are_right base fault lines t label is inside none does = (inside, does, 
 
 pub images_fit : ImagesFit
 images_fit base fault lines t label none =
-    ltb-false _ _ (not_so _ _ (none_first (images_refused lines t.edits) _ (behind_overlap fault (counts_of base t.edits) lines t label none)))
+    ltb-false _ _ (not_so _ _ (none_first (images_refused lines t.edits) _ (behind_overlap fault (counts_of base t.edits) lines t (is_some label) none)))
 
 pub desk_goes_on : DeskGoesOn
 desk_goes_on base None lines t label none leaves = refl
-desk_goes_on base (Some stop) lines t label none leaves = absurd (no_stop (leaves_record label t.edits) leaves (none_first (stopped_refused (Some stop) label t.edits) _ (none_next t.kept _ none))) where
+desk_goes_on base (Some stop) lines t label none leaves = absurd (no_stop (leaves_record label t.edits) leaves (none_first (stopped_refused (Some stop) (is_some label) t.edits) _ (none_next t.kept _ none))) where
   no_stop : (b : Bool) → b ≡ true → cond b (Some (stopped stop)) None ≡ None → ⊥
   no_stop true e f = absurd cc
   no_stop false e f = absurd cc

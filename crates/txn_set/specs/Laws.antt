@@ -1,5 +1,5 @@
 -- What follows where a call is not refused.
-use Rattle.std.specs.Prelude.{◌≡◌, ◌+◌, ◌≤◌, ◌<◌, ℕ, true, IsTrue, List, [], ◌∷◌, ◌++◌, length, Option, None}
+use Rattle.std.specs.Prelude.{◌≡◌, ◌+◌, ◌≤◌, ◌<◌, ℕ, true, IsTrue, is_some, List, [], ◌∷◌, ◌++◌, length, Option, None}
 use Rattle.std.specs.List.{AllByRecursion}
 use Rattle.retro_base.specs.declared.limits.TheConstants.{JOURNAL_IMAGES, JOURNAL_LINES}
 use Rattle.history.specs.declared.entry.Base.{Base}
@@ -11,7 +11,7 @@ use Rattle.history.specs.Marks.{newest}
 use Rattle.history.specs.Right.{DoesSomething, IsBase, IsRight}
 use Rattle.history.specs.Sound.{IsSound}
 use Rattle.history.specs.Writes.{pages_of, rises}
-use Rattle.journal_book.specs.declared.stop.Stop.{Stop}
+use Rattle.history.specs.declared.stop.Stop.{Stop}
 use Rattle.journal_book.specs.declared.work.Transaction.{Transaction}
 use Rattle.txn_set.specs.declared.ledger.Ledger.{Ledger}
 use Rattle.txn_set.specs.Refused.{commit_refused, counts_of, drop_refused, leaves_record}
@@ -20,24 +20,24 @@ use Rattle.txn_set.specs.WorksFit.{PinsFit, WorksFit}
 -- A commit that writes or declares, and is not refused, is right behind a right base.
 abbrev pub CommitsAreRight : Type 0
 CommitsAreRight = (base : Base) (fault : Option Stop) (lines : List Line) (t : Transaction) (label : Option (List ℕ)) → IsBase base →
-    AllByRecursion (λ edit. edit.page < base.page_count) t.edits → commit_refused fault (counts_of base t.edits) lines t label ≡ None →
+    AllByRecursion (λ edit. edit.page < base.page_count) t.edits → commit_refused fault (counts_of base t.edits) lines t (is_some label) ≡ None →
     DoesSomething label t.edits → IsRight base (Commit label t.edits)
 
 -- The page images of a commit that is not refused fit the journal.
 abbrev pub ImagesFit : Type 0
 ImagesFit = (base : Base) (fault : Option Stop) (lines : List Line) (t : Transaction) (label : Option (List ℕ)) →
-    commit_refused fault (counts_of base t.edits) lines t label ≡ None → images_in lines + length t.edits ≤ JOURNAL_IMAGES
+    commit_refused fault (counts_of base t.edits) lines t (is_some label) ≡ None → images_in lines + length t.edits ≤ JOURNAL_IMAGES
 
 -- A commit that leaves a record is not refused only where nothing has stopped the desk.
 abbrev pub DeskGoesOn : Type 0
 DeskGoesOn = (base : Base) (fault : Option Stop) (lines : List Line) (t : Transaction) (label : Option (List ℕ)) →
-    commit_refused fault (counts_of base t.edits) lines t label ≡ None → leaves_record label t.edits ≡ true → fault ≡ None
+    commit_refused fault (counts_of base t.edits) lines t (is_some label) ≡ None → leaves_record label t.edits ≡ true → fault ≡ None
 
 -- The line of a commit that is not refused keeps the journal sound, where there is a place for it.
 abbrev pub CommitsStaySound : Type 0
 CommitsStaySound = (opening : Base) (fault : Option Stop) (lines : List Line) (line : Line) (t : Transaction) (label : Option (List ℕ)) → IsSound opening lines → length lines < JOURNAL_LINES →
     IsTrue (rises 0 (pages_of t.edits)) → AllByRecursion (λ edit. edit.page < (base_of opening lines).page_count) t.edits →
-    commit_refused fault (counts_of (base_of opening lines) t.edits) lines t label ≡ None → line.what ≡ Done label t.edits → IsSound opening (lines ++ line ∷ [])
+    commit_refused fault (counts_of (base_of opening lines) t.edits) lines t (is_some label) ≡ None → line.what ≡ Done label t.edits → IsSound opening (lines ++ line ∷ [])
 
 -- The line of a drop that is not refused keeps the journal sound, where there is a place for it.
 abbrev pub DropsStaySound : Type 0

@@ -14,7 +14,7 @@ use Rattle.history.specs.Lines.{changed_since, images_in}
 use Rattle.history.specs.Marks.{newest, oldest_start}
 use Rattle.history.specs.Writes.{pages_of, is_among}
 use Rattle.txn_set.specs.declared.counts.Counts.{Counts}
-use Rattle.journal_book.specs.declared.stop.Stop.{Stop}
+use Rattle.history.specs.declared.stop.Stop.{Stop}
 use Rattle.journal_book.specs.declared.work.Transaction.{Transaction}
 use Rattle.journal_book.specs.declared.work.Work.{Work}
 use Rattle.journal_book.specs.Works.{latch_holder, least_pin}
@@ -58,8 +58,9 @@ first_changed lines t (page ∷ pages) = option_or (changed_since t.who page t.b
 abbrev pub leaves_record : Option (List ℕ) → List PageImage → Bool
 leaves_record label writes = is_some label || nat_lt 0 (length writes)
 
-abbrev pub stopped_refused : Option Stop → Option (List ℕ) → List PageImage → Option Refusal
-stopped_refused fault label writes = if leaves_record label writes then option_map stopped fault else None
+-- the stop of a commit that writes or declares
+abbrev pub stopped_refused : Option Stop → Bool → List PageImage → Option Refusal
+stopped_refused fault declares writes = if declares || nat_lt 0 (length writes) then option_map stopped fault else None
 
 -- more page images than the journal may have
 abbrev pub images_refused : List Line → List PageImage → Option Refusal
@@ -77,30 +78,30 @@ counts_of base writes = record {
 }
 
 -- more snapshots than may be retained, or numbered
-abbrev pub snapshots_refused : Counts → Option (List ℕ) → Option Refusal
-snapshots_refused counts label = where_so (is_some label && (nat_le RETAINED_SNAPSHOTS counts.retained || nat_le 4294967295 counts.newest)) (SnapshotsFull counts.retained)
+abbrev pub snapshots_refused : Counts → Bool → Option Refusal
+snapshots_refused counts declares = where_so (declares && (nat_le RETAINED_SNAPSHOTS counts.retained || nat_le 4294967295 counts.newest)) (SnapshotsFull counts.retained)
 
 -- the captures behind the commit
 abbrev pub captures_behind : Counts → ℕ
 captures_behind counts = counts.captures + counts.captured
 
 -- the start of the oldest snapshot behind it: the first one starts there
-abbrev pub start_behind : Counts → Option (List ℕ) → ℕ
-start_behind counts label = if is_some label && (counts.retained == 0) then captures_behind counts else counts.oldest_start
+abbrev pub start_behind : Counts → Bool → ℕ
+start_behind counts declares = if declares && (counts.retained == 0) then captures_behind counts else counts.oldest_start
 
 -- more captures than the archive holds, or than a store may ever have
-abbrev pub archive_refused : Counts → Option (List ℕ) → Option Refusal
-archive_refused counts label =
-    option_or (where_so (nat_lt counts.capacity (captures_behind counts - start_behind counts label)) (ArchiveFull (captures_behind counts - start_behind counts label) counts.capacity))
+abbrev pub archive_refused : Counts → Bool → Option Refusal
+archive_refused counts declares =
+    option_or (where_so (nat_lt counts.capacity (captures_behind counts - start_behind counts declares)) (ArchiveFull (captures_behind counts - start_behind counts declares) counts.capacity))
     (where_so (nat_lt MAX_CAPTURES (captures_behind counts)) (ArchiveFull (captures_behind counts) MAX_CAPTURES))
 
--- why a commit is refused, in this order: what the transaction keeps; the stop; the last changer of the least page read that has changed; page images; snapshots; the archive
-abbrev pub commit_refused : Option Stop → Counts → List Line → Transaction → Option (List ℕ) → Option Refusal
-commit_refused fault counts lines t label =
+-- why a commit is refused, which declares a snapshot or not, in this order: what the transaction keeps; the stop; the last changer of the least page read that has changed; page images; snapshots; the archive
+abbrev pub commit_refused : Option Stop → Counts → List Line → Transaction → Bool → Option Refusal
+commit_refused fault counts lines t declares =
     option_or t.kept
-    (option_or (stopped_refused fault label t.edits)
+    (option_or (stopped_refused fault declares t.edits)
     (option_or (option_map overlap (first_changed lines t t.reads.keys))
-    (option_or (images_refused lines t.edits) (option_or (snapshots_refused counts label) (archive_refused counts label)))))
+    (option_or (images_refused lines t.edits) (option_or (snapshots_refused counts declares) (archive_refused counts declares)))))
 
 -- no snapshot has this number
 abbrev pub no_snapshot : ℕ → ℕ → Option Refusal

@@ -21,8 +21,8 @@ ghost use Rattle.txn_set.specs.declared.ledger.Ledger.{Ledger};
 use crate::counts::Counts;
 use crate::ending::{Ending, closing, ended, is_kept};
 use crate::refusing::{commit_refused, edit_refused, look_refused, read_refused};
-use history::{Label, Line, Mark, PageImage, What, Writes};
-use journal_book::{Book, Look, Stop, Transaction, Work, Works, edit_of};
+use history::{Label, Line, Mark, PageImage, Stop, What, Writes, copied_marks};
+use journal_book::{Book, Look, Transaction, Work, Works, edit_of};
 use retro_base::{Device, Page, Refusal, Who};
 use std::alloc::{AllocError, Global};
 use std::collections::BTreeSet;
@@ -194,22 +194,23 @@ impl Ledger {
         }
     }
 
-    /// Why a commit of the transaction of this item is refused before it takes any memory.
+    /// Why a commit of the transaction of this item, which declares a snapshot or not, is refused before it takes any
+    /// memory.
     pub fn commit_refused(
         &self,
         who: Who,
         fault: Option<Stop>,
         counts: &Counts,
-        label: &Option<Label>,
+        declares: bool,
     ) -> Option<Refusal>
         requires fits { WorksFit self.now }
         requires is_open { IsOpenAs self.now.works.slots who }
         requires captures { captures_behind counts.now < 2 ^ 64 }
         ensures { (t : Transaction) → work_at self.now.works.slots who.session ≡ Some (Open t)
-            → result ≡ commit_refused fault counts.now self.now.book.lines t label.now }
+            → result ≡ commit_refused fault counts.now self.now.book.lines t declares }
     {
         let transaction = self.works.transaction(who.session);
-        commit_refused(&self.book, transaction, fault, counts, label)
+        commit_refused(&self.book, transaction, fault, counts, declares)
     }
 
     /// Takes a transaction out for its commit, which puts it back or finishes it; takes no memory. Its closing line
@@ -341,14 +342,21 @@ impl Ledger {
         self.open_work(who, What::Looked { snapshot }, Work::Looking(look))
     }
 
-    /// Opens a look at all retained snapshots. JournalFull comes exactly where its two lines find no room; else it is
-    /// refused for want of memory alone.
-    pub fn look_all(&mut self, alloc: Global, who: Who, marks: &[Mark]) -> Result<(), Refusal>
+    /// Opens a look at all retained snapshots, and answers a copy of them. JournalFull comes exactly where its two
+    /// lines find no room; else it is refused for want of memory alone.
+    pub fn look_all(
+        &mut self,
+        alloc: Global,
+        who: Who,
+        marks: &[Mark],
+    ) -> Result<Seq<Mark>, Refusal>
         requires fits { WorksFit self.old }
         requires idle { is_idle who (work_at self.old.works.slots who.session) ≡ true }
         requires rising { rises 0 (map (λ mark. mark.number) marks.now) ≡ true }
         ensures full { (why : Refusal) → lines_refused (given_up who self.old).book 2 ≡ Some why → result ≡ Err why }
-        ensures done { OnOk result (self.new ≡ opened who LookedAll (looking who self.old.book.lines (map (λ mark. mark.number) marks.now)) (given_up who self.old)) }
+        ensures marks { IfOk result (λ copied. copied ≡ marks.now) }
+        ensures done { OnOk result (self.new ≡ opened who LookedAll (looking who self.old.book.lines
+            (map (λ mark. mark.number) marks.now)) (given_up who self.old)) }
         ensures memory { lines_refused (given_up who self.old).book 2 ≡ None → IfErr result (λ why. why ≡ OutOfMemory) }
         ensures stays { OnErr result (self.new ≡ given_up who self.old) }
         ensures fits { WorksFit self.new }
@@ -357,12 +365,16 @@ impl Ledger {
         if let Some(why) = self.book.lines_refused(2) {
             return Err(why);
         }
+        let copied = copied_marks(alloc, marks)?;
         let look = Look {
             who,
             began: self.book.lines().len(),
             pins: Seq::from(numbers(alloc, marks)?),
         };
-        self.open_work(who, What::LookedAll, Work::Looking(look))
+        match self.open_work(who, What::LookedAll, Work::Looking(look)) {
+            Ok(()) => Ok(Seq::from(copied)),
+            Err(why) => Err(why),
+        }
     }
 
     /// Keeps the line of a drop, unless the session keeps one in this phase. JournalFull comes exactly where it finds

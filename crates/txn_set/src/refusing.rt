@@ -4,11 +4,11 @@ ghost use Rattle.std.specs.Prelude.{◌≡◌, ◌≤◌, ◌<◌, ◌+◌, ◌^
 ghost use Rattle.std.specs.List.{AllByRecursion};
 ghost use Rattle.retro_base.specs.declared.limits.TheConstants.{MAX_CAPTURES};
 ghost use Rattle.history.specs.Lines.{images_in};
-ghost use Rattle.txn_set.specs.Refused.{IsOpenIn, archive_refused, captures_behind, commit_refused, drop_refused, edit_refused, first_changed, images_refused, leaves_record, look_refused, no_snapshot, overlap, read_refused, snapshots_refused, start_behind, stopped, stopped_refused, too_many};
+ghost use Rattle.txn_set.specs.Refused.{IsOpenIn, archive_refused, captures_behind, commit_refused, drop_refused, edit_refused, first_changed, images_refused, leaves_record, look_refused, no_snapshot, overlap, read_refused, snapshots_refused, start_behind, stopped_refused, too_many};
 
 use crate::counts::Counts;
-use history::{Label, PageImage};
-use journal_book::{Book, Stop, Transaction, Works, has_page};
+use history::{PageImage, Stop};
+use journal_book::{Book, Transaction, Works, has_page};
 use retro_base::{EDITED_PAGES, JOURNAL_IMAGES, MAX_CAPTURES, RETAINED_SNAPSHOTS, Refusal, Who};
 
 fn overlap(who: Who) -> Refusal
@@ -17,15 +17,6 @@ fn overlap(who: Who) -> Refusal
     Refusal::Overlap {
         session: who.session,
         item: who.item,
-    }
-}
-
-fn stopped(stop: Stop) -> Refusal
-    ensures { result ≡ stopped stop }
-{
-    Refusal::Stopped {
-        device: stop.device,
-        count: stop.count,
     }
 }
 
@@ -95,18 +86,14 @@ fn first_changed(book: &Book, transaction: &Transaction) -> Option<Who>
     None
 }
 
-fn stopped_refused(
-    fault: Option<Stop>,
-    label: &Option<Label>,
-    writes: &[PageImage],
-) -> Option<Refusal>
-    ensures { result ≡ stopped_refused fault label.now writes.now }
+fn stopped_refused(fault: Option<Stop>, declares: bool, writes: &[PageImage]) -> Option<Refusal>
+    ensures { result ≡ stopped_refused fault declares writes.now }
 {
-    if label.is_none() && writes.is_empty() {
+    if !declares && writes.is_empty() {
         return None;
     }
     match fault {
-        Some(stop) => Some(stopped(stop)),
+        Some(stop) => Some(stop.refusal()),
         None => None,
     }
 }
@@ -122,10 +109,10 @@ fn images_refused(book: &Book, writes: &[PageImage]) -> Option<Refusal>
     None
 }
 
-fn snapshots_refused(counts: &Counts, label: &Option<Label>) -> Option<Refusal>
-    ensures { result ≡ snapshots_refused counts.now label.now }
+fn snapshots_refused(counts: &Counts, declares: bool) -> Option<Refusal>
+    ensures { result ≡ snapshots_refused counts.now declares }
 {
-    if label.is_some() && (counts.retained >= RETAINED_SNAPSHOTS || counts.newest == u32::MAX) {
+    if declares && (counts.retained >= RETAINED_SNAPSHOTS || counts.newest == u32::MAX) {
         return Some(Refusal::SnapshotsFull {
             retained: counts.retained,
         });
@@ -133,13 +120,13 @@ fn snapshots_refused(counts: &Counts, label: &Option<Label>) -> Option<Refusal>
     None
 }
 
-fn archive_refused(counts: &Counts, label: &Option<Label>) -> Option<Refusal>
+fn archive_refused(counts: &Counts, declares: bool) -> Option<Refusal>
     requires { captures_behind counts.now < 2 ^ 64 }
-    ensures { result ≡ archive_refused counts.now label.now }
+    ensures { result ≡ archive_refused counts.now declares }
 {
     let captures = counts.captures + counts.captured;
     let mut start = counts.oldest_start;
-    if label.is_some() && counts.retained == 0 {
+    if declares && counts.retained == 0 {
         start = captures;
     }
     let needed = captures.saturating_sub(start);
@@ -156,7 +143,7 @@ fn archive_refused(counts: &Counts, label: &Option<Label>) -> Option<Refusal>
     None
 }
 
-/// Why a commit is refused before it takes any memory: for what its transaction keeps; where it leaves a record, for
+/// Why a commit, which declares a snapshot or not, is refused before it takes any memory: for what its transaction keeps; where it leaves a record, for
 /// the fault that stopped the desk; for the last changer of the least page that it read and that has changed since;
 /// where the page images pass the journal's limit; where the snapshots do; where the archive has too few slots.
 pub fn commit_refused(
@@ -164,18 +151,18 @@ pub fn commit_refused(
     transaction: &Transaction,
     fault: Option<Stop>,
     counts: &Counts,
-    label: &Option<Label>,
+    declares: bool,
 ) -> Option<Refusal>
     requires is_open { IsOpenIn book.now.lines transaction.now }
     requires pages { AllByRecursion (λ page. page < book.now.pages) transaction.now.reads.keys }
     requires captures { captures_behind counts.now < 2 ^ 64 }
-    ensures { result ≡ commit_refused fault counts.now book.now.lines transaction.now label.now }
+    ensures { result ≡ commit_refused fault counts.now book.now.lines transaction.now declares }
 {
     let edits = transaction.edits.images();
     if let Some(kept) = transaction.kept {
         return Some(kept);
     }
-    if let Some(why) = stopped_refused(fault, label, edits) {
+    if let Some(why) = stopped_refused(fault, declares, edits) {
         return Some(why);
     }
     if let Some(who) = first_changed(book, transaction) {
@@ -184,10 +171,10 @@ pub fn commit_refused(
     if let Some(why) = images_refused(book, edits) {
         return Some(why);
     }
-    if let Some(why) = snapshots_refused(counts, label) {
+    if let Some(why) = snapshots_refused(counts, declares) {
         return Some(why);
     }
-    archive_refused(counts, label)
+    archive_refused(counts, declares)
 }
 
 fn no_snapshot(number: u64, newest: u32) -> Option<Refusal>
@@ -225,7 +212,7 @@ pub fn drop_refused(works: &Works, fault: Option<Stop>, newest: u32, below: u64)
     ensures { result ≡ drop_refused fault newest below works.now.slots }
 {
     if let Some(stop) = fault {
-        return Some(stopped(stop));
+        return Some(stop.refusal());
     }
     if let Some(why) = no_snapshot(below, newest) {
         return Some(why);

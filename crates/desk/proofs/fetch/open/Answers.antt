@@ -15,4 +15,4 @@ returns-in-Ok-clause-desk g c = λ bytes slots side.
 
 pub returns-in-Err-clause-cause : goal.returns-in-Err-clause-cause
 returns-in-Err-clause-cause g c = λ extent bytes side.
-    subst (λ (d : _). IsPagesRefusal c.args.list extent bytes c.args.mappings.now c.args.end (g.D.Disk.faults c.args.pool.file.disk) (g.D.Disk.faults d) c.in-Err.why) (sym c.into_disk-in-Err.ensures) (c.in-Err.ensures.cause extent bytes side)
+    subst (λ (d : _). IsPagesRefusal c.args.list extent bytes c.args.mappings.now c.args.end (g.D.Disk.faults c.args.pool.file.disk) (g.D.Disk.faults d) c.in-Err.why) (sym c.into_disk-in-Err.ensures.disk) (c.in-Err.ensures.cause extent bytes side)

@@ -1,5 +1,4 @@
-use Rattle.std.proofs.Common.{◌∙◌, ap}
-use Rattle.desk.specs.declared.desk.RunningDesk.{RunningDesk}
+use Rattle.std.proofs.Common.{◌∙◌}
 use Rattle.page_pool.specs.Side.{held}
 use Rattle.store_core.proofs.Edits.{trans_rest}
 use Rattle.store_core.proofs.Released.{released_all, released_more}

@@ -16,7 +16,7 @@ returns-in-Ok-settled_pool-clause-cause g c =
     match_two c.open.result
     (λ desk. desk.log ≡ c.in-Ok.log) (λ desk. faults desk.pool.file.disk ≡ faults pool.file.disk) (λ desk. (faults desk.log.disk ≡ faults c.args.log) × (faults desk.pool.file.disk ≡ faults c.args.pages))
     (λ e. e.log ≡ c.in-Ok.log.disk) (λ e. IsPagesRefusal list (g.D.Disk.extent c.args.pages) seen c.args.mappings.now c.args.end (faults pool.file.disk) (faults e.pages) e.why)
-    (λ e. IsLogUnread honest faults state c.args.version c.args.log c.args.pages e ⊎ ArePagesUnread honest g.D.Disk.extent faults state c.args.version c.args.log c.args.pages c.args.mappings.now c.args.end e)
+    (λ e. IsLogUnread honest g.D.Disk.extent faults state c.args.version c.args.log c.args.pages e ⊎ ArePagesUnread honest g.D.Disk.extent faults state c.args.version c.args.log c.args.pages c.args.mappings.now c.args.end e)
     (λ desk same steady. (ap (λ s. faults s.disk) same ∙ c.in-Ok.ensures.cause, steady ∙ c.in-Ok-settled_pool.ensures.cause))
     (λ e same refused. inr (record {
       steady = ap faults same ∙ c.in-Ok.ensures.cause;

@@ -1,4 +1,4 @@
-use Rattle.std.proofs.Common.{ℕ, refl, sym, ap, subst, ◌≤◌}
+use Rattle.std.proofs.Common.{refl, ap, subst, ◌≤◌}
 use Rattle.history.specs.declared.entry.Base.{Base}
 use Rattle.page_pool.specs.Side.{held}
 use Rattle.race_model.specs.Machine.{acked_to}

@@ -1,4 +1,4 @@
-use Rattle.std.proofs.Common.{◌≡◌, ◌∙◌, ℕ, List, sym, ap, subst, Option}
+use Rattle.std.proofs.Common.{ℕ, List, sym, subst, Option}
 use Rattle.std.specs.Prelude.{option_copied}
 use Rattle.history.specs.declared.entry.Change.TheVariants.{Commit}
 use Rattle.race_model.specs.Machine.{change_failed}

@@ -1,4 +1,4 @@
-use Rattle.std.proofs.Common.{◌≡◌, ◌∙◌, ◌≤◌, ◌<◌, ◌+◌, List, length, refl, sym, ap, subst, Some}
+use Rattle.std.proofs.Common.{◌≡◌, ◌∙◌, ◌≤◌, ◌<◌, ◌+◌, length, refl, sym, ap, subst, Some}
 use Rattle.std.specs.List.{AllByRecursion}
 use Rattle.retro_base.specs.declared.limits.TheConstants.{JOURNAL_IMAGES}
 use Rattle.history.specs.declared.writes.PageImage.{PageImage}

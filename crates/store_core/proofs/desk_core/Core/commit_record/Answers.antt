@@ -1,4 +1,4 @@
-use Rattle.std.proofs.Common.{◌≡◌, ◌∙◌, ◌≤◌, ◌<◌, ◌&&◌, not, ℕ, List, length, refl, sym, ap, subst, Option, Some, None, Result, Ok, Err}
+use Rattle.std.proofs.Common.{◌≡◌, ◌∙◌, ◌≤◌, ◌<◌, ◌&&◌, not, ℕ, List, length, refl, sym, ap, subst, Option, Some, None, Result}
 use Rattle.std.specs.Prelude.{OnOk, IfErr, MatchResult}
 use Rattle.std.specs.List.{AllByRecursion}
 use Rattle.disk_model.specs.Moments.{LeavesOnly}
@@ -23,10 +23,10 @@ use Rattle.journal_book.specs.declared.work.Work.{Work}
 use Rattle.journal_book.specs.declared.work.Work.TheVariants.{Open}
 use Rattle.journal_book.specs.Works.{work_at}
 use Rattle.txn_set.specs.declared.ledger.Ledger.{Ledger}
-use Rattle.txn_set.specs.Ledger.{committed, taken}
+use Rattle.txn_set.specs.Ledger.{taken}
 use Rattle.store_core.specs.declared.desk_core.Core.{Core}
 use Rattle.store_core.specs.Calls.{failed, has_released}
-use Rattle.store_core.specs.Commits.{IsAllowed, IsMayCommit}
+use Rattle.store_core.specs.Commits.{IsMayCommit}
 use Rattle.store_core.specs.Core.{IsCore}
 use Rattle.store_core.proofs.Committed.{allowed_one, commit_fits, commit_right, committed_same, core_committed, core_pair, edits_held, fitting, goes_on, kept_one, may_commit, same_open, taken_none}
 use Rattle.store_core.proofs.Faulted.{core_fails, failed_same, going_refusal, may_record}

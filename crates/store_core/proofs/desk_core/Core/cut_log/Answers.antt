@@ -1,4 +1,4 @@
-use Rattle.std.proofs.Common.{◌∙◌, ℕ, refl, sym, ap, subst}
+use Rattle.std.proofs.Common.{◌∙◌, refl, sym, ap, subst}
 use Rattle.retro_base.specs.declared.device.Device.TheVariants.{Log}
 use Rattle.race_model.specs.Machine.{cut, cut_failed}
 use Rattle.race_model.proofs.DeskKeeps.{cut_keeps, cut_failed_keeps}

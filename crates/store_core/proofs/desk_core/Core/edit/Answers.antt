@@ -1,18 +1,10 @@
-use Rattle.std.proofs.Common.{◌≡◌, ◌∙◌, ◌&&◌, ◌||◌, not, ℕ, Bool, cond, eqb, false, List, refl, sym, ap, subst, Some, Result, Ok, Err}
-use Rattle.std.specs.Prelude.{OnOk, OnErr, IfErr}
-use Rattle.retro_base.specs.declared.refusal.Refusal.{Refusal}
-use Rattle.retro_base.specs.declared.refusal.Refusal.TheVariants.{OutOfMemory}
-use Rattle.history.specs.declared.writes.PageImage.{PageImage}
-use Rattle.journal_book.specs.declared.work.Work.TheVariants.{Open}
-use Rattle.journal_book.specs.Works.{editing, reading, work_at}
+use Rattle.std.proofs.Common.{◌∙◌, ◌||◌, Bool, sym, ap}
+use Rattle.journal_book.specs.Works.{editing}
 use Rattle.retro_base.specs.declared.device.Device.TheVariants.{Pages}
 use Rattle.block_file.specs.Blocks.{File}
 use Rattle.page_pool.specs.Side.{held}
-use Rattle.desk.specs.declared.desk.RunningDesk.{RunningDesk}
-use Rattle.txn_set.specs.declared.ledger.Ledger.{Ledger}
-use Rattle.txn_set.specs.Ledger.{kept_behind, with_open}
+use Rattle.txn_set.specs.Ledger.{kept_behind}
 use Rattle.desk.proofs.Steps.{is_none}
-use Rattle.store_core.specs.Core.{IsCore}
 use Rattle.store_core.proofs.Edits.{core_read, core_with, edit_answered, edit_cause, edit_core, kept_edits, swapped}
 use Rattle.store_core.proofs.desk_core.Core.edit.Goals as goal
 

@@ -1,4 +1,4 @@
-use Rattle.std.proofs.Common.{◌∙◌, ℕ, sym, ap}
+use Rattle.std.proofs.Common.{sym, ap}
 use Rattle.disk_model.specs.declared.four.Sizes.{Sizes}
 use Rattle.store_core.proofs.Fetching.{fetches}
 use Rattle.store_core.proofs.desk_core.Core.fetch.Goals as goal

@@ -1,4 +1,4 @@
-use Rattle.std.proofs.Common.{◌∙◌, ℕ, ap}
+use Rattle.std.proofs.Common.{◌∙◌, ap}
 use Rattle.history.specs.declared.entry.Base.{Base}
 use Rattle.history.specs.Marks.{newest, oldest}
 use Rattle.store_core.proofs.Cores.{base_is}

@@ -1,4 +1,3 @@
-use Rattle.store_core.proofs.Edits.{core_read}
 use Rattle.store_core.proofs.Pinned.{pinned_retained}
 use Rattle.store_core.proofs.desk_core.Core.peek.Goals as goal
 

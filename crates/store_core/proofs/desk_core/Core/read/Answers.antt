@@ -4,7 +4,6 @@ use Rattle.journal_book.specs.declared.work.Work.TheVariants.{Open}
 use Rattle.journal_book.specs.Works.{reading, work_at}
 use Rattle.txn_set.specs.declared.ledger.Ledger.{Ledger}
 use Rattle.txn_set.specs.Ledger.{kept_behind}
-use Rattle.store_core.specs.declared.desk_core.Core.{Core}
 use Rattle.store_core.specs.Core.{IsCore}
 use Rattle.store_core.proofs.Edits.{core_with, kept_edits, still_open}
 use Rattle.store_core.proofs.desk_core.Core.read.Goals as goal

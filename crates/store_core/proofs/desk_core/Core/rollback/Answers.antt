@@ -1,4 +1,4 @@
-use Rattle.std.proofs.Common.{◌∙◌, ◌&&◌, not, ℕ, List, refl, sym, ap, subst}
+use Rattle.std.proofs.Common.{◌∙◌, ◌&&◌, not, List, refl, sym, ap, subst}
 use Rattle.std.specs.Prelude.{IsSome}
 use Rattle.history.specs.declared.writes.PageImage.{PageImage}
 use Rattle.history.specs.Writes.{is_among, pages_of}

@@ -1,4 +1,4 @@
-use Rattle.std.proofs.Common.{◌≡◌, ◌∙◌, ◌<◌, ◌^◌, ℕ, List, sym, ap, subst}
+use Rattle.std.proofs.Common.{◌≡◌, ◌∙◌, ◌<◌, ◌^◌, List, sym, ap, subst}
 use Rattle.history.specs.declared.entry.Base.{Base}
 use Rattle.history.specs.declared.writes.PageImage.{PageImage}
 use Rattle.journal_book.specs.declared.work.Work.{Work}

@@ -1,4 +1,4 @@
-use Rattle.std.proofs.Common.{◌∙◌, ℕ, refl, sym, subst}
+use Rattle.std.proofs.Common.{◌∙◌, refl, sym, subst}
 use Rattle.block_file.specs.Blocks.{File}
 use Rattle.disk_model.specs.Moments.{LeavesOnly}
 use Rattle.retro_base.specs.Cause.{IsFault}

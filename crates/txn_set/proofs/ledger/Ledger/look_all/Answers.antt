@@ -13,8 +13,17 @@ use Rattle.txn_set.proofs.ledger.Ledger.look_all.Goals as goal
 pub open_work-requires-clause-idle : goal.open_work-requires-clause-idle
 open_work-requires-clause-idle c = ap (λ (l : Ledger). edits_of (work_at l.works.slots c.args.who.session)) c.give_up_other.ensures.done ∙ idle_left c.args.who c.args.self.now c.requires.idle
 
-pub returns-clause-fits : goal.returns-clause-fits
-returns-clause-fits c =
+pub returns-in-Ok-clause-fits : goal.returns-in-Ok-clause-fits
+returns-in-Ok-clause-fits c =
+    let none : work_at c.give_up_other.new.self.works.slots c.args.who.session ≡ None = ap (λ (l : Ledger). work_at l.works.slots c.args.who.session) c.give_up_other.ensures.done ∙ idle_none c.args.self.now c.args.who c.requires.idle in
+    let pins : c.from.result ≡ map (λ (mark : Mark). mark.number) c.args.marks.now = c.from.ensures ∙ c.in_ok-numbers.ensures in
+    by_result c.open_work.result WorksFit c.open_work.new.self _ c.give_up_other.new.self c.open_work.ensures.done c.open_work.ensures.stays
+    (fits_looked c.give_up_other.new.self c.args.who whats.LookedAll (record { who = c.args.who; began = length c.lines.result.now; pins = c.from.result }) c.give_up_other.ensures.fits none refl refl refl
+    (ap (λ (l : List Line). length l) c.lines.ensures) (ap (rises 0) pins ∙ c.requires.rising))
+    c.give_up_other.ensures.fits
+
+pub returns-in-Err-clause-fits : goal.returns-in-Err-clause-fits
+returns-in-Err-clause-fits c =
     let none : work_at c.give_up_other.new.self.works.slots c.args.who.session ≡ None = ap (λ (l : Ledger). work_at l.works.slots c.args.who.session) c.give_up_other.ensures.done ∙ idle_none c.args.self.now c.args.who c.requires.idle in
     let pins : c.from.result ≡ map (λ (mark : Mark). mark.number) c.args.marks.now = c.from.ensures ∙ c.in_ok-numbers.ensures in
     by_result c.open_work.result WorksFit c.open_work.new.self _ c.give_up_other.new.self c.open_work.ensures.done c.open_work.ensures.stays
