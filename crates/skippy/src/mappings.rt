@@ -25,7 +25,8 @@ impl Model for Mappings {
 
     ghost view = { λ m. record { low = m.low; pages = drop m.forgotten m.pages.items } };
 
-    ghost invariant = { λ m. (m.forgotten ≤ length m.pages.items) × (m.low + length m.pages.items ≤ MAX_CAPTURES + m.forgotten) };
+    ghost invariant = { λ m. (m.forgotten ≤ length m.pages.items)
+        × (m.low + length m.pages.items ≤ MAX_CAPTURES + m.forgotten) };
 }
 
 impl Mappings {

@@ -1,4 +1,5 @@
-//! What a scan reads by the rule of the levels, counted apart from them: steps take no bytes, so no program can read them.
+//! What a scan reads by the rule of the levels, counted apart from them: steps take no bytes, so no program can read
+//! them.
 
 use std::alloc::{AllocError, Global};
 use std::collections::HashSet;

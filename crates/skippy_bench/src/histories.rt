@@ -9,6 +9,8 @@ pub enum History {
     Different,
     /// Four pages in turn.
     Repeated,
+    /// A hundredth as many pages as captures, in turn.
+    Hundredfold,
     /// 90 in 100 on 64 pages, the others anywhere in 65,536.
     Skewed,
 }
@@ -19,6 +21,7 @@ impl History {
         match name {
             "different" => Some(History::Different),
             "repeated" => Some(History::Repeated),
+            "hundredfold" => Some(History::Hundredfold),
             "skewed" => Some(History::Skewed),
             _ => None,
         }
@@ -36,6 +39,7 @@ pub fn pages_of(alloc: Global, history: History, length: u32) -> Result<Vec<u32>
         pages.push(match history {
             History::Different => number % 65_536,
             History::Repeated => number % 4,
+            History::Hundredfold => number % (length / 100 + 1),
             History::Skewed => skewed(random >> 32),
         })?;
     }

@@ -96,7 +96,8 @@ impl Levels {
         ensures err { OnErr result (take (length table.old) table.new ≡ table.old) }
         ensures refused { IfErr result (λ e. e ≡ Refusal.OutOfMemory) }
         ensures cost { AddsAtMost
-            (min (size_of height) (different (pages_in self.now (index * size_of height) ((index + 1) * size_of height))))
+            (min (size_of height)
+            (different (pages_in self.now (index * size_of height) ((index + 1) * size_of height))))
             steps.old steps.new }
     {
         if height == 0 {
