@@ -12,7 +12,7 @@ use Rattle.skippy.specs.Mappings.{Mappings, end_of, trim}
 use Rattle.race_model.specs.Machine.{entered, enter_failed, trimmed, trim_failed}
 use Rattle.race_model.specs.Vault.{IsMaplogOf, Batch, enter_into, listing, Maplog, trim_to, Vault}
 use Rattle.map_log.specs.Log.{MapArea}
-use Rattle.archive.specs.Side.{IsMapSide, ListsMaplogOf, Moves, put_failed, SameSide, Shows, Side}
+use Rattle.archive.specs.Side.{IsMapSide, ListsMaplogOf, Moves, SameSide, Shows, Side, stopped_with}
 use Rattle.archive.proofs.Sides.{lists_same}
 use Rattle.archive.proofs.Trims.{trim_to_is, trim_to_none}
 
@@ -51,7 +51,7 @@ module _ (vault : Vault) (batch : Batch) where
   trim_is maplog is =
       ⊎_elim (λ same. inl same) (λ there. inr (first_more (listing vault (trim_to vault.mappings batch.low)) (listing vault (enter_into vault.mappings batch) ∷ []) maplog there)) is
 
-  enter_is : (maplog : Maplog) → IsMaplogOf (put_failed (trimmed vault batch.low) (listing vault (enter_into vault.mappings batch) ∷ [])) maplog → IsMaplogOf (enter_failed vault batch) maplog
+  enter_is : (maplog : Maplog) → IsMaplogOf (stopped_with (trimmed vault batch.low) (listing vault (enter_into vault.mappings batch) ∷ [])) maplog → IsMaplogOf (enter_failed vault batch) maplog
   enter_is maplog is =
       ⊎_elim (λ same. inr (0, omega arith, sym same)) (λ there. inr (one_more (listing vault (trim_to vault.mappings batch.low)) (listing vault (enter_into vault.mappings batch)) maplog there)) is
 
@@ -59,7 +59,7 @@ module _ (vault : Vault) (batch : Batch) where
     trim_covers : ListsMaplogOf log (trim_failed vault batch.low) image → ListsMaplogOf log (enter_failed vault batch) image
     trim_covers some = record { maplog = some.maplog; is = trim_is some.maplog some.is; lists = some.lists }
 
-    enter_covers : ListsMaplogOf log (put_failed (trimmed vault batch.low) (listing vault (enter_into vault.mappings batch) ∷ [])) image → ListsMaplogOf log (enter_failed vault batch) image
+    enter_covers : ListsMaplogOf log (stopped_with (trimmed vault batch.low) (listing vault (enter_into vault.mappings batch) ∷ [])) image → ListsMaplogOf log (enter_failed vault batch) image
     enter_covers some = record { maplog = some.maplog; is = enter_is some.maplog some.is; lists = some.lists }
 
 module _ {D : Type 0} (is_honest : D → Type 0) (remembers : Type 0) (state : D → State) (clock : D → Clock) (vault : Vault) (batch : Batch) where
@@ -73,7 +73,7 @@ module _ {D : Type 0} (is_honest : D → Type 0) (remembers : Type 0) (state : D
     images = λ told image at. trim_covers vault batch side.log image (is.images told image at);
   }
 
-  enter_failing : (side : Side D) → batch.low ≤ end_of vault.mappings → IsMapSide is_honest state side (put_failed (trimmed vault batch.low) (listing vault (enter_into vault.mappings batch) ∷ [])) → IsMapSide is_honest state side (enter_failed vault batch)
+  enter_failing : (side : Side D) → batch.low ≤ end_of vault.mappings → IsMapSide is_honest state side (stopped_with (trimmed vault batch.low) (listing vault (enter_into vault.mappings batch) ∷ [])) → IsMapSide is_honest state side (enter_failed vault batch)
   enter_failing side within is = record {
     in_version = is.in_version;
     shows = shows_before side.levels side.held vault.mappings batch.low within is.shows;
@@ -98,18 +98,18 @@ module _ {D : Type 0} (is_honest : D → Type 0) (remembers : Type 0) (state : D
 
   -- a trim, and an entering behind it
   pub entered_behind : (old mid new : Side D) (r : Result (Unit {0}) Refusal) → batch.low ≤ end_of vault.mappings → SameSide is_honest old mid → Moves is_honest remembers state clock old mid (trimmed vault batch.low) (trim_failed vault batch.low) (Ok tt)
-      → Moves is_honest remembers state clock mid new (entered vault batch) (put_failed (trimmed vault batch.low) (listing vault (enter_into vault.mappings batch) ∷ [])) r → Moves is_honest remembers state clock old new (entered vault batch) (enter_failed vault batch) r
+      → Moves is_honest remembers state clock mid new (entered vault batch) (stopped_with (trimmed vault batch.low) (listing vault (enter_into vault.mappings batch) ∷ [])) r → Moves is_honest remembers state clock old new (entered vault batch) (enter_failed vault batch) r
   entered_behind old mid new r within same first second = record {
     steps = second.steps;
     fails = fails r second.fails;
     any_moment = λ told.
         joined remembers (clock old.disk) (clock mid.disk) (clock new.disk) (ListsMaplogOf old.log (enter_failed vault batch)) (trim_leaves old mid (Ok tt) first told)
-        (weaker remembers (clock mid.disk) (clock new.disk) (ListsMaplogOf mid.log (put_failed (trimmed vault batch.low) (listing vault (enter_into vault.mappings batch) ∷ []))) (ListsMaplogOf old.log (enter_failed vault batch))
+        (weaker remembers (clock mid.disk) (clock new.disk) (ListsMaplogOf mid.log (stopped_with (trimmed vault batch.low) (listing vault (enter_into vault.mappings batch) ∷ []))) (ListsMaplogOf old.log (enter_failed vault batch))
         (λ image some. lists_same mid.log old.log (enter_failed vault batch) image (sym same.page_count) (sym same.capacity) (enter_covers vault batch mid.log image some))
         (second.any_moment (same.honest.0 told)));
   }
     where
-      fails : (r : Result (Unit {0}) Refusal) → IfErr r (λ why. IsDiskFault why → IsMapSide is_honest state new (put_failed (trimmed vault batch.low) (listing vault (enter_into vault.mappings batch) ∷ [])))
+      fails : (r : Result (Unit {0}) Refusal) → IfErr r (λ why. IsDiskFault why → IsMapSide is_honest state new (stopped_with (trimmed vault batch.low) (listing vault (enter_into vault.mappings batch) ∷ [])))
           → IfErr r (λ why. IsDiskFault why → IsMapSide is_honest state new (enter_failed vault batch))
       fails (Ok x) given = tt
       fails (Err e) given = λ fault. enter_failing new within (given fault)

@@ -11,7 +11,7 @@ use Rattle.race_model.specs.Vault.{Batch, batch_end, IsSlotOf, Vault}
 use Rattle.race_model.specs.declared.fault.Fault.{Fault}
 use Rattle.archive.specs.Archive.{IsVault, Running, TurnsByLaying}
 use Rattle.archive.specs.Side.{IsMapSide, ListsMaplogOf, Side}
-use Rattle.archive.specs.Slots.{AreSlots, HasSlotsOf, LayFails, loosened, takes, with_captures}
+use Rattle.archive.specs.Slots.{AreSlots, HasSlotsOf, loosened, SomeFailedLaying, takes, with_captures}
 use Rattle.archive.proofs.Laying.{slots_differ}
 
 or_none : (a b : Bool) → (a || b) ≡ false → (a ≡ false) × (b ≡ false)
@@ -124,9 +124,9 @@ lists_still side vault other image version mappings others some = record {
 module _ {D : Type 0} (is_honest : D → Type 0) (remembers : Type 0) (state : D → State) (clock : D → Clock) (old new : Running D) (vault : Vault) (batch : Batch) (is : IsVault is_honest state old vault) (goes : vault.stopped ≡ false)
     (side : new.side ≡ old.side) (file : SameFile is_honest old.pagelog new.pagelog) (few : length batch.images ≤ old.pagelog.blocks)
     (alone : is_honest old.pagelog.disk → WritesOnly (IsSlotOf old.pagelog.blocks batch) remembers state clock old.pagelog.disk new.pagelog.disk) where
-  leaves : is_honest old.pagelog.disk → LeavesOnly remembers (clock old.pagelog.disk) (clock new.pagelog.disk) (λ image. LayFails old.pagelog.blocks vault batch (λ failed. HasSlotsOf failed image))
+  leaves : is_honest old.pagelog.disk → LeavesOnly remembers (clock old.pagelog.disk) (clock new.pagelog.disk) (λ image. SomeFailedLaying old.pagelog.blocks vault batch (λ failed. HasSlotsOf failed image))
   leaves told =
-      weaker remembers (clock old.pagelog.disk) (clock new.pagelog.disk) (KeepsSettled (IsSlotOf old.pagelog.blocks batch) (state old.pagelog.disk)) (λ image. LayFails old.pagelog.blocks vault batch (λ failed. HasSlotsOf failed image))
+      weaker remembers (clock old.pagelog.disk) (clock new.pagelog.disk) (KeepsSettled (IsSlotOf old.pagelog.blocks batch) (state old.pagelog.disk)) (λ image. SomeFailedLaying old.pagelog.blocks vault batch (λ failed. HasSlotsOf failed image))
       (λ image keeps. record {
         slots = vault.slots;
         loose = loosened old.pagelog.blocks vault batch;

@@ -1,5 +1,5 @@
 pub mod Batches
-pub mod Enters
+pub mod Entering
 pub mod Finding
 pub mod Laying
 pub mod Numbered

@@ -1,11 +1,12 @@
 -- What an opening tells of its devices.
 use Rattle.std.proofs.Common.{◌≡◌, inl, inr, ◌∙◌, ◌+◌, ◌*◌, ◌<◌, ◌≤◌, ◌↔◌, ℕ, List, [], None, is_some, length, refl, sym, ap, subst, arith}
 use Rattle.disk_model.specs.Disk.{IsDurable, State}
+use Rattle.disk_model.specs.Sizes.{maplog_half}
 use Rattle.area_log.specs.Listed.{DeviceStandsFor}
 use Rattle.history.specs.declared.log.Version.{Version}
 use Rattle.records.specs.Maplog.{IsMaplog}
 use Rattle.skippy.specs.Mappings.{end_of, Mappings, push}
-use Rattle.map_log.specs.Log.{FetchedMappings, IsFetched, IsMapArea, MapArea, maplog_half}
+use Rattle.map_log.specs.Log.{FetchedMappings, IsFetched, IsMapArea, MapArea}
 use Rattle.map_log.proofs.Records.{keeps_lists}
 use Rattle.block_file.specs.Blocks.{block_at}
 use Rattle.replay.specs.Opened.{Contents}
@@ -36,7 +37,8 @@ pushed_all mappings levels none low pages same all is pushed =
 pub is_opened_vault : {D : Type 0} (is_honest : D → Type 0) (state : D → State) (archive : Running D) (version : Version) (page_count capacity : ℕ) (old : State) (area : IsMapArea archive.side.log) → IsFetched version page_count capacity archive.side.log
     → archive.side.held ≡ end_of archive.side.levels → archive.laid ≡ archive.side.held → archive.first_fault ≡ None → (is_honest archive.side.disk → FetchedMappings archive.side.log archive.side.levels old (state archive.side.disk))
     → (is_honest archive.pagelog.disk → IsDurable (state archive.pagelog.disk)) → (contents : Contents) → contents.mappings ≡ archive.side.levels
-    → (is_honest archive.pagelog.disk → (slot : ℕ) → contents.slots slot ≡ block_at (state archive.pagelog.disk).seen slot) → IsVault is_honest state archive (opened_vault version contents)
+    → (is_honest archive.pagelog.disk → (slot : ℕ) → contents.slots slot ≡ block_at (state archive.pagelog.disk).seen slot)
+    → IsVault is_honest state archive (opened_vault version contents)
 is_opened_vault is_honest state archive version page_count capacity old area is held laid going fetched durable contents same slots = record {
   stopped = sym (ap is_some going);
   mapped = record {

@@ -4,16 +4,17 @@ use Rattle.std.specs.Prelude.{Contains}
 use Rattle.std.proofs.lemmas.List.{take_all, length-append}
 use Rattle.disk_model.specs.Disk.{State, IsImage}
 use Rattle.disk_model.specs.Moments.{Clock, LeavesOnly}
+use Rattle.disk_model.specs.Sizes.{maplog_half}
 use Rattle.disk_model.proofs.Moments.{now_has, started, weaker}
 use Rattle.retro_base.specs.declared.refusal.Refusal.{Refusal}
 use Rattle.gate_log.specs.Cause.{IsDiskFault}
 use Rattle.area_log.specs.Area.{AfterWrite, Area}
 use Rattle.records.specs.Entries.{page_width}
 use Rattle.skippy.specs.Mappings.{Mappings, end_of, push}
-use Rattle.map_log.specs.Log.{IsMapArea, Keeps, ListsMappings, ListsOneOf, MapArea, maplog_half, with_area}
+use Rattle.map_log.specs.Log.{IsMapArea, Keeps, ListsMappings, ListsOneOf, MapArea, with_area}
 use Rattle.map_log.proofs.Records.{keeps_lists}
 use Rattle.race_model.specs.Vault.{listing, Maplog, Vault}
-use Rattle.archive.specs.Side.{IsMapSide, ListsMaplogOf, Moves, put, put_failed, SameSide, Shows, Side}
+use Rattle.archive.specs.Side.{IsMapSide, ListsMaplogOf, Moves, SameSide, Shows, Side, stopped_with, with_mappings}
 
 -- memory that is the mappings shows them
 pub shows_self : (levels : Mappings) (held : ℕ) (m : Mappings) → levels ≡ m → end_of m ≡ held → Shows levels held m
@@ -75,7 +76,7 @@ lists_same log other vault image page_count capacity some = record {
 }
 
 -- the one mappings or the others, as Maplogs
-one_of : (log : MapArea) (vault : Vault) (next : Mappings) (others : List Maplog) (image : List ℕ) → vault.version ≡ log.version → Contains others (listing vault next) → ListsOneOf log vault.mappings next image → ListsMaplogOf log (put_failed vault others) image
+one_of : (log : MapArea) (vault : Vault) (next : Mappings) (others : List Maplog) (image : List ℕ) → vault.version ≡ log.version → Contains others (listing vault next) → ListsOneOf log vault.mappings next image → ListsMaplogOf log (stopped_with vault others) image
 one_of log vault next others image same there lists = ⊎_elim
     (λ is. record { maplog = listing vault vault.mappings; is = inl refl; lists = as_vault vault.mappings is })
     (λ is. record { maplog = listing vault next; is = inr there; lists = as_vault next is }) lists
@@ -87,13 +88,13 @@ module _ {D : Type 0} (is_honest : D → Type 0) (remembers : Type 0) (state : D
   -- the vault of a side whose device was called
   module _ (old new : Side D) (vault : Vault) (next : Mappings) (others : List Maplog) (is : IsMapSide is_honest state old vault) (there : Contains others (listing vault next)) (same : SameSide is_honest old new)
       (run : is_honest old.disk → LeavesOnly remembers (clock old.disk) (clock new.disk) (ListsOneOf old.log vault.mappings next)) where
-    leaves : is_honest old.disk → LeavesOnly remembers (clock old.disk) (clock new.disk) (ListsMaplogOf old.log (put_failed vault others))
+    leaves : is_honest old.disk → LeavesOnly remembers (clock old.disk) (clock new.disk) (ListsMaplogOf old.log (stopped_with vault others))
     leaves told =
-        weaker remembers (clock old.disk) (clock new.disk) (ListsOneOf old.log vault.mappings next) (ListsMaplogOf old.log (put_failed vault others)) (λ image one. one_of old.log vault next others image is.in_version there one) (run told)
+        weaker remembers (clock old.disk) (clock new.disk) (ListsOneOf old.log vault.mappings next) (ListsMaplogOf old.log (stopped_with vault others)) (λ image one. one_of old.log vault next others image is.in_version there one) (run told)
 
     -- a call that failed, and memory that shows the mappings as before
     pub failed_side : ((t : ℕ) (image : List ℕ) → is_honest new.disk → t ≤ (clock new.disk).moment → IsImage (state new.disk) image → (clock new.disk).left_since t image) → Shows new.levels new.held vault.mappings → new.levels.low ≡ vault.mappings.low
-        → IsMapSide is_honest state new (put_failed vault others)
+        → IsMapSide is_honest state new (stopped_with vault others)
     failed_side counts_now shows low = record {
       in_version = is.in_version ∙ sym same.in_version;
       shows = shows;
@@ -101,17 +102,17 @@ module _ {D : Type 0} (is_honest : D → Type 0) (remembers : Type 0) (state : D
       going = λ on. absurd (true≢false on);
       keeps = λ told on. absurd (true≢false on);
       images = λ told image at.
-          lists_same old.log new.log (put_failed vault others) image same.page_count same.capacity
-          (now_has remembers (clock old.disk) (clock new.disk) (ListsMaplogOf old.log (put_failed vault others)) (IsImage (state new.disk)) (leaves (same.honest.1 told)) (λ t i le left. counts_now t i told le left) image at);
+          lists_same old.log new.log (stopped_with vault others) image same.page_count same.capacity
+          (now_has remembers (clock old.disk) (clock new.disk) (ListsMaplogOf old.log (stopped_with vault others)) (IsImage (state new.disk)) (leaves (same.honest.1 told)) (λ t i le left. counts_now t i told le left) image at);
     }
 
-    pub moves_failed : (done : Vault) (r : Result (Unit {0}) Refusal) (why : Refusal) → r ≡ Err why → IsMapSide is_honest state new (put_failed vault others) → Moves is_honest remembers state clock old new done (put_failed vault others) r
+    pub moves_failed : (done : Vault) (r : Result (Unit {0}) Refusal) (why : Refusal) → r ≡ Err why → IsMapSide is_honest state new (stopped_with vault others) → Moves is_honest remembers state clock old new done (stopped_with vault others) r
     moves_failed done r why refused failed =
-        subst (λ (x : Result (Unit {0}) Refusal). Moves is_honest remembers state clock old new done (put_failed vault others) x) (sym refused)
+        subst (λ (x : Result (Unit {0}) Refusal). Moves is_honest remembers state clock old new done (stopped_with vault others) x) (sym refused)
         (record { steps = tt; fails = λ fault. failed; any_moment = leaves })
 
     -- a call that succeeded
-    pub moves_done : IsMapArea new.log → new.levels ≡ next → end_of next ≡ new.held → (is_honest old.disk → Keeps new.log next (state new.disk)) → Moves is_honest remembers state clock old new (put vault next) (put_failed vault others) (Ok tt)
+    pub moves_done : IsMapArea new.log → new.levels ≡ next → end_of next ≡ new.held → (is_honest old.disk → Keeps new.log next (state new.disk)) → Moves is_honest remembers state clock old new (with_mappings vault next) (stopped_with vault others) (Ok tt)
     moves_done area levels end keeps = record {
       steps = record {
         in_version = is.in_version ∙ sym same.in_version;
@@ -134,7 +135,7 @@ module _ {D : Type 0} (is_honest : D → Type 0) (remembers : Type 0) (state : D
 
   -- the vault of a side whose device was not called
   module _ (side : Side D) (vault : Vault) (others : List Maplog) (is : IsMapSide is_honest state side vault) (goes : vault.stopped ≡ false) (area : IsMapArea side.log) where
-    rests : is_honest side.disk → (image : List ℕ) → IsImage (state side.disk) image → ListsMaplogOf side.log (put_failed vault others) image
+    rests : is_honest side.disk → (image : List ℕ) → IsImage (state side.disk) image → ListsMaplogOf side.log (stopped_with vault others) image
     rests told image at = record {
       maplog = listing vault vault.mappings;
       is = inl refl;
@@ -144,16 +145,16 @@ module _ {D : Type 0} (is_honest : D → Type 0) (remembers : Type 0) (state : D
     }
 
     pub moves_nothing : ((image : List ℕ) → is_honest side.disk → (clock side.disk).left_since (clock side.disk).moment image → IsImage (state side.disk) image) → (done : Vault) (r : Result (Unit {0}) Refusal)
-        → OnOk r (IsMapSide is_honest state side done) → Moves is_honest remembers state clock side side done (put_failed vault others) r
+        → OnOk r (IsMapSide is_honest state side done) → Moves is_honest remembers state clock side side done (stopped_with vault others) r
     moves_nothing only_now done r owed = record {
       steps = owed;
       fails = fails r;
-      any_moment = λ told. started remembers (clock side.disk) (ListsMaplogOf side.log (put_failed vault others)) (λ image left. rests told image (only_now image told left));
+      any_moment = λ told. started remembers (clock side.disk) (ListsMaplogOf side.log (stopped_with vault others)) (λ image left. rests told image (only_now image told left));
     }
       where
-        failed : IsMapSide is_honest state side (put_failed vault others)
+        failed : IsMapSide is_honest state side (stopped_with vault others)
         failed = record { in_version = is.in_version; shows = is.shows; lowest = record { maplog = listing vault vault.mappings; is = inl refl; same = sym (ap (λ (m : Mappings). m.low) (is.going goes)) }; going = λ on. absurd (true≢false on); keeps = λ told on. absurd (true≢false on); images = rests }
 
-        fails : (r : Result (Unit {0}) Refusal) → IfErr r (λ why. IsDiskFault why → IsMapSide is_honest state side (put_failed vault others))
+        fails : (r : Result (Unit {0}) Refusal) → IfErr r (λ why. IsDiskFault why → IsMapSide is_honest state side (stopped_with vault others))
         fails (Ok x) = tt
         fails (Err e) = λ fault. failed

@@ -10,7 +10,8 @@ abbrev pub below : ℕ → Option ℕ → Option ℕ
 below limit None = None
 below limit (Some number) = if nat_lt number limit then Some number else None
 
--- A table was made to cover the mappings below a number, or memory ran out and it covers what it did: it is one of first mappings still. No step was taken where they were covered, and else no more than the bound on entries read.
+-- A table was made to cover the mappings below a number, or memory ran out and it covers what it did: it is one of
+-- first mappings still. No step was taken where they were covered, and else no more than the bound on entries read.
 pub record Covers (levels : Mappings) (upto : ℕ) (old new : Table) (before after : ℕ) : Type 0 where
   pub start : new.start ≡ old.start
   pub met : IsFirstMet new levels

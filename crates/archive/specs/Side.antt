@@ -20,7 +20,8 @@ pub record Side (D : Type 0) : Type 0 where
   pub levels : Mappings
   pub held : ℕ
 
--- What holds of them: the log is of the device and of its store; the mappings in memory are of pages of the store, no more than its capacity, and go on up to `held` at least, and no further while the log goes on.
+-- What holds of them: the log is of the device and of its store; the mappings in memory are of pages of the store, no
+-- more than its capacity, and go on up to `held` at least, and no further while the log goes on.
 pub record IsSide {D : Type 0} (extent : D → ℕ) (side : Side D) : Type 0 where
   pub log : IsMapArea side.log
   pub whole : extent side.disk ≡ 2 * side.log.area.log.size
@@ -30,7 +31,8 @@ pub record IsSide {D : Type 0} (extent : D → ℕ) (side : Side D) : Type 0 whe
   pub few : end_of side.levels ≤ side.levels.low + side.log.capacity
   pub sound : AreSound side.log.page_count side.levels
 
--- Memory shows mappings up to `held`: from its own lowest on they are the same. Behind `held` it may have more, which a failed append left.
+-- Memory shows mappings up to `held`: from its own lowest on they are the same. Behind `held` it may have more, which a
+-- failed append left.
 pub record Shows (levels : Mappings) (held : ℕ) (mappings : Mappings) : Type 0 where
   pub above : mappings.low ≤ levels.low
   pub low : levels.low ≤ held
@@ -50,14 +52,17 @@ pub record IsLowestOf (low : ℕ) (vault : Vault) : Type 0 where
   pub is : IsMaplogOf vault maplog
   pub same : maplog.mappings.low ≡ low
 
--- The side of the mappings is the vault's. While the vault goes on, memory and the device have its mappings; once it has stopped, memory shows them, and each image lists a Maplog of its own.
-pub record IsMapSide {D : Type 0} (is_honest : D → Type 0) (state : D → State) (side : Side D) (vault : Vault) : Type 0 where
+-- The side of the mappings is the vault's. While the vault goes on, memory and the device have its mappings; once it
+-- has stopped, memory shows them, and each image lists a Maplog of its own.
+pub record IsMapSide {D : Type 0} (is_honest : D → Type 0)
+    (state : D → State) (side : Side D) (vault : Vault) : Type 0 where
   pub in_version : vault.version ≡ side.log.version
   pub shows : Shows side.levels side.held vault.mappings
   pub lowest : IsLowestOf side.levels.low vault
   pub going : vault.stopped ≡ false → side.levels ≡ vault.mappings
   pub keeps : is_honest side.disk → vault.stopped ≡ false → Keeps side.log vault.mappings (state side.disk)
-  pub images : is_honest side.disk → (image : List ℕ) → IsImage (state side.disk) image → ListsMaplogOf side.log vault image
+  pub images : is_honest side.disk → (image : List ℕ) → IsImage (state side.disk) image
+      → ListsMaplogOf side.log vault image
 
 -- its device is of the same size and as honest as it was, and its log of the same store and version
 pub record SameSide {D : Type 0} (is_honest : D → Type 0) (old new : Side D) : Type 0 where
@@ -66,8 +71,10 @@ pub record SameSide {D : Type 0} (is_honest : D → Type 0) (old new : Side D) :
   pub page_count : new.log.page_count ≡ old.log.page_count
   pub capacity : new.log.capacity ≡ old.log.capacity
 
--- The side behind a call that forgets the mappings below a number, and holds as many captures as before. A call that was refused for want of memory changed nothing, and one whose device failed left the mappings in memory as they were.
-pub record Lowers {D : Type 0} (old : Side D) (low : ℕ) (result : Result (Unit {0}) Refusal) (new : Side D) : Type 0 where
+-- The side behind a call that forgets the mappings below a number, and holds as many captures as before. A call that
+-- was refused for want of memory changed nothing, and one whose device failed left the mappings in memory as they were.
+pub record Lowers {D : Type 0} (old : Side D) (low : ℕ) (result : Result (Unit {0}) Refusal)
+    (new : Side D) : Type 0 where
   pub held : new.held ≡ old.held
   pub levels : OnOk result (new.levels ≡ trim_to old.levels low)
   pub going : OnOk result (new.log.area.fault ≡ None)
@@ -84,9 +91,11 @@ AddsRun old count new = new.log.area.log.gate ≡ old.log.area.log.gate + run_le
 
 -- where both fit and the batch's low is not above the lowest mapping, the run is all that is written: no low mark
 abbrev pub WritesNoMark : {D : Type 0} → Side D → Batch → Side D → Type 0
-WritesNoMark old batch new = batch.low ≤ old.levels.low → HasRoomFor old.log (length batch.images) → AddsRun old (length batch.images) new
+WritesNoMark old batch new = batch.low ≤ old.levels.low → HasRoomFor old.log (length batch.images)
+    → AddsRun old (length batch.images) new
 
--- What entering asks of a batch: some captures, up to 64, of pages of the store, of which no more than there are slots are kept with the others, up to the most captures.
+-- What entering asks of a batch: some captures, up to 64, of pages of the store, of which no more than there are slots
+-- are kept with the others, up to the most captures.
 pub record IsEntering {D : Type 0} (side : Side D) (batch : Batch) : Type 0 where
   pub some : 1 ≤ length batch.images
   pub few : length batch.images ≤ BATCH
@@ -94,15 +103,18 @@ pub record IsEntering {D : Type 0} (side : Side D) (batch : Batch) : Type 0 wher
   pub end : side.held + length batch.images ≤ MAX_CAPTURES
   pub pages : AllByRecursion (λ page. page < side.log.page_count) (pages_of batch.images)
 
--- The side behind a call that maps these pages behind the others. A call that was refused for want of memory changed nothing, and one whose device failed left them in memory alone.
-pub record Enters {D : Type 0} (old : Side D) (pages : List ℕ) (result : Result (Unit {0}) Refusal) (new : Side D) : Type 0 where
+-- The side behind a call that maps these pages behind the others. A call that was refused for want of memory changed
+-- nothing, and one whose device failed left them in memory alone.
+pub record MapsBehind {D : Type 0} (old : Side D) (pages : List ℕ) (result : Result (Unit {0}) Refusal)
+    (new : Side D) : Type 0 where
   pub held : OnOk result (new.held ≡ old.held + length pages)
   pub levels : OnOk result (new.levels ≡ push old.levels pages)
   pub going : OnOk result (new.log.area.fault ≡ None)
   pub left : OnErr result (new.held ≡ old.held)
   pub untouched : IfErr result (λ why. (IsDiskFault why → ⊥) → new ≡ old)
 
--- What laying and entering ask of a batch: 1 to 64 captures, which go on behind those entered, of which no more than there are slots are kept with it, up to the most captures, and of pages of the store.
+-- What laying and entering ask of a batch: 1 to 64 captures, which go on behind those entered, of which no more than
+-- there are slots are kept with it, up to the most captures, and of pages of the store.
 pub record IsNextBatch {D : Type 0} (side : Side D) (batch : Batch) : Type 0 where
   pub some : 1 ≤ length batch.images
   pub few : length batch.images ≤ BATCH
@@ -113,25 +125,32 @@ pub record IsNextBatch {D : Type 0} (side : Side D) (batch : Batch) : Type 0 whe
   pub pages : AllByRecursion (λ page. page < side.log.page_count) (pages_of batch.images)
 
 -- The side behind a call that enters a batch. Its log goes on, but for a fault.
-pub record EntersBatch {D : Type 0} (old : Side D) (batch : Batch) (result : Result (Unit {0}) Refusal) (new : Side D) : Type 0 where
+pub record EntersBatch {D : Type 0} (old : Side D) (batch : Batch) (result : Result (Unit {0}) Refusal)
+    (new : Side D) : Type 0 where
   pub held : OnOk result (new.held ≡ batch_end batch)
-  pub going : MatchResult result (λ _. new.log.area.fault ≡ None) (λ why. (IsDiskFault why → ⊥) → new.log.area.fault ≡ None)
+  pub going : MatchResult result (λ _. new.log.area.fault ≡ None) (λ why. (IsDiskFault why → ⊥)
+      → new.log.area.fault ≡ None)
   pub left : OnErr result (new.held ≡ old.held)
 
 -- Where memory ran out, the side is the vault's as before, or as it is trimmed to the batch's low.
-abbrev pub TrimmedAtMost : {D : Type 0} → (D → Type 0) → (D → State) → Side D → Vault → Batch → Result (Unit {0}) Refusal → Type 0
-TrimmedAtMost is_honest state new vault batch result = IfErr result (λ why. (IsDiskFault why → ⊥) → IsMapSide is_honest state new vault ⊎ IsMapSide is_honest state new (trimmed vault batch.low))
+abbrev pub TrimmedAtMost : {D : Type 0} → (D → Type 0) → (D → State) → Side D → Vault → Batch
+    → Result (Unit {0}) Refusal → Type 0
+TrimmedAtMost is_honest state new vault batch result = IfErr result (λ why. (IsDiskFault why → ⊥)
+    → IsMapSide is_honest state new vault ⊎ IsMapSide is_honest state new (trimmed vault batch.low))
 
--- A call of the side makes the vault `done`, or `failed` where a call of its device failed. A crash at any moment leaves what its failing leaves.
-pub record Moves {D : Type 0} (is_honest : D → Type 0) (remembers : Type 0) (state : D → State) (clock : D → Clock) (old new : Side D) (done failed : Vault) (result : Result (Unit {0}) Refusal) : Type 0 where
+-- A call of the side makes the vault `done`, or `failed` where a call of its device failed. A crash at any moment
+-- leaves what its failing leaves.
+pub record Moves {D : Type 0} (is_honest : D → Type 0) (remembers : Type 0) (state : D → State)
+    (clock : D → Clock) (old new : Side D) (done failed : Vault) (result : Result (Unit {0}) Refusal) : Type 0 where
   pub steps : OnOk result (IsMapSide is_honest state new done)
   pub fails : IfErr result (λ why. IsDiskFault why → IsMapSide is_honest state new failed)
-  pub any_moment : is_honest old.disk → LeavesOnly remembers (clock old.disk) (clock new.disk) (ListsMaplogOf old.log failed)
+  pub any_moment : is_honest old.disk → LeavesOnly remembers (clock old.disk) (clock new.disk)
+      (ListsMaplogOf old.log failed)
 
 -- the vault with these mappings
-abbrev pub put : Vault → Mappings → Vault
-put vault mappings = record vault { mappings = mappings }
+abbrev pub with_mappings : Vault → Mappings → Vault
+with_mappings vault mappings = record vault { mappings = mappings }
 
 -- the vault that stopped when its device may have come to hold one of these
-abbrev pub put_failed : Vault → List Maplog → Vault
-put_failed vault others = record vault { others = others; stopped = true }
+abbrev pub stopped_with : Vault → List Maplog → Vault
+stopped_with vault others = record vault { others = others; stopped = true }

@@ -19,14 +19,16 @@ takes capacity first (suc count) slot = (slot == (first + count) % capacity) || 
 -- the bytes of each slot with so many of the batch's captures laid
 abbrev pub with_captures : ℕ → Batch → (ℕ → List ℕ) → ℕ → ℕ → List ℕ
 with_captures capacity batch slots zero slot = slots slot
-with_captures capacity batch slots (suc count) slot = if slot == (batch.first + count) % capacity then (get_or batch.images count forgotten).bytes else with_captures capacity batch slots count slot
+with_captures capacity batch slots (suc count) slot =
+    if slot == (batch.first + count) % capacity then (get_or batch.images count forgotten).bytes
+    else with_captures capacity batch slots count slot
 
 -- the slots that may be loose while a batch is laid
 abbrev pub loosened : ℕ → Vault → Batch → ℕ → Bool
 loosened capacity vault batch slot = vault.loose slot || takes capacity batch.first (length batch.images) slot
 
 -- some laying of the batch makes a vault that has P
-pub record Lays (capacity : ℕ) (vault : Vault) (batch : Batch) (P : Vault → Type 0) : Type 0 where
+pub record SomeLaying (capacity : ℕ) (vault : Vault) (batch : Batch) (P : Vault → Type 0) : Type 0 where
   pub slots : ℕ → List ℕ
   pub loose : ℕ → Bool
   pub others : LeavesOthers capacity vault batch slots loose
@@ -34,7 +36,7 @@ pub record Lays (capacity : ℕ) (vault : Vault) (batch : Batch) (P : Vault → 
   pub is : P (laid vault batch slots loose)
 
 -- some failing of it makes a vault that has P
-pub record LayFails (capacity : ℕ) (vault : Vault) (batch : Batch) (P : Vault → Type 0) : Type 0 where
+pub record SomeFailedLaying (capacity : ℕ) (vault : Vault) (batch : Batch) (P : Vault → Type 0) : Type 0 where
   pub slots : ℕ → List ℕ
   pub loose : ℕ → Bool
   pub others : LeavesOthers capacity vault batch slots loose

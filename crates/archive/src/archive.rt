@@ -7,8 +7,7 @@ ghost use Rattle.gate_log.specs.Cause.{IsDiskFault};
 ghost use Rattle.block_file.specs.Blocks.{SameFile};
 ghost use Rattle.skippy.specs.Mappings.{first_in};
 ghost use Rattle.page_table.specs.Table.{IsFirstMet};
-ghost use Rattle.disk_model.specs.Sizes.{pagelog_bytes};
-ghost use Rattle.map_log.specs.Log.{maplog_half};
+ghost use Rattle.disk_model.specs.Sizes.{maplog_half, pagelog_bytes};
 ghost use Rattle.race_model.specs.Machine.{entered, enter_failed, trimmed, trim_failed};
 ghost use Rattle.race_model.specs.Vault.{batch_end, Vault};
 ghost use Rattle.archive.specs.Archive.{fault_after, Finds, IsTrimmedAtMost, IsVault, laid_after, Turns, TurnsByLaying};
@@ -29,7 +28,7 @@ use history::Version;
 use page_table::SnapTable;
 use race_model::{Batch, Fault, Receipt};
 use retro_base::{Device, Page, Refusal};
-use skippy::Steps;
+use skippy::{Mappings, Steps};
 use std::alloc::Global;
 use std::marker::Model;
 use std::sync::ledger::Ledger;
@@ -139,6 +138,15 @@ impl<D: Disk> Archive<D> {
         ensures memory { IfErr result (λ why. why ≡ OutOfMemory) }
     {
         self.side.mappings(self.alloc)
+    }
+
+    /// The mappings in memory: those of the captures that are entered, while no call of the Maplog's device has failed.
+    /// The only refusal is want of memory.
+    pub fn kept(&self) -> Result<Mappings, Refusal>
+        ensures kept { IfOk result (λ mappings. mappings ≡ self.now.side.levels) }
+        ensures memory { IfErr result (λ why. why ≡ OutOfMemory) }
+    {
+        self.side.kept(self.alloc)
     }
 
     /// Where on the Maplog's device the closed gate behind its list stands.

@@ -2,12 +2,12 @@
 
 ghost use Rattle.std.specs.Prelude.{◌≡◌, ◌*◌, ◌≤◌, ◌^◌, length, OnOk, IfOk, MatchResult};
 ghost use Rattle.disk_model.specs.Disk.{IsDurable};
-ghost use Rattle.disk_model.specs.Sizes.{pagelog_bytes};
+ghost use Rattle.disk_model.specs.Sizes.{maplog_half, pagelog_bytes};
 ghost use Rattle.retro_base.specs.declared.device.Device.TheVariants.{Maplog as OfMaplog};
 ghost use Rattle.retro_base.specs.declared.limits.TheConstants.{MAX_CAPACITY};
 ghost use Rattle.gate_log.specs.Cause.{IsReadRefusal};
 ghost use Rattle.records.specs.Entries.{page_width};
-ghost use Rattle.map_log.specs.Log.{AreSound, FetchedMappings, IsFetched, maplog_half};
+ghost use Rattle.map_log.specs.Log.{AreSound, FetchedMappings, IsFetched};
 ghost use Rattle.archive.specs.Fetching.{ComesBack, IsRefusedFetch, NotAnArchive};
 
 use disk_model::{Disk, Sizes};

@@ -5,23 +5,24 @@ ghost use Rattle.retro_base.specs.declared.limits.TheConstants.{BATCH};
 ghost use Rattle.gate_log.specs.Cause.{HasRoom};
 ghost use Rattle.history.specs.Writes.{pages_of};
 ghost use Rattle.map_log.specs.Bodies.{low_length, run_length};
-ghost use Rattle.map_log.specs.Cause.{IsCallRefusal};
-ghost use Rattle.map_log.specs.Log.{AreSound, HasRoomFor, IsMapArea, maplog_half};
+ghost use Rattle.disk_model.specs.Sizes.{maplog_half};
+ghost use Rattle.map_log.specs.Log.{AreSound, HasRoomFor, IsMapArea};
 ghost use Rattle.race_model.specs.Machine.{entered, enter_failed, trimmed, trim_failed};
 ghost use Rattle.race_model.specs.Vault.{listing, Vault};
 ghost use Rattle.page_table.specs.Table.{IsFirstMet};
 ghost use Rattle.skippy.specs.Mappings.{end_of, first_in, push};
+ghost use Rattle.archive.specs.Cause.{FaultsOrMemory};
 ghost use Rattle.archive.specs.Fetching.{kept_mappings};
 ghost use Rattle.archive.specs.Finding.{below, Covers};
 ghost use Rattle.retro_base.specs.declared.refusal.Refusal.TheVariants.{OutOfMemory};
-ghost use Rattle.archive.specs.Side.{AddsRun, Enters, EntersBatch, IsEntering, IsMapSide, IsNextBatch, Lowers, Moves, put, put_failed, SameSide, StaysInPlace, TrimmedAtMost, WritesNoMark};
+ghost use Rattle.archive.specs.Side.{AddsRun, EntersBatch, IsEntering, IsMapSide, IsNextBatch, Lowers, MapsBehind, Moves, SameSide, StaysInPlace, stopped_with, TrimmedAtMost, with_mappings, WritesNoMark};
 
 use disk_model::Disk;
 use map_log::MapLog;
 use page_table::SnapTable;
 use race_model::Batch;
 use retro_base::Refusal;
-use skippy::{Levels, Steps};
+use skippy::{Levels, Mappings, Steps};
 use std::alloc::Global;
 use std::marker::Model;
 use std::sync::ledger::Ledger;
@@ -106,6 +107,20 @@ impl<D: Disk> MapSide<D> {
         Ok(mappings)
     }
 
+    /// The mappings in memory. The only refusal is want of memory.
+    pub fn kept(&self, alloc: Global) -> Result<Mappings, Refusal>
+        ensures kept { IfOk result (λ mappings. mappings ≡ self.now.levels) }
+        ensures memory { IfErr result (λ why. why ≡ OutOfMemory) }
+    {
+        let low = self.levels.low();
+        let pages = self.levels.pages_from(low)?;
+        let mut mappings = Mappings::new(alloc, low);
+        match mappings.push(&pages) {
+            Ok(()) => Ok(mappings),
+            Err(_) => Err(Refusal::OutOfMemory),
+        }
+    }
+
     /// The device.
     pub fn into_disk(self) -> D
         ensures disk { result ≡ self.disk }
@@ -131,9 +146,7 @@ impl<D: Disk> MapSide<D> {
         ensures gate { OnOk result (self.new.log.area.log.gate ≡ self.old.log.area.log.gate + low_length + 5) }
         ensures size { OnOk result (self.new.log.area.log.size ≡ self.old.log.area.log.size) }
         ensures place { OnOk result (self.new.log.area.log.place ≡ self.old.log.area.log.place) }
-        ensures cause { MatchResult result
-            (λ _. D.faults self.new.disk ≡ D.faults self.old.disk)
-            (IsCallRefusal (D.faults self.old.disk) (D.faults self.new.disk)) }
+        ensures cause { FaultsOrMemory (D.faults self.old.disk) (D.faults self.new.disk) result }
         ensures moves { (vault : Vault) → IsMapSide D.is_honest D.state self.old vault → vault.stopped ≡ false
             → Moves D.is_honest D.remembers D.state D.clock self.old self.new
             (trimmed vault low) (trim_failed vault low) result }
@@ -152,9 +165,7 @@ impl<D: Disk> MapSide<D> {
         ensures same { SameSide D.is_honest self.old self.new }
         ensures lowers { Lowers self.old low result self.new }
         ensures room { OnOk result (HasRoomFor self.new.log BATCH) }
-        ensures cause { MatchResult result
-            (λ _. D.faults self.new.disk ≡ D.faults self.old.disk)
-            (IsCallRefusal (D.faults self.old.disk) (D.faults self.new.disk)) }
+        ensures cause { FaultsOrMemory (D.faults self.old.disk) (D.faults self.new.disk) result }
         ensures moves { (vault : Vault) → IsMapSide D.is_honest D.state self.old vault → vault.stopped ≡ false
             → Moves D.is_honest D.remembers D.state D.clock self.old self.new
             (trimmed vault low) (trim_failed vault low) result }
@@ -175,9 +186,7 @@ impl<D: Disk> MapSide<D> {
         ensures room { OnOk result (HasRoom self.new.log.area.log (run_length self.new.log.version count)) }
         ensures in_place { OnOk result (StaysInPlace self.old count self.new) }
         ensures nothing { low ≤ self.old.levels.low → HasRoomFor self.old.log count → self.new ≡ self.old }
-        ensures cause { MatchResult result
-            (λ _. D.faults self.new.disk ≡ D.faults self.old.disk)
-            (IsCallRefusal (D.faults self.old.disk) (D.faults self.new.disk)) }
+        ensures cause { FaultsOrMemory (D.faults self.old.disk) (D.faults self.new.disk) result }
         ensures moves { (vault : Vault) → IsMapSide D.is_honest D.state self.old vault → vault.stopped ≡ false
             → Moves D.is_honest D.remembers D.state D.clock self.old self.new
             (trimmed vault low) (trim_failed vault low) result }
@@ -201,9 +210,7 @@ impl<D: Disk> MapSide<D> {
         ensures lowers { Lowers self.old low result self.new }
         ensures in_place { OnOk result (StaysInPlace self.old 0 self.new) }
         ensures nothing { low ≤ self.old.levels.low → (result ≡ Ok tt) × (self.new ≡ self.old) }
-        ensures cause { MatchResult result
-            (λ _. D.faults self.new.disk ≡ D.faults self.old.disk)
-            (IsCallRefusal (D.faults self.old.disk) (D.faults self.new.disk)) }
+        ensures cause { FaultsOrMemory (D.faults self.old.disk) (D.faults self.new.disk) result }
         ensures moves { (vault : Vault) → IsMapSide D.is_honest D.state self.old vault → vault.stopped ≡ false
             → Moves D.is_honest D.remembers D.state D.clock self.old self.new
             (trimmed vault low) (trim_failed vault low) result }
@@ -221,16 +228,14 @@ impl<D: Disk> MapSide<D> {
         requires room { HasRoom self.old.log.area.log
             (run_length self.old.log.version (length batch.now.images)) }
         ensures same { SameSide D.is_honest self.old self.new }
-        ensures enters { Enters self.old (pages_of batch.now.images) result self.new }
+        ensures maps { MapsBehind self.old (pages_of batch.now.images) result self.new }
         ensures run { OnOk result (AddsRun self.old (length batch.now.images) self.new) }
         ensures place { OnOk result (self.new.log.area.log.place ≡ self.old.log.area.log.place) }
-        ensures cause { MatchResult result
-            (λ _. D.faults self.new.disk ≡ D.faults self.old.disk)
-            (IsCallRefusal (D.faults self.old.disk) (D.faults self.new.disk)) }
+        ensures cause { FaultsOrMemory (D.faults self.old.disk) (D.faults self.new.disk) result }
         ensures moves { (vault : Vault) → IsMapSide D.is_honest D.state self.old vault → vault.stopped ≡ false
             → Moves D.is_honest D.remembers D.state D.clock self.old self.new
-            (put vault (push vault.mappings (pages_of batch.now.images)))
-            (put_failed vault (listing vault (push vault.mappings (pages_of batch.now.images)) ∷ [])) result }
+            (with_mappings vault (push vault.mappings (pages_of batch.now.images)))
+            (stopped_with vault (listing vault (push vault.mappings (pages_of batch.now.images)) ∷ [])) result }
     {
         let pages = batch.pages();
         let run = self.log.run_body(alloc, self.held, pages)?;
@@ -249,9 +254,7 @@ impl<D: Disk> MapSide<D> {
         ensures enters { EntersBatch self.old batch.now result self.new }
         ensures in_place { OnOk result (StaysInPlace self.old (length batch.now.images) self.new) }
         ensures no_mark { OnOk result (WritesNoMark self.old batch.now self.new) }
-        ensures cause { MatchResult result
-            (λ _. D.faults self.new.disk ≡ D.faults self.old.disk)
-            (IsCallRefusal (D.faults self.old.disk) (D.faults self.new.disk)) }
+        ensures cause { FaultsOrMemory (D.faults self.old.disk) (D.faults self.new.disk) result }
         ensures moves { (vault : Vault) → IsMapSide D.is_honest D.state self.old vault → vault.stopped ≡ false
             → Moves D.is_honest D.remembers D.state D.clock self.old self.new
             (entered vault batch.now) (enter_failed vault batch.now) result }

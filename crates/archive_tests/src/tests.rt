@@ -1,74 +1,16 @@
 //! What no clause says: devices worked by hand, byte for byte, that calls succeed, and what is read in the end.
 
+use crate::support::{
+    MAPLOG_BYTES, PAGELOG_BYTES, SMALL, batch_of, capture, empty, empty_maplog, finds,
+    first_unread, first_unsent, page, send, send_one, zeros,
+};
 use crate::trial::{Trial, make};
 use disk_mem::{Call, MemDisk, RamDisk};
-use disk_model::Disk;
+use disk_model::{Disk, Sizes};
 use race_model::{Batch, Fault};
-use retro_base::{BATCH, Device, Page, Refusal};
+use retro_base::{BATCH, Device, Refusal};
 use std::alloc::Global;
-use std::marker::Brand;
-use std::sync::ledger::Blank;
 use std::test::Fail;
-
-const CAPACITY: u32 = 64;
-
-const PAGELOG_BYTES: u64 = 65_536;
-
-const MAPLOG_BYTES: u64 = 12_288;
-
-// A page of this byte alone.
-fn page(byte: u8) -> Page {
-    Page::of([byte; 1024])
-}
-
-// A device of that many zeros.
-fn zeros(alloc: Global, size: u64) -> Result<MemDisk, Refusal> {
-    MemDisk::new(alloc, size, Vec::new(alloc), None)
-}
-
-// A Maplog that lists no mapping.
-fn empty_maplog(alloc: Global) -> Result<MemDisk, Refusal> {
-    let mut maplog = zeros(alloc, MAPLOG_BYTES)?;
-    make(alloc, &mut maplog, CAPACITY)?;
-    Ok(maplog)
-}
-
-// An archive without a capture.
-fn empty(alloc: Global) -> Result<Trial<MemDisk>, Refusal> {
-    let pagelog = zeros(alloc, PAGELOG_BYTES)?;
-    Trial::open(alloc, pagelog, empty_maplog(alloc)?, CAPACITY)
-}
-
-// Captures of these pages, each of a byte alone.
-fn batch_of(alloc: Global, first: u64, low: u64, captures: &[(u32, u8)]) -> Result<Batch, Refusal> {
-    let mut batch = Batch::new(alloc)?;
-    batch.restart(first, low);
-    for (number, byte) in captures {
-        if batch.len() < BATCH {
-            batch.add(*number, &page(*byte));
-        }
-    }
-    Ok(batch)
-}
-
-// Lays and enters a batch.
-fn send<D: Disk + Drop>(trial: &mut Trial<D>, batch: &Batch) -> Result<u64, Fault> {
-    trial.lay(batch)?;
-    trial.enter(batch)
-}
-
-// Whether a page's capture from a number on and below another is of this byte alone, or is not there.
-type Finding = (u64, u32, u64, Option<u8>);
-
-fn finds<D: Disk + Drop>(
-    alloc: Global,
-    trial: &mut Trial<D>,
-    finding: Finding,
-) -> Result<bool, Fault> {
-    let (start, number, upto, byte) = finding;
-    let found = trial.find::<Brand>(alloc, Blank::new(1), start, number, upto)?;
-    Ok(found == byte.map(page))
-}
 
 // Two captures of page 7, and the mapping of the first forgotten.
 const TWO_OF_PAGE_7: [u8; 37] = [
@@ -98,55 +40,6 @@ fn a_page_twice_in_one_batch(rt: HostRuntime) -> Result<(), Fail> {
     assert!(rt; (sent, found, trimmed) == (Ok(2), [Ok(true); 4], Ok(())));
     assert!(rt; stands_at(&maplog, 36, &TWO_OF_PAGE_7));
     Ok(())
-}
-
-// The page and the byte of a capture.
-fn capture(number: u64) -> (u32, u8) {
-    ((number % 16) as u32, (number % 251 + 1) as u8)
-}
-
-// Sends the capture of that number alone, behind a low that many numbers below it.
-fn send_one(
-    alloc: Global,
-    trial: &mut Trial<MemDisk>,
-    number: u64,
-    kept: u64,
-) -> Result<bool, Fault> {
-    let low = number.saturating_sub(kept);
-    match batch_of(alloc, number, low, &[capture(number)]) {
-        Ok(batch) => Ok(send(trial, &batch)?.checked_sub(1) == Some(number)),
-        Err(why) => Err(Fault { why, wrote: false }),
-    }
-}
-
-// The first capture of these that is not sent.
-fn first_unsent(
-    alloc: Global,
-    trial: &mut Trial<MemDisk>,
-    captures: u64,
-) -> Result<Option<u64>, Fault> {
-    for number in 0..captures {
-        if !send_one(alloc, trial, number, 63)? {
-            return Ok(Some(number));
-        }
-    }
-    Ok(None)
-}
-
-// The first capture of these that is not read as it was laid.
-fn first_unread(
-    alloc: Global,
-    trial: &mut Trial<MemDisk>,
-    from: u64,
-    to: u64,
-) -> Result<Option<u64>, Fault> {
-    for number in from..to {
-        let (page, byte) = capture(number);
-        if !finds(alloc, trial, (number, page, number + 1, Some(byte)))? {
-            return Ok(Some(number));
-        }
-    }
-    Ok(None)
 }
 
 #[test]
@@ -181,12 +74,16 @@ fn add(batch: &mut Batch, number: u64) {
     }
 }
 
-const MANY: u32 = 8_192;
+// A store of 16 pages and 8,192 slots.
+const LARGE: Sizes = Sizes {
+    pages: 16,
+    capacity: 8_192,
+};
 
 // Sends 8,192 captures in batches of 64.
 fn fill<D: Disk + Drop>(alloc: Global, trial: &mut Trial<D>) -> Result<(), Refusal> {
     let mut batch = Batch::new(alloc)?;
-    for number in 0..u64::from(MANY) {
+    for number in 0..u64::from(LARGE.capacity) {
         if number % 64 == 0 {
             batch.restart(number, 0);
         }
@@ -201,11 +98,11 @@ fn fill<D: Disk + Drop>(alloc: Global, trial: &mut Trial<D>) -> Result<(), Refus
 // An archive of 8,192 captures that was opened again.
 fn full(alloc: Global) -> Result<Trial<RamDisk>, Refusal> {
     let mut maplog = RamDisk::new(alloc, 532_480)?;
-    make(alloc, &mut maplog, MANY)?;
-    let mut trial = Trial::open(alloc, RamDisk::new(alloc, 8_388_608)?, maplog, MANY)?;
+    make(alloc, &mut maplog, LARGE)?;
+    let mut trial = Trial::open(alloc, RamDisk::new(alloc, 8_388_608)?, maplog, LARGE)?;
     fill(alloc, &mut trial)?;
     let (pagelog, maplog) = trial.into_disks();
-    Trial::open(alloc, pagelog, maplog, MANY)
+    Trial::open(alloc, pagelog, maplog, LARGE)
 }
 
 // How many mappings there are, the first and the last, and where slots and list end.
@@ -236,7 +133,7 @@ fn thousands_of_captures_are_opened(rt: HostRuntime) -> Result<(), Fail> {
 fn failing(alloc: Global, write: u64) -> Result<Trial<MemDisk>, Refusal> {
     let calls = vec![in alloc; (Call::Write, write)]?;
     let maplog = empty_maplog(alloc)?.again(alloc, calls, None)?;
-    Trial::open(alloc, zeros(alloc, PAGELOG_BYTES)?, maplog, CAPACITY)
+    Trial::open(alloc, zeros(alloc, PAGELOG_BYTES)?, maplog, SMALL)
 }
 
 #[test]
@@ -270,102 +167,5 @@ fn a_stopped_archive_finds(rt: HostRuntime) -> Result<(), Fail> {
         finds(alloc, &mut trial, (0, 5, 1, None)),
     ];
     assert!(rt; (sent, found) == ([true, false, false], [Ok(true); 2]));
-    Ok(())
-}
-
-// The devices of an archive of two captures.
-fn devices_of_two(alloc: Global) -> Result<(MemDisk, MemDisk), Refusal> {
-    let mut trial = empty(alloc)?;
-    let batch = batch_of(alloc, 0, 0, &[capture(0), capture(1)])?;
-    match send(&mut trial, &batch) {
-        Ok(_held) => Ok(trial.into_disks()),
-        Err(fault) => Err(fault.why),
-    }
-}
-
-// How many captures are entered on an image of the devices, or none where one of them is not read as it was laid.
-fn held_on(alloc: Global, pagelog: &MemDisk, maplog: &MemDisk, fill: u8) -> Result<u64, Refusal> {
-    let mut trial = Trial::open(
-        alloc,
-        pagelog.crash(alloc, fill)?,
-        maplog.crash(alloc, fill)?,
-        CAPACITY,
-    )?;
-    let held = trial.held();
-    match first_unread(alloc, &mut trial, 1, held) {
-        Ok(None) => Ok(held),
-        _ => Ok(0),
-    }
-}
-
-// So many calls of the Pagelog and of the Maplog succeed, and all later ones fail; whether two captures more, before
-// which the first is forgotten, are then sent; and how many are entered on images where the loose bytes become 0x00,
-// 0xa5 and 0xff. An opening is a sync, and for the Maplog three reads.
-type Row = (Option<u64>, Option<u64>, bool, [u64; 3]);
-
-const STOPS: [Row; 13] = [
-    // Two slots are written, and synced.
-    (Some(1), None, false, [2; 3]),
-    (Some(2), None, false, [2; 3]),
-    (Some(3), None, false, [2; 3]),
-    (Some(4), None, true, [4; 3]),
-    // A low mark is appended, and then a run: a body and a sync, a gate and a sync.
-    (None, Some(4), false, [2; 3]),
-    (None, Some(5), false, [2; 3]),
-    (None, Some(6), false, [2; 3]),
-    (None, Some(7), false, [2; 3]),
-    (None, Some(8), false, [2; 3]),
-    (None, Some(9), false, [2; 3]),
-    (None, Some(10), false, [2; 3]),
-    (None, Some(11), false, [2, 4, 2]),
-    (None, Some(12), true, [4; 3]),
-];
-
-// How many captures are entered on each of three images of the devices.
-fn held_after(alloc: Global, devices: &(MemDisk, MemDisk)) -> Result<[u64; 3], Refusal> {
-    Ok([
-        held_on(alloc, &devices.0, &devices.1, 0x00)?,
-        held_on(alloc, &devices.0, &devices.1, 0xa5)?,
-        held_on(alloc, &devices.0, &devices.1, 0xff)?,
-    ])
-}
-
-// The archive of devices with these bytes that stop so.
-fn stopping(
-    alloc: Global,
-    devices: &(MemDisk, MemDisk),
-    row: &Row,
-) -> Result<Trial<MemDisk>, Refusal> {
-    let pagelog = devices.0.again(alloc, Vec::new(alloc), row.0)?;
-    let maplog = devices.1.again(alloc, Vec::new(alloc), row.1)?;
-    Trial::open(alloc, pagelog, maplog, CAPACITY)
-}
-
-// Whether the captures are sent with devices that stop so, and what crashes then leave.
-fn happens(
-    alloc: Global,
-    devices: &(MemDisk, MemDisk),
-    row: &Row,
-) -> Result<(bool, [u64; 3]), Refusal> {
-    let mut trial = stopping(alloc, devices, row)?;
-    let batch = batch_of(alloc, 2, 1, &[capture(2), capture(3)])?;
-    let sent = send(&mut trial, &batch).is_ok();
-    Ok((sent, held_after(alloc, &trial.into_disks())?))
-}
-
-// The first row that is not as it happens.
-fn first_wrong(alloc: Global) -> Result<Option<usize>, Refusal> {
-    let devices = devices_of_two(alloc)?;
-    for (i, row) in STOPS.iter().enumerate() {
-        if happens(alloc, &devices, row)? != (row.2, row.3) {
-            return Ok(Some(i));
-        }
-    }
-    Ok(None)
-}
-
-#[test]
-fn each_image_of_a_stopped_archive_opens(rt: HostRuntime) -> Result<(), Fail> {
-    assert!(rt; first_wrong(rt.alloc()) == Ok(None));
     Ok(())
 }

@@ -1,4 +1,4 @@
-//! An archive of a small store, whose calls test what they ask.
+//! An archive whose calls test what they ask.
 
 ghost use Rattle.std.specs.Prelude.{◌≡◌, ◌<◌, ◌+◌, IsTrue};
 ghost use Rattle.std.specs.List.{AllByRecursion};
@@ -10,20 +10,10 @@ use history::Version;
 use map_log::MapLog;
 use page_table::SnapTable;
 use race_model::{Batch, Fault};
-use retro_base::{BATCH, MAX_CAPACITY, MAX_CAPTURES, Page, Refusal};
+use retro_base::{BATCH, MAX_CAPACITY, MAX_CAPTURES, MAX_PAGES, Page, Refusal};
 use skippy::Steps;
 use std::alloc::Global;
 use std::sync::ledger::{Blank, Ledger};
-
-// The sizes of a store with so many slots.
-fn sizes(capacity: u32) -> Sizes
-    ensures { result ≡ record { pages = 16; capacity = capacity } }
-{
-    Sizes {
-        pages: 16,
-        capacity,
-    }
-}
 
 // The answer where a condition of a call does not hold.
 const NOT_ASKED: Fault = Fault {
@@ -31,28 +21,29 @@ const NOT_ASKED: Fault = Fault {
     wrote: false,
 };
 
-/// An archive of a store of 16 pages and so many slots.
+/// An archive of a store of so many pages and slots.
 #[derive(Drop)]
 pub struct Trial<D: Disk> {
     archive: Archive<D>,
+    page_count: u32,
     capacity: u64,
-    ghost sized: { (archive.side.log.page_count ≡ 16) × (archive.side.log.capacity ≡ capacity) },
+    ghost sized: { (archive.side.log.page_count ≡ page_count) × (archive.side.log.capacity ≡ capacity) },
 }
 
-/// Makes the empty list of a Maplog for so many slots.
-pub fn make<D: Disk>(alloc: Global, maplog: &mut D, capacity: u32) -> Result<(), Refusal> {
-    if capacity > MAX_CAPACITY || maplog.size() != sizes(capacity).maplog_bytes() {
+/// Makes the empty list of a Maplog of a store of these sizes.
+pub fn make<D: Disk>(alloc: Global, maplog: &mut D, sizes: Sizes) -> Result<(), Refusal> {
+    if sizes.capacity > MAX_CAPACITY || maplog.size() != sizes.maplog_bytes() {
         return Err(Refusal::BadSizes);
     }
-    MapLog::make(alloc, maplog, Version::One, capacity)
+    MapLog::make(alloc, maplog, Version::One, sizes.capacity)
 }
 
-// Whether these are pages of the store.
-fn are_pages(pages: &[u32]) -> bool
-    ensures { IsTrue result → AllByRecursion (λ page. page < 16) pages.now }
+// Whether these are pages of a store of so many.
+fn are_pages(pages: &[u32], count: u32) -> bool
+    ensures { IsTrue result → AllByRecursion (λ page. page < count) pages.now }
 {
     for page in pages {
-        if *page >= 16 {
+        if *page >= count {
             return false;
         }
     }
@@ -60,15 +51,16 @@ fn are_pages(pages: &[u32]) -> bool
 }
 
 impl<D: Disk + Drop> Trial<D> {
-    /// Opens the archive of these devices, of so many slots.
-    pub fn open(alloc: Global, pagelog: D, maplog: D, capacity: u32) -> Result<Trial<D>, Refusal> {
-        if !(1..=MAX_CAPACITY).contains(&capacity) {
+    /// Opens the archive of these devices, of a store of these sizes.
+    pub fn open(alloc: Global, pagelog: D, maplog: D, sizes: Sizes) -> Result<Trial<D>, Refusal> {
+        if !(1..=MAX_CAPACITY).contains(&sizes.capacity) || sizes.pages > MAX_PAGES {
             return Err(Refusal::BadSizes);
         }
-        match Archive::fetch(alloc, pagelog, maplog, Version::One, sizes(capacity)) {
+        match Archive::fetch(alloc, pagelog, maplog, Version::One, sizes) {
             Ok(archive) => Ok(Trial {
                 archive,
-                capacity: u64::from(capacity),
+                page_count: sizes.pages,
+                capacity: u64::from(sizes.capacity),
             }),
             Err((_pagelog, _maplog, why)) => Err(why),
         }
@@ -77,6 +69,11 @@ impl<D: Disk + Drop> Trial<D> {
     /// How many captures are entered.
     pub fn held(&self) -> u64 {
         self.archive.held()
+    }
+
+    /// The lowest mapping that is kept.
+    pub fn low(&self) -> u64 {
+        self.archive.low()
     }
 
     /// The number below which slots are laid.
@@ -108,7 +105,7 @@ impl<D: Disk + Drop> Trial<D> {
         {
             return false;
         }
-        are_pages(batch.pages())
+        are_pages(batch.pages(), self.page_count)
     }
 
     /// Lays a batch.
@@ -160,10 +157,42 @@ impl<D: Disk + Drop> Trial<D> {
         Ok(found.then_some(out))
     }
 
+    /// Whether the image of each of these pages' first capture from `start` on and below `upto` begins with that byte,
+    /// or there is none. One table serves all.
+    pub fn finds_each<L: Ledger>(
+        &mut self,
+        alloc: Global,
+        blank: Blank,
+        start: u64,
+        upto: u64,
+        wanted: &[(u32, Option<u8>)],
+    ) -> Result<bool, Fault>
+        requires name { blank.name ≡ L.name }
+        requires parts { blank.parts ≡ L.parts }
+        requires one_part { blank.parts ≡ 1 }
+    {
+        if start < self.archive.low() || upto > self.archive.held() {
+            return Err(NOT_ASKED);
+        }
+        let mut table = SnapTable::new(alloc, start);
+        let mut steps = Steps::<L>::new(blank);
+        let mut out = Page::zero();
+        for (page, byte) in wanted {
+            let found = self
+                .archive
+                .find(&mut table, *page, upto, &mut out, &mut steps)?;
+            if found.then_some(out.bytes()[0]) != *byte {
+                return Ok(false);
+            }
+        }
+        Ok(true)
+    }
+
     /// The devices, that of the slots first.
     pub fn into_disks(self) -> (D, D) {
         let Trial {
             archive,
+            page_count: _,
             capacity: _,
         } = self;
         archive.into_disks()

@@ -10,8 +10,8 @@ use Rattle.map_log.specs.Bodies.{run_length}
 use Rattle.map_log.specs.Cause.{IsCallRefusal}
 use Rattle.map_log.specs.Log.{Puts}
 use Rattle.race_model.specs.Vault.{listing, Maplog as Listed}
-use Rattle.archive.specs.Side.{IsEntering, Moves, put, put_failed, SameSide, Shows, Side}
-use Rattle.archive.proofs.Enters.{entered_side, entered_side_failed, enters_failed, length-pages, run_body_is, stops_there}
+use Rattle.archive.specs.Side.{IsEntering, Moves, SameSide, Shows, Side, stopped_with, with_mappings}
+use Rattle.archive.proofs.Entering.{entered_side, entered_side_failed, maps_failed, length-pages, run_body_is, stops_there}
 use Rattle.archive.proofs.Refusals.{add_faults, fault_called, passed_on}
 use Rattle.archive.proofs.Sides.{area_after, failed_side, moves_done, moves_failed, moves_nothing, same_side_of, shows_more}
 use Rattle.archive.proofs.Trims.{first_of}
@@ -31,9 +31,9 @@ returns-in_err-push-clause-moves g c =
     rw (← c.self.view_is)
     (λ vault is goes.
     let next : Mappings = push vault.mappings (pages_of c.args.batch.now.images) in
-    subst (λ (m : Mappings). Moves g.D.Disk.is_honest g.D.Disk.remembers g.D.Disk.state g.D.Disk.clock old (new m) (put vault next) (put_failed vault (listing vault next ∷ [])) c.from_residual-in_err-push.result) (sym c.in_err-push.ensures.err)
+    subst (λ (m : Mappings). Moves g.D.Disk.is_honest g.D.Disk.remembers g.D.Disk.state g.D.Disk.clock old (new m) (with_mappings vault next) (stopped_with vault (listing vault next ∷ [])) c.from_residual-in_err-push.result) (sym c.in_err-push.ensures.err)
     (moves_nothing g.D.Disk.is_honest g.D.Disk.remembers g.D.Disk.state g.D.Disk.clock old vault (listing vault next ∷ []) is goes c.self.invariant.log
-    (λ image told left. g.met.D.Disk.only_now c.self.inside.disk image told left) (put vault next) c.from_residual-in_err-push.result (err_owes c.from_residual-in_err-push.result _ _ c.from_residual-in_err-push.ensures.1)))
+    (λ image told left. g.met.D.Disk.only_now c.self.inside.disk image told left) (with_mappings vault next) c.from_residual-in_err-push.result (err_owes c.from_residual-in_err-push.result _ _ c.from_residual-in_err-push.ensures.1)))
 
 pub invariant_of-self-in_err-add : goal.invariant_of-self-in_err-add
 invariant_of-self-in_err-add g c =
@@ -49,8 +49,8 @@ invariant_of-self-in_err-add g c =
     entered_side_failed g.D.Disk.extent old new c.args.batch.now c.self.invariant asks going c.pages-pages.result.now c.pages-pages.ensures c.add.ensures.same.size c.add.ensures.log.is c.add.ensures.log.after c.in_ok-push.ensures.ok refl
     (stops_there g.D.Disk.extent old new c.args.batch.now c.self.invariant asks going c.pages-pages.result.now c.pages-pages.ensures c.add.ensures.same.size c.add.ensures.log.is c.add.ensures.log.after c.in_ok-push.ensures.ok why (c.in_err-add.was) fault.0)
 
-pub returns-in_err-add-clause-enters : goal.returns-in_err-add-clause-enters
-returns-in_err-add-clause-enters g c =
+pub returns-in_err-add-clause-maps : goal.returns-in_err-add-clause-maps
+returns-in_err-add-clause-maps g c =
     let old : Side g.row.D.Denot = record { disk = c.self.inside.disk; log = c.self.inside.log; levels = c.self.inside.levels; held = c.self.inside.held } in
     let new : Side g.row.D.Denot = record { disk = c.add.new.disk; log = c.add.new.self; levels = c.push.new.self; held = c.self.inside.held } in
     let going : old.log.area.fault ≡ None = ap (λ (s : Side g.row.D.Denot). s.log.area.fault) c.self.view_is ∙ c.requires.going in
@@ -61,7 +61,7 @@ returns-in_err-add-clause-enters g c =
     let why = c.in_err-add.field-0.0 in
     let fault = add_faults old.log.area (length c.in_ok-run.run') (g.D.Disk.faults old.disk) (g.D.Disk.faults c.add.new.disk) why going c.self.invariant.log.device room c.in_err-add.ensures.cause in
     rw (← c.self.view_is)
-    (enters_failed old new (pages_of c.args.batch.now.images) c.from_residual-in_err-add.result why (passed_on c.from_residual-in_err-add.result why c.from_residual-in_err-add.ensures.1) fault.0 refl)
+    (maps_failed old new (pages_of c.args.batch.now.images) c.from_residual-in_err-add.result why (passed_on c.from_residual-in_err-add.result why c.from_residual-in_err-add.ensures.1) fault.0 refl)
 
 pub returns-in_err-add-clause-cause : goal.returns-in_err-add-clause-cause
 returns-in_err-add-clause-cause g c =
@@ -102,7 +102,7 @@ returns-in_err-add-clause-moves g c =
     let levels : new.levels ≡ next = c.in_ok-push.ensures.ok ∙ ap (λ (m : Mappings). push m c.pages-pages.result.now) (is.going goes) ∙ ap (λ (ps : List ℕ). push vault.mappings ps) c.pages-pages.ensures in
     let shows : Shows new.levels new.held vault.mappings = subst (λ (m : Mappings). Shows m new.held vault.mappings) (sym levels) (shows_more vault.mappings new.held pages is.shows.end) in
     moves_failed g.D.Disk.is_honest g.D.Disk.remembers g.D.Disk.state g.D.Disk.clock old new vault next others is (first_of (listing vault next) []) same (λ told. (puts told).any_moment)
-    (put vault next) c.from_residual-in_err-add.result why (passed_on c.from_residual-in_err-add.result why c.from_residual-in_err-add.ensures.1)
+    (with_mappings vault next) c.from_residual-in_err-add.result why (passed_on c.from_residual-in_err-add.result why c.from_residual-in_err-add.ensures.1)
     (failed_side g.D.Disk.is_honest g.D.Disk.remembers g.D.Disk.state g.D.Disk.clock old new vault next others is (first_of (listing vault next) []) same (λ told. (puts told).any_moment)
     (λ t image told le at. g.met.D.Disk.counts_now c.add.new.disk t image told le at) shows (ap (λ (m : Mappings). m.low) levels)))
 

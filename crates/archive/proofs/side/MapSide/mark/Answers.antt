@@ -8,7 +8,7 @@ use Rattle.skippy.specs.Mappings.{Mappings, end_of, trim}
 use Rattle.map_log.specs.Cause.{IsCallRefusal}
 use Rattle.map_log.specs.Log.{Puts}
 use Rattle.race_model.specs.Vault.{listing, Maplog as Listed, trim_to}
-use Rattle.archive.specs.Side.{put, SameSide, Side}
+use Rattle.archive.specs.Side.{SameSide, Side, with_mappings}
 use Rattle.archive.proofs.Refusals.{add_faults, fault_called, passed_on}
 use Rattle.archive.proofs.Sides.{area_after, failed_side, moves_done, moves_failed, moves_nothing, same_side_of}
 use Rattle.archive.proofs.Trims.{first_of, low_body_is, lowers_failed, trim_end, trim_to_is}
@@ -65,7 +65,7 @@ returns-in_err-add-clause-moves g c =
     (c.add.ensures.puts told vault.mappings (Low c.args.low) (is.keeps told goes) body) in
     let same : SameSide g.D.Disk.is_honest old new = same_side_of g.D.Disk.is_honest old new c.add.ensures.same.honest c.add.ensures.log.is in
     moves_failed g.D.Disk.is_honest g.D.Disk.remembers g.D.Disk.state g.D.Disk.clock old new vault next others is (first_of (listing vault next) []) same (λ told. (puts told).any_moment)
-    (put vault next) c.from_residual-in_err-add.result why (passed_on c.from_residual-in_err-add.result why c.from_residual-in_err-add.ensures.1)
+    (with_mappings vault next) c.from_residual-in_err-add.result why (passed_on c.from_residual-in_err-add.result why c.from_residual-in_err-add.ensures.1)
     (failed_side g.D.Disk.is_honest g.D.Disk.remembers g.D.Disk.state g.D.Disk.clock old new vault next others is (first_of (listing vault next) []) same (λ told. (puts told).any_moment)
     (λ t image told le at. g.met.D.Disk.counts_now c.add.new.disk t image told le at) is.shows (ap (λ (m : Mappings). m.low) (is.going goes))))
 

@@ -3,7 +3,7 @@ use Rattle.gate_log.proofs.Results.{err_owes}
 use Rattle.skippy.specs.Mappings.{Mappings, end_of, trim}
 use Rattle.map_log.specs.Log.{Puts}
 use Rattle.race_model.specs.Vault.{listing, Maplog as Listed, trim_to}
-use Rattle.archive.specs.Side.{put, SameSide, Side}
+use Rattle.archive.specs.Side.{SameSide, Side, with_mappings}
 use Rattle.archive.proofs.Refusals.{passed_on}
 use Rattle.archive.proofs.Sides.{area_after, failed_side, moves_done, moves_failed, moves_nothing, same_side_of}
 use Rattle.archive.proofs.Trims.{first_of, trim_end, trim_to_is}
@@ -35,7 +35,7 @@ returns-in_err-rewrite-clause-moves g c =
     (c.rewrite.ensures.puts told vault.mappings (is.keeps told goes)) in
     let same : SameSide g.D.Disk.is_honest old new = same_side_of g.D.Disk.is_honest old new c.rewrite.ensures.same.honest c.rewrite.ensures.log.is in
     moves_failed g.D.Disk.is_honest g.D.Disk.remembers g.D.Disk.state g.D.Disk.clock old new vault next others is (first_of (listing vault next) []) same (λ told. (puts told).any_moment)
-    (put vault next) c.from_residual-in_err-rewrite.result why (passed_on c.from_residual-in_err-rewrite.result why c.from_residual-in_err-rewrite.ensures.1)
+    (with_mappings vault next) c.from_residual-in_err-rewrite.result why (passed_on c.from_residual-in_err-rewrite.result why c.from_residual-in_err-rewrite.ensures.1)
     (failed_side g.D.Disk.is_honest g.D.Disk.remembers g.D.Disk.state g.D.Disk.clock old new vault next others is (first_of (listing vault next) []) same (λ told. (puts told).any_moment)
     (λ t image told le at. g.met.D.Disk.counts_now c.rewrite.new.disk t image told le at) is.shows (ap (λ (m : Mappings). m.low) (is.going goes))))
 

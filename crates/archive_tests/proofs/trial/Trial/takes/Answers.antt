@@ -13,5 +13,5 @@ returns g c = λ all. record {
   end = omega (arith, c.first-first.ensures, c.len-count.ensures, c.if-first.false, c.if-count-gt-BATCH.false);
   pages =
       subst (λ (n : ℕ). AllByRecursion (λ page. page < n) (pages_of c.args.batch.now.images)) (sym c.args.self.now.sized.0)
-      (subst (λ (ps : List ℕ). AllByRecursion (λ page. page < 16) ps) c.pages.ensures (c.are_pages.ensures all));
+      (subst (λ (ps : List ℕ). AllByRecursion (λ page. page < c.args.self.now.page_count) ps) c.pages.ensures (c.are_pages.ensures all));
 }

@@ -1,4 +1,4 @@
-use Rattle.archive_tests.proofs.tests.finds.Given as goal
+use Rattle.archive_tests.proofs.support.image.Given as goal
 
 abbrev pub ghosts-find : goal.ghosts-find
 ghosts-find g a = record { name = a.blank.name; parts = a.blank.parts }

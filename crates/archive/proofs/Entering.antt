@@ -16,7 +16,7 @@ use Rattle.map_log.proofs.Records.{all-append}
 use Rattle.map_log.proofs.Runs.{pages-fit}
 use Rattle.map_log.specs.Log.{IsMapArea, MapArea, with_area}
 use Rattle.race_model.specs.Vault.{Batch}
-use Rattle.archive.specs.Side.{Enters, IsEntering, IsSide, Side}
+use Rattle.archive.specs.Side.{IsEntering, IsSide, MapsBehind, Side}
 use Rattle.archive.proofs.Sides.{area_after}
 
 pub length-pages : (images : List PageImage) → length (pages_of images) ≡ length images
@@ -71,6 +71,6 @@ module _ {D : Type 0} (extent : D → ℕ) (old new : Side D) (batch : Batch) (s
   stops_there why refused fault none = fault_kept old.log.area done new.log.area r why (ap (λ (l : MapArea). l.area) is) refused fault none
 
 -- a call that failed leaves the captures as they were
-pub enters_failed : {D : Type 0} (old new : Side D) (pages : List ℕ) (r : Result (Unit {0}) Refusal) (why : Refusal) → r ≡ Err why → IsDiskFault why → new.held ≡ old.held → Enters old pages r new
-enters_failed old new pages r why refused fault held =
-    subst (λ (x : Result (Unit {0}) Refusal). Enters old pages x new) (sym refused) (record { held = tt; levels = tt; going = tt; left = held; untouched = λ no. absurd (no fault) })
+pub maps_failed : {D : Type 0} (old new : Side D) (pages : List ℕ) (r : Result (Unit {0}) Refusal) (why : Refusal) → r ≡ Err why → IsDiskFault why → new.held ≡ old.held → MapsBehind old pages r new
+maps_failed old new pages r why refused fault held =
+    subst (λ (x : Result (Unit {0}) Refusal). MapsBehind old pages x new) (sym refused) (record { held = tt; levels = tt; going = tt; left = held; untouched = λ no. absurd (no fault) })
