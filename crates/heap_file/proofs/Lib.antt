@@ -1,3 +1,4 @@
 pub mod Ones
+pub mod Heads
 pub mod Packing
 pub mod Ways

@@ -4,7 +4,7 @@ use Rattle.retro_base.specs.declared.refusal.Refusal.{Refusal}
 use Rattle.pager.specs.Pages.{Pages}
 use Rattle.heap_file.specs.declared.page.Entry.{Entry}
 use Rattle.heap_file.specs.declared.page.HeapPage.{HeapPage}
-use Rattle.heap_file.specs.Allows.{◌>>=◌, only, either}
+use Rattle.pager.specs.Allows.{◌>>=◌, only, either}
 use Rattle.heap_file.specs.Chain.{heap_page, last_page}
 use Rattle.heap_file.specs.Laws.{IsOne, AnswersAreOne}
 use Rattle.heap_file.specs.Work.{appended, lengthened}

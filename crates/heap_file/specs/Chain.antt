@@ -21,7 +21,8 @@ abbrev pub heap_page : ℕ → Pages → ℕ → Result HeapPage Refusal → Typ
 heap_page size pages page (Ok held) = IsAt size pages page held
 heap_page size pages page (Err why) = (why ≡ broken page) × ((held : HeapPage) → IsAt size pages page held → ⊥)
 
--- these are the pages that are met from that one on, each named by the one before, with what they hold, and the last names that one
+-- these are the pages that are met from that one on, each named by the one before, with what they hold, and the last
+-- names that one
 abbrev pub Leads : ℕ → Pages → ℕ → List Link → ℕ → Type 0
 Leads size pages from [] to = from ≡ to
 Leads size pages from (link ∷ links) to =
@@ -36,16 +37,27 @@ abbrev pub GoesOn : List Link → ℕ → Type 0
 GoesOn [] page = Unit {0}
 GoesOn (link ∷ links) page = page ≢ 0
 
--- The chain that begins with a page: each of its pages names the next, and the last names none. A chain with a broken page, or longer than the
--- store, is none, and is told by the page where that shows.
+-- The chain that begins with a page: each of its pages names the next, and the last names none. A chain with a broken
+-- page, or longer than the store, is none, and is told by the page where that shows.
 abbrev pub chain : ℕ → Pages → ℕ → Result (List Link) Refusal → Type 0
 chain size pages first (Ok links) = (1 ≤ length links) × (length links ≤ size) × Leads size pages first links 0
 chain size pages first (Err why) =
-    (links : List Link) × (page : ℕ) × (why ≡ broken page) × Leads size pages first links page × GoesOn links page × Stops size pages links page
+    (links : List Link) × (page : ℕ) × (why ≡ broken page) × Leads size pages first links page × GoesOn links page
+    × Stops size pages links page
 
 -- a page that was read can be written again
 abbrev pub IsWritable : ℕ → Link → Type 0
 IsWritable size link = (link.page < size) × IsHeapPage link.held
+
+-- a page that is known holds this still
+abbrev pub IsKnown : ℕ → Pages → Option Link → Type 0
+IsKnown size pages None = Unit {0}
+IsKnown size pages (Some link) = IsAt size pages link.page link.held
+
+-- a page with what it holds; one that is not there, or whose bytes are no heap page's, is broken
+abbrev pub linked : ℕ → Pages → ℕ → Result Link Refusal → Type 0
+linked size pages page (Ok link) = (link.page ≡ page) × IsAt size pages link.page link.held
+linked size pages page (Err why) = heap_page size pages page (Err why)
 
 -- the place of a page among links, or none where it is none of them
 abbrev pub IsPlaceOf : ℕ → List Link → Option ℕ → Type 0
@@ -60,18 +72,23 @@ pub record StandsIn (links : List Link) (page previous : ℕ) (held : HeapPage) 
   pub there : place < length links
   pub here : (d : Link) → slice_index_or links place d ≡ record { page = page; held = held }
   pub first : (k : ℕ) (d : Link) → k < place → (slice_index_or links k d).page ≡ page → ⊥
-  pub behind : ((place ≡ 0) × (previous ≡ 0)) ⊎ ((0 < place) × ((d : Link) → (slice_index_or links (place - 1) d).page ≡ previous))
+  pub behind : ((place ≡ 0) × (previous ≡ 0))
+      ⊎ ((0 < place) × ((d : Link) → (slice_index_or links (place - 1) d).page ≡ previous))
 
 -- the page before a page of a chain, and what the page holds; a page that is not in the chain is broken
 abbrev pub met : ℕ → Pages → ℕ → ℕ → Result (ℕ × HeapPage) Refusal → Type 0
-met size pages first page (Ok found) = (links : List Link) × chain size pages first (Ok links) × StandsIn links page found.0 found.1
+met size pages first page (Ok found) = (links : List Link) × chain size pages first (Ok links)
+    × StandsIn links page found.0 found.1
 met size pages first page (Err why) =
     chain size pages first (Err why)
-    ⊎ ((links : List Link) × chain size pages first (Ok links) × (why ≡ broken page) × ((k : ℕ) (d : Link) → k < length links → (slice_index_or links k d).page ≡ page → ⊥))
+    ⊎
+    ((links : List Link) × chain size pages first (Ok links) × (why ≡ broken page)
+    × ((k : ℕ) (d : Link) → k < length links → (slice_index_or links k d).page ≡ page → ⊥))
 
 -- the entries of a page as rows of its table
 abbrev pub rows_on : Link → List Placed
-rows_on link = map (λ (entry : Entry). record { number = entry.number; page = link.page; row = entry.row }) link.held.entries
+rows_on link = map (λ (entry : Entry). record { number = entry.number; page = link.page; row = entry.row })
+    link.held.entries
 
 -- the rows of a chain, page by page
 abbrev pub rows_of : List Link → List Placed
@@ -83,7 +100,8 @@ InOrder rows sorted = IsPermutation rows sorted × IsNonDecreasingBy (λ (placed
 
 -- the rows of the table that begins with a page, in rising number
 abbrev pub scanned : ℕ → Pages → ℕ → Result (List Placed) Refusal → Type 0
-scanned size pages first (Ok sorted) = (links : List Link) × chain size pages first (Ok links) × InOrder (rows_of links) sorted
+scanned size pages first (Ok sorted) = (links : List Link) × chain size pages first (Ok links)
+    × InOrder (rows_of links) sorted
 scanned size pages first (Err why) = chain size pages first (Err why)
 
 -- the last page of a chain, as its first page names it; 0 is the first page itself

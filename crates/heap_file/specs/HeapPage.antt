@@ -45,7 +45,8 @@ IsHeld bytes (Some page) = Holds bytes page
 -- the bytes of a page before its entries
 abbrev pub header : HeapPage → List ℕ
 header page =
-    1 ∷ 0 ∷ field_bytes 2 (length page.entries) ++ field_bytes 4 page.next ++ field_bytes 8 page.next_number ++ field_bytes 4 page.last
+    1 ∷ 0 ∷ field_bytes 2 (length page.entries) ++ field_bytes 4 page.next ++ field_bytes 8 page.next_number
+    ++ field_bytes 4 page.last
 
 -- how a page is written; the rest is zero
 unfoldable pub page_bytes : HeapPage → List ℕ
@@ -67,9 +68,11 @@ empty_page = record { next = 0; next_number = 0; last = 0; entries = [] }
 -- entries that stand first in the bytes, so many, or none where so many do not stand there
 abbrev pub AreFirstEntries : List ℕ → ℕ → Option (List Entry) → Type 0
 AreFirstEntries bytes count None =
-    (entries : List Entry) (behind : List ℕ) → length entries ≡ count → AllByRecursion IsEntry entries → bytes ≡ entry_bytes entries ++ behind → ⊥
+    (entries : List Entry) (behind : List ℕ) → length entries ≡ count → AllByRecursion IsEntry entries → bytes
+    ≡ entry_bytes entries ++ behind → ⊥
 AreFirstEntries bytes count (Some entries) =
-    (length entries ≡ count) × AllByRecursion IsEntry entries × (behind : List ℕ) × (bytes ≡ entry_bytes entries ++ behind)
+    (length entries ≡ count) × AllByRecursion IsEntry entries × (behind : List ℕ)
+    × (bytes ≡ entry_bytes entries ++ behind)
 
 -- the entry that stands first in the bytes, and how many bytes it takes, or none where no entry stands there
 abbrev pub IsFirstEntry : List ℕ → Option (Entry × ℕ) → Type 0
@@ -87,4 +90,5 @@ ZeroIsEmpty = Holds (replicate 1024 0) empty_page
 
 -- a page that was written holds what was written
 abbrev pub WrittenHolds : Type 0
-WrittenHolds = (page : HeapPage) → page.next < 2 ^ 32 → page.next_number < 2 ^ 64 → page.last < 2 ^ 32 → IsHeapPage page → Holds (page_bytes page) page
+WrittenHolds = (page : HeapPage) → page.next < 2 ^ 32 → page.next_number < 2 ^ 64 → page.last < 2 ^ 32 → IsHeapPage page
+    → Holds (page_bytes page) page

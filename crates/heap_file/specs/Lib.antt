@@ -1,4 +1,3 @@
-pub mod Allows
 pub mod Chain
 pub mod HeapPage
 pub mod Laws

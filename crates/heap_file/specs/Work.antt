@@ -7,8 +7,9 @@ use Rattle.pager.specs.Pages.{Pages, written, broken}
 use Rattle.pager.specs.Root.{taken, freed}
 use Rattle.heap_file.specs.declared.page.Entry.{Entry}
 use Rattle.heap_file.specs.declared.page.HeapPage.{HeapPage}
-use Rattle.heap_file.specs.Allows.{◌>>=◌, only, either}
-use Rattle.heap_file.specs.Chain.{heap_page, last_page, met}
+use Rattle.pager.specs.Allows.{◌>>=◌, only, either}
+use Rattle.heap_file.specs.declared.chain.Link.{Link}
+use Rattle.heap_file.specs.Chain.{IsAt, IsKnown, heap_page, last_page, met}
 use Rattle.heap_file.specs.HeapPage.{empty_page, entry_bytes, page_bytes}
 
 -- whether entries fit in a page
@@ -29,7 +30,8 @@ next_of size pages first = do
 
 -- the place of the first entry of that number, or none where no entry has it
 abbrev pub IsPlace : ℕ → List Entry → Option ℕ → Type 0
-IsPlace number entries None = (k : ℕ) (d : Entry) → k < length entries → (slice_index_or entries k d).number ≡ number → ⊥
+IsPlace number entries None = (k : ℕ) (d : Entry) → k < length entries → (slice_index_or entries k d).number ≡ number
+    → ⊥
 IsPlace number entries (Some i) =
     (i < length entries) × ((d : Entry) → (slice_index_or entries i d).number ≡ number)
     × ((k : ℕ) (d : Entry) → k < i → (slice_index_or entries k d).number ≡ number → ⊥)
@@ -53,9 +55,20 @@ page_with entry = record { next = 0; next_number = 0; last = 0; entries = entry 
 abbrev pub lengthened : ℕ → Pages → ℕ → ℕ → HeapPage → Entry → Result (ℕ × Pages) Refusal → Type 0
 lengthened size pages first last tail entry = do
   next ← only (taken size pages)
-  let linked = written (written next.1 next.0 (page_bytes (page_with entry))) last (page_bytes (record tail { next = next.0 }))
+  let linked = written (written next.1 next.0 (page_bytes (page_with entry))) last
+      (page_bytes (record tail { next = next.0 }))
   head ← heap_page size linked first
   only (Ok (next.0, written linked first (page_bytes (record head { last = next.0 }))))
+
+-- the answer of a step on a chain whose first page holds this, with what the first page holds after it
+abbrev pub with_head : ℕ → ℕ → (Result (ℕ × Pages) Refusal → Type 0) → Result ((ℕ × HeapPage) × Pages) Refusal → Type 0
+with_head size first allows (Ok answer) = allows (Ok (answer.0.0, answer.1)) × IsAt size answer.1 first answer.0.1
+with_head size first allows (Err why) = allows (Err why)
+
+abbrev pub leaving_head : ℕ → Pages → Link → (Result (ℕ × Pages) Refusal → Type 0)
+    → Result ((ℕ × HeapPage) × Pages) Refusal → Type 0
+leaving_head size pages head allows answer =
+    IsAt size pages head.page head.held → with_head size head.page allows answer
 
 -- an entry goes to the end of the last page where it fits, else to a new last page
 abbrev pub appended : ℕ → Pages → ℕ → Entry → Result (ℕ × Pages) Refusal → Type 0
@@ -78,7 +91,12 @@ added size pages first row = do
       (do
         placed ← appended size pages first (record { number = head.next_number; row = row })
         after ← heap_page size placed.1 first
-        only (Ok ((head.next_number, placed.0), written placed.1 first (page_bytes (record after { next_number = head.next_number + 1 })))))
+        only
+            (Ok (
+              (head.next_number, placed.0),
+              written placed.1 first
+                  (page_bytes (record after { next_number = head.next_number + 1 })),
+            )))
 
 -- the place of a row on a page; a page that has no row of that number is broken
 abbrev pub place_in : ℕ → ℕ → List Entry → Result ℕ Refusal → Type 0
@@ -121,7 +139,17 @@ removed size pages first page number = do
         unlinked size pages first found.0 page rest.next)
       (only (Ok (tt, written pages page (page_bytes rest))))
 
--- a row stays at its place where its page then fits, else it is taken out and goes to the end of the chain, under its number
+-- the answer of a step on a page that holds this, with what is known of the page after it
+abbrev pub with_known : ℕ → (Result (ℕ × Pages) Refusal → Type 0) → Result ((ℕ × Option Link) × Pages) Refusal → Type 0
+with_known size allows (Ok answer) = allows (Ok (answer.0.0, answer.1)) × IsKnown size answer.1 answer.0.1
+with_known size allows (Err why) = allows (Err why)
+
+abbrev pub on_link : ℕ → Pages → Link → (Result (ℕ × Pages) Refusal → Type 0)
+    → Result ((ℕ × Option Link) × Pages) Refusal → Type 0
+on_link size pages link allows answer = IsAt size pages link.page link.held → with_known size allows answer
+
+-- a row stays at its place where its page then fits, else it is taken out and goes to the end of the chain, under its
+-- number
 abbrev pub changed : ℕ → Pages → ℕ → ℕ → Entry → Result (ℕ × Pages) Refusal → Type 0
 changed size pages first page entry = do
   held ← heap_page size pages page

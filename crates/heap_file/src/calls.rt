@@ -28,7 +28,8 @@ pub fn next_number<P: Pager>(
     pager: &mut P,
     first: u32,
 ) -> Result<u64, Stop<P::Fault>>
-    ensures next { Answers (λ number. number) (P.tells pager.new) (λ pages. next_of (P.size pager.old) pages first) result }
+    ensures next { Answers (λ number. number) (P.tells pager.new) (λ pages. next_of (P.size pager.old) pages first)
+        result }
     ensures only_reads { OnlyReads P.tells P.goes P.size P.faults pager.old pager.new result }
 {
     let draft = Draft::new(alloc, pager.size());
@@ -57,7 +58,8 @@ pub fn add<P: EditPager>(
     row: &Row,
 ) -> Result<(u64, u32), Stop<P::Fault>>
     requires { IsShort row.now }
-    ensures added { Makes (λ placed. placed) (P.tells pager.old) (P.tells pager.new) (λ pages. added (P.size pager.old) pages first row.now) result }
+    ensures added { Makes (λ placed. placed) (P.tells pager.old) (P.tells pager.new)
+        (λ pages. added (P.size pager.old) pages first row.now) result }
     ensures accounts { Accounts P.goes P.size P.faults pager.old pager.new result }
 {
     let mut draft = Draft::new(alloc, pager.size());
@@ -72,7 +74,8 @@ pub fn scan<P: Pager>(
     pager: &mut P,
     first: u32,
 ) -> Result<Vec<Placed>, Stop<P::Fault>>
-    ensures scanned { Answers (λ rows. rows.items) (P.tells pager.new) (λ pages. scanned (P.size pager.old) pages first) result }
+    ensures scanned { Answers (λ rows. rows.items) (P.tells pager.new) (λ pages. scanned (P.size pager.old) pages first)
+        result }
     ensures only_reads { OnlyReads P.tells P.goes P.size P.faults pager.old pager.new result }
 {
     let draft = Draft::new(alloc, pager.size());
@@ -87,7 +90,8 @@ pub fn remove<P: EditPager>(
     page: u32,
     number: u64,
 ) -> Result<(), Stop<P::Fault>>
-    ensures removed { Makes (λ u. u) (P.tells pager.old) (P.tells pager.new) (λ pages. removed (P.size pager.old) pages first page number) result }
+    ensures removed { Makes (λ u. u) (P.tells pager.old) (P.tells pager.new)
+        (λ pages. removed (P.size pager.old) pages first page number) result }
     ensures accounts { Accounts P.goes P.size P.faults pager.old pager.new result }
 {
     let mut draft = Draft::new(alloc, pager.size());
@@ -107,7 +111,8 @@ pub fn change<P: EditPager>(
     row: &Row,
 ) -> Result<u32, Stop<P::Fault>>
     requires { IsShort row.now }
-    ensures changed { Makes (λ page. page) (P.tells pager.old) (P.tells pager.new) (λ pages. changed (P.size pager.old) pages first page (record { number = number; row = row.now })) result }
+    ensures changed { Makes (λ page. page) (P.tells pager.old) (P.tells pager.new)
+        (λ pages. changed (P.size pager.old) pages first page (record { number = number; row = row.now })) result }
     ensures accounts { Accounts P.goes P.size P.faults pager.old pager.new result }
 {
     let mut draft = Draft::new(alloc, pager.size());

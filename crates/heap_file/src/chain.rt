@@ -36,7 +36,8 @@ pub fn load<P: Pager>(
     page: u32,
 ) -> Result<HeapPage, Stop<P::Fault>>
     requires { draft.now.size ≡ P.size pager.old }
-    ensures read { Reads (λ held. held) (P.tells pager.new) draft.now.list (λ pages. heap_page draft.now.size pages page) result }
+    ensures read { Reads (λ held. held) (P.tells pager.new) draft.now.list
+        (λ pages. heap_page draft.now.size pages page) result }
     ensures only_reads { OnlyReads P.tells P.goes P.size P.faults pager.old pager.new result }
     ensures there { OnOk result (page < draft.now.size) }
     ensures lawful { IfOk result IsHeapPage }
@@ -59,7 +60,8 @@ pub fn chain<P: Pager>(
     first: u32,
 ) -> Result<Vec<Link>, Stop<P::Fault>>
     requires { draft.now.size ≡ P.size pager.old }
-    ensures read { Reads (λ links. links.items) (P.tells pager.new) draft.now.list (λ pages. chain draft.now.size pages first) result }
+    ensures read { Reads (λ links. links.items) (P.tells pager.new) draft.now.list
+        (λ pages. chain draft.now.size pages first) result }
     ensures only_reads { OnlyReads P.tells P.goes P.size P.faults pager.old pager.new result }
     ensures writable { IfOk result (λ links. All (IsWritable draft.now.size) links.items) }
 {
@@ -112,7 +114,8 @@ pub fn meet<P: Pager>(
     page: u32,
 ) -> Result<(u32, HeapPage), Stop<P::Fault>>
     requires { draft.now.size ≡ P.size pager.old }
-    ensures met { Reads (λ found. found) (P.tells pager.new) draft.now.list (λ pages. met draft.now.size pages first page) result }
+    ensures met { Reads (λ found. found) (P.tells pager.new) draft.now.list
+        (λ pages. met draft.now.size pages first page) result }
     ensures only_reads { OnlyReads P.tells P.goes P.size P.faults pager.old pager.new result }
     ensures there { OnOk result (page < draft.now.size) }
     ensures lawful { IfOk result (λ found. IsHeapPage found.1) }

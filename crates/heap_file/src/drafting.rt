@@ -1,16 +1,16 @@
 //! The calls on a draft: no page is edited before the draft is written.
 
-ghost use Rattle.std.specs.Prelude.{◌≡◌, ◌≤◌, ◌<◌, ◌^◌, ◌==◌, ◌&&◌, ◌++◌, ◌∷◌, [], not, IsTrue, IfErr, IfOk, OnOk, length};
+ghost use Rattle.std.specs.Prelude.{◌≡◌, ◌≢◌, ◌≤◌, ◌<◌, ◌^◌, ◌==◌, ◌&&◌, ◌++◌, ◌∷◌, [], not, IsTrue, IfErr, IfOk, IfSome, OnOk, length};
 ghost use Rattle.retro_base.specs.declared.refusal.Refusal.TheVariants.{OutOfMemory};
 ghost use Rattle.pager.specs.Draft.{drafted, Drafts, Reads};
 ghost use Rattle.pager.specs.Pages.{Pages, written};
 ghost use Rattle.pager.specs.Stop.{OnlyDrafts, OnlyReads};
-ghost use Rattle.heap_file.specs.Chain.{last_page, scanned};
+ghost use Rattle.heap_file.specs.Chain.{IsKnown, IsWritable, last_page, linked, scanned};
 ghost use Rattle.heap_file.specs.HeapPage.{IsEntry, IsHeapPage, IsShort, page_bytes};
 ghost use Rattle.std.specs.List.{insert};
-ghost use Rattle.heap_file.specs.Work.{added, appended, changed, fits, IsPlace, got, last_field, lengthened, made, next_of, page_with, removed, renamed, unlinked, without};
+ghost use Rattle.heap_file.specs.Work.{added, appended, changed, fits, IsPlace, got, last_field, leaving_head, lengthened, made, next_of, on_link, page_with, removed, renamed, unlinked, without};
 
-use crate::chain::{Placed, chain, load, meet, rows_of};
+use crate::chain::{Link, Placed, chain, load, meet, rows_of};
 use crate::page::{Entry, HeapPage, has_room, page_of};
 use pager::{Draft, Pager, Stop, broken, free, take};
 use retro_base::Refusal;
@@ -21,7 +21,9 @@ use values::{Duplicate, Row, Seq};
 fn store(alloc: Global, draft: &mut Draft, page: u32, held: &HeapPage) -> Result<(), Refusal>
     requires there { page < draft.old.size }
     requires held { IsHeapPage held.now }
-    ensures drafted { OnOk result ((pages : Pages) → drafted pages draft.new.list ≡ written (drafted pages draft.old.list) page (page_bytes held.now)) }
+    ensures drafted { OnOk result
+        ((pages : Pages) → drafted pages draft.new.list
+        ≡ written (drafted pages draft.old.list) page (page_bytes held.now)) }
     ensures memory { IfErr result (λ why. why ≡ OutOfMemory) }
     ensures size { draft.new.size ≡ draft.old.size }
 {
@@ -37,7 +39,8 @@ pub fn make<P: Pager>(
     draft: &mut Draft,
 ) -> Result<u32, Stop<P::Fault>>
     requires { draft.old.size ≡ P.size pager.old }
-    ensures made { Drafts (λ page. page) (P.tells pager.new) draft.old.list draft.new.list (made draft.old.size) result }
+    ensures made { Drafts (λ page. page) (P.tells pager.new) draft.old.list draft.new.list (made draft.old.size)
+        result }
     ensures only_reads { OnlyDrafts P.tells P.goes P.size P.faults pager.old pager.new result }
     ensures size { draft.new.size ≡ draft.old.size }
 {
@@ -74,33 +77,140 @@ fn page_with(alloc: Global, entry: Entry) -> Result<HeapPage, AllocFailed<Entry>
     })
 }
 
-// Drafts a new last page for an entry, behind the last page so far; the first page names it.
+// Drafts a new last page for an entry, behind a last page that is not the first; the first page names it. Answers the new
+// page, and what the first page then holds.
 fn lengthen<P: Pager>(
     alloc: Global,
     pager: &mut P,
     draft: &mut Draft,
-    first: u32,
-    last: u32,
-    tail: HeapPage,
+    head: Link,
+    tail: Link,
     entry: Entry,
-) -> Result<u32, Stop<P::Fault>>
+) -> Result<(u32, HeapPage), Stop<P::Fault>>
     requires size { draft.old.size ≡ P.size pager.old }
-    requires there { last < draft.old.size }
-    requires tail { IsHeapPage tail }
+    requires head { IsWritable draft.old.size head }
+    requires tail { IsWritable draft.old.size tail }
+    requires apart { head.page ≢ tail.page }
     requires entry { IsEntry entry }
-    ensures lengthened { Drafts (λ page. page) (P.tells pager.new) draft.old.list draft.new.list (λ pages. lengthened draft.old.size pages first last tail entry) result }
+    ensures lengthened { Drafts (λ placed. placed) (P.tells pager.new) draft.old.list draft.new.list
+        (λ pages. leaving_head draft.old.size pages head (lengthened draft.old.size pages head.page tail.page tail.held entry)) result }
+    ensures lawful { IfOk result (λ placed. IsHeapPage placed.1) }
     ensures only_reads { OnlyDrafts P.tells P.goes P.size P.faults pager.old pager.new result }
     ensures size { draft.new.size ≡ draft.old.size }
 {
+    let first = head.page;
     let next = take(pager, draft)?;
     let page = page_with(alloc, entry)?;
     store(alloc, draft, next, &page)?;
-    let linked = HeapPage { next, ..tail };
-    store(alloc, draft, last, &linked)?;
-    let head = load(alloc, pager, draft, first)?;
-    let named = HeapPage { last: next, ..head };
+    let linked = HeapPage { next, ..tail.held };
+    store(alloc, draft, tail.page, &linked)?;
+    let held = if next == first { page } else { head.held };
+    let named = HeapPage { last: next, ..held };
     store(alloc, draft, first, &named)?;
-    Ok(next)
+    Ok((next, named))
+}
+
+// The same behind a first page that is the last.
+fn lengthen_first<P: Pager>(
+    alloc: Global,
+    pager: &mut P,
+    draft: &mut Draft,
+    head: Link,
+    entry: Entry,
+) -> Result<(u32, HeapPage), Stop<P::Fault>>
+    requires size { draft.old.size ≡ P.size pager.old }
+    requires head { IsWritable draft.old.size head }
+    requires entry { IsEntry entry }
+    ensures lengthened { Drafts (λ placed. placed) (P.tells pager.new) draft.old.list draft.new.list
+        (λ pages. leaving_head draft.old.size pages head (lengthened draft.old.size pages head.page head.page head.held entry)) result }
+    ensures lawful { IfOk result (λ placed. IsHeapPage placed.1) }
+    ensures only_reads { OnlyDrafts P.tells P.goes P.size P.faults pager.old pager.new result }
+    ensures size { draft.new.size ≡ draft.old.size }
+{
+    let first = head.page;
+    let next = take(pager, draft)?;
+    let page = page_with(alloc, entry)?;
+    store(alloc, draft, next, &page)?;
+    let linked = HeapPage { next, ..head.held };
+    store(alloc, draft, first, &linked)?;
+    let named = HeapPage {
+        last: next,
+        ..linked
+    };
+    store(alloc, draft, first, &named)?;
+    Ok((next, named))
+}
+
+// Drafts an entry at the end of a first page that is the last of its chain, or behind it.
+fn append_first<P: Pager>(
+    alloc: Global,
+    pager: &mut P,
+    draft: &mut Draft,
+    head: Link,
+    entry: Entry,
+) -> Result<(u32, HeapPage), Stop<P::Fault>>
+    requires size { draft.old.size ≡ P.size pager.old }
+    requires head { IsWritable draft.old.size head }
+    requires only { last_page head.page head.held ≡ head.page }
+    requires number { entry.number < 2 ^ 64 }
+    requires entry { IsShort entry.row }
+    ensures appended { Drafts (λ placed. placed) (P.tells pager.new) draft.old.list draft.new.list
+        (λ pages. leaving_head draft.old.size pages head (appended draft.old.size pages head.page entry)) result }
+    ensures lawful { IfOk result (λ placed. IsHeapPage placed.1) }
+    ensures only_reads { OnlyDrafts P.tells P.goes P.size P.faults pager.old pager.new result }
+    ensures size { draft.new.size ≡ draft.old.size }
+{
+    let first = head.page;
+    if head.held.next != 0 {
+        return Err(Stop::Refused(broken(first)));
+    }
+    if !has_room(head.held.entries.as_slice(), &entry) {
+        return lengthen_first(alloc, pager, draft, head, entry);
+    }
+    let mut held = head.held;
+    held.entries.push(entry)?;
+    store(alloc, draft, first, &held)?;
+    Ok((first, held))
+}
+
+// Drafts an entry at the end of the chain whose first page is read already. Answers the entry's page, and what the first
+// page then holds.
+fn append_with_head<P: Pager>(
+    alloc: Global,
+    pager: &mut P,
+    draft: &mut Draft,
+    head: Link,
+    entry: Entry,
+) -> Result<(u32, HeapPage), Stop<P::Fault>>
+    requires size { draft.old.size ≡ P.size pager.old }
+    requires head { IsWritable draft.old.size head }
+    requires number { entry.number < 2 ^ 64 }
+    requires entry { IsShort entry.row }
+    ensures appended { Drafts (λ placed. placed) (P.tells pager.new) draft.old.list draft.new.list
+        (λ pages. leaving_head draft.old.size pages head (appended draft.old.size pages head.page entry)) result }
+    ensures lawful { IfOk result (λ placed. IsHeapPage placed.1) }
+    ensures only_reads { OnlyDrafts P.tells P.goes P.size P.faults pager.old pager.new result }
+    ensures size { draft.new.size ≡ draft.old.size }
+{
+    let first = head.page;
+    let last = last_page(first, &head.held);
+    if last == first {
+        return append_first(alloc, pager, draft, head, entry);
+    }
+    let mut tail = load(alloc, pager, draft, last)?;
+    if tail.next != 0 {
+        return Err(Stop::Refused(broken(last)));
+    }
+    if !has_room(tail.entries.as_slice(), &entry) {
+        let tail = Link {
+            page: last,
+            held: tail,
+        };
+        return lengthen(alloc, pager, draft, head, tail, entry);
+    }
+    tail.entries.push(entry)?;
+    store(alloc, draft, last, &tail)?;
+    Ok((last, head.held))
 }
 
 // Drafts an entry at the end of the chain, and answers its page.
@@ -114,22 +224,15 @@ fn append<P: Pager>(
     requires size { draft.old.size ≡ P.size pager.old }
     requires number { entry.number < 2 ^ 64 }
     requires entry { IsShort entry.row }
-    ensures appended { Drafts (λ page. page) (P.tells pager.new) draft.old.list draft.new.list (λ pages. appended draft.old.size pages first entry) result }
+    ensures appended { Drafts (λ page. page) (P.tells pager.new) draft.old.list draft.new.list
+        (λ pages. appended draft.old.size pages first entry) result }
     ensures only_reads { OnlyDrafts P.tells P.goes P.size P.faults pager.old pager.new result }
     ensures size { draft.new.size ≡ draft.old.size }
 {
-    let head = load(alloc, pager, draft, first)?;
-    let last = last_page(first, &head);
-    let mut tail = load(alloc, pager, draft, last)?;
-    if tail.next != 0 {
-        return Err(Stop::Refused(broken(last)));
-    }
-    if !has_room(tail.entries.as_slice(), &entry) {
-        return lengthen(alloc, pager, draft, first, last, tail, entry);
-    }
-    tail.entries.push(entry)?;
-    store(alloc, draft, last, &tail)?;
-    Ok(last)
+    let held = load(alloc, pager, draft, first)?;
+    let head = Link { page: first, held };
+    let (page, _) = append_with_head(alloc, pager, draft, head, entry)?;
+    Ok(page)
 }
 
 /// Drafts a row under the next row number, and answers its number and page.
@@ -142,20 +245,22 @@ pub fn add<P: Pager>(
 ) -> Result<(u64, u32), Stop<P::Fault>>
     requires size { draft.old.size ≡ P.size pager.old }
     requires row { IsShort row.now }
-    ensures added { Drafts (λ placed. placed) (P.tells pager.new) draft.old.list draft.new.list (λ pages. added draft.old.size pages first row.now) result }
+    ensures added { Drafts (λ placed. placed) (P.tells pager.new) draft.old.list draft.new.list
+        (λ pages. added draft.old.size pages first row.now) result }
     ensures only_reads { OnlyDrafts P.tells P.goes P.size P.faults pager.old pager.new result }
     ensures size { draft.new.size ≡ draft.old.size }
 {
-    let number = load(alloc, pager, draft, first)?.next_number;
+    let held = load(alloc, pager, draft, first)?;
+    let number = held.next_number;
     if number == u64::MAX {
         return Err(Stop::Refused(broken(first)));
     }
     let row = row.copy(alloc)?;
-    let page = append(alloc, pager, draft, first, Entry { number, row })?;
-    let head = load(alloc, pager, draft, first)?;
+    let head = Link { page: first, held };
+    let (page, held) = append_with_head(alloc, pager, draft, head, Entry { number, row })?;
     let counted = HeapPage {
         next_number: number + 1,
-        ..head
+        ..held
     };
     store(alloc, draft, first, &counted)?;
     Ok((number, page))
@@ -169,7 +274,8 @@ pub fn next_number<P: Pager>(
     first: u32,
 ) -> Result<u64, Stop<P::Fault>>
     requires { draft.now.size ≡ P.size pager.old }
-    ensures next { Reads (λ number. number) (P.tells pager.new) draft.now.list (λ pages. next_of draft.now.size pages first) result }
+    ensures next { Reads (λ number. number) (P.tells pager.new) draft.now.list
+        (λ pages. next_of draft.now.size pages first) result }
     ensures only_reads { OnlyReads P.tells P.goes P.size P.faults pager.old pager.new result }
 {
     Ok(load(alloc, pager, draft, first)?.next_number)
@@ -184,7 +290,8 @@ pub fn get<P: Pager>(
     number: u64,
 ) -> Result<Option<Row>, Stop<P::Fault>>
     requires { draft.now.size ≡ P.size pager.old }
-    ensures got { Reads (λ row. row) (P.tells pager.new) draft.now.list (λ pages. got draft.now.size pages page number) result }
+    ensures got { Reads (λ row. row) (P.tells pager.new) draft.now.list (λ pages. got draft.now.size pages page number)
+        result }
     ensures only_reads { OnlyReads P.tells P.goes P.size P.faults pager.old pager.new result }
 {
     let held = load(alloc, pager, draft, page)?;
@@ -209,7 +316,8 @@ pub fn scan<P: Pager>(
     first: u32,
 ) -> Result<Vec<Placed>, Stop<P::Fault>>
     requires { draft.now.size ≡ P.size pager.old }
-    ensures scanned { Reads (λ rows. rows.items) (P.tells pager.new) draft.now.list (λ pages. scanned draft.now.size pages first) result }
+    ensures scanned { Reads (λ rows. rows.items) (P.tells pager.new) draft.now.list
+        (λ pages. scanned draft.now.size pages first) result }
     ensures only_reads { OnlyReads P.tells P.goes P.size P.faults pager.old pager.new result }
 {
     let links = chain(alloc, pager, draft, first)?;
@@ -228,7 +336,8 @@ pub fn remove<P: Pager>(
     number: u64,
 ) -> Result<(), Stop<P::Fault>>
     requires { draft.old.size ≡ P.size pager.old }
-    ensures removed { Drafts (λ u. u) (P.tells pager.new) draft.old.list draft.new.list (λ pages. removed draft.old.size pages first page number) result }
+    ensures removed { Drafts (λ u. u) (P.tells pager.new) draft.old.list draft.new.list
+        (λ pages. removed draft.old.size pages first page number) result }
     ensures only_reads { OnlyDrafts P.tells P.goes P.size P.faults pager.old pager.new result }
     ensures size { draft.new.size ≡ draft.old.size }
 {
@@ -292,7 +401,8 @@ fn unlink<P: Pager>(
     next: u32,
 ) -> Result<(), Stop<P::Fault>>
     requires { draft.old.size ≡ P.size pager.old }
-    ensures unlinked { Drafts (λ u. u) (P.tells pager.new) draft.old.list draft.new.list (λ pages. unlinked draft.old.size pages first previous page next) result }
+    ensures unlinked { Drafts (λ u. u) (P.tells pager.new) draft.old.list draft.new.list
+        (λ pages. unlinked draft.old.size pages first previous page next) result }
     ensures only_reads { OnlyDrafts P.tells P.goes P.size P.faults pager.old pager.new result }
     ensures size { draft.new.size ≡ draft.old.size }
 {
@@ -313,7 +423,8 @@ fn rename_last<P: Pager>(
     next: u32,
 ) -> Result<(), Stop<P::Fault>>
     requires { draft.old.size ≡ P.size pager.old }
-    ensures renamed { Drafts (λ u. u) (P.tells pager.new) draft.old.list draft.new.list (λ pages. renamed draft.old.size pages first last next) result }
+    ensures renamed { Drafts (λ u. u) (P.tells pager.new) draft.old.list draft.new.list
+        (λ pages. renamed draft.old.size pages first last next) result }
     ensures only_reads { OnlyDrafts P.tells P.goes P.size P.faults pager.old pager.new result }
     ensures size { draft.new.size ≡ draft.old.size }
 {
@@ -340,24 +451,77 @@ pub fn change<P: Pager>(
 ) -> Result<u32, Stop<P::Fault>>
     requires size { draft.old.size ≡ P.size pager.old }
     requires row { IsShort row.now }
-    ensures changed { Drafts (λ page. page) (P.tells pager.new) draft.old.list draft.new.list (λ pages. changed draft.old.size pages first page (record { number = number; row = row.now })) result }
+    ensures changed { Drafts (λ page. page) (P.tells pager.new) draft.old.list draft.new.list
+        (λ pages. changed draft.old.size pages first page (record { number = number; row = row.now })) result }
     ensures only_reads { OnlyDrafts P.tells P.goes P.size P.faults pager.old pager.new result }
     ensures size { draft.new.size ≡ draft.old.size }
 {
     let held = load(alloc, pager, draft, page)?;
-    let Some(place) = place_of(held.entries.as_slice(), number) else {
+    let link = Link { page, held };
+    let (to, _) = change_on(alloc, pager, draft, first, link, number, row)?;
+    Ok(to)
+}
+
+/// What the page of that number holds: it is read where it is not the one that is known already.
+pub fn page_at<P: Pager>(
+    alloc: Global,
+    pager: &mut P,
+    draft: &Draft,
+    known: Option<Link>,
+    page: u32,
+) -> Result<Link, Stop<P::Fault>>
+    requires size { draft.now.size ≡ P.size pager.old }
+    requires known { IfSome known (IsWritable draft.now.size) }
+    ensures read { Reads (λ link. link) (P.tells pager.new) draft.now.list
+        (λ pages answer. IsKnown draft.now.size pages known → linked draft.now.size pages page answer) result }
+    ensures writable { IfOk result (IsWritable draft.now.size) }
+    ensures only_reads { OnlyReads P.tells P.goes P.size P.faults pager.old pager.new result }
+{
+    if let Some(link) = known {
+        if link.page == page {
+            return Ok(link);
+        }
+    }
+    let held = load(alloc, pager, draft, page)?;
+    Ok(Link { page, held })
+}
+
+/// Drafts that a row of a page that is read already changes, under its number. Answers the page where it then stands, and
+/// what the page read then holds, where the row stays there.
+pub fn change_on<P: Pager>(
+    alloc: Global,
+    pager: &mut P,
+    draft: &mut Draft,
+    first: u32,
+    link: Link,
+    number: u64,
+    row: &Row,
+) -> Result<(u32, Option<Link>), Stop<P::Fault>>
+    requires size { draft.old.size ≡ P.size pager.old }
+    requires link { IsWritable draft.old.size link }
+    requires row { IsShort row.now }
+    ensures changed { Drafts (λ placed. placed) (P.tells pager.new) draft.old.list draft.new.list
+        (λ pages. on_link draft.old.size pages link
+        (changed draft.old.size pages first link.page (record { number = number; row = row.now }))) result }
+    ensures writable { IfOk result (λ placed. IfSome placed.1 (IsWritable draft.old.size)) }
+    ensures only_reads { OnlyDrafts P.tells P.goes P.size P.faults pager.old pager.new result }
+    ensures size { draft.new.size ≡ draft.old.size }
+{
+    let page = link.page;
+    let Some(place) = place_of(link.held.entries.as_slice(), number) else {
         return Err(Stop::Refused(broken(page)));
     };
-    let rest = without(held, place);
+    let rest = without(link.held, place);
     let row = row.copy(alloc)?;
     let entry = Entry { number, row };
     if !has_room(rest.entries.as_slice(), &entry) {
         store(alloc, draft, page, &rest)?;
-        return append(alloc, pager, draft, first, entry);
+        let to = append(alloc, pager, draft, first, entry)?;
+        return Ok((to, None));
     }
-    let kept = with_entry(rest, place, entry)?;
-    store(alloc, draft, page, &kept)?;
-    Ok(page)
+    let held = with_entry(rest, place, entry)?;
+    store(alloc, draft, page, &held)?;
+    Ok((page, Some(Link { page, held })))
 }
 
 // A page with one more entry, at that place.
@@ -366,7 +530,8 @@ fn with_entry(held: HeapPage, place: usize, entry: Entry) -> Result<HeapPage, Al
     requires held { IsHeapPage held }
     requires entry { IsEntry entry }
     requires room { IsTrue (fits (held.entries ++ entry ∷ [])) }
-    ensures { IfOk result (λ page. (page ≡ record held { entries = insert held.entries place entry }) × IsHeapPage page) }
+    ensures { IfOk result
+        (λ page. (page ≡ record held { entries = insert held.entries place entry }) × IsHeapPage page) }
 {
     let HeapPage {
         next,

@@ -11,5 +11,5 @@ mod page;
 mod tests;
 
 pub use calls::{add, change, get, make, next_number, remove, scan};
-pub use chain::Placed;
+pub use chain::{Link, Placed};
 pub use laws::{answers_are_one, holds_one, written_holds, zero_is_empty};

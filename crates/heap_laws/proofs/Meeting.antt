@@ -4,7 +4,7 @@ use Rattle.std.proofs.lemmas.List.{get_or_append_left, get_or_at, get_or_default
 use Rattle.std.specs.List.{insert}
 use Rattle.retro_base.specs.declared.refusal.Refusal.{Refusal}
 use Rattle.pager.specs.Pages.{Pages, written}
-use Rattle.heap_file.specs.Allows.{◌>>=◌, only, either}
+use Rattle.pager.specs.Allows.{◌>>=◌, only, either}
 use Rattle.heap_file.specs.declared.page.Entry.{Entry}
 use Rattle.heap_file.specs.declared.page.HeapPage.{HeapPage}
 use Rattle.heap_file.specs.declared.chain.Link.{Link}

@@ -28,60 +28,83 @@ MakeLaw = (size : ℕ) (pages : Pages) (firsts indexes : List ℕ) (answer : Res
     → WellFormed size pages firsts indexes → made size pages answer
     → Answers size (λ first after. Makes size pages firsts indexes first after) (free_pages size pages ≡ 0) answer
 
--- A row is added to a table, below the last row number. It is refused exactly where it has no room on the last page and no page is free.
+-- A row is added to a table, below the last row number. It is refused exactly where it has no room on the last page and
+-- no page is free.
 abbrev pub AddLaw : Type 0
-AddLaw = (size : ℕ) (pages : Pages) (firsts indexes : List ℕ) (first : ℕ) (table : Table) (row : List Value) (answer : Result ((ℕ × ℕ) × Pages) Refusal)
+AddLaw = (size : ℕ) (pages : Pages) (firsts indexes : List ℕ) (first : ℕ) (table : Table) (row : List Value)
+    (answer : Result ((ℕ × ℕ) × Pages) Refusal)
     → WellFormed size pages firsts indexes → Contains firsts first → IsTable size pages first table
     → IsStorable row → table.next_number < 2 ^ 64 - 1 → added size pages first row answer
-    → Answers size (λ placed after. Adds size pages firsts indexes first table row placed after) (AddIsFull size pages first (record { number = table.next_number; row = row })) answer
+    → Answers size (λ placed after. Adds size pages firsts indexes first table row placed after)
+    (AddIsFull size pages first (record { number = table.next_number; row = row })) answer
 
 -- A row of a table is taken out. That is never refused.
 abbrev pub RemoveLaw : Type 0
-RemoveLaw = (size : ℕ) (pages : Pages) (firsts indexes : List ℕ) (first : ℕ) (table : Table) (placed : Placed) (answer : Result (Unit {0} × Pages) Refusal)
+RemoveLaw = (size : ℕ) (pages : Pages) (firsts indexes : List ℕ) (first : ℕ) (table : Table) (placed : Placed)
+    (answer : Result (Unit {0} × Pages) Refusal)
     → WellFormed size pages firsts indexes → Contains firsts first → IsTable size pages first table
     → Contains table.rows placed → removed size pages first placed.page placed.number answer
     → Answers size (λ u after. Removes size pages firsts indexes first table placed.page placed.number after) ⊥ answer
 
--- A row of a table is changed. It is refused exactly where it has no room on its page and none on the last page, and no page is free.
+-- A row of a table is changed. It is refused exactly where it has no room on its page and none on the last page, and no
+-- page is free.
 abbrev pub ChangeLaw : Type 0
-ChangeLaw = (size : ℕ) (pages : Pages) (firsts indexes : List ℕ) (first : ℕ) (table : Table) (placed : Placed) (row : List Value) (answer : Result (ℕ × Pages) Refusal)
+ChangeLaw = (size : ℕ) (pages : Pages) (firsts indexes : List ℕ) (first : ℕ) (table : Table) (placed : Placed)
+    (row : List Value) (answer : Result (ℕ × Pages) Refusal)
     → WellFormed size pages firsts indexes → Contains firsts first → IsTable size pages first table
-    → Contains table.rows placed → IsStorable row → changed size pages first placed.page (record { number = placed.number; row = row }) answer
-    → Answers size (λ to after. Changes size pages firsts indexes first table placed.page (record { number = placed.number; row = row }) to after)
+    → Contains table.rows placed → IsStorable row
+    → changed size pages first placed.page (record { number = placed.number; row = row }) answer
+    → Answers size
+    (λ to after. Changes size pages firsts indexes first table placed.page
+    (record { number = placed.number; row = row }) to after)
     (ChangeIsFull size pages first placed.page (record { number = placed.number; row = row })) answer
 
--- Any pages determine what taking out and changing a row answer, and the pages after them: one answer, with one state, is allowed.
+-- Any pages determine what taking out and changing a row answer, and the pages after them: one answer, with one state,
+-- is allowed.
 pub record ChainAnswersAreOne : Type 0 where
   pub remove : (size : ℕ) (pages : Pages) (first page number : ℕ) → IsOne (removed size pages first page number)
   pub change : (size : ℕ) (pages : Pages) (first page : ℕ) (entry : Entry) → IsOne (changed size pages first page entry)
 
--- What is read of a table of well-formed pages: it is never refused, the rows are one list in rising number, no number twice and each below the next row
--- number, and each is found on the page where it stands. The page that the first page names as the last one is the last of its chain.
+-- What is read of a table of well-formed pages: it is never refused, the rows are one list in rising number, no number
+-- twice and each below the next row number, and each is found on the page where it stands. The page that the first page
+-- names as the last one is the last of its chain.
 pub record ReadLaw : Type 0 where
-  pub scan : (size : ℕ) (pages : Pages) (firsts indexes : List ℕ) (first : ℕ) (why : Refusal) → WellFormed size pages firsts indexes → Contains firsts first → scanned size pages first (Err why) → ⊥
-  pub next_number : (size : ℕ) (pages : Pages) (firsts indexes : List ℕ) (first : ℕ) (why : Refusal) → WellFormed size pages firsts indexes → Contains firsts first → next_of size pages first (Err why) → ⊥
-  pub numbers : (size : ℕ) (pages : Pages) (firsts indexes : List ℕ) (first : ℕ) (table : Table) → WellFormed size pages firsts indexes → Contains firsts first → IsTable size pages first table
-      → (number : ℕ) → (times_numbered number table.rows ≤ 1) × (0 < times_numbered number table.rows → number < table.next_number)
-  pub numbered : (size : ℕ) (pages : Pages) (firsts indexes : List ℕ) (first : ℕ) (table : Table) → WellFormed size pages firsts indexes → Contains firsts first → IsTable size pages first table → IsNumbered table
-  pub get : (size : ℕ) (pages : Pages) (firsts indexes : List ℕ) (first : ℕ) (table : Table) (placed : Placed) → WellFormed size pages firsts indexes → Contains firsts first → IsTable size pages first table
+  pub scan : (size : ℕ) (pages : Pages) (firsts indexes : List ℕ) (first : ℕ) (why : Refusal)
+      → WellFormed size pages firsts indexes → Contains firsts first → scanned size pages first (Err why) → ⊥
+  pub next_number : (size : ℕ) (pages : Pages) (firsts indexes : List ℕ) (first : ℕ) (why : Refusal)
+      → WellFormed size pages firsts indexes → Contains firsts first → next_of size pages first (Err why) → ⊥
+  pub numbers : (size : ℕ) (pages : Pages) (firsts indexes : List ℕ) (first : ℕ) (table : Table)
+      → WellFormed size pages firsts indexes → Contains firsts first → IsTable size pages first table
+      → (number : ℕ) → (times_numbered number table.rows ≤ 1)
+      × (0 < times_numbered number table.rows → number < table.next_number)
+  pub numbered : (size : ℕ) (pages : Pages) (firsts indexes : List ℕ) (first : ℕ) (table : Table)
+      → WellFormed size pages firsts indexes → Contains firsts first → IsTable size pages first table → IsNumbered table
+  pub get : (size : ℕ) (pages : Pages) (firsts indexes : List ℕ) (first : ℕ) (table : Table) (placed : Placed)
+      → WellFormed size pages firsts indexes → Contains firsts first → IsTable size pages first table
       → Contains table.rows placed → got size pages placed.page placed.number (Ok (Some placed.row))
-  pub rows_one : (size : ℕ) (pages : Pages) (firsts indexes : List ℕ) (first : ℕ) → WellFormed size pages firsts indexes → Contains firsts first → IsOne (scanned size pages first)
-  pub last : (size : ℕ) (pages : Pages) (firsts indexes : List ℕ) (first last : ℕ) (tail : HeapPage) → WellFormed size pages firsts indexes → Contains firsts first → EndsAt size pages first last tail
+  pub rows_one : (size : ℕ) (pages : Pages) (firsts indexes : List ℕ) (first : ℕ) → WellFormed size pages firsts indexes
+      → Contains firsts first → IsOne (scanned size pages first)
+  pub last : (size : ℕ) (pages : Pages) (firsts indexes : List ℕ) (first last : ℕ) (tail : HeapPage)
+      → WellFormed size pages firsts indexes → Contains firsts first → EndsAt size pages first last tail
       → (links : List Link) × chain size pages first (Ok links) × (end_of first links ≡ last) × (tail.next ≡ 0)
 
 -- every page of the store is zero, as where it was never written
 abbrev pub AreZero : ℕ → Pages → Type 0
 AreZero size pages = (page : ℕ) → page < size → pages.at page ≡ replicate 1024 0
 
--- A store of zero pages is well-formed, without a table and also with the one that begins with page 1, which has no row.
+-- A store of zero pages is well-formed, without a table and also with the one that begins with page 1, which has no
+-- row.
 pub record FreshLaw : Type 0 where
   pub none : (size : ℕ) (pages : Pages) → AreZero size pages → 2 ≤ size → size < 2 ^ 32 → WellFormed size pages [] []
-  pub catalog : (size : ℕ) (pages : Pages) → AreZero size pages → 2 ≤ size → size < 2 ^ 32 → WellFormed size pages (1 ∷ []) []
-  pub empty : (size : ℕ) (pages : Pages) → AreZero size pages → 2 ≤ size → IsTable size pages 1 (record { next_number = 0; rows = [] })
+  pub catalog : (size : ℕ) (pages : Pages) → AreZero size pages → 2 ≤ size → size < 2 ^ 32
+      → WellFormed size pages (1 ∷ []) []
+  pub empty : (size : ℕ) (pages : Pages) → AreZero size pages → 2 ≤ size
+      → IsTable size pages 1 (record { next_number = 0; rows = [] })
 
 -- A page of bytes holds only what can be written again.
 abbrev pub SizedLaw : Type 0
-SizedLaw = (bytes : List ℕ) (held : HeapPage) → length bytes ≡ 1024 → ((place : ℕ) → slice_index bytes place < 256) → Holds bytes held → IsSized held
+SizedLaw = (bytes : List ℕ) (held : HeapPage) → length bytes ≡ 1024 → ((place : ℕ) → slice_index bytes place < 256)
+    → Holds bytes held → IsSized held
 
 -- a page was taken for an index
 pub record TakesForIndex (size : ℕ) (pages : Pages) (firsts indexes : List ℕ) (page : ℕ) (after : Pages) : Type 0 where
@@ -90,9 +113,13 @@ pub record TakesForIndex (size : ℕ) (pages : Pages) (firsts indexes : List ℕ
   pub stay : AllStay size pages after firsts
   pub well : WellFormed size after firsts (page ∷ indexes)
 
--- The pages of the indexes: one is taken as a table's first page is, and whatever is written on one, the store stays well-formed and each table as it was.
+-- The pages of the indexes: one is taken as a table's first page is, and whatever is written on one, the store stays
+-- well-formed and each table as it was.
 pub record IndexLaw : Type 0 where
-  pub take : (size : ℕ) (pages : Pages) (firsts indexes : List ℕ) (answer : Result (ℕ × Pages) Refusal) → WellFormed size pages firsts indexes → taken size pages ≡ answer
-      → Answers size (λ page after. TakesForIndex size pages firsts indexes page after) (free_pages size pages ≡ 0) answer
-  pub write : (size : ℕ) (pages : Pages) (firsts indexes : List ℕ) (page : ℕ) (bytes : List ℕ) → WellFormed size pages firsts indexes → Contains indexes page
+  pub take : (size : ℕ) (pages : Pages) (firsts indexes : List ℕ) (answer : Result (ℕ × Pages) Refusal)
+      → WellFormed size pages firsts indexes → taken size pages ≡ answer
+      → Answers size (λ page after. TakesForIndex size pages firsts indexes page after) (free_pages size pages ≡ 0)
+      answer
+  pub write : (size : ℕ) (pages : Pages) (firsts indexes : List ℕ) (page : ℕ) (bytes : List ℕ)
+      → WellFormed size pages firsts indexes → Contains indexes page
       → WellFormed size (written pages page bytes) firsts indexes × AllStay size pages (written pages page bytes) firsts

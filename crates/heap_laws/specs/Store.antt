@@ -43,7 +43,8 @@ pub record IsSized (held : HeapPage) : Type 0 where
   pub next_number : held.next_number < 2 ^ 64
   pub last : held.last < 2 ^ 32
 
--- The chain of a table over the pages: the first page names the last one, and the row numbers differ and are less than the next row number.
+-- The chain of a table over the pages: the first page names the last one, and the row numbers differ and are less than
+-- the next row number.
 pub record IsChain (size : ℕ) (pages : Pages) (chain : Chain) : Type 0 where
   pub leads : Leads size pages chain.first chain.links 0
   pub sized : AllByRecursion (λ (link : Link). IsSized link.held) chain.links
@@ -65,8 +66,9 @@ pages_held chains indexes free = flat_map pages_of chains ++ (indexes ++ free)
 abbrev pub pages_inner : List Chain → List ℕ → List ℕ → List ℕ
 pages_inner chains indexes free = flat_map pages_behind chains ++ (indexes ++ free)
 
--- The pages are a store's, whose tables begin with these first pages, in this order, and whose indexes hold those pages: each page stands once, in a
--- chain, among the indexes' or in the free list. It is one of those handed out, which begin with page 2; but page 1, the catalog's, may be a first page.
+-- The pages are a store's, whose tables begin with these first pages, in this order, and whose indexes hold those
+-- pages: each page stands once, in a chain, among the indexes' or in the free list. It is one of those handed out,
+-- which begin with page 2; but page 1, the catalog's, may be a first page.
 pub record WellFormed (size : ℕ) (pages : Pages) (firsts indexes : List ℕ) : Type 0 where
   pub small : size < 2 ^ 32
   pub root : root_in size pages ≡ Ok (root_at pages)
@@ -77,7 +79,8 @@ pub record WellFormed (size : ℕ) (pages : Pages) (firsts indexes : List ℕ) :
   pub listed : IsFreeList pages (root_at pages).first_free free
   pub counted : length free ≡ (root_at pages).free
   pub once : (page : ℕ) → times page (pages_held chains indexes free) ≤ 1
-  pub inside : (page : ℕ) → 0 < times page (pages_held chains indexes free) → (1 ≤ page) × (page < 2 + (root_at pages).used)
+  pub inside : (page : ℕ) → 0 < times page (pages_held chains indexes free) → (1 ≤ page)
+      × (page < 2 + (root_at pages).used)
   pub inner : (page : ℕ) → 0 < times page (pages_inner chains indexes free) → 2 ≤ page
 
 -- how many pages can still be taken

@@ -24,7 +24,8 @@ pub record IsTable (size : ℕ) (pages : Pages) (first : ℕ) (table : Table) : 
 
 -- the row numbers of a table rise, and lie below the next one
 pub record IsNumbered (table : Table) : Type 0 where
-  pub rise : (i j : ℕ) (d : Placed) → i < j → j < length table.rows → (slice_index_or table.rows i d).number < (slice_index_or table.rows j d).number
+  pub rise : (i j : ℕ) (d : Placed) → i < j → j < length table.rows
+      → (slice_index_or table.rows i d).number < (slice_index_or table.rows j d).number
   pub below : (i : ℕ) (d : Placed) → i < length table.rows → (slice_index_or table.rows i d).number < table.next_number
 
 -- a row that can be stored, whatever its number
@@ -55,12 +56,14 @@ with_changed table changed = record {
 -- every table but the one that begins with that page is as it was
 abbrev pub OthersStay : ℕ → Pages → Pages → List ℕ → ℕ → Type 0
 OthersStay size pages after firsts first =
-    (other : ℕ) → Contains firsts other → other ≢ first → (table : Table) → IsTable size pages other table → IsTable size after other table
+    (other : ℕ) → Contains firsts other → other ≢ first → (table : Table) → IsTable size pages other table
+    → IsTable size after other table
 
 -- every table is as it was
 abbrev pub AllStay : ℕ → Pages → Pages → List ℕ → Type 0
 AllStay size pages after firsts =
-    (first : ℕ) → Contains firsts first → (table : Table) → IsTable size pages first table → IsTable size after first table
+    (first : ℕ) → Contains firsts first → (table : Table) → IsTable size pages first table
+    → IsTable size after first table
 
 -- these pages are edited; every other page is as before
 pub record Edits (pages after : Pages) (list : List ℕ) : Type 0 where
@@ -89,11 +92,14 @@ has_room held entry = fits (held.entries ++ entry ∷ [])
 
 -- an added row goes to the last page where it has room, else to a page that is taken
 abbrev pub IsAdded : Bool → ℕ → Pages → Pages → ℕ → ℕ → ℕ → Type 0
-IsAdded true size pages after first last page = (page ≡ last) × TakesNone size pages after × Edits pages after (first ∷ last ∷ [])
-IsAdded false size pages after first last page = Takes size pages after page × Edits pages after (first ∷ last ∷ page ∷ 0 ∷ [])
+IsAdded true size pages after first last page = (page ≡ last) × TakesNone size pages after
+    × Edits pages after (first ∷ last ∷ [])
+IsAdded false size pages after first last page = Takes size pages after page
+    × Edits pages after (first ∷ last ∷ page ∷ 0 ∷ [])
 
 -- a row was added to a table: it stands last, under the next row number
-pub record Adds (size : ℕ) (pages : Pages) (firsts indexes : List ℕ) (first : ℕ) (table : Table) (row : List Value) (placed : ℕ × ℕ) (after : Pages) : Type 0 where
+pub record Adds (size : ℕ) (pages : Pages) (firsts indexes : List ℕ) (first : ℕ) (table : Table) (row : List Value)
+    (placed : ℕ × ℕ) (after : Pages) : Type 0 where
   pub number : placed.0 ≡ table.next_number
   pub shows : IsTable size after first (with_row table placed.1 row)
   pub others : OthersStay size pages after firsts first
@@ -101,7 +107,8 @@ pub record Adds (size : ℕ) (pages : Pages) (firsts indexes : List ℕ) (first 
   pub last : ℕ
   pub tail : HeapPage
   pub ends : EndsAt size pages first last tail
-  pub effect : IsAdded (has_room tail (record { number = table.next_number; row = row })) size pages after first last placed.1
+  pub effect : IsAdded (has_room tail (record { number = table.next_number; row = row })) size pages after first last
+      placed.1
 
 -- a row is refused: its last page has no room for it, and no page is free
 pub record AddIsFull (size : ℕ) (pages : Pages) (first : ℕ) (entry : Entry) : Type 0 where
@@ -128,14 +135,16 @@ pub record Frees (size : ℕ) (pages after : Pages) (page : ℕ) : Type 0 where
 abbrev pub leaves : ℕ → ℕ → HeapPage → Bool
 leaves first page held = not (page == first) && (length held.entries == 1)
 
--- a page that is left without a row is freed: the page before it names the next one, and where there is none, the first page names it as the last
+-- a page that is left without a row is freed: the page before it names the next one, and where there is none, the first
+-- page names it as the last
 abbrev pub IsRemoved : Bool → ℕ → Pages → Pages → ℕ → ℕ → ℕ → HeapPage → Type 0
 IsRemoved false size pages after first previous page held = TakesNone size pages after × Edits pages after (page ∷ [])
 IsRemoved true size pages after first previous page held =
     Frees size pages after page × Edits pages after (previous ∷ page ∷ 0 ∷ (if held.next == 0 then first ∷ [] else []))
 
 -- a row was taken out of a table; the next row number stays
-pub record Removes (size : ℕ) (pages : Pages) (firsts indexes : List ℕ) (first : ℕ) (table : Table) (page number : ℕ) (after : Pages) : Type 0 where
+pub record Removes (size : ℕ) (pages : Pages) (firsts indexes : List ℕ) (first : ℕ) (table : Table) (page number : ℕ)
+    (after : Pages) : Type 0 where
   pub shows : IsTable size after first (without_row table number)
   pub others : OthersStay size pages after firsts first
   pub well : WellFormed size after firsts indexes
@@ -144,8 +153,10 @@ pub record Removes (size : ℕ) (pages : Pages) (firsts indexes : List ℕ) (fir
   pub stood : met size pages first page (Ok (previous, held))
   pub effect : IsRemoved (leaves first page held) size pages after first previous page held
 
--- where a changed row stands: at its place where its page has room for it there, else at the end of the chain, which the page without it still has
-pub record Stands (size : ℕ) (pages : Pages) (first page : ℕ) (entry : Entry) (rest : HeapPage) (last : ℕ) (tail : HeapPage) : Type 0 where
+-- where a changed row stands: at its place where its page has room for it there, else at the end of the chain, which
+-- the page without it still has
+pub record Stands (size : ℕ) (pages : Pages) (first page : ℕ) (entry : Entry) (rest : HeapPage) (last : ℕ)
+    (tail : HeapPage) : Type 0 where
   pub previous : ℕ
   pub held : HeapPage
   pub place : ℕ
@@ -154,15 +165,21 @@ pub record Stands (size : ℕ) (pages : Pages) (first page : ℕ) (entry : Entry
   pub rest_is : rest ≡ without held place
   pub ends : EndsAt size (written pages page (page_bytes rest)) first last tail
 
--- a changed row stays on its page where it has room there, else it goes to the last page where it has room there, else to a page that is taken
+-- a changed row stays on its page where it has room there, else it goes to the last page where it has room there, else
+-- to a page that is taken
 abbrev pub IsChanged : Bool → Bool → ℕ → Pages → Pages → ℕ → ℕ → ℕ → ℕ → Type 0
-IsChanged true room size pages after first page last to = (to ≡ page) × TakesNone size pages after × Edits pages after (page ∷ [])
-IsChanged false true size pages after first page last to = (to ≡ last) × TakesNone size pages after × Edits pages after (page ∷ last ∷ [])
-IsChanged false false size pages after first page last to = Takes size pages after to × Edits pages after (page ∷ first ∷ last ∷ to ∷ 0 ∷ [])
+IsChanged true room size pages after first page last to = (to ≡ page) × TakesNone size pages after
+    × Edits pages after (page ∷ [])
+IsChanged false true size pages after first page last to = (to ≡ last) × TakesNone size pages after
+    × Edits pages after (page ∷ last ∷ [])
+IsChanged false false size pages after first page last to = Takes size pages after to
+    × Edits pages after (page ∷ first ∷ last ∷ to ∷ 0 ∷ [])
 
 -- a row of a table was changed, and keeps its number
-pub record Changes (size : ℕ) (pages : Pages) (firsts indexes : List ℕ) (first : ℕ) (table : Table) (page : ℕ) (entry : Entry) (to : ℕ) (after : Pages) : Type 0 where
-  pub shows : IsTable size after first (with_changed table (record { number = entry.number; page = to; row = entry.row }))
+pub record Changes (size : ℕ) (pages : Pages) (firsts indexes : List ℕ) (first : ℕ) (table : Table) (page : ℕ)
+    (entry : Entry) (to : ℕ) (after : Pages) : Type 0 where
+  pub shows : IsTable size after first
+      (with_changed table (record { number = entry.number; page = to; row = entry.row }))
   pub others : OthersStay size pages after firsts first
   pub well : WellFormed size after firsts indexes
   pub rest : HeapPage

@@ -14,7 +14,8 @@ use std::alloc::Global;
 /// where the store has no page for it, or memory runs out.
 pub fn with_table(alloc: Global, size: u32) -> Result<(MemPager, u32), Stop<Failed>>
     requires { 2 ≤ size }
-    ensures table { IfOk result (λ store. IsTable size (shown store.0) store.1 (record { next_number = 0; rows = [] })) }
+    ensures table { IfOk result
+        (λ store. IsTable size (shown store.0) store.1 (record { next_number = 0; rows = [] })) }
     ensures well { IfOk result (λ store. WellFormed size (shown store.0) (store.1 ∷ []) []) }
 {
     let pages = vec![in alloc; Page::zero(); size as usize]?;

@@ -52,7 +52,8 @@ impl Draft {
     /// The page of that number, as it will be after the edits.
     pub fn read<P: Pager>(&self, pager: &mut P, page: u32) -> Result<Page, Stop<P::Fault>>
         requires { self.now.size ≡ P.size pager.old }
-        ensures read { Reads (λ bytes. bytes) (P.tells pager.new) self.now.list (λ pages r. page_in self.now.size pages page ≡ r) result }
+        ensures read { Reads (λ bytes. bytes) (P.tells pager.new) self.now.list
+            (λ pages r. page_in self.now.size pages page ≡ r) result }
         ensures only_reads { OnlyReads P.tells P.goes P.size P.faults pager.old pager.new result }
         ensures inside { OnOk result (page < self.now.size) }
     {
@@ -70,7 +71,8 @@ impl Draft {
     /// Drafts an edit: the page of that number will have these bytes.
     pub fn put(&mut self, page: u32, bytes: &Page) -> Result<(), AllocError>
         requires { page < self.old.size }
-        ensures drafted { OnOk result ((pages : Pages) → drafted pages self.new.list ≡ written (drafted pages self.old.list) page bytes.now) }
+        ensures drafted { OnOk result
+            ((pages : Pages) → drafted pages self.new.list ≡ written (drafted pages self.old.list) page bytes.now) }
         ensures err { OnErr result (self.new.list ≡ self.old.list) }
         ensures size { self.new.size ≡ self.old.size }
     {

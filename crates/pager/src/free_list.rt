@@ -19,7 +19,8 @@ const FREE_PAGE: u8 = 3;
 // The root page.
 fn root<P: Pager>(pager: &mut P, draft: &Draft) -> Result<Root, Stop<P::Fault>>
     requires { draft.now.size ≡ P.size pager.old }
-    ensures read { Reads (λ root. root) (P.tells pager.new) draft.now.list (λ pages r. root_in draft.now.size pages ≡ r) result }
+    ensures read { Reads (λ root. root) (P.tells pager.new) draft.now.list (λ pages r. root_in draft.now.size pages ≡ r)
+        result }
     ensures only_reads { OnlyReads P.tells P.goes P.size P.faults pager.old pager.new result }
     ensures root { IfOk result (λ root. IsTrue (is_root draft.now.size root)) }
 {
@@ -55,7 +56,8 @@ fn first_free<P: Pager>(
 ) -> Result<(u32, Root), Stop<P::Fault>>
     requires size { draft.now.size ≡ P.size pager.old }
     requires some { 0 < root.now.free }
-    ensures read { Reads (λ next. next) (P.tells pager.new) draft.now.list (λ pages r. first_free draft.now.size pages root.now ≡ r) result }
+    ensures read { Reads (λ next. next) (P.tells pager.new) draft.now.list
+        (λ pages r. first_free draft.now.size pages root.now ≡ r) result }
     ensures only_reads { OnlyReads P.tells P.goes P.size P.faults pager.old pager.new result }
     ensures inside { IfOk result (λ next. next.0 < draft.now.size) }
 {
@@ -80,7 +82,8 @@ fn next_page<P: Pager>(
 ) -> Result<(u32, Root), Stop<P::Fault>>
     requires size { draft.now.size ≡ P.size pager.old }
     requires root { IsTrue (is_root draft.now.size root.now) }
-    ensures read { Reads (λ next. next) (P.tells pager.new) draft.now.list (λ pages r. next_page draft.now.size pages root.now ≡ r) result }
+    ensures read { Reads (λ next. next) (P.tells pager.new) draft.now.list
+        (λ pages r. next_page draft.now.size pages root.now ≡ r) result }
     ensures only_reads { OnlyDrafts P.tells P.goes P.size P.faults pager.old pager.new result }
     ensures inside { IfOk result (λ next. next.0 < draft.now.size) }
 {
@@ -95,7 +98,8 @@ fn next_page<P: Pager>(
 /// itself is left to the caller. Refused where no page is left, and where the root page or the free page is broken.
 pub fn take<P: Pager>(pager: &mut P, draft: &mut Draft) -> Result<u32, Stop<P::Fault>>
     requires { draft.old.size ≡ P.size pager.old }
-    ensures taken { Drafts (λ page. page) (P.tells pager.new) draft.old.list draft.new.list (λ pages r. taken draft.old.size pages ≡ r) result }
+    ensures taken { Drafts (λ page. page) (P.tells pager.new) draft.old.list draft.new.list
+        (λ pages r. taken draft.old.size pages ≡ r) result }
     ensures only_reads { OnlyDrafts P.tells P.goes P.size P.faults pager.old pager.new result }
     ensures size { draft.new.size ≡ draft.old.size }
     ensures inside { IfOk result (λ page. page < draft.old.size) }
@@ -110,7 +114,8 @@ pub fn take<P: Pager>(pager: &mut P, draft: &mut Draft) -> Result<u32, Stop<P::F
 /// handed out.
 pub fn free<P: Pager>(pager: &mut P, draft: &mut Draft, page: u32) -> Result<(), Stop<P::Fault>>
     requires { draft.old.size ≡ P.size pager.old }
-    ensures freed { Drafts (λ u. u) (P.tells pager.new) draft.old.list draft.new.list (λ pages r. freed draft.old.size pages page ≡ r) result }
+    ensures freed { Drafts (λ u. u) (P.tells pager.new) draft.old.list draft.new.list
+        (λ pages r. freed draft.old.size pages page ≡ r) result }
     ensures only_reads { OnlyDrafts P.tells P.goes P.size P.faults pager.old pager.new result }
     ensures size { draft.new.size ≡ draft.old.size }
 {

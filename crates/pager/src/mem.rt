@@ -69,7 +69,8 @@ impl MemPager {
     // Counts a call, and a fault where it is listed. True where it fails.
     fn fails(&mut self) -> bool
         ensures listed { IsTrue result ↔ Contains self.old.failing (raised self.old.calls) }
-        ensures counted { self.new ≡ record self.old { calls = raised self.old.calls; faults = cond result (raised self.old.faults) self.old.faults } }
+        ensures counted { self.new ≡ record self.old
+            { calls = raised self.old.calls; faults = cond result (raised self.old.faults) self.old.faults } }
         ensures later { self.old.faults ≤ self.new.faults }
     {
         self.calls = self.calls.saturating_add(1);
@@ -99,7 +100,8 @@ impl Pager for MemPager {
         // Exactly the listed calls fail.
         ensures listed { IsErr result ↔ Contains self.old.failing (raised self.old.calls) }
         ensures ok { OnOk result (self.new ≡ record self.old { calls = raised self.old.calls }) }
-        ensures err { OnErr result (self.new ≡ record self.old { calls = raised self.old.calls; faults = raised self.old.faults }) }
+        ensures err { OnErr result
+            (self.new ≡ record self.old { calls = raised self.old.calls; faults = raised self.old.faults }) }
         ensures told { OnOk result (out.new ≡ slice_index_or self.old.pages page []) }
         ensures cause { HasCause self.old.faults self.new.faults result }
     {
@@ -128,8 +130,15 @@ impl EditPager for MemPager {
         requires { page < length self.old.pages }
         // The listed calls fail, and else only those for which there is no memory.
         ensures listed { Contains self.old.failing (raised self.old.calls) → IsErr result }
-        ensures ok { OnOk result (self.new ≡ record self.old { pages = slice_set self.old.pages page bytes.now; edits = self.old.edits ++ page ∷ []; calls = raised self.old.calls }) }
-        ensures err { OnErr result (self.new ≡ record self.old { calls = raised self.old.calls; faults = raised self.old.faults }) }
+        ensures ok { OnOk result
+            (self.new ≡ record self.old {
+              pages = slice_set self.old.pages page bytes.now;
+              edits = self.old.edits
+                  ++ page ∷ [];
+              calls = raised self.old.calls;
+            }) }
+        ensures err { OnErr result
+            (self.new ≡ record self.old { calls = raised self.old.calls; faults = raised self.old.faults }) }
         ensures shown { OnOk result (shown self.new ≡ written (shown self.old) page bytes.now) }
         ensures steady { OnErr result (shown self.new ≡ shown self.old) }
         ensures cause { HasCause self.old.faults self.new.faults result }

@@ -8,7 +8,7 @@ use Rattle.values.specs.declared.value.Value.{Value}
 use Rattle.sql_tree.specs.declared.statement.Column.{Column}
 use Rattle.pager.specs.Draft.{Edits, drafted}
 use Rattle.pager.specs.Pages.{Pages}
-use Rattle.heap_file.specs.Allows.{◌>>=◌, only}
+use Rattle.pager.specs.Allows.{◌>>=◌, only}
 use Rattle.relation.specs.Each.{each, in_turn}
 use Rattle.relation.specs.Work.{all_added, created}
 

@@ -8,7 +8,7 @@ use Rattle.sql_tree.specs.declared.schema.Schema.{Schema}
 use Rattle.sql_tree.specs.declared.statement.Column.{Column as TableColumn}
 use Rattle.pager.specs.Pages.{Pages, broken}
 use Rattle.heap_file.specs.declared.chain.Placed.{Placed}
-use Rattle.heap_file.specs.Allows.{◌>>=◌, only, either}
+use Rattle.pager.specs.Allows.{◌>>=◌, only, either}
 use Rattle.heap_file.specs.Chain.{scanned}
 use Rattle.heap_file.specs.Work.{next_of}
 use Rattle.relation.specs.declared.catalog.Catalog.{Catalog}
@@ -69,14 +69,16 @@ index_rows rows = filter_map (λ (told : Told). as_index told.page told.row) row
 -- some row tells that column at that place
 abbrev pub IsTold : List ColumnRow → ℕ → TableColumn → Type 0
 IsTold rows place column =
-    (k : ℕ) × (k < length rows) × ((d : ColumnRow) → ((slice_index_or rows k d).place ≡ place) × ((slice_index_or rows k d).column ≡ column))
+    (k : ℕ) × (k < length rows) ×
+    ((d : ColumnRow) → ((slice_index_or rows k d).place ≡ place) × ((slice_index_or rows k d).column ≡ column))
 
 -- which of the rows tells a column at that place, or none where none does
 abbrev pub IsPlaceTold : ℕ → List ColumnRow → Option ℕ → Type 0
 IsPlaceTold place rows None = (k : ℕ) (d : ColumnRow) → k < length rows → (slice_index_or rows k d).place ≡ place → ⊥
 IsPlaceTold place rows (Some k) = (k < length rows) × ((d : ColumnRow) → (slice_index_or rows k d).place ≡ place)
 
--- The columns that these rows tell: one to sixteen, as many as the rows, and for each place from 0 on the column that a row tells there.
+-- The columns that these rows tell: one to sixteen, as many as the rows, and for each place from 0 on the column that a
+-- row tells there.
 pub record AreColumns (rows : List ColumnRow) (columns : List TableColumn) : Type 0 where
   pub some : 1 ≤ length columns
   pub few : length columns ≤ 16
@@ -91,7 +93,8 @@ AreColumnsOf rows (Some columns) = AreColumns rows columns
 -- a table with its columns; one whose rows do not tell them breaks the page of its own row
 abbrev pub table_told : List Told → ℕ × TableRow → Result StoredTable Refusal → Type 0
 table_told rows row (Ok table) =
-    (table.name ≡ row.1.name) × (table.first ≡ row.1.first) × AreColumnsOf (column_rows row.1.name rows) (Some table.columns)
+    (table.name ≡ row.1.name) × (table.first ≡ row.1.first)
+    × AreColumnsOf (column_rows row.1.name rows) (Some table.columns)
 table_told rows row (Err why) = (why ≡ broken row.0) × AreColumnsOf (column_rows row.1.name rows) None
 
 -- the table of that name
@@ -100,7 +103,8 @@ table_named name tables = find (λ (table : StoredTable). same_name table.name n
 
 -- the place of the first table of that name, or none where no table has it
 abbrev pub IsPlaceNamed : List ℕ → List StoredTable → Option ℕ → Type 0
-IsPlaceNamed name tables None = (k : ℕ) (d : StoredTable) → k < length tables → same_name (slice_index_or tables k d).name name ≡ false
+IsPlaceNamed name tables None = (k : ℕ) (d : StoredTable) → k < length tables
+    → same_name (slice_index_or tables k d).name name ≡ false
 IsPlaceNamed name tables (Some i) =
     (i < length tables) × ((d : StoredTable) → same_name (slice_index_or tables i d).name name ≡ true)
     × ((k : ℕ) (d : StoredTable) → k < i → same_name (slice_index_or tables k d).name name ≡ false)

@@ -20,14 +20,16 @@ abbrev pub form_number : IndexForm → ℕ
 form_number Chain = 1
 form_number Tree = 2
 
--- The values of a row: 1, the table's name and its first page; or 2, the table's name, the place from 0, the column's name and kind;
--- or 3, the index's name, the table's name, the column's place, the form and the root page.
+-- The values of a row: 1, the table's name and its first page; or 2, the table's name, the place from 0, the column's
+-- name and kind; or 3, the index's name, the table's name, the column's place, the form and the root page.
 abbrev pub row_values : CatalogRow → List Value
 row_values (Table row) = Int (pos 1) ∷ Text row.name ∷ Int (pos row.first) ∷ []
 row_values (Column row) =
-    Int (pos 2) ∷ Text row.table ∷ Int (pos row.place) ∷ Text row.column.name ∷ Int (pos (kind_number row.column.kind)) ∷ []
+    Int (pos 2) ∷ Text row.table ∷ Int (pos row.place) ∷ Text row.column.name ∷ Int (pos (kind_number row.column.kind))
+    ∷ []
 row_values (Index row) =
-    Int (pos 3) ∷ Text row.name ∷ Text row.table ∷ Int (pos row.place) ∷ Int (pos (form_number row.form)) ∷ Int (pos row.root) ∷ []
+    Int (pos 3) ∷ Text row.name ∷ Text row.table ∷ Int (pos row.place) ∷ Int (pos (form_number row.form)) ∷ Int
+    (pos row.root) ∷ []
 
 -- what a row may be: its names are names, its numbers fit four bytes
 abbrev pub IsCatalogRow : CatalogRow → Type 0

@@ -3,7 +3,7 @@ use Rattle.std.specs.Prelude.{◌≡◌, ◌⊎◌, ℕ, List, [], ◌∷◌, Re
 use Rattle.retro_base.specs.declared.refusal.Refusal.{Refusal}
 use Rattle.retro_base.specs.declared.refusal.Refusal.TheVariants.{OutOfMemory}
 use Rattle.pager.specs.Pages.{Pages, broken}
-use Rattle.heap_file.specs.Allows.{◌>>=◌, only}
+use Rattle.pager.specs.Allows.{◌>>=◌, only}
 
 -- what is made of each item, or the refusal of the first item of which nothing is made
 abbrev pub each : {A B : Type 0} → (A → Result B Refusal → Type 0) → List A → Result (List B) Refusal → Type 0
@@ -14,7 +14,8 @@ each step (x ∷ xs) = do
   only (Ok (y ∷ ys))
 
 -- the pages after an edit for each item, each on the pages that the one before it left
-abbrev pub in_turn : {A X : Type 0} → (A → Pages → Result (X × Pages) Refusal → Type 0) → List A → Pages → Result (Unit {0} × Pages) Refusal → Type 0
+abbrev pub in_turn : {A X : Type 0} → (A → Pages → Result (X × Pages) Refusal → Type 0) → List A → Pages
+    → Result (Unit {0} × Pages) Refusal → Type 0
 in_turn step [] pages = only (Ok (tt, pages))
 in_turn step (x ∷ xs) pages = do
   next ← step x pages

@@ -10,7 +10,7 @@ use Rattle.sql_tree.specs.declared.schema.Schema.{Schema}
 use Rattle.sql_tree.specs.declared.statement.Column.{Column as TableColumn}
 use Rattle.pager.specs.Pages.{Pages, broken}
 use Rattle.heap_file.specs.declared.chain.Placed.{Placed}
-use Rattle.heap_file.specs.Allows.{◌>>=◌, only}
+use Rattle.pager.specs.Allows.{◌>>=◌, only}
 use Rattle.heap_file.specs.Chain.{scanned}
 use Rattle.heap_file.specs.Work.{added, changed, made, next_of, removed}
 use Rattle.relation.specs.declared.catalog.StoredTable.{StoredTable}
@@ -53,7 +53,8 @@ same_kind kind.Text kind.Text = true
 
 -- whether a row has one value of each column's kind, in the order of the columns
 abbrev pub fits : List TableColumn → List Value → Bool
-fits columns row = pointwise (λ (column : TableColumn) (value : Value). same_kind column.kind (kind_of value)) columns row
+fits columns row = pointwise (λ (column : TableColumn) (value : Value). same_kind column.kind (kind_of value)) columns
+    row
 
 -- a row that fits the columns; one that does not breaks its page
 abbrev pub fitting : List TableColumn → Placed → Result Placed Refusal
@@ -85,9 +86,12 @@ rows_of_table name first columns = Table (record { name = name; first = first })
 abbrev pub all_added : ℕ → ℕ → List (List Value) → Pages → Result (Unit {0} × Pages) Refusal → Type 0
 all_added size first = in_turn (λ row pages. added size pages first row)
 
--- rows of the table that begins with that page change, in order: each stands on its page under its number, and becomes this
+-- rows of the table that begins with that page change, in order: each stands on its page under its number, and becomes
+-- this
 abbrev pub all_changed : ℕ → ℕ → List Placed → Pages → Result (Unit {0} × Pages) Refusal → Type 0
-all_changed size first = in_turn (λ (placed : Placed) pages. changed size pages first placed.page (record { number = placed.number; row = placed.row }))
+all_changed size first = in_turn
+    (λ (placed : Placed) pages. changed size pages first placed.page
+    (record { number = placed.number; row = placed.row }))
 
 -- rows of the table that begins with that page are taken out, in order, each of the page where it stands
 abbrev pub all_removed : ℕ → ℕ → List Placed → Pages → Result (Unit {0} × Pages) Refusal → Type 0

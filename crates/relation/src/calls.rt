@@ -18,7 +18,8 @@ use values::Row;
 
 /// The catalog, read once for all calls that follow until a table is made.
 pub fn open<P: Pager>(alloc: Global, pager: &mut P) -> Result<Catalog, Stop<P::Fault>>
-    ensures catalog { Answers (λ catalog. catalog) (P.tells pager.new) (λ pages. catalog (P.size pager.old) pages) result }
+    ensures catalog { Answers (λ catalog. catalog) (P.tells pager.new) (λ pages. catalog (P.size pager.old) pages)
+        result }
     ensures only_reads { OnlyReads P.tells P.goes P.size P.faults pager.old pager.new result }
 {
     let draft = Draft::new(alloc, pager.size());
@@ -31,7 +32,8 @@ pub fn rows<P: Pager>(
     pager: &mut P,
     table: &StoredTable,
 ) -> Result<Vec<Placed>, Stop<P::Fault>>
-    ensures rows { Answers (λ rows. rows.items) (P.tells pager.new) (λ pages. rows_at (P.size pager.old) pages table.now) result }
+    ensures rows { Answers (λ rows. rows.items) (P.tells pager.new)
+        (λ pages. rows_at (P.size pager.old) pages table.now) result }
     ensures only_reads { OnlyReads P.tells P.goes P.size P.faults pager.old pager.new result }
 {
     let draft = Draft::new(alloc, pager.size());
@@ -44,7 +46,8 @@ pub fn next_number<P: Pager>(
     pager: &mut P,
     table: &StoredTable,
 ) -> Result<u64, Stop<P::Fault>>
-    ensures next { Answers (λ number. number) (P.tells pager.new) (λ pages. next_of (P.size pager.old) pages table.now.first) result }
+    ensures next { Answers (λ number. number) (P.tells pager.new)
+        (λ pages. next_of (P.size pager.old) pages table.now.first) result }
     ensures only_reads { OnlyReads P.tells P.goes P.size P.faults pager.old pager.new result }
 {
     let draft = Draft::new(alloc, pager.size());
@@ -60,7 +63,8 @@ pub fn create_table<P: EditPager>(
     columns: &[Column],
 ) -> Result<(), Stop<P::Fault>>
     requires { length columns.now ≤ 16 }
-    ensures created { Makes (λ u. u) (P.tells pager.old) (P.tells pager.new) (λ pages. created (P.size pager.old) pages name.now columns.now) result }
+    ensures created { Makes (λ u. u) (P.tells pager.old) (P.tells pager.new)
+        (λ pages. created (P.size pager.old) pages name.now columns.now) result }
     ensures accounts { Accounts P.goes P.size P.faults pager.old pager.new result }
 {
     let mut draft = Draft::new(alloc, pager.size());
@@ -78,7 +82,8 @@ pub fn insert<P: EditPager>(
     rows: &[Row],
 ) -> Result<(), Stop<P::Fault>>
     requires { All IsShort rows.now }
-    ensures added { Makes (λ u. u) (P.tells pager.old) (P.tells pager.new) (all_added (P.size pager.old) table.now.first rows.now) result }
+    ensures added { Makes (λ u. u) (P.tells pager.old) (P.tells pager.new)
+        (all_added (P.size pager.old) table.now.first rows.now) result }
     ensures accounts { Accounts P.goes P.size P.faults pager.old pager.new result }
 {
     let mut draft = Draft::new(alloc, pager.size());
@@ -97,7 +102,8 @@ pub fn update<P: EditPager>(
     changes: &[Placed],
 ) -> Result<(), Stop<P::Fault>>
     requires { All (λ (placed : Placed). IsShort placed.row) changes.now }
-    ensures changed { Makes (λ u. u) (P.tells pager.old) (P.tells pager.new) (all_changed (P.size pager.old) table.now.first changes.now) result }
+    ensures changed { Makes (λ u. u) (P.tells pager.old) (P.tells pager.new)
+        (all_changed (P.size pager.old) table.now.first changes.now) result }
     ensures accounts { Accounts P.goes P.size P.faults pager.old pager.new result }
 {
     let mut draft = Draft::new(alloc, pager.size());
@@ -114,7 +120,8 @@ pub fn delete<P: EditPager>(
     table: &StoredTable,
     rows: &[Placed],
 ) -> Result<(), Stop<P::Fault>>
-    ensures removed { Makes (λ u. u) (P.tells pager.old) (P.tells pager.new) (all_removed (P.size pager.old) table.now.first rows.now) result }
+    ensures removed { Makes (λ u. u) (P.tells pager.old) (P.tells pager.new)
+        (all_removed (P.size pager.old) table.now.first rows.now) result }
     ensures accounts { Accounts P.goes P.size P.faults pager.old pager.new result }
 {
     let mut draft = Draft::new(alloc, pager.size());

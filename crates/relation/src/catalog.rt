@@ -44,7 +44,8 @@ pub struct Catalog {
 impl Catalog {
     /// The table of that name, if there is one.
     pub fn table(&self, name: &Name) -> Option<&StoredTable>
-        ensures { MatchOption result (table_named name.now self.now.tables ≡ None) (λ table. table_named name.now self.now.tables ≡ Some table.now) }
+        ensures { MatchOption result (table_named name.now self.now.tables ≡ None)
+            (λ table. table_named name.now self.now.tables ≡ Some table.now) }
     {
         let tables = self.tables.as_slice();
         match find(tables, name) {
@@ -78,7 +79,8 @@ pub fn read_catalog<P: Pager>(
     draft: &Draft,
 ) -> Result<Catalog, Stop<P::Fault>>
     requires { draft.now.size ≡ P.size pager.old }
-    ensures read { Reads (λ catalog. catalog) (P.tells pager.new) draft.now.list (λ pages. catalog draft.now.size pages) result }
+    ensures read { Reads (λ catalog. catalog) (P.tells pager.new) draft.now.list (λ pages. catalog draft.now.size pages)
+        result }
     ensures only_reads { OnlyReads P.tells P.goes P.size P.faults pager.old pager.new result }
 {
     let rows = read_rows(alloc, pager, draft)?;
@@ -97,7 +99,8 @@ fn read_rows<P: Pager>(
     draft: &Draft,
 ) -> Result<Vec<Told>, Stop<P::Fault>>
     requires { draft.now.size ≡ P.size pager.old }
-    ensures read { Reads (λ rows. rows.items) (P.tells pager.new) draft.now.list (λ pages. catalog_rows draft.now.size pages) result }
+    ensures read { Reads (λ rows. rows.items) (P.tells pager.new) draft.now.list
+        (λ pages. catalog_rows draft.now.size pages) result }
     ensures only_reads { OnlyReads P.tells P.goes P.size P.faults pager.old pager.new result }
 {
     let rows = drafting::scan(alloc, pager, draft, CATALOG)?;
@@ -145,7 +148,8 @@ fn tables_told(alloc: Global, rows: &[Told]) -> Result<Vec<StoredTable>, Refusal
 
 // A table's row.
 fn table_row(told: &Told) -> Option<&TableRow>
-    ensures { MatchOption result (as_table told.now.page told.now.row ≡ None) (λ row. as_table told.now.page told.now.row ≡ Some (told.now.page, row.now)) }
+    ensures { MatchOption result (as_table told.now.page told.now.row ≡ None)
+        (λ row. as_table told.now.page told.now.row ≡ Some (told.now.page, row.now)) }
 {
     match &told.row {
         CatalogRow::Table(row) => Some(row),
@@ -189,7 +193,8 @@ fn column_rows(alloc: Global, rows: &[Told], table: &Name) -> Result<Vec<ColumnR
 
 // The row of a column of that table.
 fn column_row<'a>(told: &'a Told, table: &Name) -> Option<&'a ColumnRow>
-    ensures { MatchOption result (as_column table.now told.now.row ≡ None) (λ row. as_column table.now told.now.row ≡ Some row.now) }
+    ensures { MatchOption result (as_column table.now told.now.row ≡ None)
+        (λ row. as_column table.now told.now.row ≡ Some row.now) }
 {
     match &told.row {
         CatalogRow::Column(row) if row.table == *table => Some(row),
@@ -242,7 +247,8 @@ fn indexes_told(
 
 // An index's row.
 fn index_row(told: &Told) -> Option<&IndexRow>
-    ensures { MatchOption result (as_index told.now.page told.now.row ≡ None) (λ row. as_index told.now.page told.now.row ≡ Some (told.now.page, row.now)) }
+    ensures { MatchOption result (as_index told.now.page told.now.row ≡ None)
+        (λ row. as_index told.now.page told.now.row ≡ Some (told.now.page, row.now)) }
 {
     match &told.row {
         CatalogRow::Table(_) => None,

@@ -3,7 +3,7 @@
 ghost use Rattle.std.specs.Prelude.{◌≡◌, ◌≤◌, All, IfOk, length, map};
 ghost use Rattle.pager.specs.Draft.{Drafts, Reads};
 ghost use Rattle.pager.specs.Stop.{OnlyDrafts, OnlyReads};
-ghost use Rattle.heap_file.specs.Allows.{only};
+ghost use Rattle.pager.specs.Allows.{only};
 ghost use Rattle.heap_file.specs.HeapPage.{IsShort};
 ghost use Rattle.heap_file.specs.declared.chain.Placed.{Placed};
 ghost use Rattle.relation.specs.CatalogRow.{row_values};
@@ -27,7 +27,8 @@ pub fn rows<P: Pager>(
     table: &StoredTable,
 ) -> Result<Vec<Placed>, Stop<P::Fault>>
     requires { draft.now.size ≡ P.size pager.old }
-    ensures rows { Reads (λ rows. rows.items) (P.tells pager.new) draft.now.list (λ pages. rows_at draft.now.size pages table.now) result }
+    ensures rows { Reads (λ rows. rows.items) (P.tells pager.new) draft.now.list
+        (λ pages. rows_at draft.now.size pages table.now) result }
     ensures only_reads { OnlyReads P.tells P.goes P.size P.faults pager.old pager.new result }
 {
     let rows = drafting::scan(alloc, pager, draft, table.first)?;
@@ -73,7 +74,8 @@ pub fn create_table<P: Pager>(
 ) -> Result<(), Stop<P::Fault>>
     requires size { draft.old.size ≡ P.size pager.old }
     requires few { length columns.now ≤ 16 }
-    ensures created { Drafts (λ u. u) (P.tells pager.new) draft.old.list draft.new.list (λ pages. created draft.old.size pages name.now columns.now) result }
+    ensures created { Drafts (λ u. u) (P.tells pager.new) draft.old.list draft.new.list
+        (λ pages. created draft.old.size pages name.now columns.now) result }
     ensures only_drafts { OnlyDrafts P.tells P.goes P.size P.faults pager.old pager.new result }
     ensures size { draft.new.size ≡ draft.old.size }
 {
@@ -111,7 +113,8 @@ pub fn insert<P: Pager>(
 ) -> Result<(), Stop<P::Fault>>
     requires size { draft.old.size ≡ P.size pager.old }
     requires rows { All IsShort rows.now }
-    ensures added { Drafts (λ u. u) (P.tells pager.new) draft.old.list draft.new.list (all_added draft.old.size first rows.now) result }
+    ensures added { Drafts (λ u. u) (P.tells pager.new) draft.old.list draft.new.list
+        (all_added draft.old.size first rows.now) result }
     ensures only_drafts { OnlyDrafts P.tells P.goes P.size P.faults pager.old pager.new result }
     ensures size { draft.new.size ≡ draft.old.size }
 {
@@ -131,20 +134,24 @@ pub fn update<P: Pager>(
 ) -> Result<(), Stop<P::Fault>>
     requires size { draft.old.size ≡ P.size pager.old }
     requires rows { All (λ (placed : Placed). IsShort placed.row) changes.now }
-    ensures changed { Drafts (λ u. u) (P.tells pager.new) draft.old.list draft.new.list (all_changed draft.old.size first changes.now) result }
+    ensures changed { Drafts (λ u. u) (P.tells pager.new) draft.old.list draft.new.list
+        (all_changed draft.old.size first changes.now) result }
     ensures only_drafts { OnlyDrafts P.tells P.goes P.size P.faults pager.old pager.new result }
     ensures size { draft.new.size ≡ draft.old.size }
 {
+    let mut known = None;
     for change in changes {
-        drafting::change(
+        let link = drafting::page_at(alloc, pager, draft, known, change.page)?;
+        let (_, after) = drafting::change_on(
             alloc,
             pager,
             draft,
             first,
-            change.page,
+            link,
             change.number,
             &change.row,
         )?;
+        known = after;
     }
     Ok(())
 }
@@ -158,7 +165,8 @@ pub fn delete<P: Pager>(
     rows: &[Placed],
 ) -> Result<(), Stop<P::Fault>>
     requires { draft.old.size ≡ P.size pager.old }
-    ensures removed { Drafts (λ u. u) (P.tells pager.new) draft.old.list draft.new.list (all_removed draft.old.size first rows.now) result }
+    ensures removed { Drafts (λ u. u) (P.tells pager.new) draft.old.list draft.new.list
+        (all_removed draft.old.size first rows.now) result }
     ensures only_drafts { OnlyDrafts P.tells P.goes P.size P.faults pager.old pager.new result }
     ensures size { draft.new.size ≡ draft.old.size }
 {

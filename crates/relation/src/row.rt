@@ -106,7 +106,9 @@ fn column_row(
     name: &Text,
     kind: i64,
 ) -> Result<Option<CatalogRow>, AllocError>
-    ensures { IfOk result (IsRowOf (Value.Int (pos 2) ∷ Value.Text table.now ∷ Value.Int place ∷ Value.Text name.now ∷ Value.Int kind ∷ [])) }
+    ensures { IfOk result
+        (IsRowOf
+        (Value.Int (pos 2) ∷ Value.Text table.now ∷ Value.Int place ∷ Value.Text name.now ∷ Value.Int kind ∷ [])) }
 {
     let (Some(place), Some(kind)) = (number_of(place), kind_of(kind)) else {
         return Ok(None);
@@ -133,7 +135,10 @@ fn index_row(
     form: i64,
     root: i64,
 ) -> Result<Option<CatalogRow>, AllocError>
-    ensures { IfOk result (IsRowOf (Value.Int (pos 3) ∷ Value.Text name.now ∷ Value.Text table.now ∷ Value.Int place ∷ Value.Int form ∷ Value.Int root ∷ [])) }
+    ensures { IfOk result
+        (IsRowOf
+        (Value.Int (pos 3) ∷ Value.Text name.now ∷ Value.Text table.now ∷ Value.Int place ∷ Value.Int form ∷
+        Value.Int root ∷ [])) }
 {
     let (Some(place), Some(form), Some(root)) = (number_of(place), form_of(form), number_of(root))
     else {
@@ -225,7 +230,8 @@ fn form_of(number: i64) -> Option<IndexForm>
 
 /// The values of a table's row.
 pub fn table_values(alloc: Global, name: &Name, first: u32) -> Result<Row, AllocError>
-    ensures values { IfOk result (λ values. values ≡ row_values (CatalogRow.Table (record { name = name.now; first = first }))) }
+    ensures values { IfOk result
+        (λ values. values ≡ row_values (CatalogRow.Table (record { name = name.now; first = first }))) }
     ensures short { IfOk result IsShort }
 {
     let mut values = Vec::new(alloc);
@@ -242,7 +248,9 @@ pub fn column_values(
     place: u32,
     column: &Column,
 ) -> Result<Row, AllocError>
-    ensures values { IfOk result (λ values. values ≡ row_values (CatalogRow.Column (record { table = table.now; place = place; column = column.now }))) }
+    ensures values { IfOk result
+        (λ values. values ≡ row_values
+        (CatalogRow.Column (record { table = table.now; place = place; column = column.now }))) }
     ensures short { IfOk result IsShort }
 {
     let mut values = Vec::new(alloc);

@@ -8,7 +8,7 @@ use Rattle.values.specs.declared.value.Kind.TheVariants as kind
 use Rattle.sql_tree.specs.declared.statement.Column.{Column as TableColumn}
 use Rattle.pager.specs.Pages.{Pages}
 use Rattle.heap_file.specs.declared.chain.Placed.{Placed}
-use Rattle.heap_file.specs.Allows.{◌>>=◌}
+use Rattle.pager.specs.Allows.{◌>>=◌}
 use Rattle.heap_file.specs.Laws.{IsOne}
 use Rattle.heap_file.proofs.Ones.{answers_are_one, differ, either-one, next-one, only-one}
 use Rattle.heap_laws.specs.Store.{WellFormed, times}

@@ -8,7 +8,7 @@ use Rattle.pager.specs.Pages.{Pages, written}
 use Rattle.heap_file.specs.declared.chain.Placed.{Placed}
 use Rattle.heap_file.specs.declared.page.Entry.{Entry}
 use Rattle.heap_file.specs.declared.page.HeapPage.{HeapPage}
-use Rattle.heap_file.specs.Allows.{either, only}
+use Rattle.pager.specs.Allows.{either, only}
 use Rattle.heap_file.specs.Chain.{IsAt, last_page, met, rows_of}
 use Rattle.heap_file.specs.HeapPage.{IsEntry, entry_bytes, page_bytes}
 use Rattle.heap_file.specs.Work.{IsPlace, appended, changed, without}

@@ -6,7 +6,7 @@ use Rattle.values.specs.declared.value.Value.{Value}
 use Rattle.pager.specs.Pages.{Pages}
 use Rattle.heap_file.specs.declared.chain.Placed.{Placed}
 use Rattle.heap_file.specs.declared.page.HeapPage.{HeapPage}
-use Rattle.heap_file.specs.Allows.{◌>>=◌}
+use Rattle.pager.specs.Allows.{◌>>=◌}
 use Rattle.heap_file.specs.HeapPage.{IsEntry}
 use Rattle.heap_laws.specs.Store.{WellFormed, free_pages}
 use Rattle.heap_laws.specs.Table.{EndsAt, IsStorable, IsTable, Table, with_changed}

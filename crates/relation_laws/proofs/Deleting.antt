@@ -7,7 +7,7 @@ use Rattle.retro_base.specs.declared.refusal.Refusal.{Refusal}
 use Rattle.values.specs.declared.value.Value.{Value}
 use Rattle.pager.specs.Pages.{Pages}
 use Rattle.heap_file.specs.declared.chain.Placed.{Placed}
-use Rattle.heap_file.specs.Allows.{◌>>=◌}
+use Rattle.pager.specs.Allows.{◌>>=◌}
 use Rattle.heap_file.specs.Work.{removed}
 use Rattle.heap_laws.specs.Laws.{Answers}
 use Rattle.heap_laws.specs.Store.{WellFormed}

@@ -7,7 +7,7 @@ use Rattle.pager.specs.Pages.{Pages, broken, written}
 use Rattle.pager.specs.Root.{taken}
 use Rattle.heap_file.specs.declared.page.Entry.{Entry}
 use Rattle.heap_file.specs.declared.page.HeapPage.{HeapPage}
-use Rattle.heap_file.specs.Allows.{◌>>=◌, either, only}
+use Rattle.pager.specs.Allows.{◌>>=◌, either, only}
 use Rattle.heap_file.specs.Chain.{heap_page, last_page}
 use Rattle.heap_file.specs.HeapPage.{empty_page, page_bytes}
 use Rattle.heap_file.specs.Work.{added, appended, fits, lengthened, made, page_with}

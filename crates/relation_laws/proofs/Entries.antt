@@ -12,7 +12,7 @@ use Rattle.pager.specs.Pages.{Pages, broken}
 use Rattle.heap_file.specs.declared.chain.Link.{Link}
 use Rattle.heap_file.specs.declared.chain.Placed.{Placed}
 use Rattle.heap_file.specs.declared.page.Entry.{Entry}
-use Rattle.heap_file.specs.Allows.{either, only}
+use Rattle.pager.specs.Allows.{either, only}
 use Rattle.heap_file.specs.Chain.{rows_of, rows_on}
 use Rattle.heap_file.specs.HeapPage.{entry_bytes, entry_code}
 use Rattle.heap_file.specs.Work.{next_of}

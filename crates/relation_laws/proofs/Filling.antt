@@ -7,7 +7,7 @@ use Rattle.values.specs.declared.value.Value.{Value}
 use Rattle.pager.specs.Pages.{Pages, written}
 use Rattle.heap_file.specs.declared.page.Entry.{Entry}
 use Rattle.heap_file.specs.declared.page.HeapPage.{HeapPage}
-use Rattle.heap_file.specs.Allows.{either, only}
+use Rattle.pager.specs.Allows.{either, only}
 use Rattle.heap_file.specs.Chain.{IsAt, last_page}
 use Rattle.heap_file.specs.HeapPage.{IsEntry, page_bytes}
 use Rattle.heap_file.specs.Work.{added, appended, lengthened, page_with}

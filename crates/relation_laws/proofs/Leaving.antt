@@ -11,8 +11,8 @@ use Rattle.pager.specs.Root.{free_bytes, freed, in_front, is_root, root_bytes, r
 use Rattle.pager.specs.declared.root.Root.{Root}
 use Rattle.heap_file.specs.declared.chain.Link.{Link}
 use Rattle.heap_file.specs.declared.page.HeapPage.{HeapPage}
-use Rattle.heap_file.specs.Allows.{either, only}
-use Rattle.heap_file.specs.Allows as allows
+use Rattle.pager.specs.Allows.{either, only}
+use Rattle.pager.specs.Allows as allows
 use Rattle.heap_file.specs.Chain.{IsAt, Leads, heap_page, met}
 use Rattle.heap_file.specs.HeapPage.{Holds, entry_bytes, page_bytes}
 use Rattle.heap_file.specs.Work.{last_field, removed, unlinked, without}

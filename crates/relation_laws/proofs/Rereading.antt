@@ -5,7 +5,7 @@ use Rattle.retro_base.specs.declared.refusal.Refusal.{Refusal}
 use Rattle.sql_tree.specs.declared.schema.Schema.{Schema}
 use Rattle.pager.specs.Pages.{Pages}
 use Rattle.heap_file.specs.declared.chain.Placed.{Placed}
-use Rattle.heap_file.specs.Allows.{only}
+use Rattle.pager.specs.Allows.{only}
 use Rattle.heap_file.specs.Work.{next_of}
 use Rattle.heap_file.proofs.Ones.{answers_are_one}
 use Rattle.relation.specs.declared.catalog.StoredTable.{StoredTable}

@@ -7,7 +7,7 @@ use Rattle.sql_tree.specs.declared.statement.Column.{Column as TableColumn}
 use Rattle.pager.specs.Pages.{Pages}
 use Rattle.heap_file.specs.declared.page.HeapPage.{HeapPage}
 use Rattle.heap_file.specs.declared.chain.Placed.{Placed}
-use Rattle.heap_file.specs.Allows.{◌>>=◌}
+use Rattle.pager.specs.Allows.{◌>>=◌}
 use Rattle.heap_file.specs.HeapPage.{entry_bytes}
 use Rattle.heap_laws.specs.Store.{free_pages, times}
 use Rattle.heap_laws.specs.Table.{EndsAt, Table}

@@ -28,7 +28,8 @@ pub record IsStoreOf (size : ℕ) (pages : Pages) (all : PlainTables) : Type 0 w
 
 -- the tables with this one in place of the one of its name; all else as before
 abbrev pub with_table : PlainTable → PlainTables → PlainTables
-with_table changed all = record all { tables = map (λ (table : PlainTable). if same_name table.name changed.name then changed else table) all.tables }
+with_table changed all = record all
+    { tables = map (λ (table : PlainTable). if same_name table.name changed.name then changed else table) all.tables }
 
 -- a call leaves this, and is refused only for want of pages
 abbrev pub Leaves : ℕ → (Pages → Type 0) → Result (Unit {0} × Pages) Refusal → Type 0
@@ -46,8 +47,10 @@ no_tables = record { tables = []; indexes = [] }
 
 -- Pages hold one list of tables. Zero pages, as in a store that was never written, hold none.
 pub record StoreLaw : Type 0 where
-  pub one : (size : ℕ) (pages : Pages) (all other : PlainTables) → IsStoreOf size pages all → TablesOf size pages other → other ≡ all
-  pub fresh : (size : ℕ) (pages : Pages) → AreZero size pages → 2 ≤ size → size < 2 ^ 32 → IsStoreOf size pages no_tables
+  pub one : (size : ℕ) (pages : Pages) (all other : PlainTables) → IsStoreOf size pages all → TablesOf size pages other
+      → other ≡ all
+  pub fresh : (size : ℕ) (pages : Pages) → AreZero size pages → 2 ≤ size → size < 2 ^ 32
+      → IsStoreOf size pages no_tables
 
 -- a table without what it holds
 abbrev pub without_contents : PlainTable → TableSchema
@@ -55,18 +58,22 @@ without_contents table = record { name = table.name; columns = table.columns }
 
 -- the row numbers rise, and lie below the next one
 pub record IsNumbered (table : PlainTable) : Type 0 where
-  pub rise : (i j : ℕ) (d : ℕ × List Value) → i < j → j < length table.rows → (slice_index_or table.rows i d).0 < (slice_index_or table.rows j d).0
-  pub below : (i : ℕ) (d : ℕ × List Value) → i < length table.rows → (slice_index_or table.rows i d).0 < table.next_number
+  pub rise : (i j : ℕ) (d : ℕ × List Value) → i < j → j < length table.rows
+      → (slice_index_or table.rows i d).0 < (slice_index_or table.rows j d).0
+  pub below : (i : ℕ) (d : ℕ × List Value) → i < length table.rows
+      → (slice_index_or table.rows i d).0 < table.next_number
 
 -- what is read of the tables: the schema, and the rows and the next row number of each table
 pub record ReadLaw : Type 0 where
   pub schema : (size : ℕ) (pages : Pages) (all : PlainTables) (answer : Result Schema Refusal)
       → IsStoreOf size pages all → schema_in size pages answer
-      → IsRead (λ (schema : Schema). (schema.tables ≡ map without_contents all.tables) × (schema.indexes ≡ all.indexes)) answer
+      → IsRead (λ (schema : Schema). (schema.tables ≡ map without_contents all.tables) × (schema.indexes ≡ all.indexes))
+      answer
   pub rows : (size : ℕ) (pages : Pages) (all : PlainTables) (table : PlainTable) (answer : Result (List Placed) Refusal)
       → IsStoreOf size pages all → Contains all.tables table → rows_in size pages table.name answer
       → IsRead (λ (rows : List Placed). map numbered_row rows ≡ table.rows) answer
-  pub numbered : (size : ℕ) (pages : Pages) (all : PlainTables) (table : PlainTable) → IsStoreOf size pages all → Contains all.tables table → IsNumbered table
+  pub numbered : (size : ℕ) (pages : Pages) (all : PlainTables) (table : PlainTable) → IsStoreOf size pages all
+      → Contains all.tables table → IsNumbered table
   pub next_number : (size : ℕ) (pages : Pages) (all : PlainTables) (table : PlainTable) (answer : Result ℕ Refusal)
       → IsStoreOf size pages all → Contains all.tables table → next_in size pages table.name answer
       → IsRead (λ (number : ℕ). number ≡ table.next_number) answer
@@ -84,33 +91,44 @@ with_rows rows table = record table {
 
 -- Rows are inserted into a table. That is refused only for want of pages.
 abbrev pub InsertLaw : Type 0
-InsertLaw = (size : ℕ) (pages : Pages) (all : PlainTables) (table : PlainTable) (rows : List (List Value)) (answer : Result (Unit {0} × Pages) Refusal)
-    → IsStoreOf size pages all → Contains all.tables table → AllByRecursion (IsRowFor table) rows → table.next_number + length rows < 2 ^ 64
+InsertLaw = (size : ℕ) (pages : Pages) (all : PlainTables) (table : PlainTable) (rows : List (List Value))
+    (answer : Result (Unit {0} × Pages) Refusal)
+    → IsStoreOf size pages all → Contains all.tables table → AllByRecursion (IsRowFor table) rows
+    → table.next_number + length rows < 2 ^ 64
     → inserted size pages table.name rows answer
-    → Leaves size (λ after. IsStoreOf size after (with_table (with_rows rows table) all) × Reaches size pages table.name after) answer
+    → Leaves size
+    (λ after. IsStoreOf size after (with_table (with_rows rows table) all) × Reaches size pages table.name after)
+    answer
 
--- An insert edits the first page of its table, the last one, and where its rows open pages, those and the root page; and no other.
+-- An insert edits the first page of its table, the last one, and where its rows open pages, those and the root page;
+-- and no other.
 abbrev pub EditsLaw : Type 0
 EditsLaw = (size : ℕ) (pages after : Pages) (all : PlainTables) (table : PlainTable) (rows : List (List Value))
-    → IsStoreOf size pages all → Contains all.tables table → AllByRecursion (IsRowFor table) rows → table.next_number + length rows < 2 ^ 64 → 1 ≤ length rows
+    → IsStoreOf size pages all → Contains all.tables table → AllByRecursion (IsRowFor table) rows
+    → table.next_number + length rows < 2 ^ 64 → 1 ≤ length rows
     → inserted size pages table.name rows (Ok (tt, after))
     → EditsEnds size pages table.name rows after
 
 -- numbers of rows of the table, no two the same
 abbrev pub AreNumbersOf : PlainTable → List ℕ → Type 0
 AreNumbersOf table numbers =
-    AllByRecursion (λ (number : ℕ). Contains (map (λ (row : ℕ × List Value). row.0) table.rows) number) numbers × AreDifferent numbers
+    AllByRecursion (λ (number : ℕ). Contains (map (λ (row : ℕ × List Value). row.0) table.rows) number) numbers
+    × AreDifferent numbers
 
 -- the table without the rows of these numbers; the next row number stays
 abbrev pub without_rows : List ℕ → PlainTable → PlainTable
-without_rows numbers table = record table { rows = filter (λ (row : ℕ × List Value). not (list_any (λ number. row.0 == number) numbers)) table.rows }
+without_rows numbers table = record table
+    { rows = filter (λ (row : ℕ × List Value). not (list_any (λ number. row.0 == number) numbers)) table.rows }
 
 -- Rows of a table are deleted. That is never refused.
 abbrev pub DeleteLaw : Type 0
-DeleteLaw = (size : ℕ) (pages : Pages) (all : PlainTables) (table : PlainTable) (numbers : List ℕ) (answer : Result (Unit {0} × Pages) Refusal)
+DeleteLaw = (size : ℕ) (pages : Pages) (all : PlainTables) (table : PlainTable) (numbers : List ℕ)
+    (answer : Result (Unit {0} × Pages) Refusal)
     → IsStoreOf size pages all → Contains all.tables table → AreNumbersOf table numbers
     → deleted size pages table.name numbers answer
-    → Answers size (λ u after. IsStoreOf size after (with_table (without_rows numbers table) all) × Reaches size pages table.name after) ⊥ answer
+    → Answers size
+    (λ u after. IsStoreOf size after (with_table (without_rows numbers table) all)
+    × Reaches size pages table.name after) ⊥ answer
 
 -- a row after changes: the change of its number, where there is one
 abbrev pub changed_to : List (ℕ × List Value) → ℕ × List Value → ℕ × List Value
@@ -124,14 +142,18 @@ with_changes changes table = record table { rows = map (changed_to changes) tabl
 -- changes of rows of the table, no two of the same row
 abbrev pub AreChangesOf : PlainTable → List (ℕ × List Value) → Type 0
 AreChangesOf table changes =
-    AreNumbersOf table (map (λ (change : ℕ × List Value). change.0) changes) × AllByRecursion (λ (change : ℕ × List Value). IsRowFor table change.1) changes
+    AreNumbersOf table (map (λ (change : ℕ × List Value). change.0) changes)
+    × AllByRecursion (λ (change : ℕ × List Value). IsRowFor table change.1) changes
 
 -- Rows of a table are changed, each under its number. That is refused only for want of pages.
 abbrev pub UpdateLaw : Type 0
-UpdateLaw = (size : ℕ) (pages : Pages) (all : PlainTables) (table : PlainTable) (changes : List (ℕ × List Value)) (answer : Result (Unit {0} × Pages) Refusal)
+UpdateLaw = (size : ℕ) (pages : Pages) (all : PlainTables) (table : PlainTable) (changes : List (ℕ × List Value))
+    (answer : Result (Unit {0} × Pages) Refusal)
     → IsStoreOf size pages all → Contains all.tables table → AreChangesOf table changes
     → updated size pages table.name changes answer
-    → Leaves size (λ after. IsStoreOf size after (with_table (with_changes changes table) all) × Reaches size pages table.name after) answer
+    → Leaves size
+    (λ after. IsStoreOf size after (with_table (with_changes changes table) all)
+    × Reaches size pages table.name after) answer
 
 -- a name that neither a table nor an index has
 pub record IsNewName (all : PlainTables) (name : List ℕ) : Type 0 where
@@ -156,34 +178,46 @@ with_new table all = record all { tables = all.tables ++ table ∷ [] }
 
 -- A table is made without rows. That is refused only for want of pages.
 abbrev pub CreateLaw : Type 0
-CreateLaw = (size : ℕ) (pages : Pages) (all : PlainTables) (name : List ℕ) (columns : List TableColumn) (answer : Result (Unit {0} × Pages) Refusal)
+CreateLaw = (size : ℕ) (pages : Pages) (all : PlainTables) (name : List ℕ) (columns : List TableColumn)
+    (answer : Result (Unit {0} × Pages) Refusal)
     → IsStoreOf size pages all → IsNewName all name → AreTableColumns columns
     → created size pages name columns answer
-    → Leaves size (λ after. IsStoreOf size after (with_new (empty_table name columns) all) × ReachesCatalog size pages after) answer
+    → Leaves size
+    (λ after. IsStoreOf size after (with_new (empty_table name columns) all) × ReachesCatalog size pages after)
+    answer
 
 -- An insert, an update and a new table take the pages that they need, and are refused exactly where fewer are free.
 pub record NeedsLaw : Type 0 where
-  pub insert : (size : ℕ) (pages : Pages) (all : PlainTables) (table : PlainTable) (rows : List (List Value)) (answer : Result (Unit {0} × Pages) Refusal)
-      → IsStoreOf size pages all → Contains all.tables table → AllByRecursion (IsRowFor table) rows → table.next_number + length rows < 2 ^ 64
+  pub insert : (size : ℕ) (pages : Pages) (all : PlainTables) (table : PlainTable) (rows : List (List Value))
+      (answer : Result (Unit {0} × Pages) Refusal)
+      → IsStoreOf size pages all → Contains all.tables table → AllByRecursion (IsRowFor table) rows
+      → table.next_number + length rows < 2 ^ 64
       → inserted size pages table.name rows answer
       → (needs : ℕ) × InsertNeeds size pages table.name rows needs × TakesNeeded size pages needs answer
-  pub update : (size : ℕ) (pages : Pages) (all : PlainTables) (table : PlainTable) (changes : List (ℕ × List Value)) (answer : Result (Unit {0} × Pages) Refusal)
+  pub update : (size : ℕ) (pages : Pages) (all : PlainTables) (table : PlainTable) (changes : List (ℕ × List Value))
+      (answer : Result (Unit {0} × Pages) Refusal)
       → IsStoreOf size pages all → Contains all.tables table → AreChangesOf table changes
       → updated size pages table.name changes answer
       → (needs : ℕ) × UpdateNeeds size pages table.name changes needs × TakesNeeded size pages needs answer
-  pub create : (size : ℕ) (pages : Pages) (all : PlainTables) (name : List ℕ) (columns : List TableColumn) (answer : Result (Unit {0} × Pages) Refusal)
+  pub create : (size : ℕ) (pages : Pages) (all : PlainTables) (name : List ℕ) (columns : List TableColumn)
+      (answer : Result (Unit {0} × Pages) Refusal)
       → IsStoreOf size pages all → IsNewName all name → AreTableColumns columns
       → created size pages name columns answer
       → (needs : ℕ) × CreateNeeds size pages name columns needs × TakesNeeded size pages needs answer
 
 -- Rows that are changed or taken out where they stand, as reading their table told, are so under their numbers.
 pub record PlacedLaw : Type 0 where
-  pub told : (size : ℕ) (pages : Pages) (all : PlainTables) (table : PlainTable) (stored : StoredTable) (rows : List Placed) (placed : Placed)
-      → IsStoreOf size pages all → Contains all.tables table → table_in size pages table.name (Ok stored) → rows_at size pages stored (Ok rows)
+  pub told : (size : ℕ) (pages : Pages) (all : PlainTables) (table : PlainTable) (stored : StoredTable)
+      (rows : List Placed) (placed : Placed)
+      → IsStoreOf size pages all → Contains all.tables table → table_in size pages table.name (Ok stored)
+      → rows_at size pages stored (Ok rows)
       → Contains rows placed → page_of stored.first placed.number rows ≡ Ok placed.page
-  pub changes : (size first : ℕ) (rows changes : List Placed) (pages : Pages) (answer : Result (Unit {0} × Pages) Refusal)
-      → AllByRecursion (λ (placed : Placed). page_of first placed.number rows ≡ Ok placed.page) changes → all_changed size first changes pages answer
+  pub changes : (size first : ℕ) (rows changes : List Placed) (pages : Pages)
+      (answer : Result (Unit {0} × Pages) Refusal)
+      → AllByRecursion (λ (placed : Placed). page_of first placed.number rows ≡ Ok placed.page) changes
+      → all_changed size first changes pages answer
       → in_turn (row_changed size first rows) (map numbered_row changes) pages answer
   pub removes : (size first : ℕ) (rows gone : List Placed) (pages : Pages) (answer : Result (Unit {0} × Pages) Refusal)
-      → AllByRecursion (λ (placed : Placed). page_of first placed.number rows ≡ Ok placed.page) gone → all_removed size first gone pages answer
+      → AllByRecursion (λ (placed : Placed). page_of first placed.number rows ≡ Ok placed.page) gone
+      → all_removed size first gone pages answer
       → in_turn (row_removed size first rows) (map (λ (placed : Placed). placed.number) gone) pages answer

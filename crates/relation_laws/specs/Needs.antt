@@ -20,7 +20,8 @@ use Rattle.relation.specs.Work.{rows_at, rows_of_table, table_in}
 abbrev pub row_bytes : List Value → ℕ
 row_bytes row = length (entry_code (record { number = 0; row = row }))
 
--- How many pages rows open at the end of a table whose last page has so many bytes of rows: each stands on the last page where it has room there, else on a new one.
+-- How many pages rows open at the end of a table whose last page has so many bytes of rows: each stands on the last
+-- page where it has room there, else on a new one.
 abbrev pub opened : ℕ → List (List Value) → ℕ
 opened taken [] = 0
 opened taken (row ∷ rows) =
@@ -34,7 +35,8 @@ free_behind pages page (suc places) = free_behind pages (number_at 4 (pages.at p
 -- the page that is taken after so many others: those of the free list in its order, and then those that were never used
 abbrev pub taken_after : Pages → ℕ → ℕ
 taken_after pages others =
-    if nat_lt others (root_at pages).free then free_behind pages (root_at pages).first_free others else 2 + (root_at pages).used + (others - (root_at pages).free)
+    if nat_lt others (root_at pages).free then free_behind pages (root_at pages).first_free others
+    else 2 + (root_at pages).used + (others - (root_at pages).free)
 
 -- so many pages that are taken next
 abbrev pub next_pages : Pages → ℕ → List ℕ
@@ -43,15 +45,19 @@ next_pages pages count = map (taken_after pages) (range_with_len 0 count)
 -- how many pages rows need that are added to the table that begins with that page
 abbrev pub RowsNeed : ℕ → Pages → ℕ → List (List Value) → ℕ → Type 0
 RowsNeed size pages first rows needs =
-    (last : ℕ) × (tail : HeapPage) × EndsAt size pages first last tail × (needs ≡ opened (length (entry_bytes tail.entries)) rows)
+    (last : ℕ) × (tail : HeapPage) × EndsAt size pages first last tail
+    × (needs ≡ opened (length (entry_bytes tail.entries)) rows)
 
 -- how many pages an insert into the table of that name needs
 abbrev pub InsertNeeds : ℕ → Pages → List ℕ → List (List Value) → ℕ → Type 0
-InsertNeeds size pages name rows needs = (table : StoredTable) × table_in size pages name (Ok table) × RowsNeed size pages table.first rows needs
+InsertNeeds size pages name rows needs = (table : StoredTable) × table_in size pages name (Ok table)
+    × RowsNeed size pages table.first rows needs
 
--- how many pages a new table needs: its first page, and those that its rows open in the catalog, which are as long whatever that page is
+-- how many pages a new table needs: its first page, and those that its rows open in the catalog, which are as long
+-- whatever that page is
 abbrev pub CreateNeeds : ℕ → Pages → List ℕ → List TableColumn → ℕ → Type 0
-CreateNeeds size pages name columns needs = (behind : ℕ) × RowsNeed size pages CATALOG (map row_values (rows_of_table name 0 columns)) behind × (needs ≡ 1 + behind)
+CreateNeeds size pages name columns needs = (behind : ℕ)
+    × RowsNeed size pages CATALOG (map row_values (rows_of_table name 0 columns)) behind × (needs ≡ 1 + behind)
 
 -- a call that needs so many pages takes them, and is refused exactly where fewer are free
 abbrev pub TakesNeeded : {A : Type 0} → ℕ → Pages → ℕ → Result (A × Pages) Refusal → Type 0
@@ -65,7 +71,8 @@ bytes_on page rows = sum_by (λ (placed : Placed). if placed.page == page then r
 -- whether a page has room for a changed row, once its old row is taken out
 abbrev pub has_room_for : ℕ × List Value → ℕ → List Placed → Bool
 has_room_for change page rows =
-    nat_le (bytes_on page (filter (λ (placed : Placed). not (placed.number == change.0)) rows) + row_bytes change.1) 1004
+    nat_le (bytes_on page (filter (λ (placed : Placed). not (placed.number == change.0)) rows) + row_bytes change.1)
+    1004
 
 -- the page of the row of that number
 abbrev pub page_under : ℕ → List Placed → ℕ
@@ -75,19 +82,25 @@ page_under number (placed ∷ rows) = if placed.number == number then placed.pag
 -- the rows, of which that of the change's number is now this one, on that page
 abbrev pub moved_to : ℕ × List Value → ℕ → List Placed → List Placed
 moved_to change page rows =
-    map (λ (placed : Placed). if placed.number == change.0 then record { number = change.0; page = page; row = change.1 } else placed) rows
+    map
+    (λ (placed : Placed). if placed.number == change.0
+    then record { number = change.0; page = page; row = change.1 } else placed) rows
 
--- The pages that changes open, one after the other, in a table with these rows and that last page: a changed row stays on its page where that has room,
--- else it goes to the last page where that has room, else to a new one, which is the last then. The pages that are taken next are those.
+-- The pages that changes open, one after the other, in a table with these rows and that last page: a changed row stays
+-- on its page where that has room, else it goes to the last page where that has room, else to a new one, which is the
+-- last then. The pages that are taken next are those.
 abbrev pub changes_open : (ℕ → ℕ) → ℕ → List Placed → List (ℕ × List Value) → ℕ
 changes_open next last rows [] = 0
 changes_open next last rows (change ∷ changes) =
-    if has_room_for change (page_under change.0 rows) rows then changes_open next last (moved_to change (page_under change.0 rows) rows) changes
+    if has_room_for change (page_under change.0 rows) rows
+    then changes_open next last (moved_to change (page_under change.0 rows) rows) changes
     else (if has_room_for change last rows then changes_open next last (moved_to change last rows) changes
     else 1 + changes_open (λ place. next (1 + place)) (next 0) (moved_to change (next 0) rows) changes)
 
 -- how many pages an update of the table of that name needs
 abbrev pub UpdateNeeds : ℕ → Pages → List ℕ → List (ℕ × List Value) → ℕ → Type 0
 UpdateNeeds size pages name changes needs =
-    (table : StoredTable) × table_in size pages name (Ok table) × (rows : List Placed) × rows_at size pages table (Ok rows)
-    × (last : ℕ) × (tail : HeapPage) × EndsAt size pages table.first last tail × (needs ≡ changes_open (taken_after pages) last rows changes)
+    (table : StoredTable) × table_in size pages name (Ok table) × (rows : List Placed)
+    × rows_at size pages table (Ok rows)
+    × (last : ℕ) × (tail : HeapPage) × EndsAt size pages table.first last tail
+    × (needs ≡ changes_open (taken_after pages) last rows changes)

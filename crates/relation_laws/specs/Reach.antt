@@ -18,17 +18,20 @@ use Rattle.relation_laws.specs.Needs.{next_pages, opened}
 
 -- a page of the table that begins with a page
 abbrev pub IsPageOf : ℕ → Pages → ℕ → ℕ → Type 0
-IsPageOf size pages first page = (links : List Link) × chain size pages first (Ok links) × Contains (map (λ (link : Link). link.page) links) page
+IsPageOf size pages first page = (links : List Link) × chain size pages first (Ok links)
+    × Contains (map (λ (link : Link). link.page) links) page
 
 -- a page that was not edited
 abbrev pub IsUntouched : Pages → Pages → ℕ → Type 0
 IsUntouched pages after page = (after.at page ≡ pages.at page) × (after.edited page ≡ pages.edited page)
 
--- What a call on the table of that name leaves alone: the root page, where no page was taken or freed, the pages of the catalog, and those of the other tables.
+-- What a call on the table of that name leaves alone: the root page, where no page was taken or freed, the pages of the
+-- catalog, and those of the other tables.
 pub record Reaches (size : ℕ) (pages : Pages) (name : List ℕ) (after : Pages) : Type 0 where
   pub root : free_pages size after ≡ free_pages size pages → IsUntouched pages after 0
   pub in_catalog : (page : ℕ) → IsPageOf size pages CATALOG page → IsUntouched pages after page
-  pub in_others : (found : Catalog) (other : StoredTable) (page : ℕ) → catalog size pages (Ok found) → Contains found.tables other → other.name ≢ name
+  pub in_others : (found : Catalog) (other : StoredTable) (page : ℕ) → catalog size pages (Ok found)
+      → Contains found.tables other → other.name ≢ name
       → IsPageOf size pages other.first page → IsUntouched pages after page
 
 -- pages that are taken, with the root page where there are any
@@ -36,16 +39,20 @@ abbrev pub with_root : List ℕ → List ℕ
 with_root [] = []
 with_root (page ∷ pages) = 0 ∷ page ∷ pages
 
--- The pages that an insert of these rows edits, and no other: the first page of its table, the last one, and the pages that the rows open.
-pub record EditsEnds (size : ℕ) (pages : Pages) (name : List ℕ) (rows : List (List Value)) (after : Pages) : Type 0 where
+-- The pages that an insert of these rows edits, and no other: the first page of its table, the last one, and the pages
+-- that the rows open.
+pub record EditsEnds (size : ℕ) (pages : Pages) (name : List ℕ) (rows : List (List Value))
+    (after : Pages) : Type 0 where
   pub table : StoredTable
   pub named : table_in size pages name (Ok table)
   pub last : ℕ
   pub tail : HeapPage
   pub ends : EndsAt size pages table.first last tail
-  pub edits : Edits pages after (table.first ∷ last ∷ with_root (next_pages pages (opened (length (entry_bytes tail.entries)) rows)))
+  pub edits : Edits pages after
+      (table.first ∷ last ∷ with_root (next_pages pages (opened (length (entry_bytes tail.entries)) rows)))
 
 -- what making a table leaves alone: the pages of all tables
 pub record ReachesCatalog (size : ℕ) (pages : Pages) (after : Pages) : Type 0 where
-  pub in_tables : (found : Catalog) (other : StoredTable) (page : ℕ) → catalog size pages (Ok found) → Contains found.tables other
+  pub in_tables : (found : Catalog) (other : StoredTable) (page : ℕ) → catalog size pages (Ok found)
+      → Contains found.tables other
       → IsPageOf size pages other.first page → IsUntouched pages after page

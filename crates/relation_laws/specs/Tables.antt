@@ -77,8 +77,9 @@ IsKept pages names (Table row) held = held ≡ []
 IsKept pages names (Column row) held = Contains names row.table × (held ≡ [])
 IsKept pages names (Index row) held = Contains names row.table × HoldsPages row.form pages row.root held
 
--- Well-formed pages: the catalog and each table can be read, no page is used twice, the catalog's rows are numbered from 0 on without gaps, the names of
--- tables and indexes differ, the names of a table's columns differ, and each row of the catalog speaks of a table that is there.
+-- Well-formed pages: the catalog and each table can be read, no page is used twice, the catalog's rows are numbered
+-- from 0 on without gaps, the names of tables and indexes differ, the names of a table's columns differ, and each row
+-- of the catalog speaks of a table that is there.
 pub record IsStore (size : ℕ) (pages : Pages) : Type 0 where
   pub placed : List Placed
   pub scan : scanned size pages CATALOG (Ok placed)
@@ -89,8 +90,10 @@ pub record IsStore (size : ℕ) (pages : Pages) : Type 0 where
   pub read : catalog_told told (Ok found)
   pub held : List (List ℕ)
   pub kept : AllZip (λ (row : Told) (some : List ℕ). IsKept pages (names_of found.tables) row.row some) told held
-  pub heap : WellFormed size pages (CATALOG ∷ map (λ (table : StoredTable). table.first) found.tables) (flat_map (λ (some : List ℕ). some) held)
+  pub heap : WellFormed size pages (CATALOG ∷ map (λ (table : StoredTable). table.first) found.tables)
+      (flat_map (λ (some : List ℕ). some) held)
   pub names : AreDifferent (names_of found.tables ++ map (λ (index : IndexSchema). index.name) found.indexes)
-  pub columns : AllByRecursion (λ (table : StoredTable). AreDifferent (map (λ (column : TableColumn). column.name) table.columns)) found.tables
+  pub columns : AllByRecursion
+      (λ (table : StoredTable). AreDifferent (map (λ (column : TableColumn). column.name) table.columns)) found.tables
   pub tables : List PlainTable
   pub shown : AllZip (Shows size pages) found.tables tables

@@ -42,13 +42,15 @@ OfTable all name holds = (table : PlainTable) × Contains all.tables table × (t
 -- a piece of work that these tables allow
 abbrev pub IsAllowed : PlainTables → Work → Type 0
 IsAllowed all (Creates name columns) = IsNewName all name × AreTableColumns columns
-IsAllowed all (Inserts name rows) = OfTable all name (λ table. AllByRecursion (IsRowFor table) rows × (table.next_number + length rows < 2 ^ 64))
+IsAllowed all (Inserts name rows) = OfTable all name
+    (λ table. AllByRecursion (IsRowFor table) rows × (table.next_number + length rows < 2 ^ 64))
 IsAllowed all (Changes name changes) = OfTable all name (λ table. AreChangesOf table changes)
 IsAllowed all (Removes name numbers) = OfTable all name (λ table. AreNumbersOf table numbers)
 
 -- the tables, of which that of the name becomes this
 abbrev pub where_named : List ℕ → (PlainTable → PlainTable) → PlainTables → PlainTables
-where_named name becomes all = record all { tables = map (λ (table : PlainTable). if same_name table.name name then becomes table else table) all.tables }
+where_named name becomes all = record all
+    { tables = map (λ (table : PlainTable). if same_name table.name name then becomes table else table) all.tables }
 
 -- the tables behind a piece of work
 abbrev pub tables_behind : Work → PlainTables → PlainTables
@@ -82,10 +84,11 @@ Takes (Removes name numbers) needs before after = before ≤ after
 
 -- a page of the table of that name
 abbrev pub IsOfTable : ℕ → Pages → List ℕ → ℕ → Type 0
-IsOfTable size pages name page = (table : StoredTable) × table_in size pages name (Ok table) × IsPageOf size pages table.first page
+IsOfTable size pages name page = (table : StoredTable) × table_in size pages name (Ok table)
+    × IsPageOf size pages table.first page
 
--- a page that is in use already and that a piece of work may edit: the catalog's for a new table, else those of the table that it names,
--- and the root page where rows are taken out, since pages may be freed
+-- a page that is in use already and that a piece of work may edit: the catalog's for a new table, else those of the
+-- table that it names, and the root page where rows are taken out, since pages may be freed
 abbrev pub IsInUse : ℕ → Pages → Work → ℕ → Type 0
 IsInUse size pages (Creates name columns) page = IsPageOf size pages CATALOG page
 IsInUse size pages (Inserts name rows) page = IsOfTable size pages name page
@@ -94,13 +97,15 @@ IsInUse size pages (Removes name numbers) page = (page ≡ 0) ⊎ IsOfTable size
 
 -- a page that a piece of work may edit: one of those, or one of those that it takes, and with them the root page
 abbrev pub IsInReach : ℕ → Pages → Work → ℕ → Type 0
-IsInReach size pages work page = IsInUse size pages work page ⊎ ((needs : ℕ) × Needs size pages work needs × Contains (with_root (next_pages pages needs)) page)
+IsInReach size pages work page = IsInUse size pages work page
+    ⊎ ((needs : ℕ) × Needs size pages work needs × Contains (with_root (next_pages pages needs)) page)
 
 -- a page that pieces of work may edit one after the other
 abbrev pub IsInReachOf : ℕ → Pages → List Work → ℕ → Type 0
 IsInReachOf size pages [] page = ⊥
 IsInReachOf size pages (work ∷ works) page =
-    IsInReach size pages work page ⊎ ((after : Pages) × worked size work pages (Ok (tt, after)) × IsInReachOf size after works page)
+    IsInReach size pages work page ⊎
+    ((after : Pages) × worked size work pages (Ok (tt, after)) × IsInReachOf size after works page)
 
 -- each page that is edited is one of these
 abbrev pub EditsWithin : Pages → Pages → (ℕ → Type 0) → Type 0
@@ -110,9 +115,11 @@ EditsWithin pages after reach = (page : ℕ) → IsUntouched pages after page �
 abbrev pub IsFullAtOne : ℕ → Pages → List Work → Type 0
 IsFullAtOne size pages [] = ⊥
 IsFullAtOne size pages (work ∷ works) =
-    ((needs : ℕ) × Needs size pages work needs × (free_pages size pages < needs)) ⊎ ((after : Pages) × worked size work pages (Ok (tt, after)) × IsFullAtOne size after works)
+    ((needs : ℕ) × Needs size pages work needs × (free_pages size pages < needs))
+    ⊎ ((after : Pages) × worked size work pages (Ok (tt, after)) × IsFullAtOne size after works)
 
--- what a piece of work leaves: the tables behind it, on pages of which it edited only those of its reach, and took as many as it needs
+-- what a piece of work leaves: the tables behind it, on pages of which it edited only those of its reach, and took as
+-- many as it needs
 pub record Leaves (size : ℕ) (pages : Pages) (all : PlainTables) (work : Work) (after : Pages) : Type 0 where
   pub store : IsStoreOf size after (tables_behind work all)
   pub needs : ℕ
@@ -123,18 +130,25 @@ pub record Leaves (size : ℕ) (pages : Pages) (all : PlainTables) (work : Work)
 -- a piece of work leaves that, and is refused exactly where it needs more pages than can be taken
 abbrev pub IsWorked : ℕ → Pages → PlainTables → Work → Result (Unit {0} × Pages) Refusal → Type 0
 IsWorked size pages all work (Ok answer) = Leaves size pages all work answer.1
-IsWorked size pages all work (Err why) = (why ≡ PagesFull size) × ((needs : ℕ) × Needs size pages work needs × (free_pages size pages < needs))
+IsWorked size pages all work (Err why) = (why ≡ PagesFull size)
+    × ((needs : ℕ) × Needs size pages work needs × (free_pages size pages < needs))
 
 -- the same of pieces of work one after the other
 abbrev pub AreWorked : ℕ → Pages → PlainTables → List Work → Result (Unit {0} × Pages) Refusal → Type 0
-AreWorked size pages all works (Ok answer) = IsStoreOf size answer.1 (tables_behind_all works all) × EditsWithin pages answer.1 (IsInReachOf size pages works)
+AreWorked size pages all works (Ok answer) = IsStoreOf size answer.1 (tables_behind_all works all)
+    × EditsWithin pages answer.1 (IsInReachOf size pages works)
 AreWorked size pages all works (Err why) = (why ≡ PagesFull size) × IsFullAtOne size pages works
 
--- What pieces of work do to well-formed pages: each takes one number of pages, leaves the tables behind it, and edits only pages of its reach.
+-- What pieces of work do to well-formed pages: each takes one number of pages, leaves the tables behind it, and edits
+-- only pages of its reach.
 pub record WorkLaw : Type 0 where
   pub one_need : (size : ℕ) (pages : Pages) (all : PlainTables) (work : Work) (needs other : ℕ)
-      → IsStoreOf size pages all → IsAllowed all work → Needs size pages work needs → Needs size pages work other → needs ≡ other
+      → IsStoreOf size pages all → IsAllowed all work → Needs size pages work needs → Needs size pages work other
+      → needs ≡ other
   pub single : (size : ℕ) (pages : Pages) (all : PlainTables) (work : Work) (answer : Result (Unit {0} × Pages) Refusal)
-      → IsStoreOf size pages all → IsAllowed all work → worked size work pages answer → IsWorked size pages all work answer
-  pub several : (size : ℕ) (pages : Pages) (all : PlainTables) (works : List Work) (answer : Result (Unit {0} × Pages) Refusal)
-      → IsStoreOf size pages all → AreAllowed all works → all_worked size works pages answer → AreWorked size pages all works answer
+      → IsStoreOf size pages all → IsAllowed all work → worked size work pages answer
+      → IsWorked size pages all work answer
+  pub several : (size : ℕ) (pages : Pages) (all : PlainTables) (works : List Work)
+      (answer : Result (Unit {0} × Pages) Refusal)
+      → IsStoreOf size pages all → AreAllowed all works → all_worked size works pages answer
+      → AreWorked size pages all works answer

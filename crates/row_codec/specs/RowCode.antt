@@ -41,7 +41,8 @@ pub record IsEncoded (bytes : List ℕ) (number : ℕ) (row : List Value) : Type
 -- the encoding of a row, or how long it would be
 abbrev pub encoded : ℕ → List Value → Result (List ℕ) Refusal
 encoded number row =
-    if nat_le (length (row_code number row)) ROW_BYTES then Ok (row_code number row) else Err (RowTooLong (length (row_code number row)))
+    if nat_le (length (row_code number row)) ROW_BYTES then Ok (row_code number row)
+    else Err (RowTooLong (length (row_code number row)))
 
 -- the row whose encoding the bytes are, or none where they are no row's
 abbrev pub IsDecoded : List ℕ → Option (ℕ × List Value) → Type 0
@@ -57,9 +58,11 @@ IsFirstValue bytes (Some found) =
 -- so many values that stand first in the bytes, and how many bytes they take, or none where so many do not stand there
 abbrev pub AreFirstValues : List ℕ → ℕ → Option (List Value × ℕ) → Type 0
 AreFirstValues bytes count None =
-    (row : List Value) (rest : List ℕ) → length row ≡ count → AllByRecursion IsValue row → bytes ≡ flat_map value_code row ++ rest → ⊥
+    (row : List Value) (rest : List ℕ) → length row ≡ count → AllByRecursion IsValue row → bytes
+    ≡ flat_map value_code row ++ rest → ⊥
 AreFirstValues bytes count (Some found) =
-    (length found.0 ≡ count) × AllByRecursion IsValue found.0 × (found.1 ≤ length bytes) × (bytes ≡ flat_map value_code found.0 ++ drop found.1 bytes)
+    (length found.0 ≡ count) × AllByRecursion IsValue found.0 × (found.1 ≤ length bytes)
+    × (bytes ≡ flat_map value_code found.0 ++ drop found.1 bytes)
 
 -- bytes are the encoding of one row alone
 abbrev pub OneRow : Type 0

@@ -1,3 +1,5 @@
+//! What follows of the encoding of rows.
+
 ghost use Rattle.row_codec.specs.RowCode.{OneRow};
 
 /// Bytes are the encoding of one row under one number alone.

@@ -9,29 +9,18 @@ use Rattle.heap_file.proofs.drafting.add.Goals as goal
 pub returns-in_err-page-clause-added : goal.returns-in_err-page-clause-added
 returns-in_err-page-clause-added g c = λ base shown told.
     let p = err_from_is_err_and c.from_residual-in_err-page.result c.from_residual-in_err-page.ensures.1 in
-    let head = c.in_ok-number.ensures.read base shown (c.in_err-page.ensures.only_reads.narrows base shown told) in
-    let more : eqb c.in_ok-number.field-0.next_number (2 ^ 64 - 1) ≡ false = ne_eqb c.in_ok-number.field-0.next_number (2 ^ 64 - 1) c.if-number.false in
+    let number = c.in_ok-held.held.next_number in
+    let head = c.in_ok-held.ensures.read base shown (c.in_err-page.ensures.only_reads.narrows base shown told) in
+    let more : eqb number (2 ^ 64 - 1) ≡ false = ne_eqb number (2 ^ 64 - 1) c.if-number.false in
     rw (p.1, p.2)
-    (allowed_stop c.in_err-page.field-0.0 (λ why h. inr (c.in_ok-number.field-0, head, rw more (inl h)))
+    (allowed_stop c.in_err-page.field-0.0 (λ why h. inr (c.in_ok-held.held, head, rw more (inl (h head))))
     (rw c.in_ok-row.ensures at (c.in_err-page.ensures.appended base shown told)))
-
-pub returns-in_err-head-clause-added : goal.returns-in_err-head-clause-added
-returns-in_err-head-clause-added g c = λ base shown told.
-    let p = err_from_is_err_and c.from_residual-in_err-head.result c.from_residual-in_err-head.ensures.1 in
-    let told-page = c.in_err-head.ensures.only_reads.narrows base shown told in
-    let head = c.in_ok-number.ensures.read base shown (c.in_ok-page.ensures.only_reads.narrows base shown told-page) in
-    let more : eqb c.in_ok-number.field-0.next_number (2 ^ 64 - 1) ≡ false = ne_eqb c.in_ok-number.field-0.next_number (2 ^ 64 - 1) c.if-number.false in
-    let appended = rw c.in_ok-row.ensures at (c.in_ok-page.ensures.appended base shown told-page) in
-    rw (p.1, p.2)
-    (allowed_stop c.in_err-head.field-0.0 (λ why h. inr (c.in_ok-number.field-0, head, rw more (inr ((c.in_ok-page.page, drafted shown c.append.new.draft.list), appended, inl h))))
-    (rw c.in_ok-page.ensures.size at (c.in_err-head.ensures.read base shown told)))
 
 pub returns-clause-added : goal.returns-clause-added
 returns-clause-added g c = λ base shown told.
-    let told-page = c.in_ok-head.ensures.only_reads.narrows base shown told in
-    let head = c.in_ok-number.ensures.read base shown (c.in_ok-page.ensures.only_reads.narrows base shown told-page) in
-    let more : eqb c.in_ok-number.field-0.next_number (2 ^ 64 - 1) ≡ false = ne_eqb c.in_ok-number.field-0.next_number (2 ^ 64 - 1) c.if-number.false in
-    let appended = rw c.in_ok-row.ensures at (c.in_ok-page.ensures.appended base shown told-page) in
-    let after = rw c.in_ok-page.ensures.size at (c.in_ok-head.ensures.read base shown told) in
+    let number = c.in_ok-held.held.next_number in
+    let head = c.in_ok-held.ensures.read base shown (c.in_ok-page.ensures.only_reads.narrows base shown told) in
+    let more : eqb number (2 ^ 64 - 1) ≡ false = ne_eqb number (2 ^ 64 - 1) c.if-number.false in
+    let appended = (rw c.in_ok-row.ensures at (c.in_ok-page.ensures.appended base shown told)) head in
     let stored = c.in_ok-store.ensures.drafted shown in
-    (c.in_ok-number.field-0, head, rw more ((c.in_ok-page.page, drafted shown c.append.new.draft.list), appended, (c.in_ok-head.head, after, ap (λ (pages : Pages). Ok ((c.in_ok-number.field-0.next_number, c.in_ok-page.page), pages)) (sym stored))))
+    (c.in_ok-held.held, head, rw more ((c.in_ok-page.page, drafted shown c.append_with_head.new.draft.list), appended.0, (c.in_ok-page.held, appended.1, ap (λ (pages : Pages). Ok ((number, c.in_ok-page.page), pages)) (sym stored))))

@@ -1,6 +1,6 @@
 use Rattle.std.proofs.Common.{◌≡◌, ◌+◌, ◌∷◌, ◌++◌, [], ◌∙◌, true, false, sym, inr, ap, subst, Ok, Err, List, take, refl}
 use Rattle.std.proofs.lemmas.List.{take_more}
-use Rattle.heap_file.specs.Allows.{only}
+use Rattle.pager.specs.Allows.{only}
 use Rattle.heap_file.specs.declared.chain.Placed.{Placed}
 use Rattle.relation.specs.Each.{each}
 use Rattle.relation.specs.Work.{fits, fitting}

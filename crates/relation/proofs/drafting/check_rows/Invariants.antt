@@ -1,5 +1,5 @@
 use Rattle.std.proofs.Common.{Ok, take}
-use Rattle.heap_file.specs.Allows.{only}
+use Rattle.pager.specs.Allows.{only}
 use Rattle.relation.specs.Each.{each}
 use Rattle.relation.specs.Work.{fitting}
 use Rattle.relation.proofs.drafting.check_rows.Given as goal

@@ -1,7 +1,7 @@
 use Rattle.std.proofs.Common.{ℕ, List, ◌-◌, ◌∙◌, ap, length, refl, sym, subst, slice_get, drop, inl, inr, arith}
 use Rattle.pager.specs.Draft.{drafted}
 use Rattle.pager.specs.Pages.{Pages, IsPartOf, asked, written}
-use Rattle.pager.proofs.Overlays.{at_err, drafted-from, drafted-none, inside-at, part-asked, part-made}
+use Rattle.pager.proofs.Overlays.{drafted-from, drafted-none, inside-at, part-asked, part-made}
 use Rattle.pager.proofs.draft.Draft.write.Goals as goal
 
 pub edit-requires : goal.edit-requires

@@ -4,7 +4,8 @@ use Rattle.retro_base.specs.declared.refusal.Refusal.{Refusal}
 
 infixl 10 ◌>>=◌
 -- what a step allows, and then what the next allows of its value; a refusal of either is the answer
-abbrev pub ◌>>=◌ : {A B : Type 0} → (Result A Refusal → Type 0) → (A → Result B Refusal → Type 0) → Result B Refusal → Type 0
+abbrev pub ◌>>=◌ : {A B : Type 0} → (Result A Refusal → Type 0) → (A → Result B Refusal → Type 0) → Result B Refusal
+    → Type 0
 ◌>>=◌ {A} step next (Ok y) = (x : A) × step (Ok x) × next x (Ok y)
 ◌>>=◌ {A} step next (Err why) = step (Err why) ⊎ ((x : A) × step (Ok x) × next x (Err why))
 
@@ -13,6 +14,7 @@ abbrev pub only : {A : Type 0} → Result A Refusal → Result A Refusal → Typ
 only answer other = answer ≡ other
 
 -- the first where the test holds, else the second
-abbrev pub either : {A : Type 0} → Bool → (Result A Refusal → Type 0) → (Result A Refusal → Type 0) → Result A Refusal → Type 0
+abbrev pub either : {A : Type 0} → Bool → (Result A Refusal → Type 0) → (Result A Refusal → Type 0) → Result A Refusal
+    → Type 0
 either true first second = first
 either false first second = second

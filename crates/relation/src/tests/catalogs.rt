@@ -1,0 +1,142 @@
+//! Catalogs: byte for byte by hand, full, and damaged.
+
+ghost use Rattle.std.specs.Prelude.{IfOk};
+ghost use Rattle.heap_file.specs.HeapPage.{IsShort};
+
+use super::support::{
+    begins, edits_are, make_table, named, one_table, row_of, tables_in, zero_pages,
+};
+use pager::{MemPager, Stop, broken};
+use retro_base::{Failed, Page, Refusal};
+use std::alloc::{AllocError, Global};
+use std::test::Fail;
+use values::{Kind, Row, Value};
+
+// The first page of the catalog after t(a INT) was made: the header, (1,'t',2) under number 0, (2,'t',0,'a',1) under number 1.
+const CATALOG_OF_T: [u8; 98] = [
+    1, 0, 0, 2, 0, 0, 0, 0, 0, 0, 0, 0, 0, 0, 0, 2, 0, 0, 0, 0, //
+    0, 30, 0, 0, 0, 0, 0, 0, 0, 0, 3, //
+    1, 0, 0, 0, 0, 0, 0, 0, 1, 2, 1, b't', 1, 0, 0, 0, 0, 0, 0, 0, 2, //
+    0, 42, 0, 0, 0, 0, 0, 0, 0, 1, 5, //
+    1, 0, 0, 0, 0, 0, 0, 0, 2, 2, 1, b't', 1, 0, 0, 0, 0, 0, 0, 0, 0, //
+    2, 1, b'a', 1, 0, 0, 0, 0, 0, 0, 0, 1, 0, 0,
+];
+
+#[test]
+fn a_table_in_bytes(rt: HostRuntime) -> Result<(), Fail> {
+    let alloc = rt.alloc();
+    let pager = one_table(alloc)?;
+    let edited = edits_are(alloc, &pager, 0, &[0, 1, 2]);
+    let pages = [
+        begins(&pager, 0, &[0, 0, 0, 1, 0, 0, 0, 0, 0, 0, 0, 0]),
+        begins(&pager, 1, &CATALOG_OF_T),
+        begins(&pager, 2, &[1, 0, 0, 0]),
+    ];
+    assert!(rt; (edited, pages) == (Ok(true), [true; 3]));
+    Ok(())
+}
+
+#[test]
+fn the_fourteenth_table_needs_two_pages(rt: HostRuntime) -> Result<(), Fail> {
+    let alloc = rt.alloc();
+    let mut pager = zero_pages(alloc)?;
+    for letter in b'a'..=b'm' {
+        make_table(alloc, &mut pager, &[letter], &[Kind::Int])?;
+    }
+    let tables = tables_in(alloc, &mut pager);
+    let edits = pager.edits().len();
+    let made = make_table(alloc, &mut pager, b"n", &[Kind::Int]);
+    let full = Refusal::PagesFull { pages: 16 };
+    assert!(rt; (tables, made) == (Ok(13), Err(Stop::Refused(full))));
+    assert!(rt; pager.edits().len() == edits);
+    Ok(())
+}
+
+// A store of 16 pages, all of them zero but page 1, which names itself.
+fn self_named_catalog(alloc: Global) -> Result<MemPager, AllocError> {
+    let mut pages = vec![in alloc; Page::zero(); 16]?;
+    pages[1].put_u32(4, 1);
+    Ok(MemPager::new(alloc, pages, Vec::new(alloc)))
+}
+
+#[test]
+fn a_catalog_that_names_itself_is_no_chain(rt: HostRuntime) -> Result<(), Fail> {
+    let alloc = rt.alloc();
+    let mut pager = self_named_catalog(alloc)?;
+    let tables = tables_in(alloc, &mut pager);
+    assert!(rt; tables == Err(Stop::Refused(broken(1))));
+    assert!(rt; pager.edits().is_empty());
+    Ok(())
+}
+
+// Rows of a catalog behind those of t(a INT). A cell without a text is its number.
+const DAMAGED: [&[&[(i64, &[u8])]]; 5] = [
+    // Too few values, a kind of column that there is not, and a kind of row that there is not.
+    &[&[(1, b""), (0, b"u")]],
+    &[&[(2, b""), (0, b"t"), (1, b""), (0, b"b"), (3, b"")]],
+    &[&[(4, b""), (0, b"u"), (2, b"")]],
+    // A table without columns, and one whose first column is not there.
+    &[&[(1, b""), (0, b"u"), (9, b"")]],
+    &[
+        &[(1, b""), (0, b"u"), (9, b"")],
+        &[(2, b""), (0, b"u"), (1, b""), (0, b"a"), (1, b"")],
+    ],
+];
+
+// A row of these cells.
+fn row_of_cells(alloc: Global, cells: &[(i64, &[u8])]) -> Result<Row, Refusal>
+    ensures { IfOk result IsShort }
+{
+    let mut values = Vec::new(alloc);
+    for (number, text) in cells {
+        values.push(cell(alloc, *number, text)?)?;
+    }
+    row_of(alloc, values)
+}
+
+fn cell(alloc: Global, number: i64, text: &[u8]) -> Result<Value, Refusal> {
+    if text.is_empty() {
+        return Ok(Value::Int(number));
+    }
+    named(alloc, text)
+}
+
+// Adds a row of these cells to the catalog.
+fn add_to_catalog(
+    alloc: Global,
+    pager: &mut MemPager,
+    cells: &[(i64, &[u8])],
+) -> Result<(), Stop<Failed>> {
+    let row = row_of_cells(alloc, cells)?;
+    heap_file::add(alloc, pager, 1, &row)?;
+    Ok(())
+}
+
+// A store with t(a INT) and these rows behind those of its catalog.
+fn damaged(alloc: Global, rows: &[&[(i64, &[u8])]]) -> Result<MemPager, Stop<Failed>> {
+    let mut pager = one_table(alloc)?;
+    for cells in rows {
+        add_to_catalog(alloc, &mut pager, cells)?;
+    }
+    Ok(pager)
+}
+
+// A store with t(a INT) without the row of its column.
+fn without_column(alloc: Global) -> Result<MemPager, Stop<Failed>> {
+    let mut pager = one_table(alloc)?;
+    heap_file::remove(alloc, &mut pager, 1, 1, 1)?;
+    Ok(pager)
+}
+
+#[test]
+fn a_damaged_catalog_is_told(rt: HostRuntime) -> Result<(), Fail> {
+    let alloc = rt.alloc();
+    let told = Err(Stop::Refused(broken(1)));
+    for rows in DAMAGED {
+        let mut pager = damaged(alloc, rows)?;
+        assert!(rt; tables_in(alloc, &mut pager) == told);
+    }
+    let mut pager = without_column(alloc)?;
+    assert!(rt; tables_in(alloc, &mut pager) == told);
+    Ok(())
+}
