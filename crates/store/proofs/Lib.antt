@@ -1,0 +1,16 @@
+pub mod Adding
+pub mod Answering
+pub mod Calling
+pub mod Committing
+pub mod Entering
+pub mod Finding
+pub mod Leaving
+pub mod Meeting
+pub mod Seating
+pub mod Opened
+pub mod Reading
+pub mod Recalling
+pub mod Tabling
+pub mod Telling
+pub mod Visiting
+pub mod Working

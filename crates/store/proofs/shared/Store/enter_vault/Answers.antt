@@ -1,0 +1,22 @@
+use Rattle.std.proofs.Common.{IfSome, subst}
+use Rattle.history.specs.Sound.{IsSound}
+use Rattle.turn.specs.Seats.{seen}
+use Rattle.store.specs.Sides.{VaultStands}
+use Rattle.store.specs.Start.{opened_base}
+use Rattle.store.proofs.shared.Store.enter_vault.Goals as goal
+
+pub returns : goal.returns
+returns g c =
+    let e = c.enter_vault.ensures in
+    record {
+      ready = c.requires;
+      inside = e.inside;
+      same = e.same.0;
+      mine_stays = e.same.1;
+      front = e.front;
+      lines = e.own;
+      stands = λ start is. subst (λ o. IfSome o (λ x. VaultStands g.D.Disk.is_honest g.D.Disk.state c.enter_vault.result x (seen c.enter_vault.new.seat))) is e.fits;
+      sound = λ start is. subst (λ o. IfSome o (λ x. IsSound (opened_base x) (seen c.enter_vault.new.seat))) is e.lawful;
+      held_is = e.held;
+      rises = e.rises;
+    }

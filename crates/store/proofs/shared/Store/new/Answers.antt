@@ -1,0 +1,8 @@
+use Rattle.store.proofs.Seating.{new_ready, new_seats}
+use Rattle.store.proofs.shared.Store.new.Goals as goal
+
+pub returns-in-Ok-clause-ready : goal.returns-in-Ok-clause-ready
+returns-in-Ok-clause-ready g c = new_ready _ _ c.in-Ok.seats.items c.in-Ok.ensures.new
+
+pub returns-in-Ok-clause-new : goal.returns-in-Ok-clause-new
+returns-in-Ok-clause-new g c = λ k s there. new_seats _ _ c.in-Ok.seats.items c.in-Ok.ensures.new k s there _ _ c.of.ensures c.of-2.ensures

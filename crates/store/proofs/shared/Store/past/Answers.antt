@@ -1,0 +1,51 @@
+use Rattle.std.proofs.Common.{refl, sym}
+use Rattle.store.proofs.Recalling.{cause_so, past_so, seeks_so, stays_on, stays_so, table_so, waits_on, waits_so}
+use Rattle.store.proofs.Meeting.{whole_stays, work_stays}
+use Rattle.store.proofs.shared.Store.past.Goals as goal
+
+pub sought-requires-clause-seeking : goal.sought-requires-clause-seeking
+sought-requires-clause-seeking g c = seeks_so g.D.Disk.is_honest g.D.Disk.state g.D.Disk.faults _ c.args.seat.now c.told.new.seat c.args.page c.args.snapshot c.args.out.now c.told.new.out c.told.result c.requires.ready c.told.ensures.visits c.requires.pinned c.args.table.now c.requires.first_met
+
+pub returns-in-Err-clause-same : goal.returns-in-Err-clause-same
+returns-in-Err-clause-same g c = stays_so g.D.Disk.is_honest g.D.Disk.state g.D.Disk.faults _ c.args.seat.now c.told.new.seat c.args.page c.args.snapshot c.args.out.now c.told.new.out c.told.result c.requires.ready c.told.ensures.visits
+
+pub returns-in-Err-clause-first_met : goal.returns-in-Err-clause-first_met
+returns-in-Err-clause-first_met g c = table_so g.D.Disk.is_honest g.D.Disk.state g.D.Disk.faults _ c.args.seat.now c.told.new.seat c.args.page c.args.snapshot c.args.out.now c.told.new.out c.told.result c.requires.ready c.told.ensures.visits c.requires.pinned c.args.table.now c.requires.first_met
+
+pub returns-in-Err-clause-cause : goal.returns-in-Err-clause-cause
+returns-in-Err-clause-cause g c = (refl, cause_so g.D.Disk.is_honest g.D.Disk.state g.D.Disk.faults _ c.args.seat.now c.told.new.seat c.args.page c.args.snapshot c.args.out.now c.told.new.out c.told.result c.requires.ready c.told.ensures.visits c.args.table.now.covered c.in-Err.why c.told.ensures.fits c.in-Err.is)
+
+pub returns-in-Ok-sought-clause-same : goal.returns-in-Ok-sought-clause-same
+returns-in-Ok-sought-clause-same g c = stays_on c.args.seat.now c.told.new.seat c.sought.new.seat (stays_so g.D.Disk.is_honest g.D.Disk.state g.D.Disk.faults _ c.args.seat.now c.told.new.seat c.args.page c.args.snapshot c.args.out.now c.told.new.out c.told.result c.requires.ready c.told.ensures.visits) c.sought.ensures.same
+
+pub returns-in-Ok-sought-clause-waits : goal.returns-in-Ok-sought-clause-waits
+returns-in-Ok-sought-clause-waits g c = waits_on c.args.seat.now c.told.new.seat c.sought.new.seat c.told.ensures.visits.visited.same.number (waits_so g.D.Disk.is_honest g.D.Disk.state g.D.Disk.faults _ c.args.seat.now c.told.new.seat c.args.page c.args.snapshot c.args.out.now c.told.new.out c.told.result c.requires.ready c.told.ensures.visits) c.sought.ensures.waits
+
+pub returns-in-Ok-sought-clause-page : goal.returns-in-Ok-sought-clause-page
+returns-in-Ok-sought-clause-page g c =
+    past_so g.D.Disk.is_honest g.D.Disk.state g.D.Disk.faults _ c.args.seat.now c.told.new.seat c.args.page c.args.snapshot c.args.out.now c.told.new.out c.told.result c.requires.ready c.told.ensures.visits c.requires.pinned c.sought.new.seat c.args.table.now c.sought.new.table c.in-Ok.peeked c.in-Ok.is (table_so g.D.Disk.is_honest g.D.Disk.state g.D.Disk.faults _ c.args.seat.now c.told.new.seat c.args.page c.args.snapshot c.args.out.now c.told.new.out c.told.result c.requires.ready c.told.ensures.visits c.requires.pinned c.args.table.now c.requires.first_met) c.sought.new.out c.sought.result
+    c.sought.ensures.finds c.sought.ensures.same.same.opening c.sought.ensures.waits c.in-Ok-sought.field-0 c.in-Ok-sought.is
+
+pub returns-in-Err-sought-clause-same : goal.returns-in-Err-sought-clause-same
+returns-in-Err-sought-clause-same g c = stays_on c.args.seat.now c.told.new.seat c.sought.new.seat (stays_so g.D.Disk.is_honest g.D.Disk.state g.D.Disk.faults _ c.args.seat.now c.told.new.seat c.args.page c.args.snapshot c.args.out.now c.told.new.out c.told.result c.requires.ready c.told.ensures.visits) c.sought.ensures.same
+
+pub returns-in-Err-sought-clause-waits : goal.returns-in-Err-sought-clause-waits
+returns-in-Err-sought-clause-waits g c = waits_on c.args.seat.now c.told.new.seat c.sought.new.seat c.told.ensures.visits.visited.same.number (waits_so g.D.Disk.is_honest g.D.Disk.state g.D.Disk.faults _ c.args.seat.now c.told.new.seat c.args.page c.args.snapshot c.args.out.now c.told.new.out c.told.result c.requires.ready c.told.ensures.visits) c.sought.ensures.waits
+
+pub returns-in-Err-clause-whole : goal.returns-in-Err-clause-whole
+returns-in-Err-clause-whole g c = λ w. whole_stays c.args.seat.now c.told.new.seat (stays_so g.D.Disk.is_honest g.D.Disk.state g.D.Disk.faults _ c.args.seat.now c.told.new.seat c.args.page c.args.snapshot c.args.out.now c.told.new.out c.told.result c.requires.ready c.told.ensures.visits) w
+
+pub returns-in-Err-clause-work : goal.returns-in-Err-clause-work
+returns-in-Err-clause-work g c = work_stays c.args.seat.now c.told.new.seat (stays_so g.D.Disk.is_honest g.D.Disk.state g.D.Disk.faults _ c.args.seat.now c.told.new.seat c.args.page c.args.snapshot c.args.out.now c.told.new.out c.told.result c.requires.ready c.told.ensures.visits)
+
+pub returns-in-Ok-sought-clause-whole : goal.returns-in-Ok-sought-clause-whole
+returns-in-Ok-sought-clause-whole g c = λ w. whole_stays c.args.seat.now c.sought.new.seat (stays_on c.args.seat.now c.told.new.seat c.sought.new.seat (stays_so g.D.Disk.is_honest g.D.Disk.state g.D.Disk.faults _ c.args.seat.now c.told.new.seat c.args.page c.args.snapshot c.args.out.now c.told.new.out c.told.result c.requires.ready c.told.ensures.visits) c.sought.ensures.same) w
+
+pub returns-in-Ok-sought-clause-work : goal.returns-in-Ok-sought-clause-work
+returns-in-Ok-sought-clause-work g c = work_stays c.args.seat.now c.sought.new.seat (stays_on c.args.seat.now c.told.new.seat c.sought.new.seat (stays_so g.D.Disk.is_honest g.D.Disk.state g.D.Disk.faults _ c.args.seat.now c.told.new.seat c.args.page c.args.snapshot c.args.out.now c.told.new.out c.told.result c.requires.ready c.told.ensures.visits) c.sought.ensures.same)
+
+pub returns-in-Err-sought-clause-whole : goal.returns-in-Err-sought-clause-whole
+returns-in-Err-sought-clause-whole g c = λ w. whole_stays c.args.seat.now c.sought.new.seat (stays_on c.args.seat.now c.told.new.seat c.sought.new.seat (stays_so g.D.Disk.is_honest g.D.Disk.state g.D.Disk.faults _ c.args.seat.now c.told.new.seat c.args.page c.args.snapshot c.args.out.now c.told.new.out c.told.result c.requires.ready c.told.ensures.visits) c.sought.ensures.same) w
+
+pub returns-in-Err-sought-clause-work : goal.returns-in-Err-sought-clause-work
+returns-in-Err-sought-clause-work g c = work_stays c.args.seat.now c.sought.new.seat (stays_on c.args.seat.now c.told.new.seat c.sought.new.seat (stays_so g.D.Disk.is_honest g.D.Disk.state g.D.Disk.faults _ c.args.seat.now c.told.new.seat c.args.page c.args.snapshot c.args.out.now c.told.new.out c.told.result c.requires.ready c.told.ensures.visits) c.sought.ensures.same)

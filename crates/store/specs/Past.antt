@@ -1,0 +1,103 @@
+-- What a reader of the past has, and what it is given.
+use Rattle.std.specs.Prelude.{◌≡◌, ◌≤◌, ◌<◌, ◌++◌, max, true, false, ℕ, Bool, List, [], length, Option, Some, Result, Ok, Err, IfErr, OnOk}
+use Rattle.disk_model.specs.Disk.{State}
+use Rattle.retro_base.specs.declared.device.Device.{Device}
+use Rattle.retro_base.specs.declared.refusal.Refusal.{Refusal}
+use Rattle.retro_base.specs.declared.who.Who.{Who}
+use Rattle.retro_base.specs.declared.refusal.Refusal.TheVariants.{DiskFault, OutOfMemory}
+use Rattle.history.specs.History.{History, captures, now, pages_as_of}
+use Rattle.history.specs.Journal.{after_journal}
+use Rattle.history.specs.Lines.{base_of, pinned_by}
+use Rattle.history.specs.Marks.{is_retained, start_of}
+use Rattle.history.specs.Writes.{is_among, pages_of}
+use Rattle.history.specs.Sound.{IsSound, pins_of}
+use Rattle.journal_book.specs.declared.work.Look.{Look}
+use Rattle.journal_book.specs.declared.work.Work.{Work}
+use Rattle.journal_book.specs.declared.work.Work.TheVariants.{Looking}
+use Rattle.page_table.specs.Table.{IsFirstMet, Table}
+use Rattle.race_model.specs.declared.fault.Fault.{Fault}
+use Rattle.race_model.specs.Desk.{capacity_of}
+use Rattle.race_model.specs.Fits.{VaultFits}
+use Rattle.race_model.specs.Reading.{in_slot}
+use Rattle.race_model.specs.Vault.{Vault}
+use Rattle.skippy.specs.Mappings.{Mappings, end_of, first_in}
+use Rattle.turn.specs.Faults.{fault_times}
+use Rattle.turn.specs.Seats.{held, mine, opening, seen}
+use Rattle.store.specs.declared.start.Start.{Start}
+use Rattle.store.specs.Seats.{Sat}
+use Rattle.store.specs.Start.{IsOpenedTo, Origin, opened_base}
+
+-- a look of the seat, or of the one that it helps, pins the snapshot
+pub record IsPinnedBy {D : Type 0} (s : Sat D) (snapshot : ℕ) : Type 0 where
+  pub look : Look
+  pub there : (mine s).work ≡ Some (Looking look)
+  pub pinned : is_among snapshot look.pins ≡ true
+
+-- all captures of a history, as mappings
+abbrev pub all_mapped : History → Mappings
+all_mapped history = record { low = 0; pages = pages_of (captures history) }
+
+-- The table has the first captures of a history that it covers, and covers no more than there are.
+pub record IsTableIn (history : History) (table : Table) : Type 0 where
+  pub met : IsFirstMet table (all_mapped history)
+  pub within : table.covered ≤ max table.start (length (captures history))
+
+-- the table of a snapshot that starts there, which covers nothing yet
+abbrev pub new_table : ℕ → Table
+new_table start = record { start = start; covered = start; entries = [] }
+
+module _ {D : Type 0} (is_honest : D → Type 0) (state : D → State) where
+  -- The table is one of the snapshot's, behind the journal that the seat has seen, and covers no more than it has
+  -- seen the vault hold.
+  pub record IsTableOf (s : Sat D) (snapshot : ℕ) (table : Table) : Type 0 where
+    pub start : (start : Start D) → opening s ≡ Some start →
+        table.start ≡ start_of snapshot (base_of (opened_base start) (seen s)).marks
+    pub held : table.covered ≤ max table.start (held s)
+    pub among : (start : Start D) (origin : Origin) → opening s ≡ Some start →
+        IsOpenedTo is_honest state start origin → IsTableIn (after_journal origin.history (seen s)) table
+
+  -- The page is as of the snapshot behind the journal that the seat has then seen, where the devices of the pages
+  -- and of the slots are honest.
+  abbrev pub IsPastOf : Sat D → ℕ → ℕ → List ℕ → Type 0
+  IsPastOf s snapshot page bytes = (start : Start D) (origin : Origin) → opening s ≡ Some start →
+      IsOpenedTo is_honest state start origin →
+      is_honest start.core.value.desk.pool.file.disk → is_honest start.archive.value.pagelog.disk →
+      bytes ≡ pages_as_of (after_journal origin.history (seen s)) snapshot page
+
+  -- The seat looks for a page as of a snapshot that an item of its session pins, by this table.
+  pub record IsSeeking (s : Sat D) (snapshot : ℕ) (table : Table) : Type 0 where
+    pub start : Start D
+    pub origin : Origin
+    pub opening_is : opening s ≡ Some start
+    pub opened : IsOpenedTo is_honest state start origin
+    pub who : Who
+    pub own : who.session ≡ s.number
+    pub pinned : is_among snapshot (pinned_by who (pins_of (opened_base start) [] (seen s))) ≡ true
+    pub table_is : IsTableOf s snapshot table
+
+  -- what the vault found below a number, of which the seat has then seen the journal
+  pub record FoundIn (s : Sat D) (start : Start D) (origin : Origin) (from upto page : ℕ) (before after : List ℕ) (result : Result Bool Fault) : Type 0 where
+    pub vault : Vault
+    pub fits : is_honest start.core.value.desk.pool.file.disk →
+        VaultFits (after_journal origin.history (seen s)) origin.floor vault
+    pub held_is : upto ≤ end_of vault.mappings
+    pub bytes : is_honest start.archive.value.pagelog.disk →
+        OnOk result (after ≡ in_slot vault (capacity_of origin.history) before (first_in vault.mappings from upto page))
+
+  pub record FindsIn (old new : Sat D) (snapshot : ℕ) (table next : Table) (upto page : ℕ) (before after : List ℕ) (result : Result Bool Fault) : Type 0 where
+    pub table_is : IsTableOf new snapshot next
+    pub sound : (start : Start D) → opening old ≡ Some start → IsSound (opened_base start) (seen new)
+    pub retained : (start : Start D) → opening old ≡ Some start →
+        is_retained snapshot (base_of (opened_base start) (seen new)).marks ≡ true
+    pub found : (start : Start D) (origin : Origin) → opening old ≡ Some start →
+        IsOpenedTo is_honest state start origin → FoundIn new start origin table.start upto page before after result
+
+-- memory ran out, where the table covered less than is held, or a read of a device failed, of which the seat was told
+abbrev pub IsPastCause : {D : Type 0} → Sat D → ℕ → Refusal → Type 0
+IsPastCause s covered OutOfMemory = covered < held s
+IsPastCause s covered (DiskFault d c) = 0 < fault_times d c (mine s).faults
+IsPastCause s covered why = ⊥
+
+-- no write failed
+abbrev pub IsPastRefusal : {D : Type 0} → Sat D → Table → Fault → Type 0
+IsPastRefusal s table fault = (fault.wrote ≡ false) × IsPastCause s table.covered fault.why

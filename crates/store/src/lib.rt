@@ -1,0 +1,18 @@
+//! The store: the desk and the vault in their locks, as seats of threads use them.
+#![tactic(auto)]
+
+mod closing;
+mod desk_calls;
+mod desk_side;
+mod opening;
+mod past;
+mod seeing;
+mod sessions;
+mod shared;
+mod start;
+mod vault_side;
+
+pub use closing::Closed;
+pub use desk_side::DeskSide;
+pub use shared::{Seat, Store};
+pub use start::Start;

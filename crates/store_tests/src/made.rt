@@ -1,0 +1,43 @@
+//! The devices that a store is made with.
+
+use disk_model::{Disk, Four, Sizes};
+use history::{Base, Version};
+use map_log::MapLog;
+use redo_log::RedoLog;
+use retro_base::{LOG_REGION_BYTES, MAX_CAPACITY, MAX_PAGES, MIN_CAPACITY, MIN_PAGES, Refusal};
+use std::alloc::Global;
+use values::Seq;
+
+// Makes the log of a store of these sizes, with nothing declared, on an all-zero device.
+fn make_log<D: Disk>(alloc: Global, log: &mut D, sizes: Sizes) -> Result<(), Refusal> {
+    let Sizes { pages, capacity } = sizes;
+    if !(MIN_PAGES..=MAX_PAGES).contains(&pages)
+        || !(MIN_CAPACITY..=MAX_CAPACITY).contains(&capacity)
+        || log.size() != 2 * LOG_REGION_BYTES
+    {
+        return Err(Refusal::BadSizes);
+    }
+    let base = Base {
+        page_count: pages,
+        capacity,
+        changes: 0,
+        captures: 0,
+        marks: Seq::new(alloc),
+        captured: Seq::new(alloc),
+    };
+    RedoLog::make(alloc, Version::One, log, &base)
+}
+
+// Makes a Maplog that lists no mapping.
+fn make_maplog<D: Disk>(alloc: Global, maplog: &mut D, capacity: u32) -> Result<(), Refusal> {
+    if capacity > MAX_CAPACITY || maplog.size() != 2 * (32 * u64::from(capacity) + 4096) {
+        return Err(Refusal::BadSizes);
+    }
+    MapLog::make(alloc, maplog, Version::One, capacity)
+}
+
+/// Makes a store of these sizes on all-zero devices.
+pub fn make<D: Disk>(alloc: Global, disks: &mut Four<D>, sizes: Sizes) -> Result<(), Refusal> {
+    make_log(alloc, &mut disks.log, sizes)?;
+    make_maplog(alloc, &mut disks.maplog, sizes.capacity)
+}
