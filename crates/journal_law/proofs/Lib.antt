@@ -1,0 +1,7 @@
+pub mod Journal
+pub mod Marks
+pub mod LineFacts
+pub mod Lasts
+pub mod Replies
+pub mod Shown
+pub mod Seating

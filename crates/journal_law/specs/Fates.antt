@@ -1,0 +1,73 @@
+-- What became of an item, and what is told of it.
+use Rattle.std.specs.Prelude.{◌≡◌, ◌+◌, ◌++◌, ℕ, List, [], ◌∷◌, Option, Some, None, Result, Ok, Err, if◌then◌else◌}
+use Rattle.std.specs.Option.{option_or, option_map_or}
+use Rattle.retro_base.specs.declared.refusal.Refusal.{Refusal}
+use Rattle.retro_base.specs.declared.refusal.Refusal.TheVariants.{DiskFault, Overlap}
+use Rattle.retro_base.specs.declared.who.Who.{Who}
+use Rattle.history.specs.declared.journal.Line.{Line}
+use Rattle.history.specs.declared.journal.What.{What}
+use Rattle.history.specs.declared.journal.What.TheVariants.{Done, Overlapped, RolledBack, Unlooked, Dropped, Refused, Fault}
+use Rattle.history.specs.Lines.{begins}
+use Rattle.history.specs.Sound.{same_item}
+use Rattle.journal_law.specs.Language.{Language, answer}
+use Rattle.journal_law.specs.Pages.{Pages}
+use Rattle.journal_law.specs.Shows.{ShowsAlong, step}
+use Rattle.journal_law.specs.World.{World, newest}
+
+-- what the last line of an item says, the world at its place, and the world in which its last attempt or look began
+pub record Fate (X : Type 0) : Type 0 where
+  pub now : World X
+  pub last : What
+  pub began : Option (World X)
+
+-- what became of an item by later lines and by earlier ones
+abbrev pub behind_it : {X : Type 0} → Option (Fate X) → Option (Fate X) → Option (Fate X)
+behind_it (Some later) (Some earlier) = Some (record later { began = option_or later.began earlier.began })
+behind_it (Some later) None = Some later
+behind_it None earlier = earlier
+
+-- the world in which an attempt or a look begins
+abbrev pub began_in : {X : Type 0} → World X → What → Option (World X)
+began_in now what = if begins what then Some now else None
+
+-- the world in which the last attempt or look of an item began
+abbrev pub began_at : {X : Type 0} → Fate X → World X
+began_at f = option_map_or (λ began. began) f.began f.now
+
+abbrev pub began_of : {X : Type 0} → Option (Fate X) → Option (World X)
+began_of None = None
+began_of (Some f) = f.began
+
+module _ (L : Language) where
+  module _ (items : Who → Option L.Item) where
+    -- what became of an item by the lines of a journal, from this opening on
+    abbrev pub fate : Who → World L.Tables → List Line → Option (Fate L.Tables)
+    fate who opening [] = None
+    fate who opening (line ∷ lines) =
+        behind_it (fate who (step L items opening line) lines)
+        (if same_item line.who who then Some (record { now = opening; last = line.what; began = began_in opening line.what }) else None)
+
+  abbrev pub answer_text : Result (List ℕ) Refusal → List ℕ
+  answer_text (Ok text) = text
+  answer_text (Err why) = L.words.refused why
+
+  -- The reply lines of an item by its last line: a commit's are those of its statements over the tables at its place, a rollback's those over the tables with which its attempt began, a look's those of its query in the world in which it looked.
+  abbrev pub reply_at : L.Item → Fate L.Tables → What → List ℕ
+  reply_at item f (Done label writes) = L.replies item f.now.current ++ L.words.committed (newest f.now + 1) label
+  reply_at item f RolledBack = L.replies item (began_at f).current ++ L.words.rolled_back
+  reply_at item f Unlooked = answer_text (answer L item (began_at f))
+  reply_at item f (Dropped below) = L.words.dropped below
+  reply_at item f (Refused why) = L.words.refused why
+  reply_at item f (Overlapped session other) = L.words.refused (Overlap session other)
+  reply_at item f (Fault device count wrote) = L.words.refused (DiskFault device count)
+  reply_at item f what = L.words.not_run
+
+  -- the reply lines of an item by what became of it
+  abbrev pub reply : L.Item → Option (Fate L.Tables) → List ℕ
+  reply item (Some f) = reply_at item f f.last
+  reply item None = L.words.not_run
+
+  -- What a seat knows of an item of its own that has ended: whatever tables the pages held up to there, this is its reply.
+  abbrev pub IsReply : (Who → Option L.Item) → World Pages → Who → L.Item → List Line → List ℕ → Type 0
+  IsReply items pages who item front text =
+      (tables : World L.Tables) → ShowsAlong L items pages tables front → text ≡ reply item (fate items who tables front)

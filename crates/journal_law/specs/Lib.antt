@@ -1,0 +1,14 @@
+pub mod Facts
+pub mod Fates
+pub mod Language
+pub mod Laws
+pub mod Lawful
+pub mod LinesFit
+pub mod Own
+pub mod Pages
+pub mod RepliesTold
+pub mod Seating
+pub mod Seats
+pub mod Shows
+pub mod Visible
+pub mod World

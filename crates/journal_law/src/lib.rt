@@ -1,0 +1,10 @@
+//! The law of the journal: what each session knows of its own lines makes the whole journal lawful over tables.
+#![tactic(auto)]
+
+mod laws;
+mod seat;
+
+pub use laws::{
+    Language, law_of_the_journal, lines_fit, replies_are_told, seats_suffice, visible_lines_decide,
+};
+pub use seat::{Ending, Seat};
