@@ -1,3 +1,5 @@
+//! A device over a file.
+
 ghost use Rattle.std.specs.Prelude.{◌≡◌, ◌≤◌, [], IfOk};
 ghost use Rattle.disk_model.specs.Cause.{HasCause};
 

@@ -1,4 +1,5 @@
-// Names that are listed.
+//! Names that are listed.
+
 ghost use Rattle.std.specs.Prelude.{◌≡◌, ◌++◌, ◌∷◌, [], not, filter, OnOk, OnErr};
 ghost use Rattle.std.specs.List.{list_any};
 ghost use Rattle.disk_file.specs.Names.{has_bytes};

@@ -1,3 +1,5 @@
+//! A store made in a folder and opened again.
+
 use crate::FileCabinet;
 use disk_model::{Cabinet, Disk, Failed, Four, Sizes};
 use std::fs;
