@@ -1,7 +1,7 @@
 -- What the parts hold has a spelling.
 use Rattle.std.proofs.Common.{◌<◌, ◌^◌, ℕ, ℤ, Option, Some, None, List, unsigned_abs}
 use Rattle.std.specs.List.{AllByRecursion}
-use Rattle.values.specs.Text.{IsText}
+use Rattle.values.specs.Text.{IsPrintable, IsText}
 use Rattle.values.specs.declared.value.Value.{Value}
 use Rattle.values.specs.declared.value.Value.TheVariants as value
 use Rattle.sql_tree.specs.Condition.{ConditionTree}
@@ -28,8 +28,11 @@ use Rattle.sql_tree.specs.declared.statement.Statement.{Statement}
 use Rattle.sql_tree.specs.declared.statement.Statement.TheVariants as statement
 use Rattle.sql_tree.specs.declared.statement.Update.{Update}
 use Rattle.sql_lexer.specs.declared.token.Token.TheVariants as token
+use Rattle.sql_parts.specs.declared.parsed.Mechanism.{Mechanism}
+use Rattle.sql_parts.specs.declared.parsed.Mechanism.TheVariants as mechanism
 use Rattle.sql_parts.specs.declared.parsed.Parsed.{Parsed}
 use Rattle.sql_parts.specs.declared.parsed.Parsed.TheVariants as parsed
+use Rattle.sql_parts.specs.declared.parsed.RqlCall.{RqlCall}
 use Rattle.sql_parts.specs.declared.part.Part.{Part}
 use Rattle.sql_parts.specs.declared.part.Part.TheVariants as part
 use Rattle.print_laws.specs.Spelt.{HasSpelling}
@@ -128,12 +131,24 @@ StatementFits (statement.Update u) = UpdateFits u
 StatementFits (statement.Delete d) = NameFits d.table × FilterFits d.condition
 StatementFits (statement.Select q) = SelectFits q
 
+abbrev pub ArgumentFits : List ℕ → Type 0
+ArgumentFits t = AllByRecursion IsPrintable t
+
+abbrev pub MechanismFits : Mechanism → Type 0
+MechanismFits (mechanism.AggregateDataInVariable function) = ArgumentFits function
+MechanismFits (mechanism.AggregateDataInTable pairs) = ArgumentFits pairs
+MechanismFits m = Unit {0}
+
+abbrev pub CallFits : RqlCall → Type 0
+CallFits c = ArgumentFits c.snapshots × ArgumentFits c.query × ArgumentFits c.table × MechanismFits c.mechanism
+
 abbrev pub LineFits : Parsed → Type 0
 LineFits (parsed.Plain s) = StatementFits s
 LineFits (parsed.AsOf q) = NumberFits q.snapshot × SelectFits q.query
 LineFits (parsed.Commit label) = Optional IsText label
 LineFits parsed.Rollback = Unit {0}
 LineFits (parsed.DropBelow n) = NumberFits n
+LineFits (parsed.Rql c) = CallFits c
 
 abbrev pub DigitsFit : ℤ → Type 0
 DigitsFit n = HasSpelling (token.Integer n)
@@ -142,6 +157,7 @@ abbrev pub PartFits : Part → Type 0
 PartFits (part.Name n) = NameFits n
 PartFits (part.Number n) = DigitsFit n
 PartFits (part.Text t) = IsText t
+PartFits (part.Argument t) = ArgumentFits t
 PartFits (part.Literal v) = ValueFits v
 PartFits (part.ColumnName c) = ColumnFits c
 PartFits (part.Operand o) = OperandFits o

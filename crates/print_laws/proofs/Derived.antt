@@ -23,11 +23,10 @@ use Rattle.sql_text.specs.Places.{tokens_of}
 use Rattle.print_laws.specs.Spelt.{HasSpelling}
 use Rattle.print_laws.proofs.Drafts.{OpFits}
 
--- no right side takes a token that is too long or too great
+-- no right side takes a word that is too long or a number that is too great
 abbrev is_plain : Class → Bool
 is_plain class.LongWord = false
 is_plain class.BigInteger = false
-is_plain class.LongText = false
 is_plain _ = true
 
 abbrev all_plain : List Symbol → Bool
@@ -72,7 +71,7 @@ plain_has token'.LongWord s e = cc
 plain_has (token'.Integer n) s e = (digits_value 10 s.0, s.1.2, s.1.1)
 plain_has token'.BigInteger s e = cc
 plain_has (token'.Text t) s e = s.1.1
-plain_has (token'.LongText t) s e = cc
+plain_has (token'.LongText t) s e = (s.1.1, s.1.2)
 plain_has (token'.Sign k) s e = tt
 
 content_fits : (t : Token) (os : List Op) → HasSpelling t → AllByRecursion OpFits os → AllByRecursion OpFits (content_of t ++ os)
@@ -82,7 +81,7 @@ content_fits token'.LongWord os s h = h
 content_fits (token'.Integer n) os s h = (s, h)
 content_fits token'.BigInteger os s h = h
 content_fits (token'.Text t) os s h = (s, h)
-content_fits (token'.LongText t) os s h = h
+content_fits (token'.LongText t) os s h = (s.0, h)
 content_fits (token'.Sign k) os s h = h
 
 pub derived_fits : {ss : List Symbol} {ts : List Token} {os : List Op} → Derives ss ts os → all_plain ss ≡ true → AllByRecursion IsSpelt ts → AllByRecursion OpFits os

@@ -23,7 +23,7 @@ use Rattle.sql_parts.specs.declared.part.Part.{Part}
 use Rattle.sql_parts.specs.Taking.{a_line, an_operand}
 use Rattle.sql_build.specs.declared.draft.Draft.{Draft}
 use Rattle.sql_build.specs.Built.{acted, all_taken, alone, built, condition_ends, empty, expression_ends, finished, goes_on, leaf, put, said, stepped, taken}
-use Rattle.print_laws.proofs.Contents.{ColumnFits, ConditionFits, DigitsFit, ExpressionFits, LineFits, NameFits, OperandFits, Optional, PartsFit, ValueFits}
+use Rattle.print_laws.proofs.Contents.{ArgumentFits, ColumnFits, ConditionFits, DigitsFit, ExpressionFits, LineFits, NameFits, OperandFits, Optional, PartsFit, ValueFits}
 use Rattle.print_laws.proofs.Keeping.{Kept, all_on, goes_on_with, got_line, got_operand, kept, line_kept, list_kept, nothing, output_kept, query_kept, row_kept, table_kept, term_kept, update_kept}
 
 abbrev StepFits : ExpressionStep → Type 0
@@ -146,12 +146,14 @@ abbrev pub OpFits : Op → Type 0
 OpFits (op.Name n) = NameFits n
 OpFits (op.Integer n) = DigitsFit n
 OpFits (op.Text t) = IsText t
+OpFits (op.LongText t) = ArgumentFits t
 OpFits (op.Act a) = Unit {0}
 
 op_kept : (o : Op) (d : Draft) → OpFits o → DraftFits d → KeptDraft (taken o d)
 op_kept (op.Name n) d f h = kept_draft (record { parts = (f, h.parts); expression = h.expression; condition = h.condition })
 op_kept (op.Integer n) d f h = kept_draft (record { parts = (f, h.parts); expression = h.expression; condition = h.condition })
 op_kept (op.Text t) d f h = kept_draft (record { parts = (f, h.parts); expression = h.expression; condition = h.condition })
+op_kept (op.LongText t) d f h = kept_draft (record { parts = (f, h.parts); expression = h.expression; condition = h.condition })
 op_kept (op.Act a) d f h = act_kept a d h
 
 goes_on_kept : {x : Option Draft} (f : Draft → Option Draft) → KeptDraft x → ((d : Draft) → DraftFits d → KeptDraft (f d)) → KeptDraft (goes_on x f)

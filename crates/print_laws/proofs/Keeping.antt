@@ -31,12 +31,14 @@ use Rattle.sql_parts.specs.declared.action.TermAction.{TermAction}
 use Rattle.sql_parts.specs.declared.action.TermAction.TheVariants as term_action
 use Rattle.sql_parts.specs.declared.action.UpdateAction.{UpdateAction}
 use Rattle.sql_parts.specs.declared.action.UpdateAction.TheVariants as update_action
+use Rattle.sql_parts.specs.declared.parsed.Mechanism.{Mechanism}
+use Rattle.sql_parts.specs.declared.parsed.Mechanism.TheVariants as mechanism
 use Rattle.sql_parts.specs.declared.parsed.Parsed.{Parsed}
 use Rattle.sql_parts.specs.declared.part.Part.{Part}
 use Rattle.sql_parts.specs.declared.part.Part.TheVariants as part
-use Rattle.sql_parts.specs.Taking.{after, a_column, a_column_name, a_condition, a_create_table, a_line, a_literal, a_name, a_number, a_query, a_row, a_text, an_assignment, an_expression, an_insert, an_operand, an_output, an_output_value, an_update, outputs}
-use Rattle.sql_build.specs.Parts.{line, negative, output, query, row, select_list, table, term, update}
-use Rattle.print_laws.proofs.Contents.{AssignmentFits, ColumnFits, CreateFits, DigitsFit, ExpressionFits, FilterFits, InsertFits, KeyFits, LineFits, NameFits, NewColumnFits, NumberFits, OperandFits, OutputFits, OutputValueFits, PartsFit, RowFits, SelectFits, UpdateFits, ValueFits}
+use Rattle.sql_parts.specs.Taking.{after, a_column, a_column_name, a_condition, a_create_table, a_line, a_literal, a_name, a_number, a_query, a_row, a_text, an_argument, an_assignment, an_expression, an_insert, an_operand, an_output, an_output_value, an_update, outputs}
+use Rattle.sql_build.specs.Parts.{call, line, negative, output, query, row, select_list, table, term, update}
+use Rattle.print_laws.proofs.Contents.{ArgumentFits, AssignmentFits, ColumnFits, CreateFits, DigitsFit, ExpressionFits, FilterFits, InsertFits, KeyFits, LineFits, MechanismFits, NameFits, NewColumnFits, NumberFits, OperandFits, OutputFits, OutputValueFits, PartsFit, RowFits, SelectFits, UpdateFits, ValueFits}
 
 -- parts that were put together, if any were
 pub data Kept : Option (List Part) → Type 0 where
@@ -68,6 +70,10 @@ got_number _ h = none_got
 got_text : (ps : List Part) → PartsFit ps → Got (List ℕ) IsText (a_text ps)
 got_text (part.Text x ∷ ps) h = got h.0 h.1
 got_text _ h = none_got
+
+got_argument : (ps : List Part) → PartsFit ps → Got (List ℕ) ArgumentFits (an_argument ps)
+got_argument (part.Argument x ∷ ps) h = got h.0 h.1
+got_argument _ h = none_got
 
 got_literal : (ps : List Part) → PartsFit ps → Got Value ValueFits (a_literal ps)
 got_literal (part.Literal x ∷ ps) h = got h.0 h.1
@@ -141,6 +147,9 @@ takes_number ps f h g = goes_on_with Kept nothing DigitsFit (a_number ps) f (got
 
 takes_text : (ps : List Part) (f : List ℕ → List Part → Option (List Part)) → PartsFit ps → ((x : List ℕ) (qs : List Part) → IsText x → PartsFit qs → Kept (f x qs)) → Kept (after (a_text ps) f)
 takes_text ps f h g = goes_on_with Kept nothing IsText (a_text ps) f (got_text ps h) g
+
+takes_argument : (ps : List Part) (f : List ℕ → List Part → Option (List Part)) → PartsFit ps → ((x : List ℕ) (qs : List Part) → ArgumentFits x → PartsFit qs → Kept (f x qs)) → Kept (after (an_argument ps) f)
+takes_argument ps f h g = goes_on_with Kept nothing ArgumentFits (an_argument ps) f (got_argument ps h) g
 
 takes_literal : (ps : List Part) (f : Value → List Part → Option (List Part)) → PartsFit ps → ((x : Value) (qs : List Part) → ValueFits x → PartsFit qs → Kept (f x qs)) → Kept (after (a_literal ps) f)
 takes_literal ps f h g = goes_on_with Kept nothing ValueFits (a_literal ps) f (got_literal ps h) g
@@ -254,9 +263,17 @@ query_kept query_action.Limit ps h = takes_number ps _ h (λ n qs a b. takes_que
 query_kept query_action.Finish ps h = takes_query ps _ h (λ q qs a b. kept (a, b))
 query_kept query_action.AsOf ps h = takes_query ps _ h (λ q qs a b. takes_number qs _ b (λ n rs x y. kept ((count_fits n x, a), y)))
 
+call_kept : (m : Mechanism) (ps : List Part) → MechanismFits m → PartsFit ps → Kept (call m ps)
+call_kept m ps f h = takes_argument ps _ h (λ t qs a b. takes_argument qs _ b (λ q rs x y. takes_argument rs _ y (λ s us c d. kept ((c, x, a, f), d))))
+
 pub line_kept : (a : LineAction) (ps : List Part) → PartsFit ps → Kept (line a ps)
 line_kept line_action.Commit ps h = kept (tt, h)
 line_kept line_action.CommitUnlabelled ps h = kept ((omega arith, tt), h)
 line_kept line_action.CommitLabelled ps h = takes_text ps _ h (λ t qs a b. kept (a, b))
 line_kept line_action.Rollback ps h = kept (tt, h)
 line_kept line_action.DropBelow ps h = takes_number ps _ h (λ n qs a b. kept (count_fits n a, b))
+line_kept line_action.Argument ps h = takes_text ps _ h (λ t qs a b. kept (a.1, b))
+line_kept line_action.CollateData ps h = call_kept mechanism.CollateData ps tt h
+line_kept line_action.AggregateDataInVariable ps h = takes_argument ps _ h (λ f qs a b. call_kept (mechanism.AggregateDataInVariable f) qs a b)
+line_kept line_action.AggregateDataInTable ps h = takes_argument ps _ h (λ f qs a b. call_kept (mechanism.AggregateDataInTable f) qs a b)
+line_kept line_action.CollateDataIntoIntervals ps h = call_kept mechanism.CollateDataIntoIntervals ps tt h

@@ -1,5 +1,5 @@
 -- Statements and lines are read back.
-use Rattle.std.proofs.Common.{◌≡◌, ◌≤◌, ◌⊎◌, inl, inr, ◌++◌, ℕ, suc, Option, Some, None, List, [], ◌∷◌, length, refl, ap, subst, sym, append-nil, append_assoc, if◌then◌else◌, arith}
+use Rattle.std.proofs.Common.{◌≡◌, ◌≤◌, ◌⊎◌, inl, inr, ◌++◌, ℕ, suc, Bool, true, false, Option, Some, None, List, [], ◌∷◌, length, nat_le, refl, ap, subst, sym, append-nil, append_assoc, if◌then◌else◌, arith}
 use Rattle.std.specs.List.{AllByRecursion}
 use Rattle.std.proofs.lemmas.Bool.{le-leb}
 use Rattle.values.specs.declared.value.Kind.{Kind}
@@ -24,12 +24,14 @@ use Rattle.sql_grammar.specs.declared.grammar.Symbol.{Symbol}
 use Rattle.sql_grammar.specs.declared.grammar.Symbol.TheVariants.{Take, Put, Use}
 use Rattle.sql_parts.specs.declared.action.TableAction.TheVariants as table_action
 use Rattle.sql_grammar.specs.Grammar.{class_of, more_columns}
+use Rattle.sql_parts.specs.declared.parsed.Mechanism.{Mechanism}
+use Rattle.sql_parts.specs.declared.parsed.Mechanism.TheVariants as mechanism
 use Rattle.sql_parts.specs.declared.parsed.Parsed.{Parsed}
 use Rattle.sql_parts.specs.declared.parsed.Parsed.TheVariants as parsed
 use Rattle.sql_parts.specs.declared.part.Part.{Part}
 use Rattle.sql_parts.specs.declared.part.Part.TheVariants as part
 use Rattle.sql_text.specs.Line.{HasLimits, Says}
-use Rattle.print_laws.specs.Printed.{assignment, filter, further, kind_word, literal, mark, name, new_column, printed, several, statement, tuple, word}
+use Rattle.print_laws.specs.Printed.{argument, assignment, filter, further, kind_word, literal, mark, name, new_column, printed, rql_call, several, statement, tuple, word}
 use Rattle.print_laws.proofs.Conditions.{reads_filter}
 use Rattle.print_laws.proofs.Expressions.{reads_literal, reads_value}
 use Rattle.print_laws.proofs.Leads.{Leads, by_side, clean, ends, goes_further, goes_further_with, puts, takes}
@@ -158,13 +160,42 @@ statement_read (statement'.Select q) h = by_side 4 (takes refl (by_side 1 (reads
 label_class : (t : List ℕ) → length t ≤ 64 → class_of (token.Text t) ≡ class.ShortText
 label_class t h = ap (λ b. if b then class.ShortText else class.Text) (le-leb (length t) 64 h)
 
+-- an argument of a call
+text_read : (t : List ℕ) (short : Bool) {ss : List Symbol} {ts : List Token} {ps : List Part} {p : Parsed} → nat_le (length t) 64 ≡ short → Leads ss ts (Some (clean (part.Argument t ∷ ps))) p
+    → Leads (Use rule.Argument ∷ ss) (token.Text t ∷ ts) (Some (clean ps)) p
+text_read t true e l = by_side 0 (takes (ap (λ b. if b then class.ShortText else class.Text) e) (puts l))
+text_read t false e l = by_side 1 (takes (ap (λ b. if b then class.ShortText else class.Text) e) (puts l))
+
+by_length : (t : List ℕ) (b : Bool) {ss : List Symbol} {ts : List Token} {ps : List Part} {p : Parsed} → Leads ss ts (Some (clean (part.Argument t ∷ ps))) p
+    → Leads (Use rule.Argument ∷ ss) ((if b then token.Text t else token.LongText t) ∷ ts) (Some (clean ps)) p
+by_length t true l = text_read t (nat_le (length t) 64) refl l
+by_length t false l = by_side 2 (takes refl l)
+
+reads_argument : (t : List ℕ) {ss : List Symbol} {ts : List Token} {ps : List Part} {p : Parsed} → Leads ss ts (Some (clean (part.Argument t ∷ ps))) p
+    → Leads (Use rule.Argument ∷ ss) (argument t ts) (Some (clean ps)) p
+reads_argument t l = by_length t (nat_le (length t) 200) l
+
+three_read : (a b c : List ℕ) {ss : List Symbol} {ts : List Token} {p : Parsed} → Leads ss ts (Some (clean (part.Argument c ∷ part.Argument b ∷ part.Argument a ∷ []))) p
+    → Leads (Use rule.Argument ∷ Take (class.Sign sign.Comma) ∷ Use rule.Argument ∷ Take (class.Sign sign.Comma) ∷ Use rule.Argument ∷ ss)
+    (argument a (mark sign.Comma (argument b (mark sign.Comma (argument c ts))))) (Some (clean [])) p
+three_read a b c l = reads_argument a (takes refl (reads_argument b (takes refl (reads_argument c l))))
+
+call_read : (s q t : List ℕ) (m : Mechanism) → Leads (Use rule.Sentence ∷ []) (rql_call (record { snapshots = s; query = q; table = t; mechanism = m })) (Some (clean [])) (parsed.Rql (record { snapshots = s; query = q; table = t; mechanism = m }))
+call_read s q t mechanism.CollateData = by_side 7 (takes refl (takes refl (three_read s q t (takes refl (puts (ends (parsed.Rql (record { snapshots = s; query = q; table = t; mechanism = mechanism.CollateData }))))))))
+call_read s q t (mechanism.AggregateDataInVariable f) =
+    by_side 8 (takes refl (takes refl (three_read s q t (takes refl (reads_argument f (takes refl (puts (ends (parsed.Rql (record { snapshots = s; query = q; table = t; mechanism = mechanism.AggregateDataInVariable f }))))))))))
+call_read s q t (mechanism.AggregateDataInTable f) =
+    by_side 9 (takes refl (takes refl (three_read s q t (takes refl (reads_argument f (takes refl (puts (ends (parsed.Rql (record { snapshots = s; query = q; table = t; mechanism = mechanism.AggregateDataInTable f }))))))))))
+call_read s q t mechanism.CollateDataIntoIntervals = by_side 10 (takes refl (takes refl (three_read s q t (takes refl (puts (ends (parsed.Rql (record { snapshots = s; query = q; table = t; mechanism = mechanism.CollateDataIntoIntervals }))))))))
+
 line_read : (p : Parsed) → HasLimits p → Leads (Use rule.Sentence ∷ []) (printed p) (Some (clean [])) p
 line_read (parsed.Plain s) h = statement_read s h
 line_read (parsed.AsOf q) h = by_side 4 (takes refl (by_side 0 (takes refl (takes refl (takes refl (reads_query q.query h (puts (ends (parsed.AsOf q)))))))))
 line_read (parsed.Commit None) h = by_side 5 (takes refl (by_side 1 (puts (ends (parsed.Commit None)))))
 line_read (parsed.Commit (Some label)) h = by_side 5 (takes refl (by_side 0 (takes refl (takes refl (by_side 0 (takes (label_class label h) (puts (ends (parsed.Commit (Some label))))))))))
 line_read parsed.Rollback h = by_side 6 (takes refl (puts (ends parsed.Rollback)))
-line_read (parsed.DropBelow n) h = by_side 7 (takes refl (takes refl (takes refl (takes refl (puts (ends (parsed.DropBelow n)))))))
+line_read (parsed.Rql c) h = call_read c.snapshots c.query c.table c.mechanism
+line_read (parsed.DropBelow n) h = by_side 11 (takes refl (takes refl (takes refl (takes refl (puts (ends (parsed.DropBelow n)))))))
 
 -- what is within the limits is said by its tokens
 pub printed_says : (p : Parsed) → HasLimits p → Says (printed p) p

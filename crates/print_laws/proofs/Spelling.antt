@@ -61,7 +61,7 @@ spells (token'.Integer n) h =
     subst P (sym h.1) (number_is h.0 h.2)
 spells token'.BigInteger h = absurd h
 spells (token'.Text t) h = (refl, h)
-spells (token'.LongText t) h = absurd h
+spells (token'.LongText t) h = (refl, h.0, h.1)
 spells (token'.Sign s) h = refl
 
 -- a blank goes on with no token

@@ -1,5 +1,7 @@
 -- A line whose contents have a spelling is printed by tokens that have one.
-use Rattle.std.proofs.Common.{ℕ, pos, negsuc, suc, Bool, true, false, Option, Some, None, List, [], ◌∷◌, nat_lt, refl}
+use Rattle.std.proofs.Common.{◌≡◌, ℕ, pos, negsuc, suc, Bool, true, false, Option, Some, None, List, [], ◌∷◌, length, nat_le, nat_lt, if◌then◌else◌, refl, arith}
+use Rattle.std.proofs.lemmas.Bool.{leb-true}
+use Rattle.std.proofs.lemmas.Bool.Decides.{nat_tests}
 use Rattle.std.specs.List.{AllByRecursion}
 use Rattle.values.specs.declared.value.Value.{Value}
 use Rattle.values.specs.declared.value.Value.TheVariants as value
@@ -26,11 +28,15 @@ use Rattle.sql_tree.specs.declared.statement.Statement.TheVariants as statement'
 use Rattle.sql_lexer.specs.declared.token.Sign.TheVariants as sign
 use Rattle.sql_lexer.specs.declared.token.Keyword.TheVariants as keyword
 use Rattle.sql_lexer.specs.declared.token.Token.{Token}
+use Rattle.sql_lexer.specs.declared.token.Token.TheVariants as token
+use Rattle.sql_parts.specs.declared.parsed.Mechanism.{Mechanism}
+use Rattle.sql_parts.specs.declared.parsed.Mechanism.TheVariants as mechanism
 use Rattle.sql_parts.specs.declared.parsed.Parsed.{Parsed}
 use Rattle.sql_parts.specs.declared.parsed.Parsed.TheVariants as parsed
-use Rattle.print_laws.specs.Printed.{Writer, aggregate, assignment, column, column_of, condition, distinct, expression, filter, further, grouped, grouping, key, limit, literal, mark, new_column, operand, operator_sign, ordering, output, output_name, output_value, printed, query, second, select_list, several, statement, strength, tuple, word}
+use Rattle.sql_parts.specs.declared.parsed.RqlCall.{RqlCall}
+use Rattle.print_laws.specs.Printed.{Writer, aggregate, argument, assignment, column, column_of, condition, distinct, expression, filter, fourth, further, grouped, grouping, key, limit, literal, mark, new_column, operand, operator_sign, ordering, output, output_name, output_value, printed, query, rql_call, second, select_list, several, statement, strength, tuple, word}
 use Rattle.print_laws.specs.Spelt.{HasSpelling}
-use Rattle.print_laws.proofs.Contents.{AggregateFits, AssignmentFits, ColumnFits, ConditionFits, ExpressionFits, FilterFits, KeyFits, LineFits, ListFits, NameFits, NewColumnFits, NumberFits, OperandFits, Optional, OutputFits, OutputValueFits, RowFits, SelectFits, StatementFits, ValueFits}
+use Rattle.print_laws.proofs.Contents.{AggregateFits, ArgumentFits, AssignmentFits, CallFits, ColumnFits, ConditionFits, ExpressionFits, FilterFits, KeyFits, LineFits, ListFits, MechanismFits, NameFits, NewColumnFits, NumberFits, OperandFits, Optional, OutputFits, OutputValueFits, RowFits, SelectFits, StatementFits, ValueFits}
 
 abbrev Fit : List Token → Type 0
 Fit ts = AllByRecursion HasSpelling ts
@@ -161,6 +167,28 @@ statement_fits (statement'.Update u) f = (tt, (f.0, (tt, several_fits Assignment
 statement_fits (statement'.Delete d) f = (tt, (tt, (f.0, filter_fits d.condition [] f.1 tt)))
 statement_fits (statement'.Select q) f = (tt, query_fits q [] f tt)
 
+argument_fits : (t : List ℕ) (ts : List Token) → ArgumentFits t → Fit ts → Fit (argument t ts)
+argument_fits t ts f h = by_length (nat_le (length t) 200) refl
+  where
+    by_length : (b : Bool) → nat_le (length t) 200 ≡ b → Fit ((if b then token.Text t else token.LongText t) ∷ ts)
+    by_length true e = ((leb-true (length t) 200 e, f), h)
+    by_length false e = ((f, grind (arith, nat_tests)), h)
+
+fourth_fits : (m : Mechanism) (ts : List Token) → MechanismFits m → Fit ts → Fit (fourth m ts)
+fourth_fits mechanism.CollateData ts f h = h
+fourth_fits (mechanism.AggregateDataInVariable function) ts f h = (tt, argument_fits function ts f h)
+fourth_fits (mechanism.AggregateDataInTable pairs) ts f h = (tt, argument_fits pairs ts f h)
+fourth_fits mechanism.CollateDataIntoIntervals ts f h = h
+
+call_fits : (c : RqlCall) → CallFits c → Fit (rql_call c)
+call_fits c f =
+    let last : List Token = fourth c.mechanism (mark sign.Close []) in
+    let more : List Token = mark sign.Comma (argument c.table last) in
+    let fourth_fit : Fit last = fourth_fits c.mechanism (mark sign.Close []) f.3 (tt, tt) in
+    let third_fit : Fit more = (tt, argument_fits c.table last f.2 fourth_fit) in
+    let second_fit : Fit (mark sign.Comma (argument c.query more)) = (tt, argument_fits c.query more f.1 third_fit) in
+    (tt, (tt, argument_fits c.snapshots (mark sign.Comma (argument c.query more)) f.0 second_fit))
+
 pub printed_fits : (p : Parsed) → LineFits p → Fit (printed p)
 printed_fits (parsed.Plain s) f = statement_fits s f
 printed_fits (parsed.AsOf q) f = (tt, (tt, (tt, ((q.snapshot, refl, f.0), query_fits q.query [] f.1 tt))))
@@ -168,3 +196,4 @@ printed_fits (parsed.Commit None) f = (tt, tt)
 printed_fits (parsed.Commit (Some label)) f = (tt, (tt, (tt, (f, tt))))
 printed_fits parsed.Rollback f = (tt, tt)
 printed_fits (parsed.DropBelow n) f = (tt, (tt, (tt, ((n, refl, f), tt))))
+printed_fits (parsed.Rql c) f = call_fits c f

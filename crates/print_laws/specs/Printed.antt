@@ -1,5 +1,5 @@
 -- The tokens that say a line. Each writer puts the tokens of a tree before those that follow.
-use Rattle.std.specs.Prelude.{ℕ, pos, negsuc, suc, Bool, true, false, Option, Some, None, List, [], ◌∷◌, nat_lt}
+use Rattle.std.specs.Prelude.{ℕ, pos, negsuc, suc, Bool, true, false, Option, Some, None, List, [], ◌∷◌, length, nat_le, nat_lt, if◌then◌else◌}
 use Rattle.values.specs.declared.value.Kind.{Kind}
 use Rattle.values.specs.declared.value.Kind.TheVariants as kind
 use Rattle.values.specs.declared.value.Value.{Value}
@@ -36,8 +36,11 @@ use Rattle.sql_tree.specs.declared.statement.Assignment.{Assignment}
 use Rattle.sql_tree.specs.declared.statement.Column.{Column}
 use Rattle.sql_tree.specs.declared.statement.Statement.{Statement}
 use Rattle.sql_tree.specs.declared.statement.Statement.TheVariants as statement'
+use Rattle.sql_parts.specs.declared.parsed.Mechanism.{Mechanism}
+use Rattle.sql_parts.specs.declared.parsed.Mechanism.TheVariants as mechanism
 use Rattle.sql_parts.specs.declared.parsed.Parsed.{Parsed}
 use Rattle.sql_parts.specs.declared.parsed.Parsed.TheVariants as parsed
+use Rattle.sql_parts.specs.declared.parsed.RqlCall.{RqlCall}
 
 -- the tokens of a thing, and then those that follow
 abbrev pub Writer : Type 0 → Type 0
@@ -202,6 +205,25 @@ statement (statement'.Update u) = word keyword.Update (name u.table (word keywor
 statement (statement'.Delete d) = word keyword.Delete (word keyword.From (name d.table (filter d.condition [])))
 statement (statement'.Select q) = word keyword.Select (query q [])
 
+-- an argument of a call, however long
+abbrev pub argument : Writer (List ℕ)
+argument t ts = (if nat_le (length t) 200 then token.Text t else token.LongText t) ∷ ts
+
+abbrev pub call_word : Mechanism → Keyword
+call_word mechanism.CollateData = keyword.CollateData
+call_word (mechanism.AggregateDataInVariable function) = keyword.AggregateDataInVariable
+call_word (mechanism.AggregateDataInTable pairs) = keyword.AggregateDataInTable
+call_word mechanism.CollateDataIntoIntervals = keyword.CollateDataIntoIntervals
+
+abbrev pub fourth : Writer Mechanism
+fourth (mechanism.AggregateDataInVariable function) ts = mark sign.Comma (argument function ts)
+fourth (mechanism.AggregateDataInTable pairs) ts = mark sign.Comma (argument pairs ts)
+fourth m ts = ts
+
+abbrev pub rql_call : RqlCall → List Token
+rql_call c =
+    call (call_word c.mechanism) (λ ts. argument c.snapshots (mark sign.Comma (argument c.query (mark sign.Comma (argument c.table (fourth c.mechanism ts)))))) []
+
 -- the tokens of a line
 abbrev pub printed : Parsed → List Token
 printed (parsed.Plain s) = statement s
@@ -210,3 +232,4 @@ printed (parsed.Commit None) = word keyword.Commit []
 printed (parsed.Commit (Some label)) = word keyword.Commit (word keyword.With (word keyword.Snapshot (token.Text label ∷ [])))
 printed parsed.Rollback = word keyword.Rollback []
 printed (parsed.DropBelow n) = word keyword.Drop (word keyword.Snapshots (word keyword.Below (number n [])))
+printed (parsed.Rql c) = rql_call c

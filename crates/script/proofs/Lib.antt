@@ -1,4 +1,3 @@
-pub mod ClassLaws
 pub mod FirstLine
 pub mod FrontLaws
 pub mod FitLaws

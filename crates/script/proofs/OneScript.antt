@@ -4,7 +4,7 @@ use Rattle.std.proofs.lemmas.Bool.{cases_lt}
 use Rattle.std.specs.List.{AllZip}
 use Rattle.std.specs.Option.{option_map_or}
 use Rattle.script.specs.Line.{IsLine, IsOnly}
-use Rattle.script.specs.Script.{step, finished, script_from, script_of, IsScript, IsBadAt, IsOnlyReading}
+use Rattle.script.specs.Script.{is_closed, step, finished, script_from, script_of, IsScript, IsBadAt, IsOnlyReading}
 use Rattle.script.specs.Text.{script_lines}
 use Rattle.script.specs.declared.draft.Draft.{Draft}
 use Rattle.script.specs.declared.draft.Draft.TheVariants as draft
@@ -23,8 +23,7 @@ end_number false script m n e = cc
 
 finished_number : (m n : ℕ) (state : Draft) → finished m state ≡ Err n → n ≡ m
 finished_number m n draft.Empty e = cc
-finished_number m n draft.Phase e = cc
-finished_number m n (draft.Session session) e = end_number (length session.statements == 0) _ m n e
+finished_number m n (draft.Open p) e = end_number (is_closed p.session) _ m n e
 
 -- lines that are bad at the last of their first ones are bad there
 cut_next : (lines : List Line) (k m n : ℕ) (next : Option Draft) → ((state : Draft) → script_from (m + 1) state (take k lines) ≡ Err n → script_from (m + 1) state lines ≡ Err n)

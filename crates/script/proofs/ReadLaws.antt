@@ -6,7 +6,7 @@ use Rattle.std.specs.List.{AllZip}
 use Rattle.std.specs.Str.Lines.{lines}
 use Rattle.retro_base.specs.declared.refusal.Refusal.{Refusal}
 use Rattle.retro_base.specs.declared.refusal.Refusal.TheVariants.{OutOfMemory, BadScript}
-use Rattle.retro_base.specs.declared.limits.TheConstants.{SCRIPT_BYTES}
+use Rattle.script.specs.declared.limits.TheConstants.{SCRIPT_BYTES}
 use Rattle.script.proofs.FirstLine.{lines-some}
 use Rattle.script.proofs.FitLaws.{DraftFits, step_fits, finished_fits}
 use Rattle.script.specs.Limits.{LineFits, ScriptFits}
@@ -37,7 +37,7 @@ pub record HasRead (bytes rest : List ℕ) (number : ℕ) (state : Draft) : Type
   pub only : AllZip OnlyLine before said
   pub count : number ≡ length before + 1
   pub goes_on : (more : List Line) → script_of (said ++ more) ≡ script_from number state more
-  pub fits : DraftFits number state
+  pub fits : DraftFits state
   pub short : number + length rest ≤ SCRIPT_BYTES + 2
   pub behind : goes_too_far bytes ≡ true → 0 < length rest
 
@@ -56,15 +56,14 @@ read_none bytes rest e h = record {
   only = tt;
   count = refl;
   goes_on = λ more. refl;
-  fits = omega arith;
+  fits = tt;
   short = omega arith;
   behind = front_some SCRIPT_BYTES bytes rest e;
 }
 
 step_bad : (state : Draft) → step state Bad ≡ None
 step_bad draft.Empty = refl
-step_bad draft.Phase = refl
-step_bad (draft.Session session) = refl
+step_bad (draft.Open p) = refl
 
 -- a line that goes too far may not stand anywhere, so that a line which may stand there leaves bytes to read
 behind_next : (too_far : Bool) (first more : List ℕ) (state next : Draft) (line : Line) → IsLine (first_bounded too_far first more) line → step state line ≡ Some next → too_far ≡ true → 0 < length more
@@ -116,7 +115,7 @@ read_more bytes rest more first number state next line h split shorter is only f
   only = are_push OnlyLine h.before h.said (first_bounded (goes_too_far bytes) first more) line h.only only;
   count = omega (arith, h.count, length-append h.before (first_bounded (goes_too_far bytes) first more ∷ []));
   goes_on = λ others. rw append_assoc (h.goes_on (line ∷ others) ∙ rw stepped refl);
-  fits = rw stepped at (step_fits number state line h.fits fits);
+  fits = rw stepped at (step_fits state line h.fits fits);
   short = omega (arith, h.short);
   behind = behind_next (goes_too_far bytes) first more state next line is stepped;
 }
@@ -163,7 +162,7 @@ end_only bytes rest number state (Err refusal) h none good = tt
 
 pub end_fits : (bytes rest : List ℕ) (number : ℕ) (state : Draft) (answer : Result Script Refusal) → HasRead bytes rest number state
     → IfOk answer (λ script. finished number state ≡ Ok script) → IfOk answer ScriptFits
-end_fits bytes rest number state (Ok script) h good = finished_fits number state script (omega (arith, h.short)) h.fits good
+end_fits bytes rest number state (Ok script) h good = finished_fits number state script h.fits good
 end_fits bytes rest number state (Err refusal) h good = tt
 
 bad_end : (bytes rest : List ℕ) (number : ℕ) (state : Draft) → HasRead bytes rest number state → length rest ≡ 0 → finished number state ≡ Err number → IsBadOnlyAt bytes number

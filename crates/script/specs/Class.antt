@@ -1,4 +1,4 @@
--- What a statement line is, by its tokens.
+-- What a statement line that the grammar refuses is, by its first tokens.
 use Rattle.std.specs.Prelude.{◌+◌, ◌&&◌, ◌||◌, ℕ, Bool, true, false, List, Option, Some, None, slice_get, nat_eq, codes, if◌then◌else◌}
 use Rattle.std.specs.List.{position_or_len, starts_with}
 use Rattle.std.specs.Option.{option_and_then, option_map_or}
@@ -9,7 +9,7 @@ use Rattle.sql_lexer.specs.declared.token.Placed.{Placed}
 use Rattle.sql_lexer.specs.declared.token.Token.{Token}
 use Rattle.sql_lexer.specs.declared.token.Token.TheVariants as token
 use Rattle.script.specs.declared.class.Class.{Class}
-use Rattle.script.specs.declared.class.Class.TheVariants.{Statement, Commit, Rollback, AsOf, NotRun}
+use Rattle.script.specs.declared.class.Class.TheVariants.{Statement, End, Single}
 
 -- the keyword that a token is
 abbrev pub keyword_of : Token → Option Keyword
@@ -49,37 +49,37 @@ abbrev pub is_snapshots : Option Keyword → Bool
 is_snapshots (Some keyword.Snapshots) = true
 is_snapshots k = false
 
--- `SnapIds`, or a name that begins with `rql_`
+-- the name of the table of snapshots
+abbrev pub is_snap_ids : List ℕ → Bool
+is_snap_ids name = bytes_eq name (codes "SnapIds")
+
+-- a name of a result table begins with `rql_`
 abbrev pub is_result_name : List ℕ → Bool
-is_result_name name = bytes_eq name (codes "SnapIds") || starts_with nat_eq name (codes "rql_")
+is_result_name name = starts_with nat_eq name (codes "rql_")
 
--- whether such a name stands right behind the first FROM
-abbrev pub reads_results : List Placed → Bool
-reads_results tokens =
+-- a table that is none of the store's
+abbrev pub is_own_table : List ℕ → Bool
+is_own_table name = is_snap_ids name || is_result_name name
+
+-- whether the name of such a table stands right behind the first FROM
+abbrev pub reads_own_table : List Placed → Bool
+reads_own_table tokens =
     let from = position_or_len (λ t. is_from (keyword_of t.token)) tokens in
-    option_map_or is_result_name (name_at tokens (from + 1)) false
+    option_map_or is_own_table (name_at tokens (from + 1)) false
 
--- what a statement line is, by its first keyword
+-- what such a line is, by its first keyword
 abbrev pub class_behind : List Placed → Option Keyword → Class
-class_behind tokens (Some keyword.Commit) = Commit
-class_behind tokens (Some keyword.Rollback) = Rollback
-class_behind tokens (Some keyword.CollateData) = NotRun
-class_behind tokens (Some keyword.AggregateDataInVariable) = NotRun
-class_behind tokens (Some keyword.AggregateDataInTable) = NotRun
-class_behind tokens (Some keyword.CollateDataIntoIntervals) = NotRun
-class_behind tokens (Some keyword.Drop) = if is_snapshots (keyword_at tokens 1) then NotRun else Statement
+class_behind tokens (Some keyword.Commit) = End
+class_behind tokens (Some keyword.Rollback) = End
+class_behind tokens (Some keyword.CollateData) = Single
+class_behind tokens (Some keyword.AggregateDataInVariable) = Single
+class_behind tokens (Some keyword.AggregateDataInTable) = Single
+class_behind tokens (Some keyword.CollateDataIntoIntervals) = Single
+class_behind tokens (Some keyword.Drop) = if is_snapshots (keyword_at tokens 1) then Single else Statement
 class_behind tokens (Some keyword.Select) =
-    if is_as (keyword_at tokens 1) && is_of (keyword_at tokens 2) then AsOf else (if reads_results tokens then NotRun else Statement)
+    if (is_as (keyword_at tokens 1) && is_of (keyword_at tokens 2)) || reads_own_table tokens then Single else Statement
 class_behind tokens first = Statement
 
--- what a statement line is, by its tokens
+-- what such a line is, by its tokens
 abbrev pub class_of : List Placed → Class
 class_of tokens = class_behind tokens (keyword_at tokens 0)
-
--- whether this version runs such lines
-abbrev pub is_run : Class → Bool
-is_run Statement = true
-is_run Commit = true
-is_run Rollback = true
-is_run AsOf = true
-is_run NotRun = false

@@ -34,7 +34,7 @@ EndFits ending.Rollback = Unit {0}
 -- the statements and the label of an item are within the limits
 abbrev pub ItemFits : Item → Type 0
 ItemFits (item.Transaction t) = AllByRecursion StatementFits t.statements × EndFits t.end
-ItemFits (item.AsOf reading) = Unit {0}
+ItemFits (item.Single single) = Unit {0}
 
 -- a session has at most ITEMS items, within the limits
 abbrev pub SessionFits : Session → Type 0

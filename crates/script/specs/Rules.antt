@@ -1,51 +1,70 @@
 -- The rules of a script, line by line, and its lines written back.
-use Rattle.std.specs.Prelude.{◌≡◌, ◌+◌, ◌++◌, ◌<◌, ◌==◌, ◌&&◌, ◌||◌, ◌↔◌, ℕ, Bool, true, false, not, List, [], ◌∷◌, Result, Ok, Err, length, take, map, filter, slice_get, flat_map}
+use Rattle.std.specs.Prelude.{◌≡◌, ◌+◌, ◌++◌, ◌<◌, ◌==◌, ◌&&◌, ◌||◌, ◌↔◌, ℕ, Bool, true, false, not, List, [], ◌∷◌, Result, Ok, Err, length, nat_le, take, map, filter, slice_get, flat_map, if◌then◌else◌}
 use Rattle.std.specs.List.{list_any}
 use Rattle.std.specs.Option.{option_map_or}
-use Rattle.retro_base.specs.declared.limits.TheConstants.{SCRIPT_BYTES}
+use Rattle.std.specs.Str.{bytes_eq}
+use Rattle.retro_base.specs.declared.limits.TheConstants.{ITEMS, PHASES, SESSIONS}
 use Rattle.script.specs.Script.{script_of, ReadsAs, IsOnlyReading}
+use Rattle.script.specs.declared.limits.TheConstants.{SCRIPT_BYTES}
 use Rattle.script.specs.declared.line.Line.{Line}
-use Rattle.script.specs.declared.line.Line.TheVariants.{Skipped, Phase, Session, Ends, AsOf, Statement, Bad}
+use Rattle.script.specs.declared.line.Line.TheVariants.{Skipped, Phase, Session, Ends, Single, Statement, Bad}
 use Rattle.script.specs.declared.structure.Item.{Item}
 use Rattle.script.specs.declared.structure.Item.TheVariants as item
 use Rattle.script.specs.declared.structure.Phase.{Phase as PhaseOf}
 use Rattle.script.specs.declared.structure.Session.{Session as SessionOf}
 use Rattle.script.specs.declared.structure.Script.{Script}
 
--- a PHASE line
-abbrev pub opens_phase : Line → Bool
-opens_phase Phase = true
-opens_phase line = false
+-- What the lines before a line say: how many phases and items they opened, which names the sessions of the last phase have, and whether a
+-- transaction is open behind them.
+pub record Standing : Type 0 where
+  pub phases : ℕ
+  pub names : List (List ℕ)
+  pub items : ℕ
+  pub is_open : Bool
 
--- a SESSION line
-abbrev pub opens_session : Line → Bool
-opens_session (Session name) = true
-opens_session line = false
+-- before the first line
+abbrev pub nothing : Standing
+nothing = record { phases = 0; names = []; items = 0; is_open = false }
 
--- a COMMIT or ROLLBACK line
-abbrev pub is_end : Line → Bool
-is_end (Ends end) = true
-is_end line = false
+-- one item more, unless a transaction is open
+abbrev pub items_on : Standing → ℕ
+items_on s = if s.is_open then s.items else s.items + 1
 
--- a transaction is open behind these lines: a statement stands there with no line behind it that ends one
-abbrev pub is_open : List Line → Bool
-is_open [] = false
-is_open (Statement reading ∷ lines) = not (list_any is_end lines) || is_open lines
-is_open (line ∷ lines) = is_open lines
+-- behind one line more; a SESSION line opens the first phase too
+abbrev pub behind : Standing → Line → Standing
+behind s Phase = record s { phases = s.phases + 1; names = [] }
+behind s (Session name) = record s { phases = if s.phases == 0 then 1 else s.phases; names = s.names ++ name ∷ [] }
+behind s (Statement reading) = record s { items = items_on s; is_open = true }
+behind s (Ends end) = record s { items = items_on s; is_open = false }
+behind s (Single single) = record s { items = s.items + 1 }
+behind s line = s
 
--- whether a line breaks a rule, behind these lines
-abbrev pub breaks : List Line → Line → Bool
-breaks before Skipped = false
-breaks before Phase = list_any opens_phase before || list_any opens_session before || is_open before
-breaks before (Session name) = list_any opens_session before || is_open before
-breaks before (Ends end) = not (list_any opens_session before)
-breaks before (AsOf reading) = not (list_any opens_session before) || is_open before
-breaks before (Statement reading) = not (list_any opens_session before)
-breaks before Bad = true
+-- behind these lines, from there on
+abbrev pub behind_all : Standing → List Line → Standing
+behind_all s [] = s
+behind_all s (line ∷ lines) = behind_all (behind s line) lines
+
+-- what these lines say
+abbrev pub standing : List Line → Standing
+standing lines = behind_all nothing lines
+
+-- no session is open, or a line that belongs to an item opens one too many
+abbrev pub has_no_room : Standing → Bool
+has_no_room s = (length s.names == 0) || (not s.is_open && nat_le ITEMS s.items)
+
+-- whether a line breaks a rule, behind lines that say this
+abbrev pub breaks : Standing → Line → Bool
+breaks s Skipped = false
+breaks s Phase = s.is_open || nat_le PHASES s.phases
+breaks s (Session name) = s.is_open || (nat_le SESSIONS (length s.names) || list_any (λ other. bytes_eq other name) s.names)
+breaks s (Ends end) = has_no_room s
+breaks s (Statement reading) = has_no_room s
+breaks s (Single single) = s.is_open || has_no_room s
+breaks s Bad = true
 
 -- whether the line at this place, from 0, breaks a rule; or at the end, that a transaction is open there
 abbrev pub breaks_at : List Line → ℕ → Bool
-breaks_at lines place = option_map_or (breaks (take place lines)) (slice_get lines place) ((place == length lines) && is_open lines)
+breaks_at lines place = option_map_or (breaks (standing (take place lines))) (slice_get lines place) ((place == length lines) && (standing lines).is_open)
 
 -- the number, from 1, of the first line that breaks a rule
 abbrev pub IsFirstBreak : List Line → ℕ → Type 0
@@ -55,7 +74,7 @@ IsFirstBreak lines number =
 -- the lines of an item
 abbrev pub item_lines : Item → List Line
 item_lines (item.Transaction t) = map Statement t.statements ++ Ends t.end ∷ []
-item_lines (item.AsOf reading) = AsOf reading ∷ []
+item_lines (item.Single single) = Single single ∷ []
 
 -- the lines of a session
 abbrev pub session_lines : SessionOf → List Line

@@ -1,52 +1,108 @@
 -- The script that lines tell.
-use Rattle.std.specs.Prelude.{◌≡◌, ◌+◌, ◌++◌, ◌==◌, ℕ, List, [], ◌∷◌, Option, Some, None, Result, Ok, Err, length, take, if◌then◌else◌}
-use Rattle.std.specs.List.{AllZip}
+use Rattle.std.specs.Prelude.{◌≡◌, ◌+◌, ◌++◌, ◌==◌, ◌||◌, ℕ, Bool, true, not, List, [], ◌∷◌, Option, Some, None, Result, Ok, Err, length, nat_le, take, if◌then◌else◌}
+use Rattle.std.specs.List.{AllZip, list_any}
 use Rattle.std.specs.Option.{option_map, option_map_or}
+use Rattle.std.specs.Str.{bytes_eq}
+use Rattle.retro_base.specs.declared.limits.TheConstants.{ITEMS, PHASES, SESSIONS}
 use Rattle.retro_base.specs.declared.refusal.Refusal.{Refusal}
 use Rattle.retro_base.specs.declared.refusal.Refusal.TheVariants as refusal
+use Rattle.sql_tree.specs.declared.statement.Statement.{Statement as StatementOf}
 use Rattle.script.specs.Line.{IsLine}
 use Rattle.script.specs.Text.{script_lines}
 use Rattle.script.specs.declared.draft.Draft.{Draft}
 use Rattle.script.specs.declared.draft.Draft.TheVariants as draft
+use Rattle.script.specs.declared.draft.OpenPhase.{OpenPhase}
 use Rattle.script.specs.declared.draft.OpenSession.{OpenSession}
 use Rattle.script.specs.declared.line.Line.{Line}
-use Rattle.script.specs.declared.line.Line.TheVariants.{Skipped, Phase, Session, Ends, AsOf, Statement}
+use Rattle.script.specs.declared.line.Line.TheVariants.{Skipped, Phase, Session, Ends, Single, Statement, Bad}
+use Rattle.script.specs.declared.structure.End.{End}
 use Rattle.script.specs.declared.structure.Item.TheVariants as item
+use Rattle.script.specs.declared.structure.Phase.{Phase as PhaseOf}
+use Rattle.script.specs.declared.structure.Reading.{Reading}
 use Rattle.script.specs.declared.structure.Script.{Script}
 use Rattle.script.specs.declared.structure.Session.{Session as SessionOf}
+use Rattle.script.specs.declared.structure.Single.{Single as SingleOf}
 
--- a session that has no item yet
-abbrev pub new_session : List ℕ → OpenSession
-new_session name = record { name = name; items = []; statements = [] }
+-- a session that has no item yet, behind these of its phase
+abbrev pub new_session : List SessionOf → List ℕ → OpenSession
+new_session before name = record { before = before; name = name; items = []; statements = [] }
 
--- an open session behind one line more, if the line may stand there
-abbrev pub session_step : OpenSession → Line → Option OpenSession
-session_step session Skipped = Some session
-session_step session (Statement reading) = Some (record session { statements = session.statements ++ reading ∷ [] })
-session_step session (Ends end) =
-    let transaction = item.Transaction (record { statements = session.statements; end = end }) in
-    Some (record session { items = session.items ++ transaction ∷ []; statements = [] })
-session_step session (AsOf reading) =
-    if length session.statements == 0 then Some (record session { items = session.items ++ item.AsOf reading ∷ [] }) else None
-session_step session line = None
+-- the sessions of a phase, the open one the last
+abbrev pub sessions_of : Option OpenSession → List SessionOf
+sessions_of None = []
+sessions_of (Some s) = s.before ++ record { name = s.name; items = s.items } ∷ []
 
--- what was read behind one line more, if the line may stand there
+-- all phases, the open one the last
+abbrev pub phases_of : OpenPhase → List PhaseOf
+phases_of p = p.phases ++ record { sessions = sessions_of p.session } ∷ []
+
+-- no transaction is open
+abbrev pub is_closed : Option OpenSession → Bool
+is_closed None = true
+is_closed (Some s) = length s.statements == 0
+
+-- one of the sessions has this name
+abbrev pub has_name : List ℕ → List SessionOf → Bool
+has_name name sessions = list_any (λ session. bytes_eq session.name name) sessions
+
+-- behind a PHASE line
+abbrev pub phase_step : OpenPhase → Option OpenPhase
+phase_step p =
+    if not (is_closed p.session) || nat_le PHASES (length p.phases + 1) then None
+    else Some (record { phases = phases_of p; items = p.items; session = None })
+
+-- behind a SESSION line
+abbrev pub session_step : List ℕ → OpenPhase → Option OpenPhase
+session_step name p =
+    if not (is_closed p.session) || (nat_le SESSIONS (length (sessions_of p.session)) || has_name name (sessions_of p.session)) then None
+    else Some (record p { session = Some (new_session (sessions_of p.session) name) })
+
+-- the number of items behind a line that opens one unless a transaction is open: none, where that is one too many
+abbrev pub opened : ℕ → OpenSession → Option ℕ
+opened items s = if length s.statements == 0 then (if nat_le ITEMS items then None else Some (items + 1)) else Some items
+
+-- a phase behind a line of its session
+abbrev pub goes_on : OpenPhase → OpenSession → ℕ → OpenPhase
+goes_on p s items = record { phases = p.phases; items = items; session = Some s }
+
+abbrev pub statement_step : OpenPhase → Reading StatementOf → Option OpenSession → Option OpenPhase
+statement_step p reading None = None
+statement_step p reading (Some s) = option_map (goes_on p (record s { statements = s.statements ++ reading ∷ [] })) (opened p.items s)
+
+abbrev pub end_step : OpenPhase → End → Option OpenSession → Option OpenPhase
+end_step p end None = None
+end_step p end (Some s) =
+    let transaction = item.Transaction (record { statements = s.statements; end = end }) in
+    option_map (goes_on p (record s { items = s.items ++ transaction ∷ []; statements = [] })) (opened p.items s)
+
+abbrev pub single_step : OpenPhase → SingleOf → Option OpenSession → Option OpenPhase
+single_step p single None = None
+single_step p single (Some s) =
+    if not (length s.statements == 0) || nat_le ITEMS p.items then None
+    else Some (goes_on p (record s { items = s.items ++ item.Single single ∷ [] }) (p.items + 1))
+
+-- an open phase behind one line more, if the line may stand there
+abbrev pub open_step : OpenPhase → Line → Option OpenPhase
+open_step p Skipped = Some p
+open_step p Phase = phase_step p
+open_step p (Session name) = session_step name p
+open_step p (Statement reading) = statement_step p reading p.session
+open_step p (Ends end) = end_step p end p.session
+open_step p (Single single) = single_step p single p.session
+open_step p Bad = None
+
+-- what was read behind one line more, if the line may stand there; a SESSION line opens the first phase too
 abbrev pub step : Draft → Line → Option Draft
 step draft.Empty Skipped = Some draft.Empty
-step draft.Empty Phase = Some draft.Phase
-step draft.Empty (Session name) = Some (draft.Session (new_session name))
-step draft.Phase Skipped = Some draft.Phase
-step draft.Phase (Session name) = Some (draft.Session (new_session name))
-step (draft.Session session) line = option_map draft.Session (session_step session line)
-step state line = None
+step draft.Empty Phase = Some (draft.Open (record { phases = []; items = 0; session = None }))
+step draft.Empty (Session name) = Some (draft.Open (record { phases = []; items = 0; session = Some (new_session [] name) }))
+step draft.Empty line = None
+step (draft.Open p) line = option_map draft.Open (open_step p line)
 
 -- the script, where the lines end before the line of this number: no transaction may be open
 abbrev pub finished : ℕ → Draft → Result Script ℕ
 finished number draft.Empty = Ok (record { phases = [] })
-finished number draft.Phase = Ok (record { phases = record { sessions = [] } ∷ [] })
-finished number (draft.Session session) =
-    let whole : SessionOf = record { name = session.name; items = session.items } in
-    if length session.statements == 0 then Ok (record { phases = record { sessions = whole ∷ [] } ∷ [] }) else Err number
+finished number (draft.Open p) = if is_closed p.session then Ok (record { phases = phases_of p }) else Err number
 
 -- the script that these lines tell, the first having this number, behind what was read; or the number of the first bad line
 abbrev pub script_from : ℕ → Draft → List Line → Result Script ℕ

@@ -3,7 +3,8 @@ use Rattle.std.specs.Prelude.{◌+◌, ◌-◌, ◌==◌, ◌&&◌, ◌||◌, �
 use Rattle.std.specs.List.{starts_with, prefix_len, suffix_len}
 use Rattle.std.specs.Str.{str_eq_ignore_ascii_case}
 use Rattle.std.specs.Str.Lines.{lines}
-use Rattle.retro_base.specs.declared.limits.TheConstants.{LINE_BYTES, SCRIPT_BYTES}
+use Rattle.retro_base.specs.declared.limits.TheConstants.{LINE_BYTES}
+use Rattle.script.specs.declared.limits.TheConstants.{SCRIPT_BYTES}
 use Rattle.sql_lexer.specs.Lexes.{is_blank}
 
 -- a line, or none where it is too long

@@ -1,53 +1,34 @@
-//! What a statement line is, by its tokens.
+//! What a statement line that the grammar refuses is, by its first tokens.
 
-ghost use Rattle.std.specs.Prelude.{◌≡◌, ◌&&◌, false, if◌then◌else◌};
+ghost use Rattle.std.specs.Prelude.{◌≡◌, ◌&&◌, ◌||◌, false, if◌then◌else◌};
 ghost use Rattle.std.specs.List.{position_or_len};
 ghost use Rattle.std.specs.Option.{option_map_or};
-ghost use Rattle.script.specs.Class.{keyword_of, keyword_at, name_of, name_at, is_from, is_as, is_of, is_snapshots, is_result_name, reads_results, class_of, is_run};
+ghost use Rattle.script.specs.Class.{keyword_of, keyword_at, name_of, name_at, is_from, is_as, is_of, is_snapshots, is_snap_ids, is_result_name, is_own_table, reads_own_table, class_of};
 
 use sql_lexer::{Keyword, Placed, Token};
 
-/// What a statement line is.
+/// What a statement line is, where the grammar refuses it.
 #[derive(Clone, Copy, Debug, PartialEq, Eq)]
 pub enum Class {
     /// A statement of a transaction.
     Statement,
-    /// It begins with `COMMIT`.
-    Commit,
-    /// It begins with `ROLLBACK`.
-    Rollback,
-    /// It begins with `SELECT AS OF`: an item of its own.
-    AsOf,
-    /// An item of its own that this version does not run.
-    NotRun,
+    /// The end of a transaction.
+    End,
+    /// An item of its own.
+    Single,
 }
 
-impl Class {
-    /// Whether this version runs such lines.
-    pub fn is_run(self) -> bool
-        ensures { result ≡ is_run self }
-    {
-        match self {
-            Class::Statement => true,
-            Class::Commit => true,
-            Class::Rollback => true,
-            Class::AsOf => true,
-            Class::NotRun => false,
-        }
-    }
-}
-
-/// What a statement line with these tokens is.
+/// What a statement line with these tokens is, where the grammar refuses it.
 pub fn class_of(tokens: &[Placed]) -> Class
     ensures { result ≡ class_of tokens.now }
 {
     match keyword_at(tokens, 0) {
-        Some(Keyword::Commit) => Class::Commit,
-        Some(Keyword::Rollback) => Class::Rollback,
-        Some(Keyword::CollateData) => Class::NotRun,
-        Some(Keyword::AggregateDataInVariable) => Class::NotRun,
-        Some(Keyword::AggregateDataInTable) => Class::NotRun,
-        Some(Keyword::CollateDataIntoIntervals) => Class::NotRun,
+        Some(Keyword::Commit) => Class::End,
+        Some(Keyword::Rollback) => Class::End,
+        Some(Keyword::CollateData) => Class::Single,
+        Some(Keyword::AggregateDataInVariable) => Class::Single,
+        Some(Keyword::AggregateDataInTable) => Class::Single,
+        Some(Keyword::CollateDataIntoIntervals) => Class::Single,
         Some(Keyword::Drop) => drop_class(tokens),
         Some(Keyword::Select) => select_class(tokens),
         _ => Class::Statement,
@@ -55,22 +36,20 @@ pub fn class_of(tokens: &[Placed]) -> Class
 }
 
 fn drop_class(tokens: &[Placed]) -> Class
-    ensures { result ≡ (if is_snapshots (keyword_at tokens.now 1) then Class.NotRun else Class.Statement) }
+    ensures { result ≡ (if is_snapshots (keyword_at tokens.now 1) then Class.Single else Class.Statement) }
 {
     if is_snapshots(keyword_at(tokens, 1)) {
-        Class::NotRun
+        Class::Single
     } else {
         Class::Statement
     }
 }
 
 fn select_class(tokens: &[Placed]) -> Class
-    ensures { result ≡ (if is_as (keyword_at tokens.now 1) && is_of (keyword_at tokens.now 2) then Class.AsOf else (if reads_results tokens.now then Class.NotRun else Class.Statement)) }
+    ensures { result ≡ (if (is_as (keyword_at tokens.now 1) && is_of (keyword_at tokens.now 2)) || reads_own_table tokens.now then Class.Single else Class.Statement) }
 {
-    if is_as(keyword_at(tokens, 1)) && is_of(keyword_at(tokens, 2)) {
-        Class::AsOf
-    } else if reads_results(tokens) {
-        Class::NotRun
+    if (is_as(keyword_at(tokens, 1)) && is_of(keyword_at(tokens, 2))) || reads_own_table(tokens) {
+        Class::Single
     } else {
         Class::Statement
     }
@@ -119,18 +98,18 @@ fn is_snapshots(keyword: Option<Keyword>) -> bool
 }
 
 /// Whether the name behind the first FROM is that of snapshots or of results.
-fn reads_results(tokens: &[Placed]) -> bool
-    ensures { result ≡ reads_results tokens.now }
+fn reads_own_table(tokens: &[Placed]) -> bool
+    ensures { result ≡ reads_own_table tokens.now }
 {
     let from = first_from(tokens);
-    from < tokens.len() && is_result_at(tokens, from + 1)
+    from < tokens.len() && is_own_table_at(tokens, from + 1)
 }
 
-fn is_result_at(tokens: &[Placed], place: usize) -> bool
-    ensures { result ≡ option_map_or is_result_name (name_at tokens.now place) false }
+fn is_own_table_at(tokens: &[Placed], place: usize) -> bool
+    ensures { result ≡ option_map_or is_own_table (name_at tokens.now place) false }
 {
     match tokens.get(place) {
-        Some(placed) => is_result_token(&placed.token),
+        Some(placed) => is_own_table_token(&placed.token),
         None => false,
     }
 }
@@ -147,17 +126,31 @@ fn first_from(tokens: &[Placed]) -> usize
     tokens.len()
 }
 
-fn is_result_token(token: &Token) -> bool
-    ensures { result ≡ option_map_or is_result_name (name_of token.now) false }
+fn is_own_table_token(token: &Token) -> bool
+    ensures { result ≡ option_map_or is_own_table (name_of token.now) false }
 {
     match token {
-        Token::Name(name) => is_result_name(name.bytes()),
+        Token::Name(name) => is_own_table(name.bytes()),
         _ => false,
     }
 }
 
-fn is_result_name(name: &[u8]) -> bool
+fn is_own_table(name: &[u8]) -> bool
+    ensures { result ≡ is_own_table name.now }
+{
+    is_snap_ids(name) || is_result_name(name)
+}
+
+/// Whether a table of this name is that of the snapshots.
+pub fn is_snap_ids(name: &[u8]) -> bool
+    ensures { result ≡ is_snap_ids name.now }
+{
+    name == b"SnapIds".as_slice()
+}
+
+/// Whether a table of this name is one of results.
+pub fn is_result_name(name: &[u8]) -> bool
     ensures { result ≡ is_result_name name.now }
 {
-    name == b"SnapIds".as_slice() || name.starts_with(b"rql_")
+    name.starts_with(b"rql_")
 }

@@ -5,10 +5,11 @@ ghost use Rattle.script.specs.Limits.{ScriptFits};
 ghost use Rattle.script.specs.Script.{IsScript, IsOnlyReading, IsRefused};
 
 use crate::draft::Draft;
+use crate::limits::SCRIPT_BYTES;
 use crate::line::read_line;
 use crate::structure::Script;
 use crate::text::split_line;
-use retro_base::{Refusal, SCRIPT_BYTES};
+use retro_base::Refusal;
 use std::alloc::Global;
 
 /// The script that the bytes are. Refused as a bad script, with the number of the first bad line, or for want of memory.

@@ -1,8 +1,8 @@
 //! What a script says: phases of sessions of items.
 
 use crate::name::SessionName;
-use sql_text::AsOf;
-use sql_tree::Statement;
+use sql_text::{AsOf, RqlCall};
+use sql_tree::{Select, Statement};
 use values::{Seq, Text};
 
 /// What a statement line reads as.
@@ -29,11 +29,28 @@ pub struct Transaction {
     pub end: End,
 }
 
+/// An item of one line.
+#[derive(Debug, Drop)]
+pub enum Single {
+    /// A query as of a snapshot.
+    AsOf(AsOf),
+    /// `DROP SNAPSHOTS BELOW` and the number.
+    DropBelow(u64),
+    /// A query of the table of snapshots.
+    SnapIds(Select),
+    /// A call over many snapshots, with the places of its arguments' opening quotes in the line, from 0.
+    Call { call: RqlCall, places: Seq<u32> },
+    /// A query of a result table.
+    Results(Select),
+    /// The grammar refuses the line, at this byte of it.
+    Syntax { place: u32 },
+}
+
 /// What a session does at once.
 #[derive(Debug, Drop)]
 pub enum Item {
     Transaction(Transaction),
-    AsOf(Reading<AsOf>),
+    Single(Single),
 }
 
 /// A session: its name, and its items in order.

@@ -38,6 +38,7 @@ use Rattle.sql_parts.specs.declared.action.UpdateAction.TheVariants as update_ac
 use Rattle.sql_parts.specs.declared.parsed.AsOf.{AsOf}
 use Rattle.sql_parts.specs.declared.parsed.Parsed.{Parsed}
 use Rattle.sql_parts.specs.declared.parsed.Parsed.TheVariants as parsed
+use Rattle.sql_parts.specs.declared.parsed.RqlCall.{RqlCall}
 use Rattle.sql_parts.specs.declared.part.Part.{Part}
 use Rattle.sql_parts.specs.declared.part.Part.TheVariants as part
 use Rattle.sql_build.specs.Parts.{line, output as output_of, query as query_of, row as row_of, select_list, table as table_of, term as term_of, update as update_of}
@@ -68,6 +69,8 @@ pub data Fits : List Part → List Cell → Type 0 where
   table : {x : CreateTable} {ps : List Part} {cs : List Cell} (n : ℕ) → 1 ≤ length x.columns → length x.columns ≡ n → Fits ps cs → Fits (part.CreateTable x ∷ ps) ((sort.Table, n) ∷ cs)
   plain : {x : Statement} {ps : List Part} {cs : List Cell} → IsStatement x → Fits ps cs → Fits (part.Parsed (parsed.Plain x) ∷ ps) ((sort.Plain, 0) ∷ cs)
   as_of : {x : AsOf} {ps : List Part} {cs : List Cell} → IsSelect x.query → Fits ps cs → Fits (part.Parsed (parsed.AsOf x) ∷ ps) ((sort.AsOf, 0) ∷ cs)
+  argument : {x : List ℕ} {ps : List Part} {cs : List Cell} → Fits ps cs → Fits (part.Argument x ∷ ps) ((sort.Argument, 0) ∷ cs)
+  call : {x : RqlCall} {ps : List Part} {cs : List Cell} → Fits ps cs → Fits (part.Parsed (parsed.Rql x) ∷ ps) ((sort.Call, 0) ∷ cs)
   line_of : {x : Parsed} {ps : List Part} {cs : List Cell} → Fits ps cs → Fits (part.Parsed x ∷ ps) ((sort.Line, 0) ∷ cs)
 
 -- parts that are put together fit
@@ -144,6 +147,11 @@ line_made line_action.CommitUnlabelled ps cs f = (_, refl, line_of f)
 line_made line_action.CommitLabelled ps cs (text f) = (_, refl, line_of f)
 line_made line_action.Rollback ps cs f = (_, refl, line_of f)
 line_made line_action.DropBelow ps cs (number f) = (_, refl, line_of f)
+line_made line_action.Argument ps cs (text f) = (_, refl, argument f)
+line_made line_action.CollateData ps cs (argument (argument (argument f))) = (_, refl, call f)
+line_made line_action.AggregateDataInVariable ps cs (argument (argument (argument (argument f)))) = (_, refl, call f)
+line_made line_action.AggregateDataInTable ps cs (argument (argument (argument (argument f)))) = (_, refl, call f)
+line_made line_action.CollateDataIntoIntervals ps cs (argument (argument (argument f))) = (_, refl, call f)
 
 column_made : (k : Kind) (ps : List Part) (cs : List Cell) → Fits ps ((sort.Name, 0) ∷ cs) → Made (table_of (table_action.Column k) ps) ((sort.Column, 0) ∷ cs)
 column_made k ps cs (name f) = (_, refl, column f)

@@ -46,6 +46,8 @@ pub data Sort : Type 0 where
   Plain : Sort
   AsOf : Sort
   Line : Sort
+  Argument : Sort
+  Call : Sort
 
 -- a sort, and for a table its number of columns
 abbrev pub Cell : Type 0
@@ -73,9 +75,11 @@ number Query = 17
 number Plain = 18
 number AsOf = 19
 number Line = 20
+number Argument = 21
+number Call = 22
 
 abbrev sorts : List Sort
-sorts = Name ∷ Number ∷ Text ∷ Literal ∷ ColumnName ∷ Operand ∷ Expression ∷ Condition ∷ Column ∷ Table ∷ Row ∷ Insert ∷ Assignment ∷ Update ∷ Value ∷ Output ∷ Outputs ∷ Query ∷ Plain ∷ AsOf ∷ Line ∷ []
+sorts = Name ∷ Number ∷ Text ∷ Literal ∷ ColumnName ∷ Operand ∷ Expression ∷ Condition ∷ Column ∷ Table ∷ Row ∷ Insert ∷ Assignment ∷ Update ∷ Value ∷ Output ∷ Outputs ∷ Query ∷ Plain ∷ AsOf ∷ Line ∷ Argument ∷ Call ∷ []
 
 sort_back : (s : Sort) → nth (number s) sorts ≡ Some s
 sort_back Name = refl
@@ -342,6 +346,11 @@ line_pops line_action.CommitUnlabelled = []
 line_pops line_action.CommitLabelled = (Text, 0) ∷ []
 line_pops line_action.Rollback = []
 line_pops line_action.DropBelow = (Number, 0) ∷ []
+line_pops line_action.Argument = (Text, 0) ∷ []
+line_pops line_action.CollateData = (Argument, 0) ∷ (Argument, 0) ∷ (Argument, 0) ∷ []
+line_pops line_action.AggregateDataInVariable = (Argument, 0) ∷ (Argument, 0) ∷ (Argument, 0) ∷ (Argument, 0) ∷ []
+line_pops line_action.AggregateDataInTable = (Argument, 0) ∷ (Argument, 0) ∷ (Argument, 0) ∷ (Argument, 0) ∷ []
+line_pops line_action.CollateDataIntoIntervals = (Argument, 0) ∷ (Argument, 0) ∷ (Argument, 0) ∷ []
 
 abbrev pub line_pushes : LineAction → List Cell
 line_pushes line_action.Commit = (Line, 0) ∷ []
@@ -349,6 +358,11 @@ line_pushes line_action.CommitUnlabelled = (Line, 0) ∷ []
 line_pushes line_action.CommitLabelled = (Line, 0) ∷ []
 line_pushes line_action.Rollback = (Line, 0) ∷ []
 line_pushes line_action.DropBelow = (Line, 0) ∷ []
+line_pushes line_action.Argument = (Argument, 0) ∷ []
+line_pushes line_action.CollateData = (Call, 0) ∷ []
+line_pushes line_action.AggregateDataInVariable = (Call, 0) ∷ []
+line_pushes line_action.AggregateDataInTable = (Call, 0) ∷ []
+line_pushes line_action.CollateDataIntoIntervals = (Call, 0) ∷ []
 
 -- the effect of an action, where the last table has so many columns
 abbrev pub put_effect : ℕ → Action → Option Effect

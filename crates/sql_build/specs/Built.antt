@@ -97,6 +97,7 @@ abbrev pub taken : Op → Draft → Option Draft
 taken (op.Name n) d = Some (with_parts (part.Name n ∷ d.parts) d)
 taken (op.Integer i) d = Some (with_parts (part.Number i ∷ d.parts) d)
 taken (op.Text t) d = Some (with_parts (part.Text t ∷ d.parts) d)
+taken (op.LongText t) d = Some (with_parts (part.Argument t ∷ d.parts) d)
 taken (op.Act a) d = acted a d
 
 abbrev pub goes_on : Option Draft → (Draft → Option Draft) → Option Draft

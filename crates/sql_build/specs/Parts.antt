@@ -36,8 +36,10 @@ use Rattle.sql_parts.specs.declared.action.UpdateAction.{UpdateAction}
 use Rattle.sql_parts.specs.declared.action.UpdateAction.TheVariants as update_action
 use Rattle.sql_parts.specs.declared.part.Part.{Part}
 use Rattle.sql_parts.specs.declared.part.Part.TheVariants as part
+use Rattle.sql_parts.specs.declared.parsed.Mechanism.{Mechanism}
+use Rattle.sql_parts.specs.declared.parsed.Mechanism.TheVariants as mechanism
 use Rattle.sql_parts.specs.declared.parsed.Parsed.TheVariants as parsed
-use Rattle.sql_parts.specs.Taking.{◌>>=◌, a_column, a_column_name, a_condition, a_create_table, a_literal, a_name, a_number, a_query, a_row, a_text, an_assignment, an_expression, an_insert, an_output, an_output_value, an_update, done, outputs}
+use Rattle.sql_parts.specs.Taking.{◌>>=◌, a_column, a_column_name, a_condition, a_create_table, a_literal, a_name, a_number, a_query, a_row, a_text, an_argument, an_assignment, an_expression, an_insert, an_output, an_output_value, an_update, done, outputs}
 
 -- the part is what is put together, above those that are left, or nothing is
 abbrev pub Makes : Option Part → List Part → Option (List Part) → Type 0
@@ -253,6 +255,14 @@ query query_action.AsOf = do
   n ← a_number
   done (part.Parsed (parsed.AsOf (record { snapshot = unsigned_abs n; query = q })))
 
+-- a call of a mechanism with its first three arguments
+abbrev pub call : Mechanism → List Part → Option (List Part)
+call m = do
+  t ← an_argument
+  q ← an_argument
+  s ← an_argument
+  done (part.Parsed (parsed.Rql (record { snapshots = s; query = q; table = t; mechanism = m })))
+
 -- lines that are no statements
 abbrev pub line : LineAction → List Part → Option (List Part)
 line line_action.Commit = done (part.Parsed (parsed.Commit None))
@@ -264,3 +274,14 @@ line line_action.Rollback = done (part.Parsed parsed.Rollback)
 line line_action.DropBelow = do
   n ← a_number
   done (part.Parsed (parsed.DropBelow (unsigned_abs n)))
+line line_action.Argument = do
+  t ← a_text
+  done (part.Argument t)
+line line_action.CollateData = call mechanism.CollateData
+line line_action.AggregateDataInVariable = do
+  f ← an_argument
+  call (mechanism.AggregateDataInVariable f)
+line line_action.AggregateDataInTable = do
+  f ← an_argument
+  call (mechanism.AggregateDataInTable f)
+line line_action.CollateDataIntoIntervals = call mechanism.CollateDataIntoIntervals

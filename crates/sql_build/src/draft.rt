@@ -88,6 +88,7 @@ impl Draft {
             Op::Name(name) => self.put(Some(Part::Name(name))),
             Op::Integer(number) => self.put(Some(Part::Number(number))),
             Op::Text(text) => self.put(Some(Part::Text(text))),
+            Op::LongText(text) => self.put(Some(Part::Argument(text))),
             Op::Act(action) => self.act(alloc, action),
         }
     }
@@ -104,7 +105,7 @@ impl Draft {
             Action::Output(action) => output(action, &mut self.parts),
             Action::List(action) => select_list(alloc, action, &mut self.parts)?,
             Action::Query(action) => query(action, &mut self.parts)?,
-            Action::Line(action) => line(alloc, action, &mut self.parts),
+            Action::Line(action) => line(alloc, action, &mut self.parts)?,
         };
         self.put(part)
     }

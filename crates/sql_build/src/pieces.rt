@@ -1,7 +1,8 @@
 //! What each action puts together of the last parts.
 
 ghost use Rattle.std.specs.Prelude.{◌≡◌, ◌++◌, ◌∷◌, [], IfOk};
-ghost use Rattle.sql_build.specs.Parts.{line, Makes, negative, output, plain, plain_query, query, row, select_list, table, term, update};
+ghost use Rattle.sql_build.specs.Parts.{call, line, Makes, negative, output, plain, plain_query, query, row, select_list, table, term, update};
+ghost use Rattle.sql_parts.specs.declared.action.LineAction.TheVariants as line_action;
 ghost use Rattle.sql_parts.specs.declared.action.ListAction.TheVariants as list_action;
 ghost use Rattle.sql_parts.specs.declared.action.QueryAction.TheVariants as query_action;
 ghost use Rattle.sql_parts.specs.declared.action.RowAction.TheVariants as row_action;
@@ -10,8 +11,8 @@ ghost use Rattle.sql_parts.specs.declared.action.UpdateAction.TheVariants as upd
 ghost use Rattle.sql_parts.specs.declared.part.Part.TheVariants as part;
 
 use sql_parts::{
-    AsOf, LineAction, ListAction, OutputAction, Parsed, Part, Parts, QueryAction, RowAction,
-    TableAction, TermAction, UpdateAction,
+    AsOf, LineAction, ListAction, Mechanism, OutputAction, Parsed, Part, Parts, QueryAction,
+    RowAction, RqlCall, TableAction, TermAction, UpdateAction,
 };
 use sql_tree::{
     Aggregate, Assignment, Column, ColumnName, CreateIndex, CreateTable, Delete, Direction, Insert,
@@ -420,15 +421,81 @@ fn as_of(parts: &mut Parts) -> Option<Part>
 }
 
 /// Lines that are no statements.
-pub fn line(alloc: Global, action: LineAction, parts: &mut Parts) -> Option<Part>
-    ensures { Makes result parts.new (line action parts.old) }
+pub fn line(
+    alloc: Global,
+    action: LineAction,
+    parts: &mut Parts,
+) -> Result<Option<Part>, AllocError>
+    ensures { IfOk result (λ part. Makes part parts.new (line action parts.old)) }
 {
-    let parsed = match action {
-        LineAction::Commit => Parsed::Commit(None),
-        LineAction::CommitUnlabelled => Parsed::Commit(Some(Text::new(Seq::new(alloc)))),
-        LineAction::CommitLabelled => Parsed::Commit(Some(parts.text()?)),
-        LineAction::Rollback => Parsed::Rollback,
-        LineAction::DropBelow => Parsed::DropBelow(parts.number()?.unsigned_abs()),
-    };
-    Some(Part::Parsed(parsed))
+    match action {
+        LineAction::Argument => argument(alloc, parts),
+        LineAction::Commit => Ok(Some(Part::Parsed(Parsed::Commit(None)))),
+        LineAction::CommitUnlabelled => {
+            let label = Text::new(Seq::new(alloc));
+            Ok(Some(Part::Parsed(Parsed::Commit(Some(label)))))
+        }
+        LineAction::CommitLabelled => Ok(commit_labelled(parts)),
+        LineAction::Rollback => Ok(Some(Part::Parsed(Parsed::Rollback))),
+        LineAction::DropBelow => Ok(drop_below(parts)),
+        LineAction::CollateData => Ok(call(Mechanism::CollateData, parts)),
+        LineAction::AggregateDataInVariable => Ok(in_variable(parts)),
+        LineAction::AggregateDataInTable => Ok(in_table(parts)),
+        LineAction::CollateDataIntoIntervals => {
+            Ok(call(Mechanism::CollateDataIntoIntervals, parts))
+        }
+    }
+}
+
+fn commit_labelled(parts: &mut Parts) -> Option<Part>
+    ensures { Makes result parts.new (line line_action.CommitLabelled parts.old) }
+{
+    Some(Part::Parsed(Parsed::Commit(Some(parts.text()?))))
+}
+
+fn drop_below(parts: &mut Parts) -> Option<Part>
+    ensures { Makes result parts.new (line line_action.DropBelow parts.old) }
+{
+    Some(Part::Parsed(Parsed::DropBelow(parts.number()?.unsigned_abs())))
+}
+
+fn argument(alloc: Global, parts: &mut Parts) -> Result<Option<Part>, AllocError>
+    ensures { IfOk result (λ part. Makes part parts.new (line line_action.Argument parts.old)) }
+{
+    match parts.text() {
+        Some(text) => {
+            let bytes = Seq::from(Vec::from_slice(alloc, text.bytes())?);
+            Ok(Some(Part::Argument(bytes)))
+        }
+        None => Ok(None),
+    }
+}
+
+// A call of a mechanism with its first three arguments.
+fn call(mechanism: Mechanism, parts: &mut Parts) -> Option<Part>
+    ensures { Makes result parts.new (call mechanism parts.old) }
+{
+    let table = parts.argument()?;
+    let query = parts.argument()?;
+    let snapshots = parts.argument()?;
+    Some(Part::Parsed(Parsed::Rql(RqlCall {
+        snapshots,
+        query,
+        table,
+        mechanism,
+    })))
+}
+
+fn in_variable(parts: &mut Parts) -> Option<Part>
+    ensures { Makes result parts.new (line line_action.AggregateDataInVariable parts.old) }
+{
+    let function = parts.argument()?;
+    call(Mechanism::AggregateDataInVariable { function }, parts)
+}
+
+fn in_table(parts: &mut Parts) -> Option<Part>
+    ensures { Makes result parts.new (line line_action.AggregateDataInTable parts.old) }
+{
+    let pairs = parts.argument()?;
+    call(Mechanism::AggregateDataInTable { pairs }, parts)
 }

@@ -51,7 +51,7 @@ content_of token.LongWord = []
 content_of (token.Integer i) = op.Integer i ∷ []
 content_of token.BigInteger = []
 content_of (token.Text t) = op.Text t ∷ []
-content_of (token.LongText t) = []
+content_of (token.LongText t) = op.LongText t ∷ []
 content_of (token.Sign s) = []
 
 -- takes the keyword
@@ -90,6 +90,10 @@ sides rule.Sentence =
     ∷ (word keyword.Select ∷ Use rule.Selected ∷ [])
     ∷ (word keyword.Commit ∷ Use rule.SnapshotChoice ∷ [])
     ∷ (word keyword.Rollback ∷ Put (action.Line line_action.Rollback) ∷ [])
+    ∷ (word keyword.CollateData ∷ mark sign.Open ∷ Use rule.Argument ∷ mark sign.Comma ∷ Use rule.Argument ∷ mark sign.Comma ∷ Use rule.Argument ∷ mark sign.Close ∷ Put (action.Line line_action.CollateData) ∷ [])
+    ∷ (word keyword.AggregateDataInVariable ∷ mark sign.Open ∷ Use rule.Argument ∷ mark sign.Comma ∷ Use rule.Argument ∷ mark sign.Comma ∷ Use rule.Argument ∷ mark sign.Comma ∷ Use rule.Argument ∷ mark sign.Close ∷ Put (action.Line line_action.AggregateDataInVariable) ∷ [])
+    ∷ (word keyword.AggregateDataInTable ∷ mark sign.Open ∷ Use rule.Argument ∷ mark sign.Comma ∷ Use rule.Argument ∷ mark sign.Comma ∷ Use rule.Argument ∷ mark sign.Comma ∷ Use rule.Argument ∷ mark sign.Close ∷ Put (action.Line line_action.AggregateDataInTable) ∷ [])
+    ∷ (word keyword.CollateDataIntoIntervals ∷ mark sign.Open ∷ Use rule.Argument ∷ mark sign.Comma ∷ Use rule.Argument ∷ mark sign.Comma ∷ Use rule.Argument ∷ mark sign.Close ∷ Put (action.Line line_action.CollateDataIntoIntervals) ∷ [])
     ∷ (word keyword.Drop ∷ word keyword.Snapshots ∷ word keyword.Below ∷ Take Integer ∷ Put (action.Line line_action.DropBelow) ∷ [])
     ∷ []
 sides rule.Created =
@@ -215,6 +219,11 @@ sides rule.Compared =
 sides rule.SnapshotChoice =
     (word keyword.With ∷ word keyword.Snapshot ∷ Use rule.LabelChoice ∷ [])
     ∷ (Put (action.Line line_action.Commit) ∷ [])
+    ∷ []
+sides rule.Argument =
+    (Take ShortText ∷ Put (action.Line line_action.Argument) ∷ [])
+    ∷ (Take Text ∷ Put (action.Line line_action.Argument) ∷ [])
+    ∷ (Take LongText ∷ [])
     ∷ []
 sides rule.LabelChoice =
     (Take ShortText ∷ Put (action.Line line_action.CommitLabelled) ∷ [])

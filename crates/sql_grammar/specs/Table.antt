@@ -3,7 +3,7 @@ use Rattle.std.specs.Prelude.{ℕ, zero, suc, Bool, true, false, List, [], ◌�
 use Rattle.sql_lexer.specs.declared.token.Keyword.TheVariants as keyword
 use Rattle.sql_lexer.specs.declared.token.Sign.TheVariants as sign
 use Rattle.sql_grammar.specs.declared.grammar.Class.{Class}
-use Rattle.sql_grammar.specs.declared.grammar.Class.TheVariants.{Keyword, Sign, Name, Integer, ShortText, Text, End}
+use Rattle.sql_grammar.specs.declared.grammar.Class.TheVariants.{Keyword, Sign, Name, Integer, ShortText, Text, LongText, End}
 use Rattle.sql_grammar.specs.declared.grammar.Rule.{Rule}
 use Rattle.sql_grammar.specs.declared.grammar.Rule.TheVariants as rule
 use Rattle.sql_grammar.specs.declared.grammar.Symbol.{Symbol}
@@ -37,7 +37,7 @@ null _ = false
 
 -- the classes that a rule may begin with
 abbrev pub first : Rule → List Class
-first rule.Sentence = Keyword keyword.Create ∷ Keyword keyword.Insert ∷ Keyword keyword.Update ∷ Keyword keyword.Delete ∷ Keyword keyword.Select ∷ Keyword keyword.Commit ∷ Keyword keyword.Rollback ∷ Keyword keyword.Drop ∷ []
+first rule.Sentence = Keyword keyword.Create ∷ Keyword keyword.Insert ∷ Keyword keyword.Update ∷ Keyword keyword.Delete ∷ Keyword keyword.Select ∷ Keyword keyword.Commit ∷ Keyword keyword.Rollback ∷ Keyword keyword.CollateData ∷ Keyword keyword.AggregateDataInVariable ∷ Keyword keyword.AggregateDataInTable ∷ Keyword keyword.CollateDataIntoIntervals ∷ Keyword keyword.Drop ∷ []
 first rule.Created = Keyword keyword.Table ∷ Keyword keyword.Index ∷ []
 first rule.Column = Name ∷ []
 first rule.Kind = Keyword keyword.Int ∷ Keyword keyword.Text ∷ []
@@ -82,6 +82,7 @@ first rule.MoreNegations = Keyword keyword.And ∷ []
 first rule.Negation = Keyword keyword.Not ∷ Sign sign.Open ∷ Keyword keyword.CurrentSnapshot ∷ Name ∷ Integer ∷ Sign sign.Minus ∷ ShortText ∷ Text ∷ []
 first rule.Compared = Sign sign.Equal ∷ Sign sign.NotEqual ∷ Sign sign.Less ∷ Sign sign.AtMost ∷ Sign sign.Greater ∷ Sign sign.AtLeast ∷ []
 first rule.SnapshotChoice = Keyword keyword.With ∷ []
+first rule.Argument = ShortText ∷ Text ∷ LongText ∷ []
 first rule.LabelChoice = ShortText ∷ []
 
 -- the classes that may come behind a rule
@@ -131,6 +132,7 @@ follow rule.MoreNegations = Keyword keyword.Or ∷ End ∷ Sign sign.Close ∷ K
 follow rule.Negation = Keyword keyword.And ∷ Keyword keyword.Or ∷ End ∷ Sign sign.Close ∷ Keyword keyword.Group ∷ Keyword keyword.Order ∷ Keyword keyword.Limit ∷ []
 follow rule.Compared = Keyword keyword.And ∷ Keyword keyword.Or ∷ End ∷ Sign sign.Close ∷ Keyword keyword.Group ∷ Keyword keyword.Order ∷ Keyword keyword.Limit ∷ []
 follow rule.SnapshotChoice = End ∷ []
+follow rule.Argument = Sign sign.Comma ∷ Sign sign.Close ∷ []
 follow rule.LabelChoice = End ∷ []
 
 -- a bound on the steps before a rule takes a token or is over: above that of the rules that it may begin with
@@ -169,7 +171,11 @@ choice rule.Sentence (Keyword keyword.Delete) = 3
 choice rule.Sentence (Keyword keyword.Select) = 4
 choice rule.Sentence (Keyword keyword.Commit) = 5
 choice rule.Sentence (Keyword keyword.Rollback) = 6
-choice rule.Sentence _ = 7
+choice rule.Sentence (Keyword keyword.CollateData) = 7
+choice rule.Sentence (Keyword keyword.AggregateDataInVariable) = 8
+choice rule.Sentence (Keyword keyword.AggregateDataInTable) = 9
+choice rule.Sentence (Keyword keyword.CollateDataIntoIntervals) = 10
+choice rule.Sentence _ = 11
 choice rule.Created (Keyword keyword.Table) = 0
 choice rule.Created _ = 1
 choice rule.Kind (Keyword keyword.Int) = 0
@@ -247,6 +253,9 @@ choice rule.Compared (Sign sign.Greater) = 4
 choice rule.Compared _ = 5
 choice rule.SnapshotChoice (Keyword keyword.With) = 0
 choice rule.SnapshotChoice _ = 1
+choice rule.Argument ShortText = 0
+choice rule.Argument Text = 1
+choice rule.Argument _ = 2
 choice rule.LabelChoice ShortText = 0
 choice rule.LabelChoice _ = 1
 choice _ _ = 0
@@ -298,7 +307,8 @@ place rule.MoreNegations = 41
 place rule.Negation = 42
 place rule.Compared = 43
 place rule.SnapshotChoice = 44
-place rule.LabelChoice = 45
+place rule.Argument = 45
+place rule.LabelChoice = 46
 
 -- the right side at an index, and the last behind the end
 abbrev pub pick : ℕ → List (List Symbol) → List Symbol

@@ -93,6 +93,7 @@ pub enum Rule {
     Negation,
     Compared,
     SnapshotChoice,
+    Argument,
     LabelChoice,
 }
 

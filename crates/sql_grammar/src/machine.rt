@@ -151,7 +151,7 @@ fn content(token: Token) -> Option<Op>
         Token::Name(name) => Some(Op::Name(name)),
         Token::Integer(number) => Some(Op::Integer(number)),
         Token::Text(text) => Some(Op::Text(text)),
-        Token::LongText(_text) => None,
+        Token::LongText(text) => Some(Op::LongText(text)),
         Token::Keyword(_keyword) => None,
         Token::Sign(_sign) => None,
         Token::LongWord | Token::BigInteger => None,

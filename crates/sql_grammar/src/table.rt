@@ -108,6 +108,18 @@ const SHORT_TEXT: Symbol = Symbol::Take(Class::ShortText);
 
 const VALUE_TEXT: Symbol = Symbol::Take(Class::Text);
 
+const LONG_TEXT: Symbol = Symbol::Take(Class::LongText);
+
+const ARGUMENT: Symbol = Use(Rule::Argument);
+
+const COLLATE_DATA: Symbol = Symbol::Take(Class::Keyword(Keyword::CollateData));
+
+const IN_VARIABLE: Symbol = Symbol::Take(Class::Keyword(Keyword::AggregateDataInVariable));
+
+const IN_TABLE: Symbol = Symbol::Take(Class::Keyword(Keyword::AggregateDataInTable));
+
+const INTO_INTERVALS: Symbol = Symbol::Take(Class::Keyword(Keyword::CollateDataIntoIntervals));
+
 const OR: Symbol = Symbol::Take(Class::Keyword(Keyword::Or));
 
 const AND: Symbol = Symbol::Take(Class::Keyword(Keyword::And));
@@ -515,6 +527,11 @@ fn last_side(rule: Rule, class: Class) -> &'static [Symbol]
 {
     use Rule::*;
     match rule {
+        Argument => match class {
+            Class::ShortText => &[SHORT_TEXT, Put(Action::Line(LineAction::Argument))],
+            Class::Text => &[VALUE_TEXT, Put(Action::Line(LineAction::Argument))],
+            _ => &[LONG_TEXT],
+        },
         _ => match class {
             Class::ShortText => &[SHORT_TEXT, Put(Action::Line(LineAction::CommitLabelled))],
             _ => &[Put(Action::Line(LineAction::CommitUnlabelled))],
@@ -558,6 +575,54 @@ fn sentence(class: Class) -> &'static [Symbol]
         Class::Keyword(Keyword::Select) => &[SELECT, Use(Selected)],
         Class::Keyword(Keyword::Commit) => &[COMMIT, Use(SnapshotChoice)],
         Class::Keyword(Keyword::Rollback) => &[ROLLBACK, Put(Action::Line(LineAction::Rollback))],
+        Class::Keyword(Keyword::CollateData) => &[
+            COLLATE_DATA,
+            OPEN,
+            ARGUMENT,
+            COMMA,
+            ARGUMENT,
+            COMMA,
+            ARGUMENT,
+            CLOSE,
+            Put(Action::Line(LineAction::CollateData)),
+        ],
+        Class::Keyword(Keyword::AggregateDataInVariable) => &[
+            IN_VARIABLE,
+            OPEN,
+            ARGUMENT,
+            COMMA,
+            ARGUMENT,
+            COMMA,
+            ARGUMENT,
+            COMMA,
+            ARGUMENT,
+            CLOSE,
+            Put(Action::Line(LineAction::AggregateDataInVariable)),
+        ],
+        Class::Keyword(Keyword::AggregateDataInTable) => &[
+            IN_TABLE,
+            OPEN,
+            ARGUMENT,
+            COMMA,
+            ARGUMENT,
+            COMMA,
+            ARGUMENT,
+            COMMA,
+            ARGUMENT,
+            CLOSE,
+            Put(Action::Line(LineAction::AggregateDataInTable)),
+        ],
+        Class::Keyword(Keyword::CollateDataIntoIntervals) => &[
+            INTO_INTERVALS,
+            OPEN,
+            ARGUMENT,
+            COMMA,
+            ARGUMENT,
+            COMMA,
+            ARGUMENT,
+            CLOSE,
+            Put(Action::Line(LineAction::CollateDataIntoIntervals)),
+        ],
         _ => &[
             DROP,
             SNAPSHOTS,

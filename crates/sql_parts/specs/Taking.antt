@@ -51,6 +51,10 @@ abbrev pub a_text : Taking (List ℕ)
 a_text (part.Text x ∷ ps) = Some (x, ps)
 a_text _ = None
 
+abbrev pub an_argument : Taking (List ℕ)
+an_argument (part.Argument x ∷ ps) = Some (x, ps)
+an_argument _ = None
+
 abbrev pub a_literal : Taking (Value)
 a_literal (part.Literal x ∷ ps) = Some (x, ps)
 a_literal _ = None

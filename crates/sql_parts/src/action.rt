@@ -1,7 +1,7 @@
 //! What a sentence puts out.
 
 use sql_tree::{Comparison, Direction, Name, Operator};
-use values::{Kind, Text};
+use values::{Kind, Seq, Text};
 
 /// What a sentence puts out beside the contents of its tokens: the parts before it, the last first, are put together.
 #[derive(Clone, Copy)]
@@ -122,6 +122,12 @@ pub enum LineAction {
     CommitLabelled,
     Rollback,
     DropBelow,
+    /// An argument of a call, of up to 200 bytes.
+    Argument,
+    CollateData,
+    AggregateDataInVariable,
+    AggregateDataInTable,
+    CollateDataIntoIntervals,
 }
 
 /// What a sentence puts out, one after the other: the contents of its tokens, and actions behind the parts that they
@@ -131,5 +137,7 @@ pub enum Op {
     Name(Name),
     Integer(i64),
     Text(Text),
+    /// A text of more than 200 bytes.
+    LongText(Seq<u8>),
     Act(Action),
 }

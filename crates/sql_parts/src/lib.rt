@@ -9,5 +9,5 @@ pub use action::{
     Action, LineAction, ListAction, Op, OutputAction, QueryAction, RowAction, StepAction,
     TableAction, TermAction, UpdateAction,
 };
-pub use parsed::{AsOf, Parsed};
+pub use parsed::{AsOf, Mechanism, Parsed, RqlCall};
 pub use part::{Part, Parts};

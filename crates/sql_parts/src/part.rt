@@ -1,7 +1,7 @@
 //! The parts of a sentence that are not put together yet.
 
 ghost use Rattle.std.specs.Prelude.{◌≡◌, ◌∷◌, [], MatchOption, OnOk};
-ghost use Rattle.sql_parts.specs.Taking.{a_column, a_column_name, a_condition, a_create_table, a_line, a_literal, a_name, a_number, a_query, a_row, a_text, an_assignment, an_expression, an_insert, an_operand, an_output, an_output_value, an_update, outputs, Takes};
+ghost use Rattle.sql_parts.specs.Taking.{a_column, a_column_name, a_condition, a_create_table, a_line, a_literal, a_name, a_number, a_query, a_row, a_text, an_argument, an_assignment, an_expression, an_insert, an_operand, an_output, an_output_value, an_update, outputs, Takes};
 
 use crate::parsed::Parsed;
 use sql_tree::{
@@ -18,6 +18,8 @@ pub enum Part {
     Name(Name),
     Number(i64),
     Text(Text),
+    /// An argument of a call, however long.
+    Argument(Seq<u8>),
     Literal(Value),
     ColumnName(ColumnName),
     Operand(Operand),
@@ -110,6 +112,15 @@ impl Parts {
     {
         match self.pop()? {
             Part::Text(part) => Some(part),
+            other => none_of(other),
+        }
+    }
+
+    pub fn argument(&mut self) -> Option<Seq<u8>>
+        ensures { Takes result self.new (an_argument self.old) }
+    {
+        match self.pop()? {
+            Part::Argument(part) => Some(part),
             other => none_of(other),
         }
     }

@@ -78,6 +78,7 @@ use_effect rule.MoreNegations = Some (record { pops = []; pushes = []; trees = S
 use_effect rule.Negation = Some (record { pops = []; pushes = []; trees = Same; conditions = Adds })
 use_effect rule.Compared = Some (record { pops = (sort.Operand, 0) ∷ []; pushes = []; trees = Same; conditions = Adds })
 use_effect rule.SnapshotChoice = Some (alike ([]) ((sort.Line, 0) ∷ []))
+use_effect rule.Argument = Some (alike ([]) ((sort.Argument, 0) ∷ []))
 use_effect rule.LabelChoice = Some (alike ([]) ((sort.Line, 0) ∷ []))
 
 abbrev pub class_cells : Class → List Cell
@@ -85,6 +86,7 @@ class_cells class.Name = (sort.Name, 0) ∷ []
 class_cells class.Integer = (sort.Number, 0) ∷ []
 class_cells class.ShortText = (sort.Text, 0) ∷ []
 class_cells class.Text = (sort.Text, 0) ∷ []
+class_cells class.LongText = (sort.Argument, 0) ∷ []
 class_cells _ = []
 
 abbrev pub goes_on : {X Y : Type 0} → Option X → (X → Option Y) → Option Y
@@ -166,6 +168,7 @@ balanced rule.MoreNegations m = (refl, (refl, tt))
 balanced rule.Negation m = (refl, (refl, (refl, tt)))
 balanced rule.Compared m = (refl, (refl, (refl, (refl, (refl, (refl, tt))))))
 balanced rule.SnapshotChoice m = (refl, (refl, tt))
+balanced rule.Argument m = (refl, (refl, (refl, tt)))
 balanced rule.LabelChoice m = (refl, (refl, tt))
 
 -- symbols one behind the other

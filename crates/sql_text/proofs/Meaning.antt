@@ -1,11 +1,12 @@
 -- A sentence always says something.
-use Rattle.std.proofs.Common.{◌≡◌, ◌≤◌, ◌∙◌, inl, inr, ℕ, ℤ, Bool, true, false, Option, Some, None, List, [], ◌∷◌, ◌++◌, length, take, nat_le, if◌then◌else◌, refl, sym, ap, subst, unsigned_abs, arith}
+use Rattle.std.proofs.Common.{◌≡◌, ◌≤◌, ◌∙◌, inl, inr, ℕ, ℤ, Bool, true, false, Option, Some, None, List, [], ◌∷◌, ◌++◌, length, nat_le, if◌then◌else◌, refl, sym, ap, subst, unsigned_abs, arith}
 use Rattle.std.specs.List.{AllByRecursion}
 use Rattle.std.proofs.lemmas.Bool.{leb-true}
 use Rattle.sql_tree.specs.Statement.{IsSelect, IsStatement}
 use Rattle.sql_tree.specs.declared.statement.Statement.{Statement}
 use Rattle.sql_lexer.specs.declared.token.Keyword.{Keyword}
 use Rattle.sql_lexer.specs.declared.token.Keyword.TheVariants as keyword
+use Rattle.sql_lexer.specs.declared.token.Sign.TheVariants as sign
 use Rattle.sql_lexer.specs.declared.token.Token.{Token}
 use Rattle.sql_lexer.specs.declared.token.Token.TheVariants as token
 use Rattle.sql_build.specs.declared.draft.Draft.{Draft}
@@ -25,23 +26,21 @@ use Rattle.sql_grammar.specs.declared.grammar.Symbol.TheVariants.{Take, Put, Use
 use Rattle.sql_parts.specs.declared.parsed.AsOf.{AsOf}
 use Rattle.sql_parts.specs.declared.parsed.Parsed.{Parsed}
 use Rattle.sql_parts.specs.declared.parsed.Parsed.TheVariants as parsed
+use Rattle.sql_parts.specs.declared.parsed.RqlCall.{RqlCall}
 use Rattle.sql_parts.specs.declared.part.Part.{Part}
 use Rattle.sql_parts.specs.declared.part.Part.TheVariants as part
 use Rattle.sql_build.specs.Built.{acted, all_taken, built, empty, finished, goes_on, said, taken, with_parts}
 use Rattle.sql_grammar.specs.Derivation.{Derives, Done, Taken, Emitted, Replaced, IsIn, IsSentence}
 use Rattle.sql_grammar.specs.Grammar.{class_of, content_of, sides}
-use Rattle.sql_text.specs.Line.{HasLimits, Starts}
-use Rattle.sql_grammar.specs.Machine.{look}
-use Rattle.sql_grammar.specs.Table.{first}
+use Rattle.sql_text.specs.Line.{HasLimits}
 use Rattle.sql_parts.proofs.Common.{some_injective}
 use Rattle.sql_build.proofs.Drafting.{Has, Leaves, act_made}
-use Rattle.sql_build.proofs.Fitting.{Fits, as_of, name, none, number, plain, text}
+use Rattle.sql_build.proofs.Fitting.{Fits, argument, as_of, call, name, none, number, plain, text}
 use Rattle.sql_build.proofs.Sorts.{Cell, Effect, Shape, columns, from, put_effect, shape, to, worked, worked_is}
 use Rattle.sql_build.proofs.Sorts as sort
 use Rattle.sql_text.proofs.Balance as balance
 use Rattle.sql_text.proofs.Balance.{Balanced, balanced, class_cells, effect, effect-append, shown, use_effect}
 use Rattle.sql_grammar.proofs.Steps.{done, emitted, nothing_taken, replaced, taken as token_taken}
-use Rattle.sql_grammar.proofs.Tables.{IsIn-append, starts}
 
 -- operations one behind the other
 goes_assoc : (x : Option Draft) (f g : Draft → Option Draft) → goes_on (goes_on x f) g ≡ goes_on x (λ d. goes_on (f d) g)
@@ -71,7 +70,7 @@ token_made token.BigInteger d k h = (d, refl, record { parts = h.parts; expressi
 token_made (token.Text t) d k h =
     let P : List Cell → Type 0 = λ cs. Leaves (all_taken (op.Text t ∷ []) d) (shown cs k) in
     subst P (text_cells (nat_le (length t) 64)) (with_parts (part.Text t ∷ d.parts) d, refl, record { parts = text h.parts; expressions = h.expressions; conditions = h.conditions })
-token_made (token.LongText t) d k h = (d, refl, record { parts = h.parts; expressions = h.expressions; conditions = h.conditions })
+token_made (token.LongText t) d k h = (with_parts (part.Argument t ∷ d.parts) d, refl, record { parts = argument h.parts; expressions = h.expressions; conditions = h.conditions })
 token_made (token.Sign s) d k h = (d, refl, record { parts = h.parts; expressions = h.expressions; conditions = h.conditions })
 
 on_split : {X Y : Type 0} (x : Option X) (f : X → Option Y) (y : Y) → balance.goes_on x f ≡ Some y → (z : X) × (x ≡ Some z) × (f z ≡ Some y)
@@ -141,6 +140,15 @@ plain_said ss ts os r e =
     let a = plain_alone l.0.parts l.2.parts in
     (a.0, built_by os l.0 (part.Parsed (parsed.Plain a.0) ∷ []) l.1 a.1, a.2)
 
+call_alone : (ps : List Part) → Fits ps ((sort.Call, 0) ∷ []) → (c : RqlCall) × (ps ≡ part.Parsed (parsed.Rql c) ∷ [])
+call_alone ps (call {x} none) = (x, refl)
+
+call_said : (ss : List Symbol) (ts : List Token) (os : List Op) → Derives ss ts os → effect ss bare ≡ Some (shape ((sort.Call, 0) ∷ []) 0 0) → (c : RqlCall) × (built os ≡ Some (parsed.Rql c))
+call_said ss ts os r e =
+    let l = leaves r empty bare (shape ((sort.Call, 0) ∷ []) 0 0) e bare_has in
+    let a = call_alone l.0.parts l.2.parts in
+    (a.0, built_by os l.0 (part.Parsed (parsed.Rql a.0) ∷ []) l.1 a.1)
+
 as_of_said : (ss : List Symbol) (ts : List Token) (os : List Op) → Derives ss ts os → effect ss bare ≡ Some (shape ((sort.AsOf, 0) ∷ []) 0 0) → (q : AsOf) × (built os ≡ Some (parsed.AsOf q)) × IsSelect q.query
 as_of_said ss ts os r e =
     let l = leaves r empty bare (shape ((sort.AsOf, 0) ∷ []) 0 0) e bare_has in
@@ -148,106 +156,65 @@ as_of_said ss ts os r e =
     (a.0, built_by os l.0 (part.Parsed (parsed.AsOf a.0) ∷ []) l.1 a.1, a.2)
 
 -- the first token of a sentence
+abbrev Follows : Class → List Symbol → List Token → List Op → Type 0
+Follows k ss ts os = (t : Token) × (rest : List Token) × (more : List Op) × (class_of t ≡ k) × (os ≡ content_of t ++ more) × Derives ss rest more
+
+first_taken : (k : Class) (ss : List Symbol) (ts : List Token) (os : List Op) → Derives (Take k ∷ ss) ts os → Follows k ss ts os
+first_taken k ss [] os d = absurd (nothing_taken d)
+first_taken k ss (t ∷ ts) os d = let q = token_taken d in (t, ts, q.1.0, q.0, q.1.1, q.1.2)
+
 no_word : (b : Bool) (k : Keyword) → (if b then class.ShortText else class.Text) ≡ class.Keyword k → ⊥
 no_word true k e = cc
 no_word false k e = cc
 
-keyword_is : (t : Token) (k : Keyword) → class_of t ≡ class.Keyword k → t ≡ token.Keyword k
-keyword_is (token.Keyword j) k e = cc
-keyword_is (token.Name n) k e = cc
-keyword_is token.LongWord k e = cc
-keyword_is (token.Integer i) k e = cc
-keyword_is token.BigInteger k e = cc
-keyword_is (token.Text t) k e = absurd (no_word (nat_le (length t) 64) k e)
-keyword_is (token.LongText t) k e = cc
-keyword_is (token.Sign s) k e = cc
+no_content : (t : Token) (k : Keyword) → class_of t ≡ class.Keyword k → content_of t ≡ []
+no_content (token.Keyword j) k e = refl
+no_content (token.Name n) k e = cc
+no_content token.LongWord k e = refl
+no_content (token.Integer i) k e = cc
+no_content token.BigInteger k e = refl
+no_content (token.Text t) k e = absurd (no_word (nat_le (length t) 64) k e)
+no_content (token.LongText t) k e = cc
+no_content (token.Sign s) k e = refl
 
-abbrev Follows : Keyword → List Symbol → List Token → List Op → Type 0
-Follows k ss ts os = (more : List Token) × (ts ≡ token.Keyword k ∷ more) × Derives ss more os
+-- what follows a keyword puts out all
+behind_word : {k : Keyword} {ss : List Symbol} {ts : List Token} {os : List Op} → Derives (Take (class.Keyword k) ∷ ss) ts os → (rest : List Token) × Derives ss rest os
+behind_word {k} {ss} {ts} {os} d =
+    let f = first_taken (class.Keyword k) ss ts os d in
+    let P : List Op → Type 0 = λ x. Derives ss f.1 x in
+    (f.1, subst P (sym (f.4 ∙ ap (λ x. x ++ f.2) (no_content f.0 k f.3))) f.5)
 
-word_first : (k : Keyword) (ss : List Symbol) (t : Token) (ts : List Token) (rest os : List Op) → class_of t ≡ class.Keyword k → os ≡ content_of t ++ rest → Derives ss ts rest → Follows k ss (t ∷ ts) os
-word_first k ss t ts rest os e o d =
-    let w = keyword_is t k e in
-    let P : List Op → Type 0 = λ x. Derives ss ts x in
-    (ts, ap (λ x. x ∷ ts) w, subst P (sym (o ∙ ap (λ x. content_of x ++ rest) w)) d)
+abbrev pub Meant : List Op → Type 0
+Meant os = (p : Parsed) × (built os ≡ Some p) × HasLimits p
 
-first_word_of : (k : Keyword) (ss : List Symbol) (ts : List Token) (os : List Op) → Derives (Take (class.Keyword k) ∷ ss) ts os → Follows k ss ts os
-first_word_of k ss [] os d = absurd (nothing_taken d)
-first_word_of k ss (t ∷ ts) os d = let q = token_taken d in word_first k ss t ts q.1.0 os q.0 q.1.1 q.1.2
+plain_meant : (ss : List Symbol) (ts : List Token) (os : List Op) → effect ss bare ≡ Some (shape ((sort.Plain, 0) ∷ []) 0 0) → Derives ss ts os → Meant os
+plain_meant ss ts os e d = let b = plain_said ss ts os d e in (parsed.Plain b.0, b.1, b.2)
 
-first_word : {k : Keyword} {ss : List Symbol} {ts : List Token} {os : List Op} → Derives (Take (class.Keyword k) ∷ ss) ts os → Follows k ss ts os
-first_word d = first_word_of _ _ _ _ d
-
-abbrev pub Meant : List Token → List Op → Type 0
-Meant ts os = (p : Parsed) × (built os ≡ Some p) × HasLimits p × Starts p ts
-
-plain_case : (k : Keyword) (ss : List Symbol) (ts : List Token) (os : List Op) → ((s : Statement) (more : List Token) → Starts (parsed.Plain s) (token.Keyword k ∷ more)) → effect ss bare ≡ Some (shape ((sort.Plain, 0) ∷ []) 0 0)
-    → Derives (Take (class.Keyword k) ∷ ss) ts os → Meant ts os
-plain_case k ss ts os f e d =
-    let w = first_word d in
-    let b = plain_said ss w.0 os w.2 e in
-    let P : List Token → Type 0 = λ x. Starts (parsed.Plain b.0) x in
-    (parsed.Plain b.0, b.1, b.2, subst P (sym w.1) (f b.0 w.0))
+call_meant : (ss : List Symbol) (ts : List Token) (os : List Op) → effect ss bare ≡ Some (shape ((sort.Call, 0) ∷ []) 0 0) → Derives ss ts os → Meant os
+call_meant ss ts os e d = let b = call_said ss ts os d e in (parsed.Rql b.0, b.1, tt)
 
 -- SELECT
-not_as : (k : Class) → IsIn k (first rule.Query) → k ≡ class.Keyword keyword.As → ⊥
-not_as k (inl e) q = cc
-not_as k (inr (inl e)) q = cc
-not_as k (inr (inr (inl e))) q = cc
-not_as k (inr (inr (inr (inl e)))) q = cc
-not_as k (inr (inr (inr (inr (inl e))))) q = cc
-not_as k (inr (inr (inr (inr (inr (inl e)))))) q = cc
-not_as k (inr (inr (inr (inr (inr (inr (inl e))))))) q = cc
-not_as k (inr (inr (inr (inr (inr (inr (inr (inl e)))))))) q = cc
-not_as k (inr (inr (inr (inr (inr (inr (inr (inr (inl e))))))))) q = cc
-not_as k (inr (inr (inr (inr (inr (inr (inr (inr (inr (inl e)))))))))) q = cc
-not_as k (inr (inr (inr (inr (inr (inr (inr (inr (inr (inr (inl e))))))))))) q = cc
-not_as k (inr (inr (inr (inr (inr (inr (inr (inr (inr (inr (inr (inl e)))))))))))) q = cc
-not_as k (inr (inr (inr (inr (inr (inr (inr (inr (inr (inr (inr (inr (inl e))))))))))))) q = cc
-not_as k (inr (inr (inr (inr (inr (inr (inr (inr (inr (inr (inr (inr (inr e))))))))))))) q = absurd e
+selected : (ts : List Token) (os : List Op) (side : List Symbol) → IsIn side (sides rule.Selected) → Derives (side ++ []) ts os → Meant os
+selected ts os side (inl q) d =
+    let P : List Symbol → Type 0 = λ x. Derives (x ++ []) ts os in
+    let b = as_of_said (Take (class.Keyword keyword.As) ∷ Take (class.Keyword keyword.Of) ∷ Take class.Integer ∷ Use rule.Query ∷ Put (action.Query query_action.AsOf) ∷ []) ts os (subst P q d) refl in
+    (parsed.AsOf b.0, b.1, b.2)
+selected ts os side (inr (inl q)) d =
+    let P : List Symbol → Type 0 = λ x. Derives (x ++ []) ts os in
+    plain_meant (Use rule.Query ∷ Put (action.Query query_action.Finish) ∷ []) ts os refl (subst P q d)
+selected ts os side (inr (inr i)) d = absurd i
 
-query_first : (more : List Token) (os : List Op) → Derives (Use rule.Query ∷ Put (action.Query query_action.Finish) ∷ []) more os → look more ≡ class.Keyword keyword.As → ⊥
-query_first more os d q = elim (IsIn-append (look more) (first rule.Query) [] (starts d)) [ inl i ↦ not_as (look more) i q | inr i ↦ absurd i ]
-
-as_of_front : (more : List Token) → take 3 (token.Keyword keyword.Select ∷ more) ≡ token.Keyword keyword.Select ∷ token.Keyword keyword.As ∷ token.Keyword keyword.Of ∷ [] → look more ≡ class.Keyword keyword.As
-as_of_front [] e = cc
-as_of_front (t ∷ more) e = let q : t ≡ token.Keyword keyword.As = cc in ap class_of q
-
-select_plain : (ts more : List Token) (os : List Op) → ts ≡ token.Keyword keyword.Select ∷ more → Derives (Use rule.Query ∷ Put (action.Query query_action.Finish) ∷ []) more os → Meant ts os
-select_plain ts more os e d =
-    let b = plain_said (Use rule.Query ∷ Put (action.Query query_action.Finish) ∷ []) more os d refl in
-    let P : List Token → Type 0 = λ x. Starts (parsed.Plain b.0) x in
-    (parsed.Plain b.0, b.1, b.2, subst P (sym e) ((λ q. cc), (λ q. query_first more os d (as_of_front more q)), (λ q. cc), (λ q. cc)))
-
-select_as_of : (ts more : List Token) (os : List Op) → ts ≡ token.Keyword keyword.Select ∷ more
-    → Derives (Take (class.Keyword keyword.As) ∷ Take (class.Keyword keyword.Of) ∷ Take class.Integer ∷ Use rule.Query ∷ Put (action.Query query_action.AsOf) ∷ []) more os → Meant ts os
-select_as_of ts more os e d =
-    let a = first_word d in
-    let o = first_word a.2 in
-    let b = as_of_said (Take class.Integer ∷ Use rule.Query ∷ Put (action.Query query_action.AsOf) ∷ []) o.0 os o.2 refl in
-    let same : ts ≡ token.Keyword keyword.Select ∷ token.Keyword keyword.As ∷ token.Keyword keyword.Of ∷ o.0 = e ∙ ap (λ x. token.Keyword keyword.Select ∷ x) (a.1 ∙ ap (λ x. token.Keyword keyword.As ∷ x) o.1) in
-    (parsed.AsOf b.0, b.1, b.2, ap (take 3) same)
-
-selected : (ts more : List Token) (os : List Op) (side : List Symbol) → ts ≡ token.Keyword keyword.Select ∷ more → IsIn side (sides rule.Selected) → Derives (side ++ []) more os → Meant ts os
-selected ts more os side e (inl q) d = let P : List Symbol → Type 0 = λ x. Derives (x ++ []) more os in select_as_of ts more os e (subst P q d)
-selected ts more os side e (inr (inl q)) d = let P : List Symbol → Type 0 = λ x. Derives (x ++ []) more os in select_plain ts more os e (subst P q d)
-selected ts more os side e (inr (inr i)) d = absurd i
-
-select_case : (ts : List Token) (os : List Op) → Derives (Take (class.Keyword keyword.Select) ∷ Use rule.Selected ∷ []) ts os → Meant ts os
+select_case : (ts : List Token) (os : List Op) → Derives (Take (class.Keyword keyword.Select) ∷ Use rule.Selected ∷ []) ts os → Meant os
 select_case ts os d =
-    let w = first_word d in
-    let r = replaced w.2 in
-    selected ts w.0 os r.0 w.1 r.1 r.2
+    let w = behind_word d in
+    let r = replaced w.1 in
+    selected w.0 os r.0 r.1 r.2
 
 -- a single action at the end of a line
-abbrev Acts : Action → List Op → Type 0
-Acts a os = os ≡ op.Act a ∷ []
-
-last_act : (a : Action) (ts : List Token) (os : List Op) → Derives (Put a ∷ []) ts os → (ts ≡ []) × Acts a os
+last_act : (a : Action) (ts : List Token) (os : List Op) → Derives (Put a ∷ []) ts os → os ≡ op.Act a ∷ []
 last_act a ts os d =
     let e = emitted d in
-    let n = done e.2 in
-    (n.0, e.1 ∙ ap (λ x. op.Act a ∷ x) n.1)
+    e.1 ∙ ap (λ x. op.Act a ∷ x) (done e.2).1
 
 -- COMMIT
 short_if : (l : List ℕ) (b : Bool) → nat_le (length l) 64 ≡ b → (if b then class.ShortText else class.Text) ≡ class.ShortText → length l ≤ 64
@@ -278,79 +245,99 @@ integer_is (token.Text l) e = absurd (no_integer (nat_le (length l) 64) e)
 integer_is (token.LongText l) e = cc
 integer_is (token.Sign s) e = cc
 
-commit_meant : (ts more : List Token) (os : List Op) (label : Option (List ℕ)) → ts ≡ token.Keyword keyword.Commit ∷ more → HasLimits (parsed.Commit label) → built os ≡ Some (parsed.Commit label) → Meant ts os
-commit_meant ts more os label e l b = (parsed.Commit label, b, l, ap (take 1) e)
+labelled : (ts : List Token) (os : List Op) → Derives (Take class.ShortText ∷ Put (action.Line line_action.CommitLabelled) ∷ []) ts os → Meant os
+labelled ts os d =
+    let f = first_taken class.ShortText (Put (action.Line line_action.CommitLabelled) ∷ []) ts os d in
+    let s = short_text f.0 f.3 in
+    let a = last_act (action.Line line_action.CommitLabelled) f.1 f.2 f.5 in
+    (parsed.Commit (Some s.0), ap built (f.4 ∙ ap (λ x. content_of x ++ f.2) s.1 ∙ ap (λ x. op.Text s.0 ∷ x) a), s.2)
 
-labelled : (ts more tail : List Token) (os : List Op) (t : Token) (rest : List Op) → ts ≡ token.Keyword keyword.Commit ∷ more → class_of t ≡ class.ShortText → os ≡ content_of t ++ rest → Derives (Put (action.Line line_action.CommitLabelled) ∷ []) tail rest → Meant ts os
-labelled ts more tail os t rest e c o d =
-    let s = short_text t c in
-    let a = last_act (action.Line line_action.CommitLabelled) tail rest d in
-    commit_meant ts more os (Some s.0) e s.2 (ap built (o ∙ ap (λ x. content_of x ++ rest) s.1 ∙ ap (λ x. op.Text s.0 ∷ x) a.1))
+label_case : (ts : List Token) (os : List Op) (side : List Symbol) → IsIn side (sides rule.LabelChoice) → Derives (side ++ []) ts os → Meant os
+label_case ts os side (inl q) d = let P : List Symbol → Type 0 = λ x. Derives (x ++ []) ts os in labelled ts os (subst P q d)
+label_case ts os side (inr (inl q)) d =
+    let P : List Symbol → Type 0 = λ x. Derives (x ++ []) ts os in
+    (parsed.Commit (Some []), ap built (last_act (action.Line line_action.CommitUnlabelled) ts os (subst P q d)), omega arith)
+label_case ts os side (inr (inr i)) d = absurd i
 
-label_taken : (ts more tail : List Token) (os : List Op) → ts ≡ token.Keyword keyword.Commit ∷ more → Derives (Take class.ShortText ∷ Put (action.Line line_action.CommitLabelled) ∷ []) tail os → Meant ts os
-label_taken ts more [] os e d = absurd (nothing_taken d)
-label_taken ts more (t ∷ tail) os e d = let k = token_taken d in labelled ts more tail os t k.1.0 e k.0 k.1.1 k.1.2
+snapshot_case : (ts : List Token) (os : List Op) (side : List Symbol) → IsIn side (sides rule.SnapshotChoice) → Derives (side ++ []) ts os → Meant os
+snapshot_case ts os side (inl q) d =
+    let P : List Symbol → Type 0 = λ x. Derives (x ++ []) ts os in
+    let w = behind_word (behind_word (subst P q d)).1 in
+    let r = replaced w.1 in
+    label_case w.0 os r.0 r.1 r.2
+snapshot_case ts os side (inr (inl q)) d =
+    let P : List Symbol → Type 0 = λ x. Derives (x ++ []) ts os in
+    (parsed.Commit None, ap built (last_act (action.Line line_action.Commit) ts os (subst P q d)), tt)
+snapshot_case ts os side (inr (inr i)) d = absurd i
 
-label_case : (ts more tail : List Token) (os : List Op) (side : List Symbol) → ts ≡ token.Keyword keyword.Commit ∷ more → IsIn side (sides rule.LabelChoice) → Derives (side ++ []) tail os → Meant ts os
-label_case ts more tail os side e (inl q) d = let P : List Symbol → Type 0 = λ x. Derives (x ++ []) tail os in label_taken ts more tail os e (subst P q d)
-label_case ts more tail os side e (inr (inl q)) d =
-    let P : List Symbol → Type 0 = λ x. Derives (x ++ []) tail os in
-    commit_meant ts more os (Some []) e (omega arith) (ap built (last_act (action.Line line_action.CommitUnlabelled) tail os (subst P q d)).1)
-label_case ts more tail os side e (inr (inr i)) d = absurd i
-
-snapshot_case : (ts more : List Token) (os : List Op) (side : List Symbol) → ts ≡ token.Keyword keyword.Commit ∷ more → IsIn side (sides rule.SnapshotChoice) → Derives (side ++ []) more os → Meant ts os
-snapshot_case ts more os side e (inl q) d =
-    let P : List Symbol → Type 0 = λ x. Derives (x ++ []) more os in
-    let w = first_word (subst P q d) in
-    let s = first_word w.2 in
-    let r = replaced s.2 in
-    label_case ts more s.0 os r.0 e r.1 r.2
-snapshot_case ts more os side e (inr (inl q)) d =
-    let P : List Symbol → Type 0 = λ x. Derives (x ++ []) more os in
-    commit_meant ts more os None e tt (ap built (last_act (action.Line line_action.Commit) more os (subst P q d)).1)
-snapshot_case ts more os side e (inr (inr i)) d = absurd i
-
-commit_case : (ts : List Token) (os : List Op) → Derives (Take (class.Keyword keyword.Commit) ∷ Use rule.SnapshotChoice ∷ []) ts os → Meant ts os
+commit_case : (ts : List Token) (os : List Op) → Derives (Take (class.Keyword keyword.Commit) ∷ Use rule.SnapshotChoice ∷ []) ts os → Meant os
 commit_case ts os d =
-    let w = first_word d in
-    let r = replaced w.2 in
-    snapshot_case ts w.0 os r.0 w.1 r.1 r.2
+    let w = behind_word d in
+    let r = replaced w.1 in
+    snapshot_case w.0 os r.0 r.1 r.2
 
 -- ROLLBACK and DROP SNAPSHOTS
-rollback_case : (ts : List Token) (os : List Op) → Derives (Take (class.Keyword keyword.Rollback) ∷ Put (action.Line line_action.Rollback) ∷ []) ts os → Meant ts os
+rollback_case : (ts : List Token) (os : List Op) → Derives (Take (class.Keyword keyword.Rollback) ∷ Put (action.Line line_action.Rollback) ∷ []) ts os → Meant os
 rollback_case ts os d =
-    let w = first_word d in
-    (parsed.Rollback, ap built (last_act (action.Line line_action.Rollback) w.0 os w.2).1, tt, ap (take 1) w.1)
+    let w = behind_word d in
+    (parsed.Rollback, ap built (last_act (action.Line line_action.Rollback) w.0 os w.1), tt)
 
-drop_meant : (ts more tail : List Token) (os : List Op) (t : Token) (rest : List Op) → ts ≡ token.Keyword keyword.Drop ∷ token.Keyword keyword.Snapshots ∷ more → class_of t ≡ class.Integer → os ≡ content_of t ++ rest
-    → Derives (Put (action.Line line_action.DropBelow) ∷ []) tail rest → Meant ts os
-drop_meant ts more tail os t rest e c o d =
-    let i = integer_is t c in
-    let a = last_act (action.Line line_action.DropBelow) tail rest d in
-    (parsed.DropBelow (unsigned_abs i.0), ap built (o ∙ ap (λ x. content_of x ++ rest) i.1 ∙ ap (λ x. op.Integer i.0 ∷ x) a.1), tt, ap (take 2) e)
-
-drop_taken : (ts more tail : List Token) (os : List Op) → ts ≡ token.Keyword keyword.Drop ∷ token.Keyword keyword.Snapshots ∷ more → Derives (Take class.Integer ∷ Put (action.Line line_action.DropBelow) ∷ []) tail os → Meant ts os
-drop_taken ts more [] os e d = absurd (nothing_taken d)
-drop_taken ts more (t ∷ tail) os e d = let k = token_taken d in drop_meant ts more tail os t k.1.0 e k.0 k.1.1 k.1.2
-
-drop_case : (ts : List Token) (os : List Op) → Derives (Take (class.Keyword keyword.Drop) ∷ Take (class.Keyword keyword.Snapshots) ∷ Take (class.Keyword keyword.Below) ∷ Take class.Integer ∷ Put (action.Line line_action.DropBelow) ∷ []) ts os → Meant ts os
+drop_case : (ts : List Token) (os : List Op) → Derives (Take (class.Keyword keyword.Drop) ∷ Take (class.Keyword keyword.Snapshots) ∷ Take (class.Keyword keyword.Below) ∷ Take class.Integer ∷ Put (action.Line line_action.DropBelow) ∷ []) ts os → Meant os
 drop_case ts os d =
-    let a = first_word d in
-    let b = first_word a.2 in
-    let c = first_word b.2 in
-    drop_taken ts b.0 c.0 os (a.1 ∙ ap (λ x. token.Keyword keyword.Drop ∷ x) b.1) c.2
+    let w = behind_word (behind_word (behind_word d).1).1 in
+    let f = first_taken class.Integer (Put (action.Line line_action.DropBelow) ∷ []) w.0 os w.1 in
+    let i = integer_is f.0 f.3 in
+    let a = last_act (action.Line line_action.DropBelow) f.1 f.2 f.5 in
+    (parsed.DropBelow (unsigned_abs i.0), ap built (f.4 ∙ ap (λ x. content_of x ++ f.2) i.1 ∙ ap (λ x. op.Integer i.0 ∷ x) a), tt)
 
-sentence_case : (ts : List Token) (os : List Op) (side : List Symbol) → IsIn side (sides rule.Sentence) → Derives (side ++ []) ts os → Meant ts os
-sentence_case ts os side (inl q) d = let P : List Symbol → Type 0 = λ x. Derives (x ++ []) ts os in plain_case keyword.Create (Use rule.Created ∷ []) ts os (λ s more. ((λ q. cc), (λ q. cc), (λ q. cc), (λ q. cc))) refl (subst P q d)
-sentence_case ts os side (inr (inl q)) d = let P : List Symbol → Type 0 = λ x. Derives (x ++ []) ts os in plain_case keyword.Insert (Take (class.Keyword keyword.Into) ∷ Take class.Name ∷ Take (class.Keyword keyword.Values) ∷ Use rule.Tuple ∷ Put (action.Row row_action.Insert) ∷ Use rule.MoreTuples ∷ Put (action.Row row_action.Finish) ∷ []) ts os (λ s more. ((λ q. cc), (λ q. cc), (λ q. cc), (λ q. cc))) refl (subst P q d)
-sentence_case ts os side (inr (inr (inl q))) d = let P : List Symbol → Type 0 = λ x. Derives (x ++ []) ts os in plain_case keyword.Update (Take class.Name ∷ Take (class.Keyword keyword.Set) ∷ Use rule.Assignment ∷ Put (action.Update update_action.Update) ∷ Use rule.MoreAssignments ∷ Use rule.Where ∷ Put (action.Update update_action.Finish) ∷ []) ts os (λ s more. ((λ q. cc), (λ q. cc), (λ q. cc), (λ q. cc))) refl (subst P q d)
-sentence_case ts os side (inr (inr (inr (inl q)))) d = let P : List Symbol → Type 0 = λ x. Derives (x ++ []) ts os in plain_case keyword.Delete (Take (class.Keyword keyword.From) ∷ Take class.Name ∷ Use rule.Where ∷ Put (action.Update update_action.Delete) ∷ []) ts os (λ s more. ((λ q. cc), (λ q. cc), (λ q. cc), (λ q. cc))) refl (subst P q d)
-sentence_case ts os side (inr (inr (inr (inr (inl q))))) d = let P : List Symbol → Type 0 = λ x. Derives (x ++ []) ts os in select_case ts os (subst P q d)
-sentence_case ts os side (inr (inr (inr (inr (inr (inl q)))))) d = let P : List Symbol → Type 0 = λ x. Derives (x ++ []) ts os in commit_case ts os (subst P q d)
-sentence_case ts os side (inr (inr (inr (inr (inr (inr (inl q))))))) d = let P : List Symbol → Type 0 = λ x. Derives (x ++ []) ts os in rollback_case ts os (subst P q d)
-sentence_case ts os side (inr (inr (inr (inr (inr (inr (inr (inl q)))))))) d = let P : List Symbol → Type 0 = λ x. Derives (x ++ []) ts os in drop_case ts os (subst P q d)
-sentence_case ts os side (inr (inr (inr (inr (inr (inr (inr (inr i)))))))) d = absurd i
+abbrev opening : Symbol
+opening = Take (class.Sign sign.Open)
 
--- a sentence says something, within the limits, and its first tokens tell what
-pub says : (ts : List Token) (os : List Op) → IsSentence rule.Sentence ts os → Meant ts os
+abbrev comma : Symbol
+comma = Take (class.Sign sign.Comma)
+
+abbrev closing : Symbol
+closing = Take (class.Sign sign.Close)
+
+sentence_case : (ts : List Token) (os : List Op) (side : List Symbol) → IsIn side (sides rule.Sentence) → Derives (side ++ []) ts os → Meant os
+sentence_case ts os side (inl q) d =
+    let P : List Symbol → Type 0 = λ x. Derives (x ++ []) ts os in
+    plain_meant (Take (class.Keyword keyword.Create) ∷ Use rule.Created ∷ []) ts os refl (subst P q d)
+sentence_case ts os side (inr (inl q)) d =
+    let P : List Symbol → Type 0 = λ x. Derives (x ++ []) ts os in
+    plain_meant (Take (class.Keyword keyword.Insert) ∷ Take (class.Keyword keyword.Into) ∷ Take class.Name ∷ Take (class.Keyword keyword.Values) ∷ Use rule.Tuple ∷ Put (action.Row row_action.Insert) ∷ Use rule.MoreTuples ∷ Put (action.Row row_action.Finish) ∷ []) ts os refl (subst P q d)
+sentence_case ts os side (inr (inr (inl q))) d =
+    let P : List Symbol → Type 0 = λ x. Derives (x ++ []) ts os in
+    plain_meant (Take (class.Keyword keyword.Update) ∷ Take class.Name ∷ Take (class.Keyword keyword.Set) ∷ Use rule.Assignment ∷ Put (action.Update update_action.Update) ∷ Use rule.MoreAssignments ∷ Use rule.Where ∷ Put (action.Update update_action.Finish) ∷ []) ts os refl (subst P q d)
+sentence_case ts os side (inr (inr (inr (inl q)))) d =
+    let P : List Symbol → Type 0 = λ x. Derives (x ++ []) ts os in
+    plain_meant (Take (class.Keyword keyword.Delete) ∷ Take (class.Keyword keyword.From) ∷ Take class.Name ∷ Use rule.Where ∷ Put (action.Update update_action.Delete) ∷ []) ts os refl (subst P q d)
+sentence_case ts os side (inr (inr (inr (inr (inl q))))) d =
+    let P : List Symbol → Type 0 = λ x. Derives (x ++ []) ts os in
+    select_case ts os (subst P q d)
+sentence_case ts os side (inr (inr (inr (inr (inr (inl q)))))) d =
+    let P : List Symbol → Type 0 = λ x. Derives (x ++ []) ts os in
+    commit_case ts os (subst P q d)
+sentence_case ts os side (inr (inr (inr (inr (inr (inr (inl q))))))) d =
+    let P : List Symbol → Type 0 = λ x. Derives (x ++ []) ts os in
+    rollback_case ts os (subst P q d)
+sentence_case ts os side (inr (inr (inr (inr (inr (inr (inr (inl q)))))))) d =
+    let P : List Symbol → Type 0 = λ x. Derives (x ++ []) ts os in
+    call_meant (Take (class.Keyword keyword.CollateData) ∷ opening ∷ Use rule.Argument ∷ comma ∷ Use rule.Argument ∷ comma ∷ Use rule.Argument ∷ closing ∷ Put (action.Line line_action.CollateData) ∷ []) ts os refl (subst P q d)
+sentence_case ts os side (inr (inr (inr (inr (inr (inr (inr (inr (inl q))))))))) d =
+    let P : List Symbol → Type 0 = λ x. Derives (x ++ []) ts os in
+    call_meant (Take (class.Keyword keyword.AggregateDataInVariable) ∷ opening ∷ Use rule.Argument ∷ comma ∷ Use rule.Argument ∷ comma ∷ Use rule.Argument ∷ comma ∷ Use rule.Argument ∷ closing ∷ Put (action.Line line_action.AggregateDataInVariable) ∷ []) ts os refl (subst P q d)
+sentence_case ts os side (inr (inr (inr (inr (inr (inr (inr (inr (inr (inl q)))))))))) d =
+    let P : List Symbol → Type 0 = λ x. Derives (x ++ []) ts os in
+    call_meant (Take (class.Keyword keyword.AggregateDataInTable) ∷ opening ∷ Use rule.Argument ∷ comma ∷ Use rule.Argument ∷ comma ∷ Use rule.Argument ∷ comma ∷ Use rule.Argument ∷ closing ∷ Put (action.Line line_action.AggregateDataInTable) ∷ []) ts os refl (subst P q d)
+sentence_case ts os side (inr (inr (inr (inr (inr (inr (inr (inr (inr (inr (inl q))))))))))) d =
+    let P : List Symbol → Type 0 = λ x. Derives (x ++ []) ts os in
+    call_meant (Take (class.Keyword keyword.CollateDataIntoIntervals) ∷ opening ∷ Use rule.Argument ∷ comma ∷ Use rule.Argument ∷ comma ∷ Use rule.Argument ∷ closing ∷ Put (action.Line line_action.CollateDataIntoIntervals) ∷ []) ts os refl (subst P q d)
+sentence_case ts os side (inr (inr (inr (inr (inr (inr (inr (inr (inr (inr (inr (inl q)))))))))))) d =
+    let P : List Symbol → Type 0 = λ x. Derives (x ++ []) ts os in
+    drop_case ts os (subst P q d)
+sentence_case ts os side (inr (inr (inr (inr (inr (inr (inr (inr (inr (inr (inr (inr i)))))))))))) d = absurd i
+
+-- a sentence says something, within the limits
+pub says : (ts : List Token) (os : List Op) → IsSentence rule.Sentence ts os → Meant os
 says ts os d = let r = replaced d in sentence_case ts os r.0 r.1 r.2

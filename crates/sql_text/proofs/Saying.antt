@@ -12,7 +12,7 @@ use Rattle.sql_grammar.specs.declared.grammar.Rule.TheVariants.{Sentence}
 use Rattle.sql_parts.specs.declared.parsed.Parsed.{Parsed}
 use Rattle.sql_build.specs.Built.{built}
 use Rattle.sql_grammar.specs.Derivation.{Begins, IsSentence}
-use Rattle.sql_text.specs.Line.{FaultAt, HasLimits, Starts}
+use Rattle.sql_text.specs.Line.{FaultAt, HasLimits}
 use Rattle.sql_grammar.specs.Machine.{Ends}
 use Rattle.sql_text.specs.Places.{place_at, tokens_of}
 use Rattle.sql_text.specs.Reading.{IsRefusedAmong, IsRefusedEarly, IsRefusedFor, IsSaid, StopsAt}
@@ -29,12 +29,10 @@ said ended ts ops before built_of p y h o b s =
     let m = says ts before e.0 in
     let same : m.0 ≡ p = some_injective (sym m.1 ∙ builds) in
     let L : Parsed → Type 0 = λ x. HasLimits x in
-    let S : Parsed → Type 0 = λ x. Starts x ts in
     record {
       says = (before, e.0, builds);
       only = λ q t. some_injective (sym t.2 ∙ ap built (e.1 t.0 t.1) ∙ builds);
       limits = subst L same m.2;
-      starts = subst S same m.3;
     }
 
 pub builds_some : (ended : Bool) (ts : List Token) (ops before : List Op) (built_of : Option Parsed) → ended ≡ true → Ends ended Sentence ts before → ops ≡ before → built_of ≡ built ops → built_of ≡ None → ⊥

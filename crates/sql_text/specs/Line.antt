@@ -1,20 +1,18 @@
 -- What a line says, and where its syntax breaks.
-use Rattle.std.specs.Prelude.{◌≡◌, ◌≤◌, ℕ, Some, None, List, [], ◌∷◌, length, take}
+use Rattle.std.specs.Prelude.{◌≡◌, ◌≤◌, ℕ, Some, None, List, length}
 use Rattle.retro_base.specs.declared.limits.TheConstants.{LABEL_BYTES}
 use Rattle.retro_base.specs.declared.refusal.Refusal.{Refusal}
 use Rattle.retro_base.specs.declared.refusal.Refusal.TheVariants as refusal
 use Rattle.sql_lexer.specs.declared.token.Ending.{Ending}
 use Rattle.sql_lexer.specs.declared.token.Ending.TheVariants.{Whole, BadByte, Unclosed}
-use Rattle.sql_lexer.specs.declared.token.Keyword.TheVariants as keyword
 use Rattle.sql_lexer.specs.declared.token.Placed.{Placed}
 use Rattle.sql_lexer.specs.declared.token.Token.{Token}
-use Rattle.sql_lexer.specs.declared.token.Token.TheVariants as token
 use Rattle.sql_lexer.specs.Lexes.{Lexes}
 use Rattle.sql_tree.specs.Statement.{IsSelect, IsStatement}
 use Rattle.sql_parts.specs.declared.action.Op.{Op}
 use Rattle.sql_grammar.specs.declared.grammar.Rule.TheVariants as rule
 use Rattle.sql_parts.specs.declared.parsed.Parsed.{Parsed}
-use Rattle.sql_parts.specs.declared.parsed.Parsed.TheVariants.{Plain, AsOf, Commit, Rollback, DropBelow}
+use Rattle.sql_parts.specs.declared.parsed.Parsed.TheVariants.{Plain, AsOf, Commit, Rollback, DropBelow, Rql}
 use Rattle.sql_build.specs.Built.{built}
 use Rattle.sql_grammar.specs.Derivation.{IsSentence, Reaches, Breaks}
 use Rattle.sql_text.specs.Places.{place_at, tokens_of}
@@ -52,30 +50,7 @@ HasLimits (Commit None) = Unit {0}
 HasLimits (Commit (Some label)) = length label ≤ LABEL_BYTES
 HasLimits Rollback = Unit {0}
 HasLimits (DropBelow n) = Unit {0}
-
-abbrev pub BeginsCommit : List Token → Type 0
-BeginsCommit ts = take 1 ts ≡ token.Keyword keyword.Commit ∷ []
-
-abbrev pub BeginsAsOf : List Token → Type 0
-BeginsAsOf ts = take 3 ts ≡ token.Keyword keyword.Select ∷ token.Keyword keyword.As ∷ token.Keyword keyword.Of ∷ []
-
-abbrev pub BeginsRollback : List Token → Type 0
-BeginsRollback ts = take 1 ts ≡ token.Keyword keyword.Rollback ∷ []
-
-abbrev pub BeginsDrop : List Token → Type 0
-BeginsDrop ts = take 2 ts ≡ token.Keyword keyword.Drop ∷ token.Keyword keyword.Snapshots ∷ []
-
--- the first tokens that tell the forms apart
-abbrev pub Starts : Parsed → List Token → Type 0
-Starts (Plain s) ts = ¬ (BeginsCommit ts) × ¬ (BeginsAsOf ts) × ¬ (BeginsRollback ts) × ¬ (BeginsDrop ts)
-Starts (AsOf q) ts = BeginsAsOf ts
-Starts (Commit label) ts = BeginsCommit ts
-Starts Rollback ts = BeginsRollback ts
-Starts (DropBelow n) ts = BeginsDrop ts
-
--- the same of the tokens of a line
-abbrev pub StartsAsLine : Parsed → List ℕ → Type 0
-StartsAsLine p line = (ts : List Placed) (ending : Ending) → Lexes 0 line ts ending → Starts p (tokens_of ts)
+HasLimits (Rql c) = Unit {0}
 
 -- a line whose syntax breaks says nothing
 abbrev pub BrokenLinesSayNothing : Type 0

@@ -9,15 +9,14 @@ use Rattle.sql_parts.specs.declared.action.Op.{Op}
 use Rattle.sql_grammar.specs.declared.grammar.Rule.TheVariants as rule
 use Rattle.sql_parts.specs.declared.parsed.Parsed.{Parsed}
 use Rattle.sql_grammar.specs.Derivation.{IsSentence, Reaches}
-use Rattle.sql_text.specs.Line.{FaultAt, HasLimits, Says, Starts}
+use Rattle.sql_text.specs.Line.{FaultAt, HasLimits, Says}
 use Rattle.sql_text.specs.Places.{place_at, tokens_of}
 
--- the tokens say this alone, within the limits, and their first tell its form
+-- the tokens say this alone, within the limits
 pub record IsSaid (ts : List Token) (p : Parsed) : Type 0 where
   pub says : Says ts p
   pub only : (q : Parsed) → Says ts q → q ≡ p
   pub limits : HasLimits p
-  pub starts : Starts p ts
 
 -- the token at the place is the first with which those so far begin no sentence
 abbrev pub StopsAt : List Placed → ℕ → Type 0

@@ -8,4 +8,4 @@ mod showing;
 mod tests;
 
 pub use reading::{broken_lines_say_nothing, lines_break_at_one_place, parse, parse_lexed};
-pub use sql_parts::{AsOf, Parsed};
+pub use sql_parts::{AsOf, Mechanism, Parsed, RqlCall};

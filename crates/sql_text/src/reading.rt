@@ -5,7 +5,7 @@ ghost use Rattle.sql_lexer.specs.declared.token.Token.{Token};
 ghost use Rattle.sql_lexer.specs.Lexes.{Lexes};
 ghost use Rattle.sql_grammar.specs.declared.grammar.Rule.TheVariants as rule;
 ghost use Rattle.sql_parts.specs.declared.parsed.Parsed.{Parsed};
-ghost use Rattle.sql_text.specs.Line.{BrokenLinesSayNothing, HasLimits, IsRefused, LinesBreakAtOnePlace, Spells, StartsAsLine};
+ghost use Rattle.sql_text.specs.Line.{BrokenLinesSayNothing, HasLimits, IsRefused, LinesBreakAtOnePlace, Spells};
 ghost use Rattle.sql_grammar.specs.Machine.{Stands};
 ghost use Rattle.sql_text.specs.Places.{AllBefore, IsWithin, tokens_of};
 ghost use Rattle.sql_text.specs.Reading.{IsRefusedAmong, IsRefusedEarly, IsRefusedFor, IsSaid};
@@ -84,7 +84,6 @@ pub fn parse_lexed(alloc: Global, line: &[u8], lexed: Lexed) -> Result<Parsed, R
     ensures found { IfOk result (λ p. Spells line.now p) }
     ensures only { IfOk result (λ p. (q : Parsed) → Spells line.now q → q ≡ p) }
     ensures limits { IfOk result (λ p. HasLimits p) }
-    ensures starts { IfOk result (λ p. StartsAsLine p line.now) }
     ensures refused { IfErr result (λ e. IsRefused line.now e) }
 {
     one_reading();
@@ -98,7 +97,6 @@ pub fn parse(alloc: Global, line: &[u8]) -> Result<Parsed, Refusal>
     ensures found { IfOk result (λ p. Spells line.now p) }
     ensures only { IfOk result (λ p. (q : Parsed) → Spells line.now q → q ≡ p) }
     ensures limits { IfOk result (λ p. HasLimits p) }
-    ensures starts { IfOk result (λ p. StartsAsLine p line.now) }
     ensures refused { IfErr result (λ e. IsRefused line.now e) }
 {
     let lexed = lex(alloc, line)?;

@@ -1,13 +1,13 @@
 //! Lines in short, for tests: expressions and conditions as their steps.
 
-use crate::Parsed;
+use crate::{Mechanism, Parsed, RqlCall};
 use sql_tree::{
     Aggregate, ColumnName, Comparison, Condition, ConditionStep, Direction, Expression,
     ExpressionStep, Insert, Name, Operand, Operator, Output, OutputValue, Select, SelectList,
     Statement, Update,
 };
 use std::alloc::{AllocError, Global};
-use values::{Kind, Value, field};
+use values::{Kind, Seq, Value, field};
 
 fn words(out: &mut Vec<u8>, words: &str) -> Result<(), AllocError> {
     out.extend_from_slice(words.as_bytes())
@@ -253,6 +253,32 @@ fn statement(alloc: Global, out: &mut Vec<u8>, of: &Statement) -> Result<(), All
     }
 }
 
+fn argument(out: &mut Vec<u8>, of: &Seq<u8>) -> Result<(), AllocError> {
+    words(out, " [")?;
+    out.extend_from_slice(of.as_slice())?;
+    words(out, "]")
+}
+
+fn call(out: &mut Vec<u8>, of: &RqlCall) -> Result<(), AllocError> {
+    words(
+        out,
+        match &of.mechanism {
+            Mechanism::CollateData => "collate",
+            Mechanism::AggregateDataInVariable { function: _ } => "variable",
+            Mechanism::AggregateDataInTable { pairs: _ } => "table",
+            Mechanism::CollateDataIntoIntervals => "intervals",
+        },
+    )?;
+    argument(out, &of.snapshots)?;
+    argument(out, &of.query)?;
+    argument(out, &of.table)?;
+    match &of.mechanism {
+        Mechanism::CollateData | Mechanism::CollateDataIntoIntervals => Ok(()),
+        Mechanism::AggregateDataInVariable { function } => argument(out, function),
+        Mechanism::AggregateDataInTable { pairs } => argument(out, pairs),
+    }
+}
+
 /// Writes the line in short.
 pub fn show(alloc: Global, parsed: &Parsed, out: &mut Vec<u8>) -> Result<(), AllocError> {
     match parsed {
@@ -273,5 +299,6 @@ pub fn show(alloc: Global, parsed: &Parsed, out: &mut Vec<u8>) -> Result<(), All
             let text = format!(in alloc; "drop {}", number)?;
             words(out, text.as_str())
         }
+        Parsed::Rql(of) => call(out, of),
     }
 }

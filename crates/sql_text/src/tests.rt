@@ -69,7 +69,7 @@ fn line_of(
     Ok(line)
 }
 
-const STATEMENTS: [(&str, &str); 18] = [
+const STATEMENTS: [(&str, &str); 22] = [
     ("CREATE TABLE t (a INT)", "create t | a INT"),
     (
         "create table T1 (a int, b Text, _c TEXT)",
@@ -108,6 +108,22 @@ const STATEMENTS: [(&str, &str); 18] = [
     (
         "DROP SNAPSHOTS BELOW 9223372036854775807",
         "drop 9223372036854775807",
+    ),
+    (
+        "CollateData('SELECT snap_id FROM SnapIds','SELECT v FROM t WHERE k = ''p''','rql_c')",
+        "collate [SELECT snap_id FROM SnapIds] [SELECT v FROM t WHERE k = 'p'] [rql_c]",
+    ),
+    (
+        "AggregateDataInVariable ( '' , 'b' , 'c' , 'SUM' )",
+        "variable [] [b] [c] [SUM]",
+    ),
+    (
+        "aggregatedataintable('a','b','c','(v,MAX)')",
+        "table [a] [b] [c] [(v,MAX)]",
+    ),
+    (
+        "COLLATEDATAINTOINTERVALS('a','b','c')",
+        "intervals [a] [b] [c]",
     ),
 ];
 
@@ -220,7 +236,7 @@ fn conditions_come_in_postfix_order(rt: HostRuntime) -> Result<(), Fail> {
     )
 }
 
-const ENDS_TOO_EARLY: [(&str, u32); 18] = [
+const ENDS_TOO_EARLY: [(&str, u32); 20] = [
     ("", 0),
     ("   ", 3),
     ("CREATE TABLE t (a INT", 21),
@@ -239,6 +255,8 @@ const ENDS_TOO_EARLY: [(&str, u32); 18] = [
     ("SELECT AS OF 3", 14),
     ("COMMIT WITH", 11),
     ("DROP SNAPSHOTS BELOW", 20),
+    ("CollateData('a','b','c'", 23),
+    ("CollateData('a','b','c)", 23),
 ];
 
 #[test]
@@ -328,7 +346,7 @@ fn conditions_break_at_their_first_wrong_token(rt: HostRuntime) -> Result<(), Fa
     expect_breaks(&rt, rt.alloc(), &WRONG_IN_CONDITIONS)
 }
 
-const WRONG_IN_OTHER_LINES: [(&str, u32); 8] = [
+const WRONG_IN_OTHER_LINES: [(&str, u32); 14] = [
     ("COMMIT 'x'", 7),
     ("COMMIT WITH SNAPSHOT 5", 21),
     ("COMMIT COMMIT", 7),
@@ -336,7 +354,13 @@ const WRONG_IN_OTHER_LINES: [(&str, u32); 8] = [
     ("DROP SNAPSHOTS BELOW -1", 21),
     ("DROP TABLE t", 5),
     ("EXPLAIN", 0),
-    ("COLLATEDATA ('a', 'b', 'c')", 0),
+    ("COLLATEDATA 'a', 'b', 'c'", 12),
+    ("COLLATEDATA ('a', 'b')", 21),
+    ("COLLATEDATA ('a', b, 'c')", 18),
+    ("CollateDataIntoIntervals('a','b','c','d')", 36),
+    ("AGGREGATEDATAINVARIABLE('a','b','c')", 35),
+    ("AGGREGATEDATAINTABLE('a','b','c','(v,MAX)'", 42),
+    ("AGGREGATEDATAINTABLE('a','b','c','(v,MAX)') t", 44),
 ];
 
 #[test]

@@ -1,6 +1,6 @@
 use Rattle.std.proofs.Common.{Result, Ok, Err, OnOk, ◌≡◌, ◌+◌, ◌≤◌, ◌==◌, ◌&&◌, length, length-take, sym, ◌∙◌, arith}
 use Rattle.std.proofs.lemmas.Bool.Decides.{nat_tests}
-use Rattle.retro_base.specs.declared.limits.TheConstants.{SCRIPT_BYTES}
+use Rattle.script.specs.declared.limits.TheConstants.{SCRIPT_BYTES}
 use Rattle.script.proofs.ReadLaws.{goes_too_far, read_none, read_more, bad_line, end_good, end_only, end_fits, end_short, end_bad}
 use Rattle.script.proofs.reading.read.Goals as goal
 use Rattle.script.proofs.reading.read.Goals.{then-too_far, else-too_far}
