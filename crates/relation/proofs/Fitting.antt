@@ -17,7 +17,7 @@ use Rattle.heap_file.specs.HeapPage.{IsShort}
 use Rattle.relation.specs.declared.row.CatalogRow.{CatalogRow}
 use Rattle.relation.specs.declared.row.CatalogRow.TheVariants.{Table, Column}
 use Rattle.relation.specs.CatalogRow.{kind_number, row_values}
-use Rattle.relation.specs.Work.{fits, same_kind, rows_of_columns, rows_of_table}
+use Rattle.relation.specs.Work.{fits, same_kind, row_of_index, rows_of_columns, rows_of_table}
 
 -- a row of another length does not fit
 pub fits_apart : (columns : List TableColumn) (row : List Value) → (length row ≡ length columns → ⊥) → fits columns row ≡ false
@@ -127,6 +127,18 @@ column_short table place column h n =
       some = omega arith;
       few = omega arith;
       short = omega (arith, row-length (Int (pos 2) ∷ Text table ∷ rest), codes-cons (Int (pos 2)) (Text table ∷ rest), codes-cons (Text table) rest, codes-cons (Int (pos place)) behind, codes-cons (Text column.name) last, codes-cons (Int kind) [], int-length (pos 2), int-length (pos place), int-length kind, name-short table h, name-short column.name n);
+    }
+
+-- the row of an index is short
+pub index_short : (name table : List ℕ) (place : ℕ) → IsName name → IsName table → IsShort (row_values (row_of_index name table place))
+index_short name table place h n =
+    let last : List Value = Int (pos 0) ∷ [] in
+    let form : List Value = Int (pos 0) ∷ last in
+    let rest : List Value = Int (pos place) ∷ form in
+    record {
+      some = omega arith;
+      few = omega arith;
+      short = omega (arith, row-length (Int (pos 3) ∷ Text name ∷ Text table ∷ rest), codes-cons (Int (pos 3)) (Text name ∷ Text table ∷ rest), codes-cons (Text name) (Text table ∷ rest), codes-cons (Text table) rest, codes-cons (Int (pos place)) form, codes-cons (Int (pos 0)) last, codes-cons (Int (pos 0)) [], int-length (pos 3), int-length (pos place), int-length (pos 0), name-short name h, name-short table n);
     }
 
 -- a list of so many items, item by item

@@ -1,7 +1,7 @@
 -- What the catalog says: the tables, with their first pages and columns, and the indexes.
 use Rattle.std.specs.Prelude.{◌≡◌, ◌≤◌, ◌<◌, ◌==◌, ℕ, Bool, true, false, List, length, map, Option, Some, None, Result, Ok, Err, slice_get, slice_index_or, if◌then◌else◌}
 use Rattle.std.specs.Cmp.Lexicographic.{pointwise}
-use Rattle.std.specs.List.{filter_map, find}
+use Rattle.std.specs.List.{AllByRecursion, filter_map, find}
 use Rattle.retro_base.specs.declared.refusal.Refusal.{Refusal}
 use Rattle.sql_tree.specs.declared.schema.IndexSchema.{IndexSchema}
 use Rattle.sql_tree.specs.declared.schema.Schema.{Schema}
@@ -134,6 +134,11 @@ abbrev pub catalog : ℕ → Pages → Result Catalog Refusal → Type 0
 catalog size pages = do
   rows ← catalog_rows size pages
   catalog_told rows
+
+-- each table has one to sixteen columns
+abbrev pub HaveFewColumns : List StoredTable → Type 0
+HaveFewColumns tables =
+    AllByRecursion (λ (table : StoredTable). (1 ≤ length table.columns) × (length table.columns ≤ 16)) tables
 
 -- the catalog without pages
 abbrev pub schema_of : Catalog → Schema

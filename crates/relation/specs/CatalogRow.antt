@@ -8,7 +8,7 @@ use Rattle.sql_tree.specs.Name.{IsName}
 use Rattle.relation.specs.declared.row.CatalogRow.{CatalogRow}
 use Rattle.relation.specs.declared.row.CatalogRow.TheVariants.{Table, Column, Index}
 use Rattle.relation.specs.declared.row.IndexForm.{IndexForm}
-use Rattle.relation.specs.declared.row.IndexForm.TheVariants.{Chain, Tree}
+use Rattle.relation.specs.declared.row.IndexForm.TheVariants.{Named, Chain, Tree}
 
 -- a column's kind as a number
 abbrev pub kind_number : Kind → ℕ
@@ -17,6 +17,7 @@ kind_number kind.Text = 2
 
 -- an index's form as a number
 abbrev pub form_number : IndexForm → ℕ
+form_number Named = 0
 form_number Chain = 1
 form_number Tree = 2
 

@@ -1,11 +1,13 @@
 -- What the calls answer, and what they do to the pages.
-use Rattle.std.specs.Prelude.{◌≡◌, ◌<◌, ◌+◌, ◌==◌, ℕ, Bool, true, false, List, [], ◌∷◌, length, map, Option, Some, None, Result, Ok, Err, slice_index_or, if◌then◌else◌}
+use Rattle.std.specs.Prelude.{◌≡◌, ◌+◌, ◌==◌, ℕ, Bool, true, false, List, [], ◌∷◌, map, Option, Some, None, Result, Ok, Err, if◌then◌else◌}
 use Rattle.std.specs.Cmp.Lexicographic.{pointwise}
+use Rattle.std.specs.List.{AllByRecursion}
 use Rattle.retro_base.specs.declared.refusal.Refusal.{Refusal}
 use Rattle.values.specs.declared.value.Kind.{Kind}
 use Rattle.values.specs.declared.value.Kind.TheVariants as kind
 use Rattle.values.specs.declared.value.Value.{Value}
 use Rattle.values.specs.Value.{kind_of}
+use Rattle.sql_tree.specs.Scope.{column_place}
 use Rattle.sql_tree.specs.declared.schema.Schema.{Schema}
 use Rattle.sql_tree.specs.declared.statement.Column.{Column as TableColumn}
 use Rattle.pager.specs.Pages.{Pages, broken}
@@ -16,7 +18,8 @@ use Rattle.heap_file.specs.Work.{added, changed, made, next_of, removed}
 use Rattle.relation.specs.declared.catalog.StoredTable.{StoredTable}
 use Rattle.relation.specs.declared.catalog.TheConstants.{CATALOG}
 use Rattle.relation.specs.declared.row.CatalogRow.{CatalogRow}
-use Rattle.relation.specs.declared.row.CatalogRow.TheVariants.{Table, Column}
+use Rattle.relation.specs.declared.row.CatalogRow.TheVariants.{Table, Column, Index}
+use Rattle.relation.specs.declared.row.IndexForm.TheVariants.{Named}
 use Rattle.relation.specs.Catalog.{catalog, schema_of, table_named}
 use Rattle.relation.specs.CatalogRow.{row_values}
 use Rattle.relation.specs.Each.{each, in_turn}
@@ -27,10 +30,10 @@ schema_in size pages = do
   catalog ← catalog size pages
   only (Ok (schema_of catalog))
 
--- the table, if there is one; where there is none, the catalog's first page is told as broken
-abbrev pub known : Option StoredTable → Result StoredTable Refusal
+-- what there is; where there is nothing, the catalog's first page is told as broken
+abbrev pub known : {A : Type 0} → Option A → Result A Refusal
 known None = Err (broken CATALOG)
-known (Some table) = Ok table
+known (Some x) = Ok x
 
 -- the table of that name
 abbrev pub table_in : ℕ → Pages → List ℕ → Result StoredTable Refusal → Type 0
@@ -59,6 +62,10 @@ fits columns row = pointwise (λ (column : TableColumn) (value : Value). same_ki
 -- a row that fits the columns; one that does not breaks its page
 abbrev pub fitting : List TableColumn → Placed → Result Placed Refusal
 fitting columns placed = if fits columns placed.row then Ok placed else Err (broken placed.page)
+
+-- each row fits the columns
+abbrev pub AllFit : List TableColumn → List Placed → Type 0
+AllFit columns rows = AllByRecursion (λ (placed : Placed). fits columns placed.row ≡ true) rows
 
 -- the rows of a table, in rising number
 abbrev pub rows_at : ℕ → Pages → StoredTable → Result (List Placed) Refusal → Type 0
@@ -102,6 +109,22 @@ abbrev pub created : ℕ → Pages → List ℕ → List TableColumn → Result 
 created size pages name columns = do
   table ← made size pages
   all_added size CATALOG (map row_values (rows_of_table name table.0 columns)) table.1
+
+-- the catalog's row of an index over the column at that place of a table; the index is kept by name alone
+abbrev pub row_of_index : List ℕ → List ℕ → ℕ → CatalogRow
+row_of_index name table place =
+    Index (record { name = name; table = table; place = place; form = Named; root = 0 })
+
+-- an index over the column at that place of a table is made: its row is added to the catalog
+abbrev pub index_added : ℕ → List ℕ → List ℕ → ℕ → Pages → Result (Unit {0} × Pages) Refusal → Type 0
+index_added size name table place = all_added size CATALOG (row_values (row_of_index name table place) ∷ [])
+
+-- an index over the column of that name of a table is made
+abbrev pub indexed : ℕ → Pages → List ℕ → List ℕ → List ℕ → Result (Unit {0} × Pages) Refusal → Type 0
+indexed size pages name table column = do
+  found ← table_in size pages table
+  place ← only (known (column_place column found.columns))
+  index_added size name table place pages
 
 -- rows are added to the table of that name, in order
 abbrev pub inserted : ℕ → Pages → List ℕ → List (List Value) → Result (Unit {0} × Pages) Refusal → Type 0

@@ -1,12 +1,12 @@
 //! The calls: each that edits drafts what it does, and then makes the edits.
 
-ghost use Rattle.std.specs.Prelude.{◌≤◌, All, length};
+ghost use Rattle.std.specs.Prelude.{◌≤◌, All, IfOk, length};
 ghost use Rattle.pager.specs.Stop.{Accounts, Answers, Makes, OnlyReads};
 ghost use Rattle.heap_file.specs.HeapPage.{IsShort};
 ghost use Rattle.heap_file.specs.Work.{next_of};
 ghost use Rattle.heap_file.specs.declared.chain.Placed.{Placed};
-ghost use Rattle.relation.specs.Catalog.{catalog};
-ghost use Rattle.relation.specs.Work.{all_added, all_changed, all_removed, created, rows_at};
+ghost use Rattle.relation.specs.Catalog.{HaveFewColumns, catalog};
+ghost use Rattle.relation.specs.Work.{AllFit, all_added, all_changed, all_removed, created, index_added, rows_at};
 
 use crate::catalog::{Catalog, StoredTable, read_catalog};
 use crate::drafting;
@@ -16,10 +16,11 @@ use sql_tree::{Column, Name};
 use std::alloc::Global;
 use values::Row;
 
-/// The catalog, read once for all calls that follow until a table is made.
+/// The catalog, read once for all calls that follow until a table or an index is made.
 pub fn open<P: Pager>(alloc: Global, pager: &mut P) -> Result<Catalog, Stop<P::Fault>>
     ensures catalog { Answers (λ catalog. catalog) (P.tells pager.new) (λ pages. catalog (P.size pager.old) pages)
         result }
+    ensures few { IfOk result (λ catalog. HaveFewColumns catalog.tables) }
     ensures only_reads { OnlyReads P.tells P.goes P.size P.faults pager.old pager.new result }
 {
     let draft = Draft::new(alloc, pager.size());
@@ -34,6 +35,7 @@ pub fn rows<P: Pager>(
 ) -> Result<Vec<Placed>, Stop<P::Fault>>
     ensures rows { Answers (λ rows. rows.items) (P.tells pager.new)
         (λ pages. rows_at (P.size pager.old) pages table.now) result }
+    ensures fitting { IfOk result (λ rows. AllFit table.now.columns rows.items) }
     ensures only_reads { OnlyReads P.tells P.goes P.size P.faults pager.old pager.new result }
 {
     let draft = Draft::new(alloc, pager.size());
@@ -69,6 +71,26 @@ pub fn create_table<P: EditPager>(
 {
     let mut draft = Draft::new(alloc, pager.size());
     drafting::create_table(alloc, pager, &mut draft, name, columns)?;
+    draft.write(pager)?;
+    Ok(())
+}
+
+/// Makes an index over the column at that place of a table. It is kept by name alone: it takes no page, and lists nothing. Its
+/// name is to be a new one, and the table is to have that column. Refused before the first edit where more pages are needed
+/// than are free.
+pub fn create_index<P: EditPager>(
+    alloc: Global,
+    pager: &mut P,
+    name: &Name,
+    table: &StoredTable,
+    place: u32,
+) -> Result<(), Stop<P::Fault>>
+    ensures indexed { Makes (λ u. u) (P.tells pager.old) (P.tells pager.new)
+        (index_added (P.size pager.old) name.now table.now.name place) result }
+    ensures accounts { Accounts P.goes P.size P.faults pager.old pager.new result }
+{
+    let mut draft = Draft::new(alloc, pager.size());
+    drafting::create_index(alloc, pager, &mut draft, name, &table.name, place)?;
     draft.write(pager)?;
     Ok(())
 }

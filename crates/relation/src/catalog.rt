@@ -3,7 +3,7 @@
 ghost use Rattle.std.specs.Prelude.{◌≡◌, None, Some, MatchOption, IfOk};
 ghost use Rattle.pager.specs.Draft.{Reads};
 ghost use Rattle.pager.specs.Stop.{OnlyReads};
-ghost use Rattle.relation.specs.Catalog.{AreColumnsOf, as_column, as_index, as_table, IsPlaceNamed, IsPlaceTold, catalog, catalog_rows, column_rows, index_rows, index_told, schema_of, table_named, table_rows, table_told, told};
+ghost use Rattle.relation.specs.Catalog.{AreColumnsOf, as_column, as_index, as_table, IsPlaceNamed, IsPlaceTold, HaveFewColumns, catalog, catalog_rows, column_rows, index_rows, index_told, schema_of, table_named, table_rows, table_told, told};
 ghost use Rattle.relation.specs.Each.{each, Tells};
 
 use crate::row::{CatalogRow, ColumnRow, IndexRow, TableRow, row_of};
@@ -81,6 +81,7 @@ pub fn read_catalog<P: Pager>(
     requires { draft.now.size ≡ P.size pager.old }
     ensures read { Reads (λ catalog. catalog) (P.tells pager.new) draft.now.list (λ pages. catalog draft.now.size pages)
         result }
+    ensures few { IfOk result (λ catalog. HaveFewColumns catalog.tables) }
     ensures only_reads { OnlyReads P.tells P.goes P.size P.faults pager.old pager.new result }
 {
     let rows = read_rows(alloc, pager, draft)?;

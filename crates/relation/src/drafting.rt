@@ -8,10 +8,10 @@ ghost use Rattle.heap_file.specs.HeapPage.{IsShort};
 ghost use Rattle.heap_file.specs.declared.chain.Placed.{Placed};
 ghost use Rattle.relation.specs.CatalogRow.{row_values};
 ghost use Rattle.relation.specs.Each.{Tells, each};
-ghost use Rattle.relation.specs.Work.{all_added, all_changed, all_removed, created, fits, fitting, rows_at, rows_of_table};
+ghost use Rattle.relation.specs.Work.{AllFit, all_added, all_changed, all_removed, created, fits, fitting, index_added, rows_at, rows_of_table};
 
 use crate::catalog::{CATALOG, StoredTable};
-use crate::row::{column_values, table_values};
+use crate::row::{column_values, index_values, table_values};
 use heap_file::{Placed, drafting};
 use pager::{Draft, Pager, Stop, broken};
 use retro_base::Refusal;
@@ -29,6 +29,7 @@ pub fn rows<P: Pager>(
     requires { draft.now.size ≡ P.size pager.old }
     ensures rows { Reads (λ rows. rows.items) (P.tells pager.new) draft.now.list
         (λ pages. rows_at draft.now.size pages table.now) result }
+    ensures fitting { IfOk result (λ rows. AllFit table.now.columns rows.items) }
     ensures only_reads { OnlyReads P.tells P.goes P.size P.faults pager.old pager.new result }
 {
     let rows = drafting::scan(alloc, pager, draft, table.first)?;
@@ -101,6 +102,25 @@ fn rows_of_table(
         rows.push(column_values(alloc, name, place as u32, column)?)?;
     }
     Ok(rows)
+}
+
+/// Drafts an index over the column at that place of a table, by its name alone.
+pub fn create_index<P: Pager>(
+    alloc: Global,
+    pager: &mut P,
+    draft: &mut Draft,
+    name: &Name,
+    table: &Name,
+    place: u32,
+) -> Result<(), Stop<P::Fault>>
+    requires { draft.old.size ≡ P.size pager.old }
+    ensures indexed { Drafts (λ u. u) (P.tells pager.new) draft.old.list draft.new.list
+        (index_added draft.old.size name.now table.now place) result }
+    ensures only_drafts { OnlyDrafts P.tells P.goes P.size P.faults pager.old pager.new result }
+    ensures size { draft.new.size ≡ draft.old.size }
+{
+    let row = index_values(alloc, name, table, place)?;
+    insert(alloc, pager, draft, CATALOG, &[row])
 }
 
 /// Drafts rows at the end of the table that begins with that page, in order.

@@ -8,7 +8,7 @@ mod row;
 #[cfg(test)]
 mod tests;
 
-pub use calls::{create_table, delete, insert, next_number, open, rows, update};
+pub use calls::{create_index, create_table, delete, insert, next_number, open, rows, update};
 pub use catalog::{Catalog, StoredTable};
 pub use heap_file::Placed;
 pub use row::is_name;

@@ -5,6 +5,7 @@ ghost use Rattle.std.specs.List.{list_all};
 ghost use Rattle.sql_tree.specs.Name.{IsName, begins_word, continues_word};
 ghost use Rattle.heap_file.specs.HeapPage.{IsShort};
 ghost use Rattle.relation.specs.CatalogRow.{IsRowOf, IsNameOf, IsNumber, IsKind, IsForm, row_values, kind_number};
+ghost use Rattle.relation.specs.Work.{row_of_index};
 
 use sql_tree::{Column, Name};
 use std::alloc::{AllocError, Global};
@@ -25,14 +26,16 @@ pub struct ColumnRow {
     pub column: Column,
 }
 
-/// How an index keeps its entries: in a sorted chain of pages, or in a tree.
+/// How an index keeps its entries: not at all, where it is kept by name alone, in a sorted chain of pages, or in a tree.
 #[derive(Clone, Copy)]
 pub enum IndexForm {
+    Named,
     Chain,
     Tree,
 }
 
-/// The row of an index: its name, its table's name, its column's place, its form and its root page.
+/// The row of an index: its name, its table's name, its column's place, its form and its root page, which is 0 where the
+/// index is kept by name alone.
 #[derive(Drop)]
 pub struct IndexRow {
     pub name: Name,
@@ -222,6 +225,7 @@ fn form_of(number: i64) -> Option<IndexForm>
     ensures { IsForm number result }
 {
     match number {
+        0 => Some(IndexForm::Named),
         1 => Some(IndexForm::Chain),
         2 => Some(IndexForm::Tree),
         _ => None,
@@ -259,6 +263,21 @@ pub fn column_values(
     values.push(Value::Int(i64::from(place)))?;
     values.push(name_value(alloc, &column.name)?)?;
     values.push(Value::Int(kind_number(column.kind)))?;
+    Ok(Seq::from(values))
+}
+
+/// The values of the row of an index that is kept by name alone.
+pub fn index_values(alloc: Global, name: &Name, table: &Name, place: u32) -> Result<Row, AllocError>
+    ensures values { IfOk result (λ values. values ≡ row_values (row_of_index name.now table.now place)) }
+    ensures short { IfOk result IsShort }
+{
+    let mut values = Vec::new(alloc);
+    values.push(Value::Int(3))?;
+    values.push(name_value(alloc, name)?)?;
+    values.push(name_value(alloc, table)?)?;
+    values.push(Value::Int(i64::from(place)))?;
+    values.push(Value::Int(0))?;
+    values.push(Value::Int(0))?;
     Ok(Seq::from(values))
 }
 

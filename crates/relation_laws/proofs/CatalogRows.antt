@@ -1,4 +1,4 @@
--- The catalog's rows of a new table.
+-- The catalog's rows of a new table, and of a new index.
 use Rattle.std.proofs.Common.{◌≡◌, ◌≢◌, ◌<◌, ◌≤◌, ◌+◌, ◌^◌, ℕ, pos, zero, suc, Bool, true, false, List, [], ◌∷◌, length, map, get_or, Ok, refl, ap, arith}
 use Rattle.std.specs.Int.{w64}
 use Rattle.std.specs.Int.RustNames.{FitsSigned}
@@ -20,8 +20,8 @@ use Rattle.relation.specs.declared.row.ColumnRow.{ColumnRow}
 use Rattle.relation.specs.Catalog.{AreColumns, as_column, column_rows, index_rows, same_name, table_rows, told}
 use Rattle.relation.specs.CatalogRow.{IsCatalogRow, kind_number, row_values}
 use Rattle.relation.specs.Each.{each}
-use Rattle.relation.specs.Work.{rows_of_columns, rows_of_table}
-use Rattle.relation.proofs.Fitting.{column_short, is_text, table_short}
+use Rattle.relation.specs.Work.{row_of_index, rows_of_columns, rows_of_table}
+use Rattle.relation.proofs.Fitting.{column_short, index_short, is_text, table_short}
 use Rattle.relation_laws.specs.Laws.{AreTableColumns}
 use Rattle.relation_laws.specs.Tables.{IsKept, numbered, numbered_row}
 use Rattle.relation_laws.proofs.Lists.{all-at}
@@ -48,6 +48,10 @@ table-storable name first is lt = storable _ (table_short name first is) (small-
 column-storable : (table : List ℕ) (place : ℕ) (column : TableColumn) → IsName table → place < 2 ^ 32 → IsName column.name → IsStorable (row_values (Column (record { table = table; place = place; column = column })))
 column-storable table place column is lt named =
     storable _ (column_short table place column is named) (small-fits 2 (omega arith), (is_text table is, (small-fits place lt, (is_text column.name named, (kind-fits column.kind, tt)))))
+
+pub index-storable : (name table : List ℕ) (place : ℕ) → IsName name → IsName table → place < 2 ^ 32 → IsStorable (row_values (row_of_index name table place))
+index-storable name table place is named lt =
+    storable _ (index_short name table place is named) (small-fits 3 (omega arith), (is_text name is, (is_text table named, (small-fits place lt, (small-fits 0 (omega arith), (small-fits 0 (omega arith), tt))))))
 
 abbrev NamesAre : List TableColumn → Type 0
 NamesAre columns = AllByRecursion (λ (column : TableColumn). IsName column.name) columns

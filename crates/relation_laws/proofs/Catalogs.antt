@@ -22,7 +22,7 @@ use Rattle.relation.specs.declared.row.CatalogRow.{CatalogRow}
 use Rattle.relation.specs.declared.row.CatalogRow.TheVariants.{Table, Column, Index}
 use Rattle.relation.specs.declared.row.ColumnRow.{ColumnRow}
 use Rattle.relation.specs.declared.row.IndexForm.{IndexForm}
-use Rattle.relation.specs.declared.row.IndexForm.TheVariants.{Chain, Tree}
+use Rattle.relation.specs.declared.row.IndexForm.TheVariants.{Named, Chain, Tree}
 use Rattle.relation.specs.declared.row.TableRow.{TableRow}
 use Rattle.relation.specs.Catalog.{AreColumns, catalog, catalog_rows, column_rows, index_rows, index_told, table_rows, table_told, told}
 use Rattle.relation.specs.CatalogRow.{form_number, kind_number, row_values}
@@ -40,6 +40,11 @@ same-kind kind.Text kind.Int e = absurd (omega (arith, e))
 same-kind kind.Text kind.Text e = refl
 
 same-form : (a b : IndexForm) → form_number a ≡ form_number b → a ≡ b
+same-form Named Named e = refl
+same-form Named Chain e = absurd (omega (arith, e))
+same-form Named Tree e = absurd (omega (arith, e))
+same-form Chain Named e = absurd (omega (arith, e))
+same-form Tree Named e = absurd (omega (arith, e))
 same-form Chain Chain e = refl
 same-form Chain Tree e = absurd (omega (arith, e))
 same-form Tree Chain e = absurd (omega (arith, e))

@@ -26,7 +26,7 @@ use Rattle.relation_laws.proofs.Catalogs.{goes-on}
 use Rattle.relation_laws.proofs.Changed.{Goes, full-both, moves}
 use Rattle.relation_laws.proofs.Deleting.{StillThere, still}
 use Rattle.relation_laws.proofs.Drawing.{Draws}
-use Rattle.relation_laws.proofs.Needing.{create-needs, ends-there, insert-needs}
+use Rattle.relation_laws.proofs.Needing.{create-needs, ends-there, index-needs, insert-needs}
 use Rattle.relation_laws.proofs.Reaching.{Touches}
 use Rattle.relation_laws.proofs.Singling.{by-name, firsts_of, has-first, named-here, pages_in, rows-here, rows-read, single}
 use Rattle.relation_laws.proofs.Updating.{changed_at, numbers_of, still-changed, storable-changes}
@@ -151,4 +151,4 @@ update-needs size pages all table changes answer is has these work =
     (changes_open (taken_after pages) end.0 one.shows.placed changes, (one.stored, named-here size pages all table is one, one.shows.placed, rows-here size pages all table is one, end.0, end.1, end.2, refl), takes)
 
 pub needs_law : NeedsLaw
-needs_law = record { insert = insert-needs; update = update-needs; create = create-needs }
+needs_law = record { insert = insert-needs; update = update-needs; create = create-needs; index = index-needs }

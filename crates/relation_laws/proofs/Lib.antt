@@ -10,6 +10,8 @@ pub mod Drawn
 pub mod Eaches
 pub mod Entries
 pub mod Filling
+pub mod Growing
+pub mod Indexing
 pub mod Inserting
 pub mod Leaving
 pub mod Lists

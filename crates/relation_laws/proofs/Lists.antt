@@ -5,6 +5,7 @@ use Rattle.std.proofs.lemmas.Bool.Decides.{eqb_tells}
 use Rattle.heap_laws.specs.Store.{times}
 use Rattle.heap_laws.proofs.Counts.{keyed, keyed-more, keyed-same, length-others, others, keyed-left}
 use Rattle.heap_laws.proofs.Rows.{keyed-contains}
+use Rattle.heap_laws.proofs.Stores.{all-join}
 use Rattle.relation_laws.specs.Tables.{AreDifferent}
 
 pub contains-head : {A : Type 0} (x : A) (xs : List A) → Contains (x ∷ xs) x
@@ -142,6 +143,11 @@ all-map P f (x ∷ xs) all = (all.0, all-map P f xs all.1)
 all-insert : {A : Type 0} (P : A → Type 0) (xs ys : List A) (x : A) → AllByRecursion P (xs ++ ys) → P x → AllByRecursion P ((xs ++ x ∷ []) ++ ys)
 all-insert P [] ys x all is = (is, all)
 all-insert P (y ∷ xs) ys x all is = (all.0, all-insert P xs ys x all.1 is)
+
+-- one more item behind different ones
+pub different-push : {A : Type 0} (xs : List A) (x : A) → AreDifferent xs → AllByRecursion (λ y. y ≢ x) xs → AreDifferent (xs ++ x ∷ [])
+different-push [] x apart off = (tt, tt)
+different-push (z ∷ xs) x apart off = (all-join (λ y. y ≢ z) xs (x ∷ []) apart.0 ((λ e. off.0 (sym e)), tt), different-push xs x apart.1 off.1)
 
 -- one more item among different ones
 pub different-insert : {A : Type 0} (xs ys : List A) (x : A) → AreDifferent (xs ++ ys) → AllByRecursion (λ y. y ≢ x) xs → AllByRecursion (λ y. y ≢ x) ys → AreDifferent ((xs ++ x ∷ []) ++ ys)

@@ -22,20 +22,22 @@ use Rattle.heap_laws.proofs.Editing.{edits-as}
 use Rattle.heap_laws.proofs.Making.{make_law}
 use Rattle.heap_laws.proofs.Reading.{reads}
 use Rattle.heap_laws.proofs.Routes.{at-one, at-same}
+use Rattle.relation.specs.declared.catalog.StoredTable.{StoredTable}
 use Rattle.relation.specs.declared.catalog.TheConstants.{CATALOG}
 use Rattle.relation.specs.declared.row.CatalogRow.TheVariants.{Table as TableOf}
 use Rattle.relation.specs.CatalogRow.{row_values}
-use Rattle.relation.specs.Work.{all_added, created, inserted, rows_of_columns, rows_of_table}
+use Rattle.relation.specs.Work.{all_added, created, index_added, indexed, inserted, row_of_index, rows_of_columns, rows_of_table}
 use Rattle.relation.proofs.Fitting.{codes-cons, int-length, row-length as fixed-length}
 use Rattle.relation.proofs.Steps.{left_pages}
-use Rattle.relation_laws.specs.Laws.{AreTableColumns, EditsLaw, IsNewName, IsRowFor, IsStoreOf}
-use Rattle.relation_laws.specs.Needs.{CreateNeeds, InsertNeeds, TakesNeeded, next_pages, opened, row_bytes, taken_after}
+use Rattle.relation_laws.specs.Laws.{AreTableColumns, EditsLaw, HasColumn, IsNewName, IsRowFor, IsStoreOf}
+use Rattle.relation_laws.specs.Needs.{CreateNeeds, IndexNeeds, InsertNeeds, TakesNeeded, next_pages, opened, row_bytes, taken_after}
 use Rattle.relation_laws.specs.Reach.{with_root}
 use Rattle.relation_laws.specs.Tables.{PlainTable, PlainTables}
 use Rattle.relation_laws.proofs.Creating.{ready}
 use Rattle.relation_laws.proofs.Drawing.{Draws, draws-pages, draws-still, draws-then, next-first}
 use Rattle.relation_laws.proofs.Drawn.{add-draws, opens_of}
 use Rattle.relation_laws.proofs.Filling.{add-ends, entries_after}
+use Rattle.relation_laws.proofs.Indexing.{IndexReady, index-ready, row-added}
 use Rattle.relation_laws.proofs.Inserting.{storable-rows}
 use Rattle.relation_laws.proofs.Lists.{contains-left}
 use Rattle.relation_laws.proofs.Reaching.{made-spares, own-first, own-last}
@@ -281,23 +283,32 @@ ends-there size pages firsts indexes first well has =
     let tail = tail-there size pages firsts indexes first well has read.one.lawful.head read.head_at in
     (last_page first read.one.lawful.head, tail.0, record { head = read.one.lawful.head; at_first = read.head_at; named = refl; at_last = tail.1 })
 
+row-bytes : (row : List Value) → row_bytes row ≡ 2 + length (row_code 0 row)
+row-bytes row = omega (arith, length-append (field_bytes 2 (length (row_code 0 row))) (row_code 0 row), length-field_bytes 2 (length (row_code 0 row)))
+
+-- rows of one length before others open as many pages
+opened-as : (taken : ℕ) (row other : List Value) (rows : List (List Value)) → length (row_code 0 row) ≡ length (row_code 0 other) → opened taken (row ∷ rows) ≡ opened taken (other ∷ rows)
+opened-as taken row other rows long =
+    ap (λ (n : ℕ). cond (nat_le (taken + n) 1004) (opened (taken + n) rows) (1 + opened n rows)) (row-bytes row ∙ ap (λ (n : ℕ). 2 + n) long ∙ sym (row-bytes other))
+
 -- a table's row in the catalog is as long whatever its first page is
 table-length : (name : List ℕ) (first : ℕ) → length (row_code 0 (row_values (TableOf (record { name = name; first = first })))) ≡ 27 + length (value_code (Text name))
 table-length name first =
     omega (arith, fixed-length (Int (pos 1) ∷ Text name ∷ Int (pos first) ∷ []), codes-cons (Int (pos 1)) (Text name ∷ Int (pos first) ∷ []), codes-cons (Text name) (Int (pos first) ∷ []), codes-cons (Int (pos first)) [], int-length (pos 1), int-length (pos first))
 
-table-bytes : (name : List ℕ) (first other : ℕ) → row_bytes (row_values (TableOf (record { name = name; first = first }))) ≡ row_bytes (row_values (TableOf (record { name = name; first = other })))
-table-bytes name first other = omega (arith, two-more (row_values (TableOf (record { name = name; first = first }))), two-more (row_values (TableOf (record { name = name; first = other }))), lengths)
-  where
-    two-more : (row : List Value) → row_bytes row ≡ 2 + length (row_code 0 row)
-    two-more row = omega (arith, length-append (field_bytes 2 (length (row_code 0 row))) (row_code 0 row), length-field_bytes 2 (length (row_code 0 row)))
-
-    lengths : length (row_code 0 (row_values (TableOf (record { name = name; first = first })))) ≡ length (row_code 0 (row_values (TableOf (record { name = name; first = other }))))
-    lengths = table-length name first ∙ sym (table-length name other)
-
 pub opened-same : (taken : ℕ) (name : List ℕ) (first other : ℕ) (columns : List TableColumn) → opened taken (map row_values (rows_of_table name first columns)) ≡ opened taken (map row_values (rows_of_table name other columns))
 opened-same taken name first other columns =
-    ap (λ (n : ℕ). cond (nat_le (taken + n) 1004) (opened (taken + n) (map row_values (rows_of_columns name 0 columns))) (1 + opened n (map row_values (rows_of_columns name 0 columns)))) (table-bytes name first other)
+    opened-as taken (row_values (TableOf (record { name = name; first = first }))) (row_values (TableOf (record { name = name; first = other }))) (map row_values (rows_of_columns name 0 columns)) (table-length name first ∙ sym (table-length name other))
+
+-- an index's row is as long whatever its column's place is
+index-length : (name table : List ℕ) (place : ℕ) → length (row_code 0 (row_values (row_of_index name table place))) ≡ 45 + (length (value_code (Text name)) + length (value_code (Text table)))
+index-length name table place =
+    let last : List Value = Int (pos 0) ∷ [] in
+    let rest : List Value = Int (pos place) ∷ Int (pos 0) ∷ last in
+    omega (arith, fixed-length (Int (pos 3) ∷ Text name ∷ Text table ∷ rest), codes-cons (Int (pos 3)) (Text name ∷ Text table ∷ rest), codes-cons (Text name) (Text table ∷ rest), codes-cons (Text table) rest, codes-cons (Int (pos place)) (Int (pos 0) ∷ last), codes-cons (Int (pos 0)) last, codes-cons (Int (pos 0)) [], int-length (pos 3), int-length (pos place), int-length (pos 0))
+
+pub opened-index : (taken : ℕ) (name table : List ℕ) (place other : ℕ) → opened taken (row_values (row_of_index name table place) ∷ []) ≡ opened taken (row_values (row_of_index name table other) ∷ [])
+opened-index taken name table place other = opened-as taken (row_values (row_of_index name table place)) (row_values (row_of_index name table other)) [] (index-length name table place ∙ sym (index-length name table other))
 
 pub insert-needs : (size : ℕ) (pages : Pages) (all : PlainTables) (table : PlainTable) (rows : List (List Value)) (answer : Result (Unit {0} × Pages) Refusal)
     → IsStoreOf size pages all → Contains all.tables table → AllByRecursion (IsRowFor table) rows → table.next_number + length rows < 2 ^ 64
@@ -345,6 +356,25 @@ create-needs size pages all name columns answer is new_name are work =
         let base = ready size pages is.store name columns table.0 table.1 new_name.is_name are makes in
         let full = rows-full size table.1 (firsts_of is.store.found ++ table.0 ∷ []) (pages_in is.store.held) CATALOG (record { next_number = length is.store.placed; rows = is.store.placed }) (map row_values (rows_of_table name table.0 columns)) why last tail makes.well (contains-left (firsts_of is.store.found) (table.0 ∷ []) CATALOG (has-catalog is.store.found)) base.is_table base.storable base.room (ends-made size pages is table makes last tail ends) add in
         omega (arith, full, makes.takes.one_less, opened-same (length (entry_bytes tail.entries)) name 0 table.0 columns)
+
+-- an index takes the pages that its row opens
+pub index-needs : (size : ℕ) (pages : Pages) (all : PlainTables) (table : PlainTable) (name column : List ℕ) (answer : Result (Unit {0} × Pages) Refusal)
+    → IsStoreOf size pages all → Contains all.tables table → IsNewName all name → HasColumn column table
+    → indexed size pages name table.name column answer → (needs : ℕ) × IndexNeeds size pages name table.name needs × TakesNeeded size pages needs answer
+index-needs size pages all table name column answer is has new there work =
+    let one = single size pages all table is has in
+    let ready = index-ready size pages all table is one name column new.is_name there in
+    let end = ends-there size pages (firsts_of is.store.found) (pages_in is.store.held) CATALOG is.store.heap (has-catalog is.store.found) in
+    let same : opened (length (entry_bytes end.1.entries)) (row_values (row_of_index name one.stored.name ready.at_column.place) ∷ []) ≡ opened (length (entry_bytes end.1.entries)) (row_values (row_of_index name table.name 0) ∷ []) =
+    opened-index (length (entry_bytes end.1.entries)) name one.stored.name ready.at_column.place 0 ∙ ap (λ (n : List ℕ). opened (length (entry_bytes end.1.entries)) (row_values (row_of_index name n 0) ∷ [])) (sym one.shows.name) in (
+      opened (length (entry_bytes end.1.entries)) (row_values (row_of_index name table.name 0) ∷ []),
+      (end.0, end.1, end.2, refl),
+      subst (λ (n : ℕ). TakesNeeded size pages n answer) same (go one.stored ready end.0 end.1 end.2 answer (row-added size pages all table is one name column ready answer work)),
+    )
+  where
+    go : (stored : StoredTable) (ready : IndexReady size pages all is stored name column) (last : ℕ) (tail : HeapPage) → EndsAt size pages CATALOG last tail → (answer : Result (Unit {0} × Pages) Refusal) → index_added size name stored.name ready.at_column.place pages answer → TakesNeeded size pages (opened (length (entry_bytes tail.entries)) (row_values (row_of_index name stored.name ready.at_column.place) ∷ [])) answer
+    go stored ready last tail ends (Ok y) h = rows-take size pages y.1 (firsts_of is.store.found) (pages_in is.store.held) CATALOG (record { next_number = length is.store.placed; rows = is.store.placed }) (row_values (row_of_index name stored.name ready.at_column.place) ∷ []) last tail is.store.heap (has-catalog is.store.found) ready.is_table ready.storable ready.room ends h
+    go stored ready last tail ends (Err why) h = rows-full size pages (firsts_of is.store.found) (pages_in is.store.held) CATALOG (record { next_number = length is.store.placed; rows = is.store.placed }) (row_values (row_of_index name stored.name ready.at_column.place) ∷ []) why last tail is.store.heap (has-catalog is.store.found) ready.is_table ready.storable ready.room ends h
 
 pub edits_law : EditsLaw
 edits_law size pages after all table rows is has fit room some work =

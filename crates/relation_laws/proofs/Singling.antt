@@ -18,7 +18,7 @@ use Rattle.relation.specs.declared.catalog.Told.{Told}
 use Rattle.relation.specs.declared.row.CatalogRow.{CatalogRow}
 use Rattle.relation.specs.declared.row.CatalogRow.TheVariants.{Table, Column, Index}
 use Rattle.relation.specs.declared.row.IndexForm.{IndexForm}
-use Rattle.relation.specs.declared.row.IndexForm.TheVariants.{Chain, Tree}
+use Rattle.relation.specs.declared.row.IndexForm.TheVariants.{Named, Chain, Tree}
 use Rattle.relation.specs.Catalog.{catalog, catalog_rows, same_name, table_named}
 use Rattle.relation.specs.Each.{each}
 use Rattle.relation.specs.Work.{fits, fitting, known, rows_at, table_in}
@@ -114,6 +114,7 @@ rows-stay size pages after told stays c =
     (c.0, same.rows, (c.2.0, same.next_number, c.2.2))
 
 held-stays : (form : IndexForm) (pages after : Pages) (root : ℕ) (held : List ℕ) → HoldsPages form pages root held → HoldsPages form after root held
+held-stays Named pages after root held h = h
 held-stays Chain pages after root held h = absurd h
 held-stays Tree pages after root held h = absurd h
 

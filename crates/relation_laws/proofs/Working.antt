@@ -19,24 +19,25 @@ use Rattle.relation.specs.declared.catalog.TheConstants.{CATALOG}
 use Rattle.relation.specs.Catalog.{same_name}
 use Rattle.relation.specs.CatalogRow.{row_values}
 use Rattle.relation.specs.Each.{in_turn}
-use Rattle.relation.specs.Work.{all_added, created, deleted, inserted, row_changed, row_removed, rows_at, rows_of_table, updated}
+use Rattle.relation.specs.Work.{all_added, created, deleted, indexed, inserted, row_changed, row_of_index, row_removed, rows_at, rows_of_table, updated}
 use Rattle.relation.proofs.Steps.{left_pages}
-use Rattle.relation_laws.specs.Laws.{AreChangesOf, AreNumbersOf, AreTableColumns, IsNewName, IsRowFor, IsStoreOf, with_changes, with_rows, with_table, without_rows}
+use Rattle.relation_laws.specs.Laws.{AreChangesOf, AreNumbersOf, AreTableColumns, HasColumn, IsNewName, IsRowFor, IsStoreOf, with_changes, with_rows, with_table, without_rows}
 use Rattle.relation_laws.specs.Needs.{InsertNeeds, RowsNeed, UpdateNeeds, changes_open, next_pages, opened, taken_after}
 use Rattle.relation_laws.specs.Reach.{with_root}
 use Rattle.relation_laws.specs.Tables.{AreDifferent, PlainTable, PlainTables, Shows, names_of}
-use Rattle.relation_laws.specs.Work.{AreAllowed, AreWorked, Changes, Creates, EditsWithin, Inserts, IsAllowed, IsInReach, IsInReachOf, IsOfTable, IsWorked, Needs, Removes, Work, WorkLaw, all_worked, tables_behind, where_named, worked}
+use Rattle.relation_laws.specs.Work.{AreAllowed, AreWorked, Changes, Creates, EditsWithin, Indexes, Inserts, IsAllowed, IsInReach, IsInReachOf, IsOfTable, IsWorked, Needs, Removes, Work, WorkLaw, all_worked, tables_behind, where_named, worked}
 use Rattle.relation_laws.proofs.Catalogs.{goes-on}
 use Rattle.relation_laws.proofs.Counting.{needs_law}
 use Rattle.relation_laws.proofs.Creating.{create_law, ready}
 use Rattle.relation_laws.proofs.Deleting.{delete_law, shrunk, still}
 use Rattle.relation_laws.proofs.Drawing.{next-first}
 use Rattle.relation_laws.proofs.Drawn.{make-draws}
+use Rattle.relation_laws.proofs.Indexing.{index-ready, index_law, row-added}
 use Rattle.relation_laws.proofs.Inserting.{insert_law, storable-rows}
 use Rattle.relation_laws.proofs.Leaving.{chain-closed, page_in}
 use Rattle.relation_laws.proofs.Lists.{contains-cons, contains-head, contains-left, different-split, one-keyed}
 use Rattle.relation_laws.proofs.Names.{name-is}
-use Rattle.relation_laws.proofs.Needing.{ends-made, ends-one, ends-there, last-one, next-more, opened-same, rows-edit}
+use Rattle.relation_laws.proofs.Needing.{ends-made, ends-one, ends-there, last-one, next-more, opened-index, opened-same, rows-edit}
 use Rattle.relation_laws.proofs.Reaching.{all-imp, own, own-first, own-last}
 use Rattle.relation_laws.proofs.Singling.{Single, by-name, firsts_of, has-catalog, has-first, named-here, named-in, pages_in, rows-here, rows-read, shown-here, single}
 use Rattle.relation_laws.proofs.Updating.{numbers_of, storable-changes, update_law}
@@ -150,6 +151,30 @@ create-within size pages after all name columns is new_name are (table, make, ad
       ),
     ))
 
+-- an index is made
+index-within : (size : ℕ) (pages after : Pages) (all : PlainTables) (table : PlainTable) (name column : List ℕ) → IsStoreOf size pages all → Contains all.tables table → IsNewName all name → HasColumn column table → indexed size pages name table.name column (Ok (tt, after)) → EditsWithin pages after (IsInReach size pages (Indexes name table.name column))
+index-within size pages after all table name column is has new there work =
+    let firsts = firsts_of is.store.found in
+    let held = pages_in is.store.held in
+    let among = has-catalog is.store.found in
+    let one = single size pages all table is has in
+    let ready = index-ready size pages all table is one name column new.is_name there in
+    let end = ends-there size pages firsts held CATALOG is.store.heap among in
+    let row : List Value = row_values (row_of_index name one.stored.name ready.at_column.place) in
+    let edits = rows-edit size pages after firsts held CATALOG (record { next_number = length is.store.placed; rows = is.store.placed }) (row ∷ []) end.0 end.1 is.store.heap among ready.is_table ready.storable ready.room end.2 (omega arith) (row-added size pages all table is one name column ready (Ok (tt, after)) work) in
+    let T : ℕ → Type 0 = IsInReach size pages (Indexes name table.name column) in
+    let mine : (p : ℕ) → 0 < times p (own size pages firsts held CATALOG is.store.heap among) → T p = λ p here. inl (own-page size pages firsts held CATALOG is.store.heap among p here) in
+    let same : row_values (row_of_index name one.stored.name 0) ≡ row_values (row_of_index name table.name 0) = ap (λ (n : List ℕ). row_values (row_of_index name n 0)) (sym one.shows.name) in
+    let count : opened (length (entry_bytes end.1.entries)) (row ∷ []) ≡ opened (length (entry_bytes end.1.entries)) (row_values (row_of_index name table.name 0) ∷ []) =
+    opened-index (length (entry_bytes end.1.entries)) name one.stored.name ready.at_column.place 0 ∙ ap (λ (r : List Value). opened (length (entry_bytes end.1.entries)) (r ∷ [])) same in
+    within-edits T pages after (CATALOG ∷ end.0 ∷ with_root (next_pages pages (opened (length (entry_bytes end.1.entries)) (row ∷ [])))) edits (
+      mine CATALOG (own-first size pages firsts held CATALOG is.store.heap among),
+      (
+        mine end.0 (own-last size pages firsts held CATALOG end.0 end.1 is.store.heap among end.2),
+        taken-within size pages (Indexes name table.name column) (opened (length (entry_bytes end.1.entries)) (row ∷ [])) (end.0, end.1, end.2, count),
+      ),
+    )
+
 -- what rows need at the end of a table is one number
 rows-need : (size : ℕ) (pages : Pages) (first : ℕ) (rows : List (List Value)) (needs other : ℕ) → RowsNeed size pages first rows needs → RowsNeed size pages first rows other → needs ≡ other
 rows-need size pages first rows needs other one two =
@@ -158,6 +183,7 @@ rows-need size pages first rows needs other one two =
 -- the number that a piece of work needs is one
 need-one : (size : ℕ) (pages : Pages) (all : PlainTables) (work : Work) (needs other : ℕ) → IsStoreOf size pages all → IsAllowed all work → Needs size pages work needs → Needs size pages work other → needs ≡ other
 need-one size pages all (Creates name columns) needs other is allowed = λ one two. one.2 ∙ ap (λ (n : ℕ). 1 + n) (rows-need size pages CATALOG (map row_values (rows_of_table name 0 columns)) one.0 two.0 one.1 two.1) ∙ sym two.2
+need-one size pages all (Indexes name table column) needs other is allowed = λ one two. rows-need size pages CATALOG (row_values (row_of_index name table 0) ∷ []) needs other one two
 need-one size pages all (Inserts name rows) needs other is (table, has, named, allowed) = subst (λ (n : List ℕ). InsertNeeds size pages n rows needs → InsertNeeds size pages n rows other → needs ≡ other) named (λ one two.
     let only_one = single size pages all table is has in
     let here : (n : ℕ) → InsertNeeds size pages table.name rows n → RowsNeed size pages only_one.stored.first rows n = λ n it. subst (λ (t : StoredTable). RowsNeed size pages t.first rows n) (ok-one (named-in size pages all table is only_one (Ok it.0) it.1)) it.2 in
@@ -239,6 +265,18 @@ work-create size pages all name columns (Ok y) is new_name are work =
     }
 work-create size pages all name columns (Err why) is new_name are work = (create_law size pages all name columns (Err why) is new_name are work, needs_law.create size pages all name columns (Err why) is new_name are work)
 
+work-index : (size : ℕ) (pages : Pages) (all : PlainTables) (table : PlainTable) (name column : List ℕ) (answer : Result (Unit {0} × Pages) Refusal) → IsStoreOf size pages all → Contains all.tables table → IsNewName all name → HasColumn column table → indexed size pages name table.name column answer → IsWorked size pages all (Indexes name table.name column) answer
+work-index size pages all table name column (Ok y) is has new there work =
+    let need = needs_law.index size pages all table name column (Ok y) is has new there work in
+    record {
+      store = (index_law size pages all table name column (Ok y) is has new there work).0;
+      needs = need.0;
+      are_needed = need.1;
+      takes = need.2;
+      within = index-within size pages y.1 all table name column is has new there work;
+    }
+work-index size pages all table name column (Err why) is has new there work = (index_law size pages all table name column (Err why) is has new there work, needs_law.index size pages all table name column (Err why) is has new there work)
+
 work-remove : (size : ℕ) (pages : Pages) (all : PlainTables) (table : PlainTable) (numbers : List ℕ) (answer : Result (Unit {0} × Pages) Refusal) → IsStoreOf size pages all → Contains all.tables table → AreNumbersOf table numbers → deleted size pages table.name numbers answer → IsWorked size pages all (Removes table.name numbers) answer
 work-remove size pages all table numbers (Ok y) is has these work =
     let gone = removed-within size pages y.1 all table numbers is has these work in
@@ -253,6 +291,7 @@ work-remove size pages all table numbers (Err why) is has these work = absurd (d
 
 work-one : (size : ℕ) (pages : Pages) (all : PlainTables) (work : Work) (answer : Result (Unit {0} × Pages) Refusal) → IsStoreOf size pages all → IsAllowed all work → worked size work pages answer → IsWorked size pages all work answer
 work-one size pages all (Creates name columns) answer is allowed = work-create size pages all name columns answer is allowed.0 allowed.1
+work-one size pages all (Indexes name of column) answer is (new, (table, has, named, allowed)) = subst (λ (n : List ℕ). indexed size pages name n column answer → IsWorked size pages all (Indexes name n column) answer) named (work-index size pages all table name column answer is has new allowed)
 work-one size pages all (Inserts name rows) answer is (table, has, named, allowed) = subst (λ (n : List ℕ). inserted size pages n rows answer → IsWorked size pages all (Inserts n rows) answer) named (work-insert size pages all table rows answer is has allowed.0 allowed.1)
 work-one size pages all (Changes name changes) answer is (table, has, named, allowed) = subst (λ (n : List ℕ). updated size pages n changes answer → IsWorked size pages all (Changes n changes) answer) named (work-change size pages all table changes answer is has allowed)
 work-one size pages all (Removes name numbers) answer is (table, has, named, allowed) = subst (λ (n : List ℕ). deleted size pages n numbers answer → IsWorked size pages all (Removes n numbers) answer) named (work-remove size pages all table numbers answer is has allowed)

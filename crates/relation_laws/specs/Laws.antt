@@ -16,8 +16,8 @@ use Rattle.heap_laws.specs.Table.{IsStorable}
 use Rattle.relation.specs.declared.catalog.StoredTable.{StoredTable}
 use Rattle.relation.specs.Catalog.{same_name}
 use Rattle.relation.specs.Each.{in_turn}
-use Rattle.relation.specs.Work.{all_changed, all_removed, created, deleted, fits, inserted, next_in, page_of, row_changed, row_removed, rows_at, rows_in, schema_in, table_in, updated}
-use Rattle.relation_laws.specs.Needs.{CreateNeeds, InsertNeeds, TakesNeeded, UpdateNeeds}
+use Rattle.relation.specs.Work.{all_changed, all_removed, created, deleted, fits, indexed, inserted, next_in, page_of, row_changed, row_removed, rows_at, rows_in, schema_in, table_in, updated}
+use Rattle.relation_laws.specs.Needs.{CreateNeeds, IndexNeeds, InsertNeeds, TakesNeeded, UpdateNeeds}
 use Rattle.relation_laws.specs.Reach.{EditsEnds, Reaches, ReachesCatalog}
 use Rattle.relation_laws.specs.Tables.{AreDifferent, IsStore, PlainTable, PlainTables, TablesOf, numbered, numbered_row}
 
@@ -186,7 +186,26 @@ CreateLaw = (size : ℕ) (pages : Pages) (all : PlainTables) (name : List ℕ) (
     (λ after. IsStoreOf size after (with_new (empty_table name columns) all) × ReachesCatalog size pages after)
     answer
 
--- An insert, an update and a new table take the pages that they need, and are refused exactly where fewer are free.
+-- a table has a column of that name
+abbrev pub HasColumn : List ℕ → PlainTable → Type 0
+HasColumn column table = Contains (map (λ (other : TableColumn). other.name) table.columns) column
+
+-- the tables with this index as the last one; all else as before
+abbrev pub with_index : IndexSchema → PlainTables → PlainTables
+with_index index all = record all { indexes = all.indexes ++ index ∷ [] }
+
+-- An index over a column of a table is made. That is refused only for want of pages.
+abbrev pub IndexLaw : Type 0
+IndexLaw = (size : ℕ) (pages : Pages) (all : PlainTables) (table : PlainTable) (name column : List ℕ)
+    (answer : Result (Unit {0} × Pages) Refusal)
+    → IsStoreOf size pages all → Contains all.tables table → IsNewName all name → HasColumn column table
+    → indexed size pages name table.name column answer
+    → Leaves size
+    (λ after. IsStoreOf size after (with_index (record { name = name; table = table.name; column = column }) all)
+    × ReachesCatalog size pages after) answer
+
+-- An insert, an update, a new table and an index take the pages that they need, and are refused exactly where fewer are
+-- free.
 pub record NeedsLaw : Type 0 where
   pub insert : (size : ℕ) (pages : Pages) (all : PlainTables) (table : PlainTable) (rows : List (List Value))
       (answer : Result (Unit {0} × Pages) Refusal)
@@ -204,6 +223,11 @@ pub record NeedsLaw : Type 0 where
       → IsStoreOf size pages all → IsNewName all name → AreTableColumns columns
       → created size pages name columns answer
       → (needs : ℕ) × CreateNeeds size pages name columns needs × TakesNeeded size pages needs answer
+  pub index : (size : ℕ) (pages : Pages) (all : PlainTables) (table : PlainTable) (name column : List ℕ)
+      (answer : Result (Unit {0} × Pages) Refusal)
+      → IsStoreOf size pages all → Contains all.tables table → IsNewName all name → HasColumn column table
+      → indexed size pages name table.name column answer
+      → (needs : ℕ) × IndexNeeds size pages name table.name needs × TakesNeeded size pages needs answer
 
 -- Rows that are changed or taken out where they stand, as reading their table told, are so under their numbers.
 pub record PlacedLaw : Type 0 where

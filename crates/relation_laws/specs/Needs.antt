@@ -14,7 +14,7 @@ use Rattle.heap_laws.specs.Table.{EndsAt}
 use Rattle.relation.specs.declared.catalog.StoredTable.{StoredTable}
 use Rattle.relation.specs.declared.catalog.TheConstants.{CATALOG}
 use Rattle.relation.specs.CatalogRow.{row_values}
-use Rattle.relation.specs.Work.{rows_at, rows_of_table, table_in}
+use Rattle.relation.specs.Work.{row_of_index, rows_at, rows_of_table, table_in}
 
 -- the bytes that a row takes on a page, whatever its number
 abbrev pub row_bytes : List Value → ℕ
@@ -58,6 +58,11 @@ InsertNeeds size pages name rows needs = (table : StoredTable) × table_in size 
 abbrev pub CreateNeeds : ℕ → Pages → List ℕ → List TableColumn → ℕ → Type 0
 CreateNeeds size pages name columns needs = (behind : ℕ)
     × RowsNeed size pages CATALOG (map row_values (rows_of_table name 0 columns)) behind × (needs ≡ 1 + behind)
+
+-- how many pages an index needs: those that its row opens in the catalog, which is as long whatever the column's place
+-- is
+abbrev pub IndexNeeds : ℕ → Pages → List ℕ → List ℕ → ℕ → Type 0
+IndexNeeds size pages name table = RowsNeed size pages CATALOG (row_values (row_of_index name table 0) ∷ [])
 
 -- a call that needs so many pages takes them, and is refused exactly where fewer are free
 abbrev pub TakesNeeded : {A : Type 0} → ℕ → Pages → ℕ → Result (A × Pages) Refusal → Type 0

@@ -51,7 +51,7 @@ pub record EditsEnds (size : ℕ) (pages : Pages) (name : List ℕ) (rows : List
   pub edits : Edits pages after
       (table.first ∷ last ∷ with_root (next_pages pages (opened (length (entry_bytes tail.entries)) rows)))
 
--- what making a table leaves alone: the pages of all tables
+-- what making a table or an index leaves alone: the pages of all tables
 pub record ReachesCatalog (size : ℕ) (pages : Pages) (after : Pages) : Type 0 where
   pub in_tables : (found : Catalog) (other : StoredTable) (page : ℕ) → catalog size pages (Ok found)
       → Contains found.tables other

@@ -16,7 +16,7 @@ use Rattle.relation.specs.declared.catalog.Told.{Told}
 use Rattle.relation.specs.declared.row.CatalogRow.{CatalogRow}
 use Rattle.relation.specs.declared.row.CatalogRow.TheVariants.{Table, Column, Index}
 use Rattle.relation.specs.declared.row.IndexForm.{IndexForm}
-use Rattle.relation.specs.declared.row.IndexForm.TheVariants.{Chain, Tree}
+use Rattle.relation.specs.declared.row.IndexForm.TheVariants.{Named, Chain, Tree}
 use Rattle.relation.specs.Catalog.{catalog, catalog_rows, catalog_told}
 use Rattle.relation.specs.Work.{fits}
 
@@ -66,8 +66,10 @@ AreDifferent (x ∷ xs) = AllByRecursion (λ y. y ≢ x) xs × AreDifferent xs
 abbrev pub names_of : List StoredTable → List (List ℕ)
 names_of tables = map (λ (table : StoredTable). table.name) tables
 
--- the pages that an index of that form holds, from its root page on; no index has pages that can be read yet
+-- the pages that an index of that form holds, from its root page on: none where it is kept by name alone; no index has
+-- pages that can be read yet
 abbrev pub HoldsPages : IndexForm → Pages → ℕ → List ℕ → Type 0
+HoldsPages Named pages root held = (root ≡ 0) × (held ≡ [])
 HoldsPages Chain pages root held = ⊥
 HoldsPages Tree pages root held = ⊥
 

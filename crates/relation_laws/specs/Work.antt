@@ -11,15 +11,17 @@ use Rattle.relation.specs.declared.catalog.StoredTable.{StoredTable}
 use Rattle.relation.specs.declared.catalog.TheConstants.{CATALOG}
 use Rattle.relation.specs.Catalog.{same_name}
 use Rattle.relation.specs.Each.{in_turn}
-use Rattle.relation.specs.Work.{created, deleted, inserted, table_in, updated}
-use Rattle.relation_laws.specs.Laws.{AreChangesOf, AreNumbersOf, AreTableColumns, IsNewName, IsRowFor, IsStoreOf, empty_table, with_changes, with_new, with_rows, without_rows}
-use Rattle.relation_laws.specs.Needs.{CreateNeeds, InsertNeeds, UpdateNeeds, next_pages}
+use Rattle.relation.specs.Work.{created, deleted, indexed, inserted, table_in, updated}
+use Rattle.relation_laws.specs.Laws.{AreChangesOf, AreNumbersOf, AreTableColumns, HasColumn, IsNewName, IsRowFor, IsStoreOf, empty_table, with_changes, with_index, with_new, with_rows, without_rows}
+use Rattle.relation_laws.specs.Needs.{CreateNeeds, IndexNeeds, InsertNeeds, UpdateNeeds, next_pages}
 use Rattle.relation_laws.specs.Reach.{IsPageOf, IsUntouched, with_root}
 use Rattle.relation_laws.specs.Tables.{PlainTable, PlainTables}
 
--- a table is made; rows are inserted; rows are changed, each under its number; the rows of these numbers are taken out
+-- a table is made; an index of that name is made over a table's column; rows are inserted; rows are changed, each under
+-- its number; the rows of these numbers are taken out
 pub data Work : Type 0 where
   Creates : List ℕ → List TableColumn → Work
+  Indexes : List ℕ → List ℕ → List ℕ → Work
   Inserts : List ℕ → List (List Value) → Work
   Changes : List ℕ → List (ℕ × List Value) → Work
   Removes : List ℕ → List ℕ → Work
@@ -27,6 +29,7 @@ pub data Work : Type 0 where
 -- what a piece of work does to the pages
 abbrev pub worked : ℕ → Work → Pages → Result (Unit {0} × Pages) Refusal → Type 0
 worked size (Creates name columns) pages = created size pages name columns
+worked size (Indexes name table column) pages = indexed size pages name table column
 worked size (Inserts name rows) pages = inserted size pages name rows
 worked size (Changes name changes) pages = updated size pages name changes
 worked size (Removes name numbers) pages = deleted size pages name numbers
@@ -42,6 +45,7 @@ OfTable all name holds = (table : PlainTable) × Contains all.tables table × (t
 -- a piece of work that these tables allow
 abbrev pub IsAllowed : PlainTables → Work → Type 0
 IsAllowed all (Creates name columns) = IsNewName all name × AreTableColumns columns
+IsAllowed all (Indexes name table column) = IsNewName all name × OfTable all table (HasColumn column)
 IsAllowed all (Inserts name rows) = OfTable all name
     (λ table. AllByRecursion (IsRowFor table) rows × (table.next_number + length rows < 2 ^ 64))
 IsAllowed all (Changes name changes) = OfTable all name (λ table. AreChangesOf table changes)
@@ -55,6 +59,8 @@ where_named name becomes all = record all
 -- the tables behind a piece of work
 abbrev pub tables_behind : Work → PlainTables → PlainTables
 tables_behind (Creates name columns) all = with_new (empty_table name columns) all
+tables_behind (Indexes name table column) all =
+    with_index (record { name = name; table = table; column = column }) all
 tables_behind (Inserts name rows) all = where_named name (with_rows rows) all
 tables_behind (Changes name changes) all = where_named name (with_changes changes) all
 tables_behind (Removes name numbers) all = where_named name (without_rows numbers) all
@@ -71,6 +77,7 @@ tables_behind_all (work ∷ works) all = tables_behind_all works (tables_behind 
 -- how many pages a piece of work takes
 abbrev pub Needs : ℕ → Pages → Work → ℕ → Type 0
 Needs size pages (Creates name columns) needs = CreateNeeds size pages name columns needs
+Needs size pages (Indexes name table column) needs = IndexNeeds size pages name table needs
 Needs size pages (Inserts name rows) needs = InsertNeeds size pages name rows needs
 Needs size pages (Changes name changes) needs = UpdateNeeds size pages name changes needs
 Needs size pages (Removes name numbers) needs = needs ≡ 0
@@ -78,6 +85,7 @@ Needs size pages (Removes name numbers) needs = needs ≡ 0
 -- how many pages can be taken before it and after it; only taking rows out gives pages back
 abbrev pub Takes : Work → ℕ → ℕ → ℕ → Type 0
 Takes (Creates name columns) needs before after = needs + after ≡ before
+Takes (Indexes name table column) needs before after = needs + after ≡ before
 Takes (Inserts name rows) needs before after = needs + after ≡ before
 Takes (Changes name changes) needs before after = needs + after ≡ before
 Takes (Removes name numbers) needs before after = before ≤ after
@@ -87,10 +95,11 @@ abbrev pub IsOfTable : ℕ → Pages → List ℕ → ℕ → Type 0
 IsOfTable size pages name page = (table : StoredTable) × table_in size pages name (Ok table)
     × IsPageOf size pages table.first page
 
--- a page that is in use already and that a piece of work may edit: the catalog's for a new table, else those of the
--- table that it names, and the root page where rows are taken out, since pages may be freed
+-- a page that is in use already and that a piece of work may edit: the catalog's for a new table or index, else those of
+-- the table that it names, and the root page where rows are taken out, since pages may be freed
 abbrev pub IsInUse : ℕ → Pages → Work → ℕ → Type 0
 IsInUse size pages (Creates name columns) page = IsPageOf size pages CATALOG page
+IsInUse size pages (Indexes name table column) page = IsPageOf size pages CATALOG page
 IsInUse size pages (Inserts name rows) page = IsOfTable size pages name page
 IsInUse size pages (Changes name changes) page = IsOfTable size pages name page
 IsInUse size pages (Removes name numbers) page = (page ≡ 0) ⊎ IsOfTable size pages name page

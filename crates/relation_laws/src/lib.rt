@@ -2,7 +2,7 @@
 #![tactic(auto)]
 
 ghost use Rattle.relation_laws.specs.Work.{WorkLaw};
-ghost use Rattle.relation_laws.specs.Laws.{CreateLaw, DeleteLaw, EditsLaw, InsertLaw, NeedsLaw, PlacedLaw, ReadLaw, StoreLaw, UpdateLaw};
+ghost use Rattle.relation_laws.specs.Laws.{CreateLaw, DeleteLaw, EditsLaw, IndexLaw, InsertLaw, NeedsLaw, PlacedLaw, ReadLaw, StoreLaw, UpdateLaw};
 
 /// Well-formed pages hold one list of tables, and zero pages hold none.
 pub fn store_law()
@@ -38,6 +38,12 @@ pub fn create_law()
     ensures { CreateLaw }
 {}
 
+/// The indexes after an index is made are those before and, as the last, one of that name over that column of its table; all
+/// else is as it was. It is refused only for want of pages.
+pub fn index_law()
+    ensures { IndexLaw }
+{}
+
 /// An insert edits its table's first page, for the next row number, its last page, and no other, unless its rows open pages:
 /// then also those, and the root page.
 pub fn edits_law()
@@ -45,8 +51,8 @@ pub fn edits_law()
 {}
 
 /// An insert takes the pages that its rows open at the end of the table, an update those that its rows open where neither
-/// their page nor the last page has room, and a new table its first page and those that its rows open in the catalog. Each is
-/// refused exactly where fewer are free.
+/// their page nor the last page has room, a new table its first page and those that its rows open in the catalog, and an index
+/// those that its row opens there. Each is refused exactly where fewer are free.
 pub fn needs_law()
     ensures { NeedsLaw }
 {}

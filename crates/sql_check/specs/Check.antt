@@ -102,3 +102,21 @@ first_refusal unknown taken mistyped =
 
 abbrev pub checked : Statement → Option ℕ → Schema → Result (Unit {0}) Refusal
 checked statement snapshot schema = first_refusal (has_unknown_name statement snapshot schema) (takes_taken_name statement schema) (has_wrong_type statement schema)
+
+-- ---- a table that the store does not have
+
+-- the tables of a FROM that has this table alone, or twice
+abbrev pub scope_beside : TableSchema → Option (List ℕ) → List TableSchema
+scope_beside table None = table ∷ []
+scope_beside table (Some name) = table ∷ table ∷ []
+
+-- the FROM names another table, beside which this one cannot stand
+abbrev pub names_other : TableSchema → Option (List ℕ) → Bool
+names_other table None = false
+names_other table (Some name) = not (same_name name table.name)
+
+-- the names and types of a select over this one table
+abbrev pub checked_beside : SelectRecord → TableSchema → Result (Unit {0}) Refusal
+checked_beside select table =
+    first_refusal (names_other table select.second || select_has_unknown None select (scope_beside table select.second)) (is_twice select.table select.second)
+    (select_is_mistyped select (scope_beside table select.second))

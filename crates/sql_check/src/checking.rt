@@ -5,7 +5,7 @@ ghost use Rattle.std.specs.List.{list_any};
 ghost use Rattle.std.specs.Option.{option_copied};
 ghost use Rattle.retro_base.specs.Gives.{Gives};
 ghost use Rattle.sql_tree.specs.declared.statement.Statement.{Statement};
-ghost use Rattle.sql_check.specs.Check.{assigns_other_kind, assigns_unknown, checked, column_kind, first_refusal, has_unknown_name, has_wrong_type, is_twice, scope_of_two, select_scope, takes_taken_name};
+ghost use Rattle.sql_check.specs.Check.{assigns_other_kind, assigns_unknown, checked, checked_beside, column_kind, first_refusal, has_unknown_name, has_wrong_type, is_twice, names_other, scope_beside, scope_of_two, select_scope, takes_taken_name};
 
 use crate::expressions::{agree, has_unknown, kind_of};
 use crate::names::{
@@ -274,4 +274,35 @@ pub fn check_select(
     let unknown = known_select_has_unknown(alloc, snapshot, select, schema)?;
     let taken = is_twice(&select.table, &select.second);
     first_refusal(unknown, taken, known_select_is_mistyped(select, schema))
+}
+
+fn names_other(table: &TableSchema, second: &Option<Name>) -> bool
+    ensures { result ≡ names_other table.now second.now }
+{
+    match second {
+        Some(name) => !(*name == table.name),
+        None => false,
+    }
+}
+
+fn scope_beside<'a>(table: &'a TableSchema, second: &Option<Name>) -> Scope<'a>
+    ensures { result ≡ scope_beside table.now second.now }
+{
+    let _columns = table.columns.as_slice();
+    match second {
+        Some(_) => Scope::of_two(table, table),
+        None => Scope::of_one(table),
+    }
+}
+
+/// Checks the names and types of a select over this table, which the store does not have, whatever name its FROM gives it.
+/// Refused as `check` refuses; beside this table none can stand, so that a second one is unknown, or the same twice.
+pub fn check_beside(alloc: Global, select: &Select, table: &TableSchema) -> Result<(), Refusal>
+    ensures { Gives (λ _. tt) result (checked_beside select.now table.now) }
+{
+    let scope = scope_beside(table, &select.second);
+    let has_unknown = select_has_unknown(alloc, None, select, &scope)?;
+    let unknown = names_other(table, &select.second) || has_unknown;
+    let taken = is_twice(&select.table, &select.second);
+    first_refusal(unknown, taken, select_is_mistyped(select, &scope))
 }

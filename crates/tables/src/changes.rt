@@ -22,7 +22,8 @@ pub struct Reworked {
     pub count: u64,
 }
 
-fn holds(
+/// Whether a row of the table meets the condition, where there is one.
+pub fn holds(
     alloc: Global,
     table: &TableSchema,
     snapshot: Option<u32>,
@@ -62,7 +63,8 @@ fn assign(
     Ok(())
 }
 
-fn assigned(
+/// The row with its values set, each worked out from the row as it was.
+pub fn assigned(
     alloc: Global,
     table: &TableSchema,
     snapshot: Option<u32>,

@@ -9,6 +9,7 @@ mod meaning;
 mod reply;
 mod tables;
 
+pub use changes::{assigned, holds};
 pub use contents::{Contents, NumberedRow};
 pub use laws::{
     created_is_empty, gone_stays_gone, inserted_are_last, others_stay, tables_stay_sound,

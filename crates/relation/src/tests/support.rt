@@ -4,8 +4,8 @@ ghost use Rattle.std.specs.Prelude.{◌≤◌, All, IfOk};
 ghost use Rattle.heap_file.specs.HeapPage.{IsShort};
 
 use crate::{
-    Catalog, Placed, StoredTable, create_table, delete, insert, is_name, next_number, open, rows,
-    update,
+    Catalog, Placed, StoredTable, create_index, create_table, delete, insert, is_name, next_number,
+    open, rows, update,
 };
 use pager::{MemPager, Stop};
 use retro_base::{Failed, Page, Refusal};
@@ -108,17 +108,45 @@ pub fn one_table(alloc: Global) -> Result<MemPager, Stop<Failed>> {
     Ok(pager)
 }
 
+// Makes an index of that name over the column at that place of the table of that name.
+pub fn make_index(
+    alloc: Global,
+    pager: &mut MemPager,
+    index: &[u8],
+    table: &[u8],
+    place: u32,
+) -> Result<(), Stop<Failed>> {
+    let index = name(alloc, index)?;
+    let catalog = open(alloc, pager)?;
+    let table = table_of(alloc, &catalog, table)?;
+    create_index(alloc, pager, &index, table, place)
+}
+
 // How many tables there are.
 pub fn tables_in(alloc: Global, pager: &mut MemPager) -> Result<usize, Stop<Failed>> {
     Ok(open(alloc, pager)?.schema(alloc)?.tables.len())
 }
 
-// The table t of a catalog.
-pub fn t(alloc: Global, catalog: &Catalog) -> Result<&StoredTable, Stop<Failed>> {
-    match catalog.table(&name(alloc, b"t")?) {
+// How many indexes there are.
+pub fn indexes_in(alloc: Global, pager: &mut MemPager) -> Result<usize, Stop<Failed>> {
+    Ok(open(alloc, pager)?.schema(alloc)?.indexes.len())
+}
+
+// The table of that name of a catalog.
+fn table_of<'a>(
+    alloc: Global,
+    catalog: &'a Catalog,
+    table: &[u8],
+) -> Result<&'a StoredTable, Stop<Failed>> {
+    match catalog.table(&name(alloc, table)?) {
         Some(table) => Ok(table),
         None => Err(Stop::Refused(Refusal::BadWords)),
     }
+}
+
+// The table t of a catalog.
+pub fn t(alloc: Global, catalog: &Catalog) -> Result<&StoredTable, Stop<Failed>> {
+    table_of(alloc, catalog, b"t")
 }
 
 // Adds rows to the table t.

@@ -1,4 +1,4 @@
-use Rattle.std.proofs.Common.{◌∙◌, List}
+use Rattle.std.proofs.Common.{◌∙◌}
 use Rattle.std.proofs.lemmas.Result.{err_from_is_err_and}
 use Rattle.pager.specs.Pages.{Pages}
 use Rattle.heap_file.specs.declared.chain.Placed.{Placed}

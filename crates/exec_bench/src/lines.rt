@@ -1,0 +1,159 @@
+//! The statements. In each `~` stands for a hundred letters, and `#` for thirty-one.
+
+/// In sixteen pages the catalog's first page tells thirteen tables, and a fourteenth needs two pages where one is free. An
+/// index takes that one for its row, and then there is none for a table.
+pub const FULL: [&str; 16] = [
+    "CREATE TABLE a(x INT)",
+    "CREATE TABLE b(x INT)",
+    "CREATE TABLE c(x INT)",
+    "CREATE TABLE d(x INT)",
+    "CREATE TABLE e(x INT)",
+    "CREATE TABLE f(x INT)",
+    "CREATE TABLE g(x INT)",
+    "CREATE TABLE h(x INT)",
+    "CREATE TABLE i(x INT)",
+    "CREATE TABLE j(x INT)",
+    "CREATE TABLE k(x INT)",
+    "CREATE TABLE l(x INT)",
+    "CREATE TABLE m(x INT)",
+    "CREATE TABLE n(x INT)",
+    "CREATE INDEX n ON m(x)",
+    "CREATE TABLE o(x INT)",
+];
+
+/// A row takes 819 bytes and those of its fifth text: 900 are the most.
+pub const LONG: [&str; 5] = [
+    "CREATE TABLE t(a TEXT, b TEXT, c TEXT, d TEXT, e TEXT)",
+    "INSERT INTO t VALUES ('~~','~~','~~','~~','ppppppppppppppppppppppppppppppppppppppppppppppppppppppppppppppppppppppppppppppppp')",
+    "INSERT INTO t VALUES ('~~','~~','~~','~~','pppppppppppppppppppppppppppppppppppppppppppppppppppppppppppppppppppppppppppppppppp')",
+    "UPDATE t SET e = 'pppppppppppppppppppppppppppppppppppppppppppppppppppppppppppppppppppppppppppppppppp'",
+    "SELECT COUNT(*) FROM t",
+];
+
+/// A refusal of each kind.
+pub const REFUSED: [&str; 17] = [
+    "CREATE TABLE t(a INT)",
+    "CREATE TABLE t(b TEXT)",
+    "CREATE TABLE u(b INT, b TEXT)",
+    "CREATE INDEX i ON t(a)",
+    "CREATE INDEX i ON t(a)",
+    "CREATE INDEX j ON t(b)",
+    "INSERT INTO u VALUES (1)",
+    "SELECT b FROM t",
+    "INSERT INTO t VALUES ('x')",
+    "INSERT INTO t VALUES (9223372036854775807)",
+    "UPDATE t SET a = a + 1",
+    "UPDATE t SET a = 'x'",
+    "UPDATE t SET b = 1",
+    "DELETE FROM t WHERE a = 'x'",
+    "SELECT * FROM t",
+    "DELETE FROM t",
+    "SELECT * FROM t",
+];
+
+/// Statements of all kinds. The rows of w stand eight to a page at first.
+pub const MANY: [&str; 67] = [
+    "CREATE TABLE t(a INT, b TEXT)",
+    "CREATE TABLE u(c INT, d INT)",
+    "INSERT INTO t VALUES (1,'one'),(2,'two'),(3,'three'),(2,'zwei'),(-5,'')",
+    "INSERT INTO u VALUES (1,10),(2,20),(2,21),(4,40)",
+    "CREATE INDEX by_a ON t(a)",
+    "SELECT * FROM t",
+    "SELECT * FROM t, u",
+    "SELECT b, d FROM t, u WHERE a = c",
+    "SELECT t.b, u.d FROM u, t WHERE t.a = u.c AND NOT u.d < 20 ORDER BY d DESC, b",
+    "SELECT a, COUNT(*) AS n FROM t GROUP BY a ORDER BY n DESC, a",
+    "SELECT a, MIN(b), MAX(b) FROM t GROUP BY a",
+    "SELECT c, SUM(d) AS s FROM u, t WHERE a = c GROUP BY c ORDER BY s DESC LIMIT 1",
+    "SELECT COUNT(*), SUM(a), MIN(a), MAX(a) FROM t",
+    "SELECT COUNT(b), SUM(a * a - 1) FROM t WHERE a > 1",
+    "SELECT SUM(a) FROM t WHERE a > 100",
+    "SELECT MIN(a) FROM t WHERE a > 100",
+    "SELECT DISTINCT a FROM t",
+    "SELECT DISTINCT a + 1 AS a FROM t ORDER BY a LIMIT 2",
+    "SELECT b FROM t ORDER BY a DESC, b LIMIT 3",
+    "SELECT b FROM t LIMIT 0",
+    "SELECT AS OF 7 CURRENT_SNAPSHOT(), a FROM t WHERE a < CURRENT_SNAPSHOT()",
+    "SELECT AS OF 7 COUNT(*) FROM t, u WHERE a = c",
+    "SELECT CURRENT_SNAPSHOT() FROM t",
+    "UPDATE t SET a = a + 10, b = 'ten' WHERE a = 2",
+    "SELECT * FROM t",
+    "UPDATE t SET a = a + 9223372036854775807",
+    "SELECT * FROM t WHERE b = 'ten' OR b = ''",
+    "DELETE FROM t WHERE a = 3",
+    "INSERT INTO t VALUES (3,'three again')",
+    "SELECT b FROM t",
+    "DELETE FROM t WHERE a > 1000",
+    "UPDATE t SET a = 0 WHERE a > 1000",
+    "CREATE TABLE w(k INT, p TEXT)",
+    "CREATE INDEX by_p ON w(p)",
+    "INSERT INTO w VALUES (1,'~'),(2,'~'),(3,'~'),(4,'~'),(5,'~'),(6,'~'),(7,'~'),(8,'~'),(9,'~')",
+    "INSERT INTO w VALUES (10,'~'),(11,'~'),(12,'~'),(13,'~'),(14,'~'),(15,'~'),(16,'~'),(17,'~')",
+    "INSERT INTO w VALUES (18,'~'),(19,'~'),(20,'~'),(21,'~'),(22,'~'),(23,'~'),(24,'~'),(25,'~')",
+    "UPDATE w SET p = '~~' WHERE k < 4",
+    "SELECT k FROM w",
+    "UPDATE w SET p = '' WHERE k > 20",
+    "SELECT * FROM w WHERE k < 6 OR k > 23",
+    "DELETE FROM w WHERE k > 8 AND k < 17",
+    "SELECT k FROM w",
+    "INSERT INTO w VALUES (27,'~~'),(28,'~~'),(29,'~~'),(30,'~~'),(31,'~~')",
+    "SELECT k, p FROM w ORDER BY k DESC",
+    "DELETE FROM w",
+    "SELECT COUNT(*), SUM(k) FROM w",
+    "INSERT INTO w VALUES (1,'new')",
+    "SELECT k, a, b FROM w, t WHERE k = a",
+    "CREATE TABLE w(k INT)",
+    "CREATE TABLE v(k INT, k TEXT)",
+    "CREATE TABLE by_a(k INT)",
+    "CREATE INDEX by_p ON t(b)",
+    "CREATE INDEX u ON t(b)",
+    "CREATE INDEX by_z ON t(z)",
+    "CREATE INDEX by_z ON nothing(a)",
+    "INSERT INTO t VALUES (1)",
+    "INSERT INTO t VALUES (1,'x'),('x',1)",
+    "SELECT a FROM t, t",
+    "SELECT x.a FROM t",
+    "SELECT a + b FROM t",
+    "SELECT b, COUNT(*) FROM t",
+    "SELECT COUNT(*) FROM t ORDER BY z",
+    "UPDATE t SET a = 1, a = 2",
+    "UPDATE t SET c = 1",
+    "DELETE FROM nothing",
+    "SELECT * FROM t WHERE a = 'x'",
+];
+
+/// A table of sixteen columns, with names of thirty-two bytes.
+pub const WIDE: [&str; 4] = [
+    "CREATE TABLE #t(#a INT, #b INT, #c INT, #d INT, #e INT, #f INT, #g INT, #h INT, #i INT, #j INT, #k INT, #l INT, #m INT, #n INT, #o INT, #p TEXT)",
+    "INSERT INTO #t VALUES (1,2,3,4,5,6,7,8,9,10,11,12,13,14,15,'sixteen'),(15,14,13,12,11,10,9,8,7,6,5,4,3,2,1,'')",
+    "UPDATE #t SET #a = #a * 100, #p = 'last' WHERE #o = 15",
+    "SELECT #a, #p FROM #t",
+];
+
+/// The statements over ten thousand rows, behind those that insert them.
+pub const LARGE: [&str; 8] = [
+    "SELECT COUNT(*), SUM(k), MIN(k), MAX(k) FROM big",
+    "UPDATE big SET k = k + 10000",
+    "SELECT SUM(k) FROM big",
+    "UPDATE big SET p = 'letters that do not fit in the page where the row stood'",
+    "SELECT g, COUNT(*), SUM(k) FROM big GROUP BY g",
+    "DELETE FROM big WHERE g = 0",
+    "SELECT COUNT(*), SUM(k) FROM big",
+    "SELECT k, p FROM big WHERE k > 19996",
+];
+
+/// A table of which page 2 holds five rows and page 3 one.
+pub const TWO_PAGES: [&str; 2] = [
+    "CREATE TABLE t(k INT, p TEXT)",
+    "INSERT INTO t VALUES (1,'~~'),(2,'~~'),(3,'~~'),(4,''),(5,'~~'),(6,'~~')",
+];
+
+/// A statement of each kind over that table, each but the index and the select on two pages or more.
+pub const KINDS: [&str; 6] = [
+    "CREATE TABLE u(x INT)",
+    "CREATE INDEX i ON t(p)",
+    "INSERT INTO t VALUES (7,'~~'),(8,'~~'),(9,'~~'),(10,'~~')",
+    "UPDATE t SET p = '~~' WHERE k = 4",
+    "DELETE FROM t WHERE k = 6",
+    "SELECT SUM(k) FROM t",
+];

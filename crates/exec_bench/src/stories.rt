@@ -1,0 +1,188 @@
+//! What the statements tell, as text.
+
+use crate::both::{Both, nothing, over_pages, parsed, reply_twice, zero_pages};
+use crate::lines::{KINDS, LARGE, MANY, TWO_PAGES, WIDE};
+use crate::texts::text_of;
+use pager::{MemPager, Pager, Stop};
+use retro_base::{Failed, Page, Refusal};
+use std::alloc::{AllocError, Global};
+use tables::Reply;
+
+/// How many rows the large table has.
+const ROWS: u32 = 10_000;
+/// How many of them one statement inserts.
+const TUPLES: u32 = 250;
+
+// The reply of a line over pages.
+fn reply(alloc: Global, line: &str, pager: &mut MemPager) -> Result<Reply, Stop<Failed>> {
+    let parsed = parsed(alloc, line)?;
+    over_pages(alloc, &parsed, pager)
+}
+
+/// Each line with its reply over a store of sixteen pages; of a refused one also how many pages it edited.
+pub fn replies_of(alloc: Global, lines: &[&str], out: &mut String) -> Result<(), AllocError> {
+    let mut pager = zero_pages(alloc, 16)?;
+    for line in lines {
+        let before = pager.edits().len();
+        let reply = reply(alloc, line, &mut pager);
+        out.push_str(line)?;
+        out.push_str(": ")?;
+        out.push_str(text_of(alloc, &reply)?.as_str())?;
+        if reply.is_err() {
+            let edits = pager.edits().len().saturating_sub(before);
+            out.push_str(format!(in alloc; ", {edits} edits")?.as_str())?;
+        }
+        out.push_str("\n")?;
+    }
+    Ok(())
+}
+
+/// How many of the statements of all kinds there are, were refused, and were answered otherwise by plain tables.
+pub fn many(alloc: Global, out: &mut String) -> Result<(), Refusal> {
+    let mut both = nothing(alloc, 64)?;
+    let (mut refused, mut different) = (0_u32, 0_u32);
+    for line in MANY {
+        let replies = reply_twice(alloc, line, &mut both)?;
+        if replies.pages.as_str().starts_with("refused") {
+            refused = refused.saturating_add(1);
+        }
+        if replies.pages.as_str() != replies.plain.as_str() {
+            different = different.saturating_add(1);
+            tell(out, line, replies.pages.as_str())?;
+        }
+    }
+    let count = MANY.len();
+    let text = format!(in alloc; "statements {count}, refused {refused}, different {different}\n")?;
+    out.push_str(text.as_str())?;
+    Ok(())
+}
+
+fn tell(out: &mut String, line: &str, reply: &str) -> Result<(), AllocError> {
+    out.push_str(line)?;
+    out.push_str(": ")?;
+    out.push_str(reply)?;
+    out.push_str("\n")
+}
+
+// Each line with its reply, where plain tables reply the same.
+fn agreed(alloc: Global, lines: &[&str], both: &mut Both, out: &mut String) -> Result<(), Refusal> {
+    for line in lines {
+        let replies = reply_twice(alloc, line, both)?;
+        if replies.pages.as_str() == replies.plain.as_str() {
+            tell(out, line, replies.pages.as_str())?;
+        } else {
+            tell(out, line, "different")?;
+        }
+    }
+    Ok(())
+}
+
+/// The wide table.
+pub fn wide(alloc: Global, out: &mut String) -> Result<(), Refusal> {
+    let mut both = nothing(alloc, 16)?;
+    agreed(alloc, &WIDE, &mut both, out)
+}
+
+// The statement that inserts the tuples of these numbers, a row of sixty bytes each.
+fn insert_line(alloc: Global, first: u32) -> Result<String, AllocError> {
+    let mut line = String::from_str(alloc, "INSERT INTO big VALUES ")?;
+    for place in 0..TUPLES {
+        let number = first.saturating_add(place);
+        let parity = number % 2;
+        let comma = if place == 0 { "" } else { "," };
+        let tuple = format!(in alloc;
+            "{comma}({number},{parity},'a text that has thirty-one bytes')"
+        )?;
+        line.push_str(tuple.as_str())?;
+    }
+    Ok(line)
+}
+
+/// The large table: how many statements inserted its rows alike, and what then became of it.
+pub fn large(alloc: Global, out: &mut String) -> Result<(), Refusal> {
+    let mut both = nothing(alloc, 2000)?;
+    agreed(
+        alloc,
+        &["CREATE TABLE big(k INT, g INT, p TEXT)"],
+        &mut both,
+        out,
+    )?;
+    let mut inserted = 0_u32;
+    for statement in 0..ROWS / TUPLES {
+        let line = insert_line(alloc, statement.saturating_mul(TUPLES))?;
+        let replies = reply_twice(alloc, line.as_str(), &mut both)?;
+        if replies.pages.as_str() == "ok 250" && replies.plain.as_str() == "ok 250" {
+            inserted = inserted.saturating_add(1);
+        }
+    }
+    let text = format!(in alloc; "inserts of 250 rows: {inserted}\n")?;
+    out.push_str(text.as_str())?;
+    agreed(alloc, &LARGE, &mut both, out)
+}
+
+// The pages of a table of two pages.
+fn two_pages(alloc: Global) -> Result<Vec<Page>, Stop<Failed>> {
+    let mut pager = zero_pages(alloc, 16)?;
+    for line in TWO_PAGES {
+        reply(alloc, line, &mut pager)?;
+    }
+    Ok(pager.pages().to_vec(alloc)?)
+}
+
+// A pager of these pages whose call of that number fails; call 0 never comes.
+fn failing_at(alloc: Global, pages: &[Page], call: u64) -> Result<MemPager, Stop<Failed>> {
+    if pages.len() > 16 {
+        return Err(Stop::Refused(Refusal::BadSizes));
+    }
+    let failing = vec![in alloc; call; 1]?;
+    Ok(MemPager::new(alloc, pages.to_vec(alloc)?, failing))
+}
+
+// How many edits a statement makes on a pager that never fails.
+fn edits_of(alloc: Global, pages: &[Page], line: &str) -> Result<usize, Stop<Failed>> {
+    let mut pager = failing_at(alloc, pages, 0)?;
+    reply(alloc, line, &mut pager)?;
+    Ok(pager.edits().len())
+}
+
+// Whether the call of that number comes, fails, and its fault is what the statement ends by; false where the statement succeeds.
+fn fault_comes_out(
+    alloc: Global,
+    pages: &[Page],
+    line: &str,
+    call: u64,
+) -> Result<bool, Stop<Failed>> {
+    let mut pager = failing_at(alloc, pages, call)?;
+    let reply = reply(alloc, line, &mut pager);
+    match (reply, pager.faults()) {
+        (Err(Stop::Pager(_)), 1) => Ok(true),
+        (Ok(_), 0) => Ok(false),
+        _ => Err(Stop::Refused(Refusal::BadWords)),
+    }
+}
+
+// How many calls a statement makes, where the fault of each comes out, and the statement then succeeds on a fresh pager.
+fn calls_of(alloc: Global, pages: &[Page], line: &str) -> Result<usize, Stop<Failed>> {
+    let mut calls = 0_usize;
+    for call in 1..1000 {
+        if !fault_comes_out(alloc, pages, line, call)? {
+            return Ok(calls);
+        }
+        edits_of(alloc, pages, line)?;
+        calls = calls.saturating_add(1);
+    }
+    Err(Stop::Refused(Refusal::BadSizes))
+}
+
+/// For each kind of statement: how many edits it makes, and whether the fault of each edit and of two reads or more came out.
+pub fn faults(alloc: Global, out: &mut String) -> Result<(), Stop<Failed>> {
+    let pages = two_pages(alloc)?;
+    for line in KINDS {
+        let edits = edits_of(alloc, &pages, line)?;
+        let reads = calls_of(alloc, &pages, line)?.saturating_sub(edits);
+        let every = if reads < 2 { "too few" } else { "all" };
+        let reply = format!(in alloc; "{edits} edits, {every} faults came out")?;
+        tell(out, line, reply.as_str())?;
+    }
+    Ok(())
+}

@@ -1,0 +1,17 @@
+use Rattle.std.proofs.Common.{◌≡◌, ◌++◌, replicate, refl, arith}
+use Rattle.retro_base.specs.Fields.{field_bytes}
+use Rattle.index_page.specs.IndexPage.{entry_bytes, header}
+use Rattle.index_page.proofs.Packing.{width-least, behind_header}
+use Rattle.index_page.proofs.page.page_of.Goals as goal
+
+pub overflow_cast-len : goal.overflow_cast-len
+overflow_cast-len c =
+    let few = width-least c.args.held.now.entries in omega (arith, c.requires.fits)
+
+pub returns-clause-page : goal.returns-clause-page
+unfolding field_bytes
+returns-clause-page c =
+    let held = c.args.held.now in
+    let items : entry_bytes held.entries ≡ c.in_ok-entries.entries.items = cc (c.in_ok-entries.ensures.bytes, c.as_slice.ensures) in
+    let front : c.put_u32.new.self ≡ header held ++ replicate 1016 0 = rw (c.put_u32.ensures.replaced, c.put_u16.ensures.replaced, c.put_bytes.ensures, c.zero-page.ensures, c.byte.ensures, c.len.ensures) refl in
+    rw (c.put_bytes-2.ensures, c.deref.ensures.value, ← items, front) (behind_header held)

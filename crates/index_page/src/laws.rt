@@ -1,0 +1,23 @@
+//! What index pages hold.
+
+ghost use Rattle.index_page.specs.IndexPage.{FourFit, HalvesFit, HoldsOne, WrittenHolds};
+
+/// The bytes of a page hold one thing alone.
+pub fn holds_one()
+    ensures { HoldsOne }
+{}
+
+/// A page that was written holds what was written.
+pub fn written_holds()
+    ensures { WrittenHolds }
+{}
+
+/// Up to four entries fit in a page.
+pub fn four_fit()
+    ensures { FourFit }
+{}
+
+/// Entries that are too many for a page by one fit in two.
+pub fn halves_fit()
+    ensures { HalvesFit }
+{}

@@ -1,0 +1,5 @@
+use Rattle.relation_laws.proofs.Indexing.{index_law}
+use Rattle.relation_laws.proofs.index_law.Goals as goal
+
+pub returns : goal.returns
+returns c = index_law

@@ -1,0 +1,7 @@
+pub mod Laws
+pub mod Leading
+pub mod Opens
+pub mod Run
+pub mod Shaping
+pub mod Walk
+pub mod Work

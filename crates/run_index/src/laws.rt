@@ -1,0 +1,8 @@
+//! How many pages adding opens.
+
+ghost use Rattle.run_index.specs.Opens.{OpensFew};
+
+/// One more entry opens at most one page, and none where it belongs in a page of fewer than four entries.
+pub fn opens_few()
+    ensures { OpensFew }
+{}

@@ -1,0 +1,169 @@
+-- What a delete does to well-formed pages is what it means over their tables.
+use Rattle.std.proofs.Common.{◌≡◌, ◌∙◌, ◌⊎◌, ◌∷◌, ◌==◌, ℕ, Bool, not, List, [], length, map, Option, Some, Result, Ok, Err, inl, inr, refl, sym, ap, subst}
+use Rattle.std.specs.List.{AllByRecursion, Contains, filter, list_any}
+use Rattle.retro_base.specs.declared.refusal.Refusal.{Refusal}
+use Rattle.values.specs.declared.value.Value.{Value}
+use Rattle.sql_tree.specs.declared.schema.TableSchema.{TableSchema}
+use Rattle.sql_tree.specs.declared.statement.Delete.{Delete as DeleteRecord}
+use Rattle.sql_tree.specs.declared.statement.Statement.TheVariants.{Delete}
+use Rattle.sql_check.specs.Check.{checked}
+use Rattle.tables.specs.declared.contents.Contents.{Contents}
+use Rattle.tables.specs.declared.contents.NumberedRow.{NumberedRow}
+use Rattle.tables.specs.declared.reply.Reply.{Reply}
+use Rattle.tables.specs.declared.reply.Reply.TheVariants.{Count}
+use Rattle.tables.specs.Meaning.{does, known, remaining, remaining_row, reworked}
+use Rattle.tables.specs.Tables.{Tables}
+use Rattle.tables.proofs.Finding.{changed_err, changed_ok}
+use Rattle.pager.specs.Allows.{◌>>=◌, only}
+use Rattle.pager.specs.Pages.{Pages}
+use Rattle.heap_file.specs.declared.chain.Placed.{Placed}
+use Rattle.heap_file.proofs.Ones.{differ}
+use Rattle.heap_laws.proofs.Reading.{read_law}
+use Rattle.relation.specs.declared.catalog.Catalog.{Catalog}
+use Rattle.relation.specs.declared.catalog.StoredTable.{StoredTable}
+use Rattle.relation.specs.Catalog.{table_named}
+use Rattle.relation.specs.Work.{all_removed, page_of, row_removed, rows_at, table_in}
+use Rattle.relation.specs.Each.{in_turn}
+use Rattle.relation.proofs.Steps.{next_step}
+use Rattle.relation_laws.specs.Laws.{AreNumbersOf, IsStoreOf, without_rows}
+use Rattle.relation_laws.specs.Tables.{AreDifferent, PlainTables, numbered_row}
+use Rattle.relation_laws.specs.Work.{IsWorked, Leaves, where_named}
+use Rattle.relation_laws.specs.Work.Work.{Removes}
+use Rattle.relation_laws.proofs.Catalogs.{goes-on}
+use Rattle.relation_laws.proofs.Lists.{contains-map}
+use Rattle.relation_laws.proofs.Placing.{placed_law}
+use Rattle.relation_laws.proofs.Singling.{firsts_of, has-first, named-here, pages_in, rows-here, rows-read}
+use Rattle.relation_laws.proofs.Working.{work_law}
+use Rattle.sql_exec.specs.Asking.{schema_at}
+use Rattle.sql_exec.specs.Planning.{picked, row_numbers}
+use Rattle.sql_exec.specs.Promises.{Done, IsRun}
+use Rattle.sql_exec.specs.Running.{at_table, deleted_from, numbered_at, placed_gone}
+use Rattle.sql_exec.specs.Stored.{contents_of, plain, row_under}
+use Rattle.sql_exec.proofs.Choosing.{all-contained, any-chosen, chosen-all, chosen-differ, filter-chosen, number_of, rising-differ}
+use Rattle.sql_exec.proofs.Deciding.{Parts, PartsNot, goes, parted, stays}
+use Rattle.sql_exec.proofs.Inserted.{table-by-name, table-missing, table-there}
+use Rattle.sql_exec.proofs.Meaning.{does-passed, performed-unknown, remaining-err, remaining-ok, work-deletes}
+use Rattle.sql_exec.proofs.Named.{Here, Missing, by-name-here, found_as, found-plain, missing-plain, rows-under, set-plain, single-of, unders}
+use Rattle.sql_exec.proofs.Steps.{ends-there}
+
+-- the rows of a table of a store have different numbers
+pub numbers-differ : (size : ℕ) (pages : Pages) (all : PlainTables) (is : IsStoreOf size pages all) (name : List ℕ) (here : Here size pages name is.store.found.tables all.tables) → AreDifferent (map number_of here.shows.placed)
+numbers-differ size pages all is name here =
+    let told = read_law.numbered size pages (firsts_of is.store.found) (pages_in is.store.held) here.found.first (record { next_number = here.table.next_number; rows = here.shows.placed }) is.store.heap (has-first is.store.found here.found here.in_catalog) here.shows.is_table in
+    rising-differ number_of here.shows.placed (λ i j d less lt. told.rise i j d less lt)
+
+-- each stands on its page, under its number
+pub each-placed : (size : ℕ) (pages : Pages) (all : PlainTables) (is : IsStoreOf size pages all) (name : List ℕ) (here : Here size pages name is.store.found.tables all.tables) → AllByRecursion (λ (placed : Placed). page_of here.found.first placed.number here.shows.placed ≡ Ok placed.page) here.shows.placed
+each-placed size pages all is name here = all-contained (λ (placed : Placed). page_of here.found.first placed.number here.shows.placed ≡ Ok placed.page) here.shows.placed
+    (λ placed has. placed_law.told size pages all here.table here.found here.shows.placed placed is here.has (named-here size pages all here.table is (single-of size pages all is name here)) (rows-here size pages all here.table is (single-of size pages all is name here)) has)
+
+-- each number is one of the table's
+pub each-number : (size : ℕ) (pages : Pages) (all : PlainTables) (is : IsStoreOf size pages all) (name : List ℕ) (here : Here size pages name is.store.found.tables all.tables) → AllByRecursion (λ (placed : Placed). Contains (map (λ (row : ℕ × List Value). row.0) here.table.rows) placed.number) here.shows.placed
+each-number size pages all is name here = all-contained (λ (placed : Placed). Contains (map (λ (row : ℕ × List Value). row.0) here.table.rows) placed.number) here.shows.placed
+    (λ placed has. subst (λ (rows : List (ℕ × List Value)). Contains (map (λ (row : ℕ × List Value). row.0) rows) placed.number) (sym here.shows.rows) (contains-map (λ (row : ℕ × List Value). row.0) (map numbered_row here.shows.placed) (numbered_row placed) (contains-map numbered_row here.shows.placed placed has)))
+
+pub all-numbers : (P : ℕ → Type 0) (rows : List Placed) → AllByRecursion (λ (placed : Placed). P placed.number) rows → AllByRecursion P (map number_of rows)
+all-numbers P rows all = go rows all
+  where
+    go : (rows : List Placed) → AllByRecursion (λ (placed : Placed). P placed.number) rows → AllByRecursion P (map number_of rows)
+    go [] all = tt
+    go (row ∷ rows) all = (all.0, go rows all.1)
+
+module _ (size : ℕ) (pages : Pages) (all : PlainTables) (is : IsStoreOf size pages all) (delete : DeleteRecord) (snapshot : Option ℕ) (passes : checked (Delete delete) snapshot (plain all).schema ≡ Ok tt) where
+  refused : (here : Here size pages delete.table is.store.found.tables all.tables) (why : Refusal) → reworked (remaining_row (schema_at here.found) snapshot delete) (map numbered_at here.shows.placed) ≡ Err why → does (Delete delete) snapshot (plain all) ≡ Err why
+  refused here why gives = does-passed (Delete delete) snapshot (plain all) passes
+      ∙ changed_err delete.table (plain all) (λ (schema : TableSchema) (contents : Contents). remaining snapshot delete schema contents) (found_as here) why (found-plain size pages delete.table is.store.found.tables all here)
+      (remaining-err snapshot delete (schema_at here.found) (contents_of here.table) why (ap (λ (rows : List NumberedRow). reworked (remaining_row (schema_at here.found) snapshot delete) rows) (rows-under size pages here.found here.table here.shows) ∙ gives))
+
+  module _ (here : Here size pages delete.table is.store.found.tables all.tables) where
+    abbrev choose : Placed → Bool
+    choose = goes (schema_at here.found) snapshot delete
+
+    abbrev gone : List Placed
+    gone = filter (goes (schema_at here.found) snapshot delete) here.shows.placed
+
+    abbrev numbers : List ℕ
+    numbers = map number_of (filter (goes (schema_at here.found) snapshot delete) here.shows.placed)
+
+    allowed : AreNumbersOf here.table numbers
+    allowed = (
+      all-numbers (Contains (map (λ (row : ℕ × List Value). row.0) here.table.rows)) gone (chosen-all (λ (placed : Placed). Contains (map (λ (row : ℕ × List Value). row.0) here.table.rows) placed.number) choose here.shows.placed (each-number size pages all is delete.table here)),
+      chosen-differ choose here.shows.placed (numbers-differ size pages all is delete.table here),
+    )
+
+    worked-as : (b : Result (Unit {0} × Pages) Refusal) → all_removed size here.found.first gone pages b → IsWorked size pages all (Removes delete.table numbers) b
+    worked-as b h = work_law.single size pages all (Removes delete.table numbers) b is (here.table, here.has, here.is_name, allowed)
+        (next_step (table_in size pages delete.table) (λ (t : StoredTable). rows_at size pages t >>= (λ (rows : List Placed). in_turn (row_removed size t.first rows) numbers pages)) here.found (table-by-name size pages all is delete.table here) b
+        (next_step (rows_at size pages here.found) (λ (rows : List Placed). in_turn (row_removed size here.found.first rows) numbers pages) here.shows.placed (rows-here size pages all here.table is (single-of size pages all is delete.table here)) b
+        (placed_law.removes size here.found.first here.shows.placed gone pages b (chosen-all (λ (placed : Placed). page_of here.found.first placed.number here.shows.placed ≡ Ok placed.page) choose here.shows.placed (each-placed size pages all is delete.table here)) h)))
+
+    left-same : map numbered_at (filter (stays (schema_at here.found) snapshot delete) here.shows.placed) ≡ (contents_of (without_rows numbers here.table)).rows
+    left-same =
+        sym (ap (λ (rows : List (ℕ × List Value)). map row_under (filter (λ (row : ℕ × List Value). not (list_any (λ (number : ℕ). row.0 == number) numbers)) rows)) here.shows.rows
+        ∙ ap (λ (rows : List (ℕ × List Value)). map row_under rows) (filter-chosen choose numbers here.shows.placed (any-chosen choose here.shows.placed (numbers-differ size pages all is delete.table here)))
+        ∙ unders (filter (stays (schema_at here.found) snapshot delete) here.shows.placed))
+
+    gone-law : Parts (schema_at here.found) snapshot delete here.shows.placed → (b : Result (Reply × Pages) Refusal) → (all_removed size here.found.first gone pages >>= (λ (done : Unit {0} × Pages). only (Ok (Count (length gone), done.1)))) b → IsRun size (Delete delete) snapshot pages (plain all) b
+    gone-law parts (Ok y) (done, removed, e) = subst (λ (r : Result (Reply × Pages) Refusal). IsRun size (Delete delete) snapshot pages (plain all) r) e made
+      where
+        leaves : Leaves size pages all (Removes delete.table numbers) done.1
+        leaves = worked-as (Ok done) removed
+
+        made : Done size (Delete delete) snapshot pages (plain all) (Count (length gone)) done.1
+        made = record {
+          behind = plain (where_named delete.table (without_rows numbers) all);
+          means = does-passed (Delete delete) snapshot (plain all) passes
+              ∙ changed_ok delete.table (plain all) (λ (schema : TableSchema) (contents : Contents). remaining snapshot delete schema contents) (found_as here) (contents_of (without_rows numbers here.table)) (length gone) (found-plain size pages delete.table is.store.found.tables all here)
+              (remaining-ok snapshot delete (schema_at here.found) (contents_of here.table) (map numbered_at (filter (stays (schema_at here.found) snapshot delete) here.shows.placed), length gone) (ap (λ (rows : List NumberedRow). reworked (remaining_row (schema_at here.found) snapshot delete) rows) (rows-under size pages here.found here.table here.shows) ∙ parts.left)
+              ∙ ap (λ (rows : List NumberedRow). Ok (record { next = here.table.next_number; rows = rows }, length gone)) left-same)
+              ∙ ap (λ (t : Tables). Ok (t, Count (length gone))) (set-plain size pages delete.table is.store.found.tables all here (without_rows numbers) (λ t. refl));
+          stored = record { all = where_named delete.table (without_rows numbers) all; store = leaves.store; same = refl };
+          work = Some (Removes delete.table numbers);
+          is_work = work-deletes delete snapshot (plain all) (found_as here) numbers (found-plain size pages delete.table is.store.found.tables all here)
+              (ap (λ (rows : List NumberedRow). picked (row_numbers (schema_at here.found) snapshot delete) rows) (rows-under size pages here.found here.table here.shows) ∙ parts.numbers);
+          edits = (leaves.needs, leaves.are_needed, leaves.takes, leaves.within);
+        }
+    gone-law parts (Err why) (inl full) =
+        let so = worked-as (Err why) full in
+        inr (so.0, Some (Removes delete.table numbers), work-deletes delete snapshot (plain all) (found_as here) numbers (found-plain size pages delete.table is.store.found.tables all here) (ap (λ (rows : List NumberedRow). picked (row_numbers (schema_at here.found) snapshot delete) rows) (rows-under size pages here.found here.table here.shows) ∙ parts.numbers), so.1)
+    gone-law parts (Err why) (inr (done, removed, e)) = differ _ why e
+
+    from-law : (b : Result (Reply × Pages) Refusal) → deleted_from size snapshot delete here.found pages b → IsRun size (Delete delete) snapshot pages (plain all) b
+    from-law b h = parts (parted (schema_at here.found) snapshot delete here.shows.placed)
+      where
+        behind : (only (picked (placed_gone (schema_at here.found) snapshot delete) here.shows.placed) >>= (λ (gone : List Placed). all_removed size here.found.first gone pages >>= (λ (done : Unit {0} × Pages). only (Ok (Count (length gone), done.1))))) b
+        behind = goes-on (rows_at size pages here.found) (λ (rows : List Placed). only (picked (placed_gone (schema_at here.found) snapshot delete) rows) >>= (λ (gone : List Placed). all_removed size here.found.first gone pages >>= (λ (done : Unit {0} × Pages). only (Ok (Count (length gone), done.1))))) here.shows.placed
+            (rows-read size pages all here.table is (single-of size pages all is delete.table here)) b h
+
+        parts : PartsNot (schema_at here.found) snapshot delete here.shows.placed ⊎ Parts (schema_at here.found) snapshot delete here.shows.placed → IsRun size (Delete delete) snapshot pages (plain all) b
+        parts (inl none) = subst (λ (r : Result (Reply × Pages) Refusal). IsRun size (Delete delete) snapshot pages (plain all) r)
+            (sym (ends-there (only (picked (placed_gone (schema_at here.found) snapshot delete) here.shows.placed)) (λ (gone : List Placed). all_removed size here.found.first gone pages >>= (λ (done : Unit {0} × Pages). only (Ok (Count (length gone), done.1)))) none.why
+            (λ (a : Result (List Placed) Refusal) (e : picked (placed_gone (schema_at here.found) snapshot delete) here.shows.placed ≡ a). sym e ∙ none.gone) b behind))
+            (inl (refused here none.why none.left))
+        parts (inr some) = gone-law some b
+            (goes-on (only (picked (placed_gone (schema_at here.found) snapshot delete) here.shows.placed)) (λ (gone : List Placed). all_removed size here.found.first gone pages >>= (λ (done : Unit {0} × Pages). only (Ok (Count (length gone), done.1)))) gone
+            (λ (a : Result (List Placed) Refusal) (e : picked (placed_gone (schema_at here.found) snapshot delete) here.shows.placed ≡ a). sym e ∙ some.gone) b behind)
+
+  pub delete-law : (b : Result (Reply × Pages) Refusal) → at_table is.store.found delete.table (λ (table : StoredTable). deleted_from size snapshot delete table pages) b → IsRun size (Delete delete) snapshot pages (plain all) b
+  delete-law b h = found (by-name-here size pages all is delete.table)
+    where
+      found : Missing delete.table is.store.found.tables all.tables ⊎ Here size pages delete.table is.store.found.tables all.tables → IsRun size (Delete delete) snapshot pages (plain all) b
+      found (inl none) = subst (λ (r : Result (Reply × Pages) Refusal). IsRun size (Delete delete) snapshot pages (plain all) r) (sym (table-missing is.store.found delete.table (λ (table : StoredTable). deleted_from size snapshot delete table pages) none.named b h))
+          (inl (does-passed (Delete delete) snapshot (plain all) passes ∙ performed-unknown delete.table (plain all) (λ (schema : TableSchema) (contents : Contents). remaining snapshot delete schema contents) (missing-plain delete.table is.store.found.tables all none)))
+      found (inr here) = from-law here b (table-there is.store.found delete.table here.found (λ (table : StoredTable). deleted_from size snapshot delete table pages) here.named b h)
+
+-- rows that were taken out, for which there was no page, and that were not decided
+pub deleted-there : (size width : ℕ) (found : Catalog) (delete : DeleteRecord) (snapshot : Option ℕ) (table : StoredTable) (schema : TableSchema) (rows gone : List Placed) (was now : Pages) (u : Unit {0}) → table_named delete.table found.tables ≡ Some table → schema ≡ schema_at table → rows_at size was table (Ok rows) → picked (placed_gone schema snapshot delete) rows ≡ Ok gone → width ≡ size → all_removed width table.first gone was (Ok (u, now))
+    → at_table found delete.table (λ (t : StoredTable). deleted_from size snapshot delete t was) (Ok (Count (length gone), now))
+deleted-there size width found delete snapshot table schema rows gone was now u is of_table read told same h =
+    (table, ap (λ (t : Option StoredTable). known t) is, (rows, read, (gone, subst (λ (s : TableSchema). picked (placed_gone s snapshot delete) rows ≡ Ok gone) of_table told, ((u, now), subst (λ (s : ℕ). all_removed s table.first gone was (Ok (u, now))) same h, refl))))
+
+pub deleted-full : (size width : ℕ) (found : Catalog) (delete : DeleteRecord) (snapshot : Option ℕ) (table : StoredTable) (schema : TableSchema) (rows gone : List Placed) (was : Pages) (why : Refusal) → table_named delete.table found.tables ≡ Some table → schema ≡ schema_at table → rows_at size was table (Ok rows) → picked (placed_gone schema snapshot delete) rows ≡ Ok gone → width ≡ size → all_removed width table.first gone was (Err why)
+    → at_table found delete.table (λ (t : StoredTable). deleted_from size snapshot delete t was) (Err why)
+deleted-full size width found delete snapshot table schema rows gone was why is of_table read told same h =
+    inr (table, ap (λ (t : Option StoredTable). known t) is, inr (rows, read, inr (gone, subst (λ (s : TableSchema). picked (placed_gone s snapshot delete) rows ≡ Ok gone) of_table told, inl (subst (λ (s : ℕ). all_removed s table.first gone was (Err why)) same h))))
+
+pub deleted-not : (size : ℕ) (found : Catalog) (delete : DeleteRecord) (snapshot : Option ℕ) (table : StoredTable) (schema : TableSchema) (rows : List Placed) (was : Pages) (why : Refusal) → table_named delete.table found.tables ≡ Some table → schema ≡ schema_at table → rows_at size was table (Ok rows) → picked (placed_gone schema snapshot delete) rows ≡ Err why
+    → at_table found delete.table (λ (t : StoredTable). deleted_from size snapshot delete t was) (Err why)
+deleted-not size found delete snapshot table schema rows was why is of_table read told =
+    inr (table, ap (λ (t : Option StoredTable). known t) is, inr (rows, read, inl (subst (λ (s : TableSchema). picked (placed_gone s snapshot delete) rows ≡ Err why) of_table told)))

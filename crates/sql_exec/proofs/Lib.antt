@@ -1,0 +1,17 @@
+pub mod Answering
+pub mod Asked
+pub mod Choosing
+pub mod Created
+pub mod Deciding
+pub mod Deleted
+pub mod Fitting
+pub mod Indexed
+pub mod Inserted
+pub mod Leading
+pub mod Meaning
+pub mod Named
+pub mod Picking
+pub mod Ran
+pub mod Shortness
+pub mod Steps
+pub mod Updated

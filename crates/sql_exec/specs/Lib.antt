@@ -1,0 +1,5 @@
+pub mod Asking
+pub mod Planning
+pub mod Promises
+pub mod Running
+pub mod Stored

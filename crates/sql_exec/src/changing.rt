@@ -1,0 +1,124 @@
+//! Statements that change rows and take rows out.
+
+ghost use Rattle.std.specs.Prelude.{◌≡◌, Ok};
+ghost use Rattle.retro_base.specs.Gives.{Gives};
+ghost use Rattle.sql_tree.specs.declared.statement.Statement.TheVariants as statement_of;
+ghost use Rattle.sql_check.specs.Check.{checked};
+ghost use Rattle.relation.specs.Catalog.{HaveFewColumns, schema_of};
+ghost use Rattle.pager.specs.Stop.{Makes};
+ghost use Rattle.sql_exec.specs.Planning.{picked};
+ghost use Rattle.sql_exec.specs.Promises.{Keeps};
+ghost use Rattle.sql_exec.specs.Running.{at_table, deleted_from, placed_changes, placed_gone, updated_in};
+
+use crate::lengths::check_changes;
+use crate::source::schema_of;
+use pager::{EditPager, Stop};
+use relation::{Catalog, Placed, delete, rows, update};
+use retro_base::Refusal;
+use sql_tree::{Delete, TableSchema, Update};
+use std::alloc::Global;
+use tables::{Reply, assigned, holds};
+
+/// Takes the rows of a table out for which the condition holds.
+pub fn delete_rows<P: EditPager>(
+    alloc: Global,
+    query: &Delete,
+    pager: &mut P,
+    snapshot: Option<u32>,
+    catalog: &Catalog,
+) -> Result<Reply, Stop<P::Fault>>
+    ensures deleted { Makes (λ reply. reply) (P.tells pager.old) (P.tells pager.new)
+        (λ pages. at_table catalog.now query.now.table
+        (λ table. deleted_from (P.size pager.old) snapshot query.now table pages)) result }
+    ensures keeps { Keeps P.goes P.size P.faults pager.old pager.new result }
+{
+    let Some(table) = catalog.table(&query.table) else {
+        return Err(Stop::Refused(Refusal::UnknownName));
+    };
+    let rows = rows(alloc, pager, table)?;
+    let schema = schema_of(alloc, table)?;
+    let gone = gone_of(alloc, &schema, snapshot, query, rows)?;
+    delete(alloc, pager, table, &gone)?;
+    Ok(Reply::Count(gone.len() as u64))
+}
+
+// The rows of a table for which the condition holds.
+fn gone_of(
+    alloc: Global,
+    table: &TableSchema,
+    snapshot: Option<u32>,
+    query: &Delete,
+    rows: Vec<Placed>,
+) -> Result<Vec<Placed>, Refusal>
+    ensures { Gives (λ gone. gone.items) result (picked (placed_gone table.now snapshot query.now) rows.items) }
+{
+    let mut gone = Vec::new(alloc);
+    for placed in rows {
+        if holds(
+            alloc,
+            table,
+            snapshot,
+            &query.condition,
+            placed.row.as_slice(),
+        )? {
+            gone.push(placed)?;
+        }
+    }
+    Ok(gone)
+}
+
+/// Changes the rows of a table for which the condition holds.
+pub fn update_rows<P: EditPager>(
+    alloc: Global,
+    query: &Update,
+    pager: &mut P,
+    snapshot: Option<u32>,
+    catalog: &Catalog,
+) -> Result<Reply, Stop<P::Fault>>
+    requires few { HaveFewColumns catalog.now.tables }
+    requires checked { checked (statement_of.Update query.now) snapshot (schema_of catalog.now) ≡ Ok tt }
+    ensures updated { Makes (λ reply. reply) (P.tells pager.old) (P.tells pager.new)
+        (λ pages. at_table catalog.now query.now.table
+        (λ table. updated_in (P.size pager.old) snapshot query.now table pages)) result }
+    ensures keeps { Keeps P.goes P.size P.faults pager.old pager.new result }
+{
+    let Some(table) = catalog.table(&query.table) else {
+        return Err(Stop::Refused(Refusal::UnknownName));
+    };
+    let rows = rows(alloc, pager, table)?;
+    let schema = schema_of(alloc, table)?;
+    let changes = changes_of(alloc, &schema, snapshot, query, &rows)?;
+    check_changes(&changes)?;
+    update(alloc, pager, table, &changes)?;
+    Ok(Reply::Count(changes.len() as u64))
+}
+
+// The rows of a table for which the condition holds, with their values set.
+fn changes_of(
+    alloc: Global,
+    table: &TableSchema,
+    snapshot: Option<u32>,
+    query: &Update,
+    rows: &[Placed],
+) -> Result<Vec<Placed>, Refusal>
+    ensures { Gives (λ changes. changes.items) result
+        (picked (placed_changes table.now snapshot query.now) rows.now) }
+{
+    let mut changes = Vec::new(alloc);
+    for placed in rows {
+        if holds(
+            alloc,
+            table,
+            snapshot,
+            &query.condition,
+            placed.row.as_slice(),
+        )? {
+            let assignments = query.assignments.as_slice();
+            let row = assigned(alloc, table, snapshot, assignments, &placed.row)?;
+            let number = placed.number;
+            let page = placed.page;
+            changes.push(Placed { number, page, row })?;
+        }
+    }
+    Ok(changes)
+}
