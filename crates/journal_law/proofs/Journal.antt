@@ -109,34 +109,34 @@ module _ (L : Language) (items : Who → Option L.Item) where
   along_more pages tables [] line shows more = (shows, more)
   along_more pages tables (l ∷ lines) line shows more = (shows.0, along_more (page_step pages l) (step L items tables l) lines line shows.1 more)
 
-  along_rest : (o : Opening L) (tables : World L.Tables) (before rest : List Line) → ShowsAlong L items o.ground.pages tables before
-      → ((front after : List Line) (line : Line) → before ++ rest ≡ front ++ line ∷ after → Fits L items o.ground front line) → ShowsAlong L items o.ground.pages tables (before ++ rest)
+  along_rest : (o : Opening L) (tables : World L.Tables) (before rest : List Line) → ShowsAlong L items o.opened.pages tables before
+      → ((front after : List Line) (line : Line) → before ++ rest ≡ front ++ line ∷ after → Fits L items o.opened front line) → ShowsAlong L items o.opened.pages tables (before ++ rest)
   along_rest o tables before [] shows fits = rw append-nil shows
   along_rest o tables before (line ∷ rest) shows fits =
       let here = fits before rest line refl in
-      let next = along_more o.ground.pages tables before line shows (here tables shows).0 in
+      let next = along_more o.opened.pages tables before line shows (here tables shows).0 in
       let whole : (before ++ line ∷ []) ++ rest ≡ before ++ line ∷ rest = append_assoc before (line ∷ []) rest in
-      subst (ShowsAlong L items o.ground.pages tables) whole (along_rest o tables (before ++ line ∷ []) rest next (λ front after l e. fits front after l (sym whole ∙ e)))
+      subst (ShowsAlong L items o.opened.pages tables) whole (along_rest o tables (before ++ line ∷ []) rest next (λ front after l e. fits front after l (sym whole ∙ e)))
 
   -- a line of its own fits what stands before it
-  fit_at : (o : Opening L) (session : ℕ) (done before more : List Line) (line : Line) → OwnFit L items o.ground session done (before ++ line ∷ more) → line.who.session ≡ session → Fits L items o.ground (done ++ before) line
-  fit_at o session done [] more line fits mine = subst (λ (ls : List Line). Fits L items o.ground ls line) (sym (append-nil done)) (fits.0 mine)
+  fit_at : (o : Opening L) (session : ℕ) (done before more : List Line) (line : Line) → OwnFit L items o.opened session done (before ++ line ∷ more) → line.who.session ≡ session → Fits L items o.opened (done ++ before) line
+  fit_at o session done [] more line fits mine = subst (λ (ls : List Line). Fits L items o.opened ls line) (sym (append-nil done)) (fits.0 mine)
   fit_at o session done (l ∷ before) more line fits mine =
-      subst (λ (ls : List Line). Fits L items o.ground ls line) (append_assoc done (l ∷ []) before) (fit_at o session (done ++ l ∷ []) before more line fits.1 mine)
+      subst (λ (ls : List Line). Fits L items o.opened ls line) (append_assoc done (l ∷ []) before) (fit_at o session (done ++ l ∷ []) before more line fits.1 mine)
 
   -- each line fits, by what its session knew
-  pub each_fits : (o : Opening L) (journal : List Line) → AllFit L items o.ground journal → (before after : List Line) (line : Line) → journal ≡ before ++ line ∷ after → Fits L items o.ground before line
+  pub each_fits : (o : Opening L) (journal : List Line) → AllFit L items o.opened journal → (before after : List Line) (line : Line) → journal ≡ before ++ line ∷ after → Fits L items o.opened before line
   each_fits o journal all before after line e =
       let one = all line.who.session in
       let found = split_front one.front one.seen.rest before after line (sym one.seen.whole ∙ e) one.seen.others in
-      fit_at o line.who.session [] before found.0 line (subst (OwnFit L items o.ground line.who.session []) found.1 one.fits) refl
+      fit_at o line.who.session [] before found.0 line (subst (OwnFit L items o.opened line.who.session []) found.1 one.fits) refl
 
-  pub shows : (o : Opening L) (journal : List Line) → Shows L o.ground.pages o.tables → AllFit L items o.ground journal → ShowsAlong L items o.ground.pages o.tables journal
+  pub shows : (o : Opening L) (journal : List Line) → Shows L o.opened.pages o.tables → AllFit L items o.opened journal → ShowsAlong L items o.opened.pages o.tables journal
   shows o journal opening all = along_rest o o.tables [] journal opening (each_fits o journal all)
 
-  pub rules : (o : Opening L) (journal : List Line) → Shows L o.ground.pages o.tables → AllFit L items o.ground journal → AtEach L items (KeepsRules L items o) journal
+  pub rules : (o : Opening L) (journal : List Line) → Shows L o.opened.pages o.tables → AllFit L items o.opened journal → AtEach L items (KeepsRules L items o) journal
   rules o journal opening all before after line e =
-      let along = along_front o.ground.pages o.tables before (line ∷ after) (subst (ShowsAlong L items o.ground.pages o.tables) e (shows o journal opening all)) in
+      let along = along_front o.opened.pages o.tables before (line ∷ after) (subst (ShowsAlong L items o.opened.pages o.tables) e (shows o journal opening all)) in
       (each_fits o journal all before after line e o.tables along).1
 
   -- ---- shape
@@ -151,7 +151,7 @@ module _ (L : Language) (items : Who → Option L.Item) where
       same : (who : Who) → who.session ≡ session → own who journal ≡ own who front
       same who mine = own_lines journal front who (subst (λ (n : ℕ). HasSeen n front journal) (sym mine) seen)
 
-  pub lawful : (o : Opening L) (ending : Device → ℕ) (journal : List Line) → Shows L o.ground.pages o.tables → AllFit L items o.ground journal → IsClosed ending journal → Lawful L items o ending journal
+  pub lawful : (o : Opening L) (ending : Device → ℕ) (journal : List Line) → Shows L o.opened.pages o.tables → AllFit L items o.opened journal → IsClosed ending journal → Lawful L items o ending journal
   lawful o ending journal opening all closed = record {
     shape = record { phases = closed.phases; sessions = λ session. runs_of session journal (all session).front (all session).seen (all session).runs };
     at_each = rules o journal opening all;
@@ -188,10 +188,10 @@ module _ (L : Language) (items : Who → Option L.Item) where
   no_fate who now [] others = refl
   no_fate who now (line ∷ lines) others = rw (apart line.who who others.0, no_fate who (step L items now line) lines others.1) refl
 
-  pub told : (o : Opening L) (journal front : List Line) (who : Who) (item : L.Item) (text : List ℕ) → Shows L o.ground.pages o.tables → AllFit L items o.ground journal →
-      HasSeen who.session front journal → IsReply L items o.ground.pages who item front text → text ≡ reply L item (fate L items who o.tables journal)
+  pub told : (o : Opening L) (journal front : List Line) (who : Who) (item : L.Item) (text : List ℕ) → Shows L o.opened.pages o.tables → AllFit L items o.opened journal →
+      HasSeen who.session front journal → IsReply L items o.opened.pages who item front text → text ≡ reply L item (fate L items who o.tables journal)
   told o journal front who item text opening all seen is =
-      let along = along_front o.ground.pages o.tables front seen.rest (subst (ShowsAlong L items o.ground.pages o.tables) seen.whole (shows o journal opening all)) in
+      let along = along_front o.opened.pages o.tables front seen.rest (subst (ShowsAlong L items o.opened.pages o.tables) seen.whole (shows o journal opening all)) in
       let same : fate L items who o.tables journal ≡ fate L items who o.tables front =
       ap (fate L items who o.tables) seen.whole
       ∙ fate_append who o.tables front seen.rest

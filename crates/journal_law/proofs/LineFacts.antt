@@ -17,7 +17,7 @@ use Rattle.history.specs.Lines.{begins, first_stop}
 use Rattle.journal_law.specs.Facts.{Fits, with_tables}
 use Rattle.journal_law.specs.Fates.{began_of, fate}
 use Rattle.journal_law.specs.Language.{AsOf, Commit, DropBelow, End, Kind, Language, OverAll, Rollback, Transaction, after_of, answer, answer_by}
-use Rattle.journal_law.specs.Lawful.{AtDrop, DropRefused, FaultIsNew, Ground, IsEnding, IsLimit, IsOverlapOf, IsWorker, MayDrop, MemoryAt, OverlapAt, RulesAt, SnapshotAt, WritesNothing, at_drop, limit_of, query_end}
+use Rattle.journal_law.specs.Lawful.{AtDrop, DropRefused, FaultIsNew, Ground, IsEnding, IsLimit, IsOverlapBy, IsWorker, MayDrop, MemoryAt, OverlapAt, RulesAt, SnapshotAt, WritesNothing, at_drop, limit_of, query_end}
 use Rattle.journal_law.specs.LinesFit.{All, Answers, At, LinesFit, LookAt, kind_at, opened_by}
 use Rattle.journal_law.specs.Own.{SinceLine, is_began, is_looked, is_looking, is_trying, line}
 use Rattle.journal_law.specs.Pages.{Pages, page_world, pins_of}
@@ -114,7 +114,7 @@ module _ (L : Language) (items : Who → Option L.Item) (ground : Ground) (befor
     began_fits = fits_by L items ground before who item (Transaction end) Began is e
         (λ tables along shows. record { leaves = tt; ending = tt; query = tt; overlap = tt; snapshot = tt; limit = tt; new = tt; stopped = λ _. tt; memory = tt })
 
-    pub overlapped_fits : (session number : ℕ) → IsOverlapOf who (record { phase = who.phase; session = session; item = number }) before → Fits L items ground before (line who (Overlapped session number))
+    pub overlapped_fits : (session number : ℕ) → IsOverlapBy who before session number → Fits L items ground before (line who (Overlapped session number))
     overlapped_fits session number over = fits_by L items ground before who item (Transaction end) (Overlapped session number) is e
         (λ tables along shows. record { leaves = tt; ending = tt; query = tt; overlap = over; snapshot = tt; limit = tt; new = tt; stopped = λ _. tt; memory = tt })
 

@@ -36,25 +36,25 @@ module _ (L : Language) (items : Who → Option L.Item) (pages : World Pages) (w
     pub committed : (label : Option (List ℕ)) (writes : List PageImage) (text : List ℕ) (number : ℕ)
         → ((tables : L.Tables) → L.IsStored (page_world pages before).current tables → text ≡ L.replies item tables)
         → number ≡ newest (page_world pages before) + 1
-        → IsReply L items pages who item (before ++ line who (Done label writes) ∷ []) (text ++ L.words.committed number label)
+        → IsReply L items pages who item (before ++ line who (Done label writes) ∷ []) (text ++ (L.words item).committed number label)
     committed label writes text number told is tables along =
         let shows = along_end L items pages tables before (along_front L items pages tables before (line who (Done label writes) ∷ []) along) in
         let now = world L items tables before in
         let count : number ≡ newest now + 1 = is ∙ ap (λ (n : ℕ). n + 1) (newest_same L 0 (page_world pages before).marks now.marks shows.marks) in
-        by_last tables before (Done label writes) (text ++ L.words.committed number label)
-        (λ began. ap (λ (x : List ℕ). x ++ L.words.committed number label) (told now.current shows.current) ∙ ap (λ (n : ℕ). L.replies item now.current ++ L.words.committed n label) count)
+        by_last tables before (Done label writes) (text ++ (L.words item).committed number label)
+        (λ began. ap (λ (x : List ℕ). x ++ (L.words item).committed number label) (told now.current shows.current) ∙ ap (λ (n : ℕ). L.replies item now.current ++ (L.words item).committed n label) count)
 
-    pub refused : (why : Refusal) → IsReply L items pages who item (before ++ line who (Refused why) ∷ []) (L.words.refused why)
-    refused why tables along = by_last tables before (Refused why) (L.words.refused why) (λ began. refl)
+    pub refused : (why : Refusal) → IsReply L items pages who item (before ++ line who (Refused why) ∷ []) ((L.words item).refused why)
+    refused why tables along = by_last tables before (Refused why) ((L.words item).refused why) (λ began. refl)
 
-    pub overlapped : (session other : ℕ) → IsReply L items pages who item (before ++ line who (Overlapped session other) ∷ []) (L.words.refused (refusal.Overlap session other))
-    overlapped session other tables along = by_last tables before (Overlapped session other) (L.words.refused (refusal.Overlap session other)) (λ began. refl)
+    pub overlapped : (session other : ℕ) → IsReply L items pages who item (before ++ line who (Overlapped session other) ∷ []) ((L.words item).refused (refusal.Overlap session other))
+    overlapped session other tables along = by_last tables before (Overlapped session other) ((L.words item).refused (refusal.Overlap session other)) (λ began. refl)
 
-    pub failed : (device : Device) (count : ℕ) (wrote : Bool) → IsReply L items pages who item (before ++ line who (Fault device count wrote) ∷ []) (L.words.refused (refusal.DiskFault device count))
-    failed device count wrote tables along = by_last tables before (Fault device count wrote) (L.words.refused (refusal.DiskFault device count)) (λ began. refl)
+    pub failed : (device : Device) (count : ℕ) (wrote : Bool) → IsReply L items pages who item (before ++ line who (Fault device count wrote) ∷ []) ((L.words item).refused (refusal.DiskFault device count))
+    failed device count wrote tables along = by_last tables before (Fault device count wrote) ((L.words item).refused (refusal.DiskFault device count)) (λ began. refl)
 
-    pub dropped : (below : ℕ) → IsReply L items pages who item (before ++ line who (Dropped below) ∷ []) (L.words.dropped below)
-    dropped below tables along = by_last tables before (Dropped below) (L.words.dropped below) (λ began. refl)
+    pub dropped : (below : ℕ) → IsReply L items pages who item (before ++ line who (Dropped below) ∷ []) ((L.words item).dropped below)
+    dropped below tables along = by_last tables before (Dropped below) ((L.words item).dropped below) (λ began. refl)
 
   -- a line that opens nothing leaves where the item began
   began_behind : (tables : World L.Tables) (before : List Line) (what : What) (w : World L.Tables) → begins what ≡ false → began_of (fate L items who tables before) ≡ Some w
@@ -90,23 +90,23 @@ module _ (L : Language) (items : Who → Option L.Item) (pages : World Pages) (w
 
     -- a rollback's replies are those over the tables with which its attempt began
     pub rolled_back : (text : List ℕ) → ((tables : L.Tables) → L.IsStored (page_world pages since).current tables → text ≡ L.replies item tables)
-        → IsReply L items pages who item (before ++ line who RolledBack ∷ []) (text ++ L.words.rolled_back)
+        → IsReply L items pages who item (before ++ line who RolledBack ∷ []) (text ++ (L.words item).rolled_back)
     rolled_back text told tables along =
         let f = there tables RolledBack refl in
         let shows = stood tables RolledBack along in
-        ap (λ (x : List ℕ). x ++ L.words.rolled_back) (told (world L items tables since).current shows.current)
-        ∙ ap (λ (o : Option (World L.Tables)). L.replies item (option_map_or (λ (w : World L.Tables). w) o f.0.now).current ++ L.words.rolled_back) (sym f.3)
+        ap (λ (x : List ℕ). x ++ (L.words item).rolled_back) (told (world L items tables since).current shows.current)
+        ∙ ap (λ (o : Option (World L.Tables)). L.replies item (option_map_or (λ (w : World L.Tables). w) o f.0.now).current ++ (L.words item).rolled_back) (sym f.3)
         ∙ ap (reply_at L item f.0) (sym f.2)
         ∙ ap (reply L item) (sym f.1)
 
     -- a look's reply is the answer in the world in which it looked
-    pub answered : (text : List ℕ) → ((w : World L.Tables) → Shows L (page_world pages since) w → text ≡ answer_text L (answer L item w))
+    pub answered : (text : List ℕ) → ((w : World L.Tables) → Shows L (page_world pages since) w → text ≡ answer_text L item (answer L item w))
         → IsReply L items pages who item (before ++ line who Unlooked ∷ []) text
     answered text told tables along =
         let f = there tables Unlooked refl in
         let shows = stood tables Unlooked along in
         told (world L items tables since) shows
-        ∙ ap (λ (o : Option (World L.Tables)). answer_text L (answer L item (option_map_or (λ (w : World L.Tables). w) o f.0.now))) (sym f.3)
+        ∙ ap (λ (o : Option (World L.Tables)). answer_text L item (answer L item (option_map_or (λ (w : World L.Tables). w) o f.0.now))) (sym f.3)
         ∙ ap (reply_at L item f.0) (sym f.2)
         ∙ ap (reply L item) (sym f.1)
 

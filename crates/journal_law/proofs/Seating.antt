@@ -31,18 +31,18 @@ module _ (L : Language) (items : Who → Option L.Item) where
   fit_line ground session done (line ∷ front) one fits fit =
       (fits.0, fit_line ground session (done ++ line ∷ []) front one fits.1 (subst (λ (ls : List Line). Fits L items ground ls one) (sym (append_assoc done (line ∷ []) front)) fit))
 
-  carry : (old new : View) (lines : List Line) → new.session ≡ old.session → new.ground ≡ old.ground → new.front ≡ lines → OwnFit L items old.ground old.session [] lines → Sane L items new
+  carry : (old new : View) (lines : List Line) → new.session ≡ old.session → new.opened ≡ old.opened → new.front ≡ lines → OwnFit L items old.opened old.session [] lines → Sane L items new
   carry old new lines s g f fits = rw (s, g, f) fits
 
   pub waits : (old new : View) → Moves old new [] → Sane L items old → Sane L items new
   waits old new moves sane =
-      carry old new (old.front ++ moves.others) moves.session moves.ground (moves.front ∙ append-nil (old.front ++ moves.others))
-      (fit_others old.ground old.session [] old.front moves.others sane moves.apart)
+      carry old new (old.front ++ moves.others) moves.session moves.opened (moves.front ∙ append-nil (old.front ++ moves.others))
+      (fit_others old.opened old.session [] old.front moves.others sane moves.apart)
 
-  pub adds : (old new : View) (who : Who) (what : What) (moves : Moves old new (line who what ∷ [])) → Fits L items old.ground (lines_before old new moves) (line who what) → Sane L items old → Sane L items new
+  pub adds : (old new : View) (who : Who) (what : What) (moves : Moves old new (line who what ∷ [])) → Fits L items old.opened (lines_before old new moves) (line who what) → Sane L items old → Sane L items new
   adds old new who what moves fit sane =
-      carry old new ((old.front ++ moves.others) ++ line who what ∷ []) moves.session moves.ground moves.front
-      (fit_line old.ground old.session [] (old.front ++ moves.others) (line who what) (fit_others old.ground old.session [] old.front moves.others sane moves.apart) fit)
+      carry old new ((old.front ++ moves.others) ++ line who what ∷ []) moves.session moves.opened moves.front
+      (fit_line old.opened old.session [] (old.front ++ moves.others) (line who what) (fit_others old.opened old.session [] old.front moves.others sane moves.apart) fit)
 
   just_there : (who : Who) (what : What) (front since : List Line) → front ≡ since ++ line who what ∷ [] → SinceLine who what front since []
   just_there who what front since e = record { whole = e ∙ sym (append-nil (since ++ line who what ∷ [])); none = refl }
@@ -50,15 +50,15 @@ module _ (L : Language) (items : Who → Option L.Item) where
   pub begin : (old new : View) (who : Who) (item : L.Item) (end : End) → IsOwn L items old who item → L.kind item ≡ Transaction end → BeginGives who old new (Ok tt) → Sane L items old →
       Sane L items new × ((since : List Line) × SinceLine who Began new.front since [])
   begin old new who item end own_item e gives sane =
-      (adds old new who Began gives.1.moves (began_fits L items old.ground (lines_before old new gives.1.moves) who item own_item.is end e) sane, (gives.0, just_there who Began new.front gives.0 gives.2))
+      (adds old new who Began gives.1.moves (began_fits L items old.opened (lines_before old new gives.1.moves) who item own_item.is end e) sane, (gives.0, just_there who Began new.front gives.0 gives.2))
 
   pub commit : (old new : View) (a : Attempt) (item : L.Item) (label : Option (List ℕ)) (number : Option ℕ) → IsOwn L items old a.who item → L.kind item ≡ Transaction (Commit label) →
       Makes L items old a item → CommitGives label old new a (Ok number) → Sane L items old → Sane L items new
   commit old new a item label number own_item e makes gives sane =
       let before = lines_before old new gives.0.adds.moves in
       adds old new a.who (Done label a.edits) gives.0.adds.moves
-      (done_fits L items old.ground before a.who item own_item.is label a.edits e
-      (λ tables stored. makes (page_world old.ground.pages before).current tables gives.0.agree stored) gives.2)
+      (done_fits L items old.opened before a.who item own_item.is label a.edits e
+      (λ tables stored. makes (page_world old.opened.pages before).current tables gives.0.agree stored) gives.2)
       sane
 
   -- the lines before the own one, told in two ways
@@ -78,26 +78,26 @@ module _ (L : Language) (items : Who → Option L.Item) where
   look old new who item n own_item e gives sane =
       let moves = gives.1.moves in
       let same : gives.0 ≡ lines_before old new moves = same_since gives.0 (lines_before old new moves) (line who (Looked n)) (sym gives.2 ∙ moves.front) in
-      let held : as_of n (page_world old.ground.pages (lines_before old new moves)) ≡ Ok gives.3.0 = ap (λ (ls : List Line). as_of n (page_world old.ground.pages ls)) (sym same) ∙ gives.3.1 in
-      (adds old new who (Looked n) moves (looked_fits L items old.ground (lines_before old new moves) who item own_item.is n gives.3.0 e held) sane, (gives.0, just_there who (Looked n) new.front gives.0 gives.2))
+      let held : as_of n (page_world old.opened.pages (lines_before old new moves)) ≡ Ok gives.3.0 = ap (λ (ls : List Line). as_of n (page_world old.opened.pages ls)) (sym same) ∙ gives.3.1 in
+      (adds old new who (Looked n) moves (looked_fits L items old.opened (lines_before old new moves) who item own_item.is n gives.3.0 e held) sane, (gives.0, just_there who (Looked n) new.front gives.0 gives.2))
 
   pub look_all : (old new : View) (who : Who) (item : L.Item) (marks : List MarkOf) → IsOwn L items old who item → L.kind item ≡ OverAll → LookAllGives who old new (Ok marks) → Sane L items old →
       Sane L items new × ((since : List Line) × SinceLine who LookedAll new.front since [])
   look_all old new who item marks own_item e gives sane =
-      (adds old new who LookedAll gives.1.moves (looked_all_fits L items old.ground (lines_before old new gives.1.moves) who item own_item.is e) sane, (gives.0, just_there who LookedAll new.front gives.0 gives.2))
+      (adds old new who LookedAll gives.1.moves (looked_all_fits L items old.opened (lines_before old new gives.1.moves) who item own_item.is e) sane, (gives.0, just_there who LookedAll new.front gives.0 gives.2))
 
   pub unlook : (old new : View) (l : Look) (item : L.Item) (look : LookAt) (since rest : List Line) (text : List ℕ) → IsOwn L items old l.who item → L.kind item ≡ kind_at look →
-      SinceLine l.who (opened_by look) old.front since rest → Answers L old.ground item since (Ok text) → UnlookGives ending.Asked old new l → Sane L items old → Sane L items new
+      SinceLine l.who (opened_by look) old.front since rest → Answers L old.opened item since (Ok text) → UnlookGives ending.Asked old new l → Sane L items old → Sane L items new
   unlook old new l item look since rest text own_item e at answers gives sane =
       let others = gives.moves.others in
       let none : own l.who others ≡ [] = own_others l.who others (subst (λ (n : ℕ). AreOthers n others) (sym own_item.mine) gives.moves.apart) in
       adds old new l.who Unlooked gives.moves
-      (unlooked_fits L items old.ground (lines_before old new gives.moves) l.who item own_item.is look e since (rest ++ others) (since_stays l.who (opened_by look) old.front since rest others at none) text answers)
+      (unlooked_fits L items old.opened (lines_before old new gives.moves) l.who item own_item.is look e since (rest ++ others) (since_stays l.who (opened_by look) old.front since rest others at none) text answers)
       sane
 
   pub drop : (old new : View) (who : Who) (item : L.Item) (below : ℕ) → IsOwn L items old who item → L.kind item ≡ DropBelow below → DropGives who below old new (Ok tt) → Sane L items old → Sane L items new
   drop old new who item below own_item e gives sane =
-      adds old new who (Dropped below) gives.0.moves (dropped_fits L items old.ground (lines_before old new gives.0.moves) who item own_item.is below e gives.1) sane
+      adds old new who (Dropped below) gives.0.moves (dropped_fits L items old.opened (lines_before old new gives.0.moves) who item own_item.is below e gives.1) sane
 
   pub limit : (ground : Ground) (who : Who) (item : L.Item) (label : Option (List ℕ)) (why : Refusal) (front more : List Line) → MeetsLimit L ground who front item label why → own who more ≡ [] →
       MeetsLimit L ground who (front ++ more) item label why

@@ -22,7 +22,7 @@ pub record HasSeen (session : ℕ) (front journal : List Line) : Type 0 where
 module _ (L : Language) (items : Who → Option L.Item) (ground : Ground) where
   -- the opening with these tables
   abbrev pub with_tables : World L.Tables → Opening L
-  with_tables tables = record { ground = ground; tables = tables }
+  with_tables tables = record { opened = ground; tables = tables }
 
   -- Whatever tables the pages held up to there, the line keeps the rules over them, and the pages hold the tables behind it too.
   abbrev pub Fits : List Line → Line → Type 0

@@ -47,25 +47,25 @@ module _ (L : Language) where
         behind_it (fate who (step L items opening line) lines)
         (if same_item line.who who then Some (record { now = opening; last = line.what; began = began_in opening line.what }) else None)
 
-  abbrev pub answer_text : Result (List ℕ) Refusal → List ℕ
-  answer_text (Ok text) = text
-  answer_text (Err why) = L.words.refused why
+  abbrev pub answer_text : L.Item → Result (List ℕ) Refusal → List ℕ
+  answer_text item (Ok text) = text
+  answer_text item (Err why) = (L.words item).refused why
 
   -- The reply lines of an item by its last line: a commit's are those of its statements over the tables at its place, a rollback's those over the tables with which its attempt began, a look's those of its query in the world in which it looked.
   abbrev pub reply_at : L.Item → Fate L.Tables → What → List ℕ
-  reply_at item f (Done label writes) = L.replies item f.now.current ++ L.words.committed (newest f.now + 1) label
-  reply_at item f RolledBack = L.replies item (began_at f).current ++ L.words.rolled_back
-  reply_at item f Unlooked = answer_text (answer L item (began_at f))
-  reply_at item f (Dropped below) = L.words.dropped below
-  reply_at item f (Refused why) = L.words.refused why
-  reply_at item f (Overlapped session other) = L.words.refused (Overlap session other)
-  reply_at item f (Fault device count wrote) = L.words.refused (DiskFault device count)
-  reply_at item f what = L.words.not_run
+  reply_at item f (Done label writes) = L.replies item f.now.current ++ (L.words item).committed (newest f.now + 1) label
+  reply_at item f RolledBack = L.replies item (began_at f).current ++ (L.words item).rolled_back
+  reply_at item f Unlooked = answer_text item (answer L item (began_at f))
+  reply_at item f (Dropped below) = (L.words item).dropped below
+  reply_at item f (Refused why) = (L.words item).refused why
+  reply_at item f (Overlapped session other) = (L.words item).refused (Overlap session other)
+  reply_at item f (Fault device count wrote) = (L.words item).refused (DiskFault device count)
+  reply_at item f what = (L.words item).not_run
 
   -- the reply lines of an item by what became of it
   abbrev pub reply : L.Item → Option (Fate L.Tables) → List ℕ
   reply item (Some f) = reply_at item f f.last
-  reply item None = L.words.not_run
+  reply item None = (L.words item).not_run
 
   -- What a seat knows of an item of its own that has ended: whatever tables the pages held up to there, this is its reply.
   abbrev pub IsReply : (Who → Option L.Item) → World Pages → Who → L.Item → List Line → List ℕ → Type 0

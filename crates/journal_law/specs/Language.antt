@@ -45,7 +45,8 @@ pub record Language : Type 1 where
   pub Reaches : Item → Pages → ℕ → Type 0
   -- at one of the statements, run from these pages on, more pages are needed than are free
   pub IsShort : Item → Pages → Type 0
-  pub words : Words
+  -- an item's: a refusal that names a session says its name in the item's phase
+  pub words : Item → Words
 
 module _ (L : Language) where
   -- the kind of an item that there is

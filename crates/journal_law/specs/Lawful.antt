@@ -107,7 +107,7 @@ pub record Ground : Type 0 where
 
 -- and tables that the pages hold
 pub record Opening (L : Language) : Type 0 where
-  pub ground : Ground
+  pub opened : Ground
   pub tables : World L.Tables
 
 -- ---- ends
@@ -140,7 +140,7 @@ pub record IsOverlapOf (who other : Who) (before : List Line) : Type 0 where
   pub place : rest ≡ front ++ more
   pub trying : is_trying other ((since ++ line who Began ∷ []) ++ front) ≡ true
 
--- an item with this session and number
+-- some item with this session and number
 pub record IsOverlapBy (who : Who) (before : List Line) (session item : ℕ) : Type 0 where
   pub other : Who
   pub session_is : other.session ≡ session
@@ -148,7 +148,7 @@ pub record IsOverlapBy (who : Who) (before : List Line) (session item : ℕ) : T
   pub overlaps : IsOverlapOf who other before
 
 abbrev pub OverlapAt : Who → List Line → What → Type 0
-OverlapAt who before (Overlapped session item) = IsOverlapOf who (record { phase = who.phase; session = session; item = item }) before
+OverlapAt who before (Overlapped session item) = IsOverlapBy who before session item
 OverlapAt who before what = Unit {0}
 
 -- ---- snapshots
@@ -370,9 +370,9 @@ module _ (L : Language) (items : Who → Option L.Item) where
     pub ending : IsEnding (kind_of L one) what
     pub query : QueryAt L one (began_of (fate L items who o.tables before)) (is_looking who before) what
     pub overlap : OverlapAt who before what
-    pub snapshot : SnapshotAt now (at_drop o.ground.pages now before) (kind_of L one) (is_looking who before) what
-    pub limit : LimitAt L o.ground who before one what
-    pub fault : FaultAt o.ground.faults (oldest_of now.marks) (first_stop before) (is_looking who before) what
+    pub snapshot : SnapshotAt now (at_drop o.opened.pages now before) (kind_of L one) (is_looking who before) what
+    pub limit : LimitAt L o.opened who before one what
+    pub fault : FaultAt o.opened.faults (oldest_of now.marks) (first_stop before) (is_looking who before) what
     pub memory : MemoryAt (is_trying who before || is_looking who before) what
 
   abbrev pub KeepsRules : Opening L → List Line → Line → Type 0

@@ -12,7 +12,7 @@ use Rattle.history.specs.History.{written}
 use Rattle.history.specs.Lines.{first_stop}
 use Rattle.journal_law.specs.Facts.{Fits}
 use Rattle.journal_law.specs.Language.{AsOf, Commit, DropBelow, End, Kind, Language, OverAll, Rollback, Transaction, answer}
-use Rattle.journal_law.specs.Lawful.{DropRefused, Ground, IsLimit, IsOverlapOf, IsWorker, MayDrop, at_drop}
+use Rattle.journal_law.specs.Lawful.{DropRefused, Ground, IsLimit, IsOverlapBy, IsWorker, MayDrop, at_drop}
 use Rattle.journal_law.specs.Own.{SinceLine, is_looking, line}
 use Rattle.journal_law.specs.Pages.{Pages, page_world}
 use Rattle.journal_law.specs.Shows.{Shows}
@@ -46,9 +46,9 @@ AtEachItem L P = (items : Who → Option L.Item) (ground : Ground) (before : Lis
 -- a transaction's lines
 pub record TransactionsFit (L : Language) : Type 0 where
   pub began : AtEachItem L (λ items ground before who item. (end : End) → L.kind item ≡ Transaction end → Fits L items ground before (line who Began))
-  -- it names an item of another session of the phase, which has had an attempt open since its own began
+  -- it names an item of another session, which has had an attempt open since its own began
   pub overlapped : AtEachItem L (λ items ground before who item. (end : End) → L.kind item ≡ Transaction end → (session number : ℕ) →
-      IsOverlapOf who (record { phase = who.phase; session = session; item = number }) before → Fits L items ground before (line who (Overlapped session number)))
+      IsOverlapBy who before session number → Fits L items ground before (line who (Overlapped session number)))
   -- it met the limit
   pub refused : AtEachItem L (λ items ground before who item. (end : End) → L.kind item ≡ Transaction end → (since rest : List Line) → SinceLine who Began before since rest →
       (why : Refusal) → IsLimit L ground who before item end why → Fits L items ground before (line who (Refused why)))

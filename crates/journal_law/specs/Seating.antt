@@ -19,7 +19,7 @@ use Rattle.journal_law.specs.declared.seat.Ending.TheVariants as ending
 module _ (L : Language) (items : Who → Option L.Item) where
   -- each line of the seat's own fits what stands before it
   abbrev pub Sane : View → Type 0
-  Sane view = OwnFit L items view.ground view.session [] view.front
+  Sane view = OwnFit L items view.opened view.session [] view.front
 
   -- an item of the seat's session
   pub record IsOwn (view : View) (who : Who) (item : L.Item) : Type 0 where
@@ -33,7 +33,7 @@ module _ (L : Language) (items : Who → Option L.Item) where
   pub record SeatsSuffice : Type 0 where
     -- others' lines leave the own ones as they were
     pub waits : (old new : View) → Moves old new [] → Sane old → Sane new
-    pub adds : (old new : View) (who : Who) (what : What) (moves : Moves old new (line who what ∷ [])) → Fits L items old.ground (lines_before old new moves) (line who what) → Sane old → Sane new
+    pub adds : (old new : View) (who : Who) (what : What) (moves : Moves old new (line who what ∷ [])) → Fits L items old.opened (lines_before old new moves) (line who what) → Sane old → Sane new
     -- an attempt has begun, with the lines before its Began
     pub begin : (old new : View) (who : Who) (item : L.Item) (end : End) → IsOwn old who item → L.kind item ≡ Transaction end → BeginGives who old new (Ok tt) → Sane old →
         Sane new × ((since : List Line) × SinceLine who Began new.front since [])
@@ -45,7 +45,7 @@ module _ (L : Language) (items : Who → Option L.Item) where
         Sane new × ((since : List Line) × SinceLine who LookedAll new.front since [])
     -- a look ends with its answer
     pub unlook : (old new : View) (l : Look) (item : L.Item) (look : LookAt) (since rest : List Line) (text : List ℕ) → IsOwn old l.who item → L.kind item ≡ kind_at look →
-        SinceLine l.who (opened_by look) old.front since rest → Answers L old.ground item since (Ok text) → UnlookGives ending.Asked old new l → Sane old → Sane new
+        SinceLine l.who (opened_by look) old.front since rest → Answers L old.opened item since (Ok text) → UnlookGives ending.Asked old new l → Sane old → Sane new
     pub drop : (old new : View) (who : Who) (item : L.Item) (below : ℕ) → IsOwn old who item → L.kind item ≡ DropBelow below → DropGives who below old new (Ok tt) → Sane old → Sane new
     -- what a commit met stays a limit that the attempt met
     pub limit : (ground : Ground) (who : Who) (item : L.Item) (label : Option (List ℕ)) (why : Refusal) (front more : List Line) → MeetsLimit L ground who front item label why → own who more ≡ [] →

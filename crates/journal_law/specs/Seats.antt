@@ -56,7 +56,7 @@ pub record Told : Type 0 where
 -- what a seat sees; it was told of these faults since its last line
 pub record View : Type 0 where
   pub session : ℕ
-  pub ground : Ground
+  pub opened : Ground
   pub front : List Line
   pub work : Work
   pub told : List Told
@@ -67,7 +67,7 @@ one who what = line who what ∷ []
 -- the front grows by lines of other sessions, and then by these
 pub record Moves (old new : View) (own : List Line) : Type 0 where
   pub session : new.session ≡ old.session
-  pub ground : new.ground ≡ old.ground
+  pub opened : new.opened ≡ old.opened
   pub others : List Line
   pub apart : AreOthers old.session others
   pub front : new.front ≡ (old.front ++ others) ++ own
@@ -90,19 +90,19 @@ lines_before old new moves = old.front ++ moves.others
 
 -- the pages and the snapshots at the place of that line
 abbrev pub place : {own : List Line} → (old new : View) → Moves old new own → World Pages
-place old new moves = page_world old.ground.pages (lines_before old new moves)
+place old new moves = page_world old.opened.pages (lines_before old new moves)
 
 -- the pages at the attempt's Began
 abbrev pub at_began : View → Attempt → Pages
-at_began view attempt = (page_world view.ground.pages attempt.since).current
+at_began view attempt = (page_world view.opened.pages attempt.since).current
 
 -- the snapshots and their pages at the look's line
 abbrev pub at_look : View → Look → World Pages
-at_look view look = page_world view.ground.pages look.since
+at_look view look = page_world view.opened.pages look.since
 
 -- the fault's count is above the device's at the opening
 abbrev pub IsNew : View → Device → ℕ → Type 0
-IsNew view device count = count < 2 ^ 64 - 1 → view.ground.faults device < count
+IsNew view device count = count < 2 ^ 64 - 1 → view.opened.faults device < count
 
 -- ---- begin
 
@@ -146,14 +146,14 @@ pub record AlsoReads (old : List ℕ) (page : ℕ) (new : List ℕ) : Type 0 whe
   pub here : is_among page new ≡ true
   pub before : (other : ℕ) → is_among other old ≡ true → is_among other new ≡ true
 
--- a read gives the page as at the attempt's Began, under its own edits
-abbrev pub ReadGives : ℕ → List ℕ → View → View → Attempt → Result (Unit {0}) Refusal → Type 0
-ReadGives page out old new a (Ok u) =
-    (read : List ℕ) × Waits old new (Open (record a { read = read })) × AlsoReads a.read page read × (out ≡ written (at_began old a) a.edits page)
-ReadGives page out old new a (Err (refusal.Overlap session item)) = Waits old new (Open (record a { kept = Some (refusal.Overlap session item) })) × IsKeptOrWhy new a (refusal.Overlap session item)
-ReadGives page out old new a (Err (refusal.DiskFault device count)) = Waits old new (Open (record a { kept = Some (refusal.DiskFault device count) })) × IsKeptOrWhy new a (refusal.DiskFault device count)
-ReadGives page out old new a (Err (refusal.TooManyPages needed)) = Waits old new (Open a) × (a.kept ≡ Some (refusal.TooManyPages needed))
-ReadGives page out old new a (Err why) = Waits old new (Open a) × (why ≡ refusal.OutOfMemory)
+-- a read gives, where the store's devices are honest, the page as at the attempt's Began, under its own edits
+abbrev pub ReadGives : Type 0 → ℕ → List ℕ → View → View → Attempt → Result (Unit {0}) Refusal → Type 0
+ReadGives honest page out old new a (Ok u) =
+    (read : List ℕ) × Waits old new (Open (record a { read = read })) × AlsoReads a.read page read × (honest → out ≡ written (at_began old a) a.edits page)
+ReadGives honest page out old new a (Err (refusal.Overlap session item)) = Waits old new (Open (record a { kept = Some (refusal.Overlap session item) })) × IsKeptOrWhy new a (refusal.Overlap session item)
+ReadGives honest page out old new a (Err (refusal.DiskFault device count)) = Waits old new (Open (record a { kept = Some (refusal.DiskFault device count) })) × IsKeptOrWhy new a (refusal.DiskFault device count)
+ReadGives honest page out old new a (Err (refusal.TooManyPages needed)) = Waits old new (Open a) × (a.kept ≡ Some (refusal.TooManyPages needed))
+ReadGives honest page out old new a (Err why) = Waits old new (Open a) × (why ≡ refusal.OutOfMemory)
 
 -- edits that write like the old ones and then this one, in rising page
 pub record AlsoEdits (old : List PageImage) (page : ℕ) (bytes : List ℕ) (new : List PageImage) : Type 0 where
@@ -189,7 +189,7 @@ pub record CommitEnds (old new : View) (a : Attempt) (what : What) : Type 0 wher
 -- it is refused by the store's state there, and nothing changes
 pub record CommitWaits (old new : View) (a : Attempt) (label : Option (List ℕ)) (why : Refusal) : Type 0 where
   pub waits : Waits old new (Open a)
-  pub is : IsCommitRefused (base_of new.ground.base new.front) new.front label a.edits why
+  pub is : IsCommitRefused (base_of new.opened.base new.front) new.front label a.edits why
 
 -- A commit writes exactly the edits, and gives the number of the snapshot that it declares; behind a stop it commits nothing. A fault of its own write is a line too, of which the same holds as of Done.
 abbrev pub CommitGives : Option (List ℕ) → View → View → Attempt → Result (Option ℕ) Refusal → Type 0
@@ -233,7 +233,7 @@ RollbackGives why old new a = Adds old new a.who (closing a.kept why) Idle
 abbrev pub LookGives : Who → ℕ → View → View → Result (Unit {0}) Refusal → Type 0
 LookGives who n old new (Ok u) =
     (since : List Line) × Adds old new who (Looked n) (Looking (record { who = who; since = since; snapshot = Some n }))
-    × (new.front ≡ since ++ one who (Looked n)) × ((held : Pages) × (as_of n (page_world old.ground.pages since) ≡ Ok held))
+    × (new.front ≡ since ++ one who (Looked n)) × ((held : Pages) × (as_of n (page_world old.opened.pages since) ≡ Ok held))
 LookGives who n old new (Err (refusal.JournalFull lines images)) = Waits old new old.work × (JOURNAL_LINES - WORKER_LINES < lines)
 LookGives who n old new (Err refusal.OutOfMemory) = Waits old new old.work
 LookGives who n old new (Err why) = (adds : Adds old new who (Refused why) Idle) × (as_of n (place old new adds.moves) ≡ Err why)
@@ -252,7 +252,7 @@ names_in world = map (λ mark. record { number = mark.number; label = mark.label
 abbrev pub LookAllGives : Who → View → View → Result (List MarkOf) Refusal → Type 0
 LookAllGives who old new (Ok marks) =
     (since : List Line) × Adds old new who LookedAll (Looking (record { who = who; since = since; snapshot = None }))
-    × (new.front ≡ since ++ one who LookedAll) × (names_of marks ≡ names_in (page_world old.ground.pages since))
+    × (new.front ≡ since ++ one who LookedAll) × (names_of marks ≡ names_in (page_world old.opened.pages since))
 LookAllGives who old new (Err (refusal.JournalFull lines images)) = Waits old new old.work × (JOURNAL_LINES - WORKER_LINES < lines)
 LookAllGives who old new (Err why) = Waits old new old.work × (why ≡ refusal.OutOfMemory)
 
@@ -260,12 +260,12 @@ LookAllGives who old new (Err why) = Waits old new old.work × (why ≡ refusal.
 abbrev pub Pins : View → Look → ℕ → Type 0
 Pins view look n = ((look.snapshot ≡ Some n) ⊎ (look.snapshot ≡ None)) × ((held : Pages) × (as_of n (at_look view look) ≡ Ok held))
 
--- a page as of a snapshot that the look pins; it may tell of a fault
-abbrev pub PastGives : ℕ → ℕ → List ℕ → View → View → Look → Result (Unit {0}) Refusal → Type 0
-PastGives n page out old new l (Ok u) = Waits old new (Looking l) × ((held : Pages) → as_of n (at_look old l) ≡ Ok held → out ≡ held page)
-PastGives n page out old new l (Err (refusal.DiskFault device count)) =
+-- a page as of a snapshot that the look pins, where the devices are honest; it may tell of a fault
+abbrev pub PastGives : Type 0 → ℕ → ℕ → List ℕ → View → View → Look → Result (Unit {0}) Refusal → Type 0
+PastGives honest n page out old new l (Ok u) = Waits old new (Looking l) × (honest → (held : Pages) → as_of n (at_look old l) ≡ Ok held → out ≡ held page)
+PastGives honest n page out old new l (Err (refusal.DiskFault device count)) =
     Moves old new [] × (new.work ≡ Looking l) × (new.told ≡ record { device = device; count = count } ∷ old.told) × IsNew new device count
-PastGives n page out old new l (Err why) = Waits old new (Looking l) × (why ≡ refusal.OutOfMemory)
+PastGives honest n page out old new l (Err why) = Waits old new (Looking l) × (why ≡ refusal.OutOfMemory)
 
 abbrev pub unlooking : Ending → What
 unlooking ending.Asked = Unlooked
@@ -279,10 +279,10 @@ UnlookGives why old new l = Adds old new l.who (unlooking why) Idle
 
 -- what a drop meets at the place of its line
 abbrev pub MayDropThere : {own : List Line} → (old new : View) → Moves old new own → ℕ → Type 0
-MayDropThere old new moves below = MayDrop (at_drop old.ground.pages (place old new moves) (lines_before old new moves)) below
+MayDropThere old new moves below = MayDrop (at_drop old.opened.pages (place old new moves) (lines_before old new moves)) below
 
 abbrev pub DropRefusedThere : {own : List Line} → (old new : View) → Moves old new own → ℕ → Refusal → Type 0
-DropRefusedThere old new moves below why = DropRefused (at_drop old.ground.pages (place old new moves) (lines_before old new moves)) below why
+DropRefusedThere old new moves below why = DropRefused (at_drop old.opened.pages (place old new moves) (lines_before old new moves)) below why
 
 abbrev pub DropGives : Who → ℕ → View → View → Result (Unit {0}) Refusal → Type 0
 DropGives who below old new (Ok u) = (adds : Adds old new who (Dropped below) Idle) × MayDropThere old new adds.moves below

@@ -1,6 +1,6 @@
 //! The store as one seat sees it.
 
-ghost use Rattle.std.specs.Prelude.{◌≡◌, ◌<◌, true, IfSome, IsTrue};
+ghost use Rattle.std.specs.Prelude.{◌≡◌, ◌<◌, ◌↔◌, true, IfSome, IsTrue};
 ghost use Rattle.std.specs.Option.{option_copied};
 ghost use Rattle.history.specs.Label.{is_label};
 ghost use Rattle.journal_law.specs.Seats.{Attempt, BeginGives, CommitGives, DropGives, EditGives, Idle, Look};
@@ -28,6 +28,9 @@ pub trait Seat {
 
     ghost view: { Self → View };
 
+    // What is read of the store is what it holds.
+    ghost is_honest: { Self → Type 0 };
+
     // What stays over its calls, whatever they answer.
     ghost goes: { Self → Self → Type 0 };
 
@@ -35,9 +38,11 @@ pub trait Seat {
 
     ghost goes_on: { (s t u : Self) → goes s t → goes t u → goes s u };
 
+    ghost honest_stays: { (s t : Self) → goes s t → is_honest s ↔ is_honest t };
+
     /// How many pages the store has.
     fn pages(&self) -> u32
-        ensures { result ≡ (view self.now).ground.base.page_count };
+        ensures { result ≡ (view self.now).opened.base.page_count };
 
     /// Begins an attempt at a transaction.
     fn begin(&mut self, who: Who) -> Result<(), Refusal>
@@ -49,15 +54,15 @@ pub trait Seat {
     /// Reads a page as at the attempt's beginning, with its own edits.
     fn read(&mut self, page: u32, out: &mut Page) -> Result<(), Refusal>
         requires open_now { is_open (view self.old).work ≡ true }
-        requires in_store { page < (view self.old).ground.base.page_count }
+        requires in_store { page < (view self.old).opened.base.page_count }
         ensures gives { (a : Attempt) → (view self.old).work ≡ Open a
-            → ReadGives page out.new (view self.old) (view self.new) a result }
+            → ReadGives (is_honest self.new) page out.new (view self.old) (view self.new) a result }
         ensures goes { goes self.old self.new };
 
     /// Edits a page.
     fn edit(&mut self, page: u32, bytes: &Page) -> Result<(), Refusal>
         requires open_now { is_open (view self.old).work ≡ true }
-        requires in_store { page < (view self.old).ground.base.page_count }
+        requires in_store { page < (view self.old).opened.base.page_count }
         ensures gives { (a : Attempt) → (view self.old).work ≡ Open a
             → EditGives page bytes.now (view self.old) (view self.new) a result }
         ensures goes { goes self.old self.new };
@@ -96,9 +101,9 @@ pub trait Seat {
     fn past(&mut self, snapshot: u32, page: u32, out: &mut Page) -> Result<(), Refusal>
         requires looking_now { is_looking (view self.old).work ≡ true }
         requires pinned { (l : Look) → (view self.old).work ≡ Looking l → Pins (view self.old) l snapshot }
-        requires in_store { page < (view self.old).ground.base.page_count }
+        requires in_store { page < (view self.old).opened.base.page_count }
         ensures gives { (l : Look) → (view self.old).work ≡ Looking l
-            → PastGives snapshot page out.new (view self.old) (view self.new) l result }
+            → PastGives (is_honest self.new) snapshot page out.new (view self.old) (view self.new) l result }
         ensures goes { goes self.old self.new };
 
     /// Ends the look.

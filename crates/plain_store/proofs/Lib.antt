@@ -1,0 +1,12 @@
+pub mod Versions
+pub mod Commits
+pub mod Stored
+pub mod Stores
+pub mod Snapshots
+pub mod Gives
+pub mod Looks
+pub mod Editing
+pub mod Drops
+pub mod Committing
+pub mod Edited
+pub mod Turns

@@ -1,0 +1,8 @@
+pub mod Frames
+pub mod Limits
+pub mod Numbers
+pub mod Page
+pub mod Plain
+pub mod Tests
+pub mod Turns
+pub mod Work

@@ -1,0 +1,5 @@
+pub mod Asked
+pub mod Frames
+pub mod Laws
+pub mod Past
+pub mod Transaction
