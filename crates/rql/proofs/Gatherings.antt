@@ -90,27 +90,29 @@ pub handed_on : {X Y F : Type 0} (view : X → Y) (allows : Result Y Refusal →
 handed_on view allows (Ok x) why h said = absurd h.1
 handed_on {F = F} view allows (Err e) why h said = let P : Stop F → Type 0 = λ s. AllowedStop (λ refusal. allows (Err refusal)) s in subst P (sym h.1) said
 
-module _ {A X Y F : Type 0} (may_ask : A → ℕ → Bool) (told : A → Option Answers) (faults : A → ℕ) (inner outer : Refusal → Type 0) (step : (refusal : Refusal) → inner refusal → outer refusal) (before mid after : A)
-    (same_asks : may_ask mid ≡ may_ask before) (same_told : told mid ≡ told before) (same_faults : faults mid ≡ faults before) where
-  asks_by : (why : Stop F) → OnlyAsks {X = X} may_ask told faults inner mid after (Err why) → OnlyAsks {X = Y} may_ask told faults outer before after (Err why)
+module _ {A X Y F : Type 0} (may_ask : A → ℕ → Bool) (told : A → Answers → Type 0) (goes : A → A → Type 0) (on : (a b c : A) → goes a b → goes b c → goes a c) (faults : A → ℕ) (inner outer : Refusal → Type 0) (step : (refusal : Refusal) → inner refusal → outer refusal) (before mid after : A)
+    (same_asks : may_ask mid ≡ may_ask before) (same_told : (answers : Answers) → told before answers → told mid answers) (same_goes : goes before mid) (same_faults : faults mid ≡ faults before) where
+  asks_by : (why : Stop F) → OnlyAsks {X = X} may_ask told goes faults inner mid after (Err why) → OnlyAsks {X = Y} may_ask told goes faults outer before after (Err why)
   asks_by (stop.Refused refusal) asks = record {
     may_ask_stays = asks.may_ask_stays ∙ same_asks;
-    told_stays = asks.told_stays ∙ same_told;
+    told_stays = λ answers e. asks.told_stays answers (same_told answers e);
+    goes_on = on before mid after same_goes asks.goes_on;
     cause = asks.cause ∙ same_faults;
     named = step refusal asks.named;
   }
   asks_by (stop.Pager fault) asks = record {
     may_ask_stays = asks.may_ask_stays ∙ same_asks;
-    told_stays = asks.told_stays ∙ same_told;
+    told_stays = λ answers e. asks.told_stays answers (same_told answers e);
+    goes_on = on before mid after same_goes asks.goes_on;
     cause = let P : ℕ → Type 0 = λ n. Rose n (faults after) in subst P same_faults asks.cause;
     named = tt;
   }
 
   -- a call that ended early after others that had not
   pub asks_on : (result : Result Y (Stop F)) (why : Stop F) → IsErr result × IsErrAnd result (λ e. e ≡ why)
-      → OnlyAsks {X = X} may_ask told faults inner mid after (Err why) → OnlyAsks {X = Y} may_ask told faults outer before after result
+      → OnlyAsks {X = X} may_ask told goes faults inner mid after (Err why) → OnlyAsks {X = Y} may_ask told goes faults outer before after result
   asks_on (Ok y) why h asks = absurd h.1
-  asks_on (Err e) why h asks = let P : Stop F → Type 0 = λ s. OnlyAsks {X = Y} may_ask told faults outer before after (Err s) in subst P (sym h.1) (asks_by why asks)
+  asks_on (Err e) why h asks = let P : Stop F → Type 0 = λ s. OnlyAsks {X = Y} may_ask told goes faults outer before after (Err s) in subst P (sym h.1) (asks_by why asks)
 
 -- the refusals at one snapshot of a list are those of a call over the list
 pub of_snapshot : (snapshots : List ℕ) (snapshot : ℕ) → Contains snapshots snapshot → (refusal : Refusal) → IsOfSnapshot snapshot refusal → IsOfCall snapshots refusal

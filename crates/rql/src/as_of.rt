@@ -1,6 +1,6 @@
 //! Queries as of snapshots.
 
-ghost use Rattle.std.specs.Prelude.{◌≡◌, ℕ, Bool, IsTrue, Option};
+ghost use Rattle.std.specs.Prelude.{◌≡◌, ℕ, Bool, IsTrue};
 ghost use Rattle.sql_tree.specs.Statement.{IsSelect};
 ghost use Rattle.rql.specs.AsOf.{Answers, IsOfQuery, OnlyAsks, Tells};
 
@@ -16,8 +16,15 @@ pub trait AsOf {
     // The numbers that may be asked.
     ghost may_ask: { Self → ℕ → Bool };
 
-    // What each query gives at each of them, where that is told.
-    ghost told: { Self → Option Answers };
+    // Whether this may be what each query gives at each of them.
+    ghost told: { Self → Answers → Type 0 };
+
+    // What stays over its calls, whatever they answer.
+    ghost goes: { Self → Self → Type 0 };
+
+    ghost stays: { (a : Self) → goes a a };
+
+    ghost goes_on: { (a b c : Self) → goes a b → goes b c → goes a c };
 
     // How many calls have failed. The count stops at the last value of a u64.
     ghost faults: { Self → ℕ };
@@ -28,7 +35,7 @@ pub trait AsOf {
         requires asked { IsTrue (may_ask self.old snapshot) }
         requires query { IsSelect query.now }
         ensures told { Tells (λ answer. answer) (told self.old) query.now (λ answers. answers snapshot) result }
-        ensures only_asks { OnlyAsks may_ask told faults IsOfQuery self.old self.new result };
+        ensures only_asks { OnlyAsks may_ask told goes faults IsOfQuery self.old self.new result };
 
     /// How many calls have failed.
     fn faults(&self) -> u64

@@ -62,7 +62,7 @@ pub fn collate<A: AsOf>(
     requires asked { AllByRecursion (λ snapshot. IsTrue (A.may_ask asof.old snapshot)) snapshots.now }
     requires query { IsSelect query.now }
     ensures told { Tells (λ answer. answer) (A.told asof.old) query.now (λ answers. collate answers snapshots.now) result }
-    ensures only_asks { OnlyAsks A.may_ask A.told A.faults (IsOfCall snapshots.now) asof.old asof.new result }
+    ensures only_asks { OnlyAsks A.may_ask A.told A.goes A.faults (IsOfCall snapshots.now) asof.old asof.new result }
 {
     let (columns, parts) = gather(alloc, asof, snapshots, query, &AllRows)?;
     let rows = join(alloc, parts)?;

@@ -40,7 +40,7 @@ fn take_at<A: AsOf, T: Takes>(
     requires asked { IsTrue (A.may_ask asof.old snapshot) }
     requires query { IsSelect query.now }
     ensures told { Tells (λ part. part) (A.told asof.old) query.now (λ answers. taken (T.take takes.now) answers snapshot) result }
-    ensures only_asks { OnlyAsks A.may_ask A.told A.faults (IsOfSnapshot snapshot) asof.old asof.new result }
+    ensures only_asks { OnlyAsks A.may_ask A.told A.goes A.faults (IsOfSnapshot snapshot) asof.old asof.new result }
 {
     let Answer { columns, rows } = asof.answer(snapshot, query)?;
     let part = takes.take(snapshot, columns.as_slice(), rows)?;
@@ -58,7 +58,7 @@ fn take_later<A: AsOf, T: Takes>(
     requires asked { IsTrue (A.may_ask asof.old snapshot) }
     requires query { IsSelect query.now }
     ensures told { Tells (λ part. part) (A.told asof.old) query.now (λ answers. taken_later (T.take takes.now) answers columns.now snapshot) result }
-    ensures only_asks { OnlyAsks A.may_ask A.told A.faults (IsOfSnapshot snapshot) asof.old asof.new result }
+    ensures only_asks { OnlyAsks A.may_ask A.told A.goes A.faults (IsOfSnapshot snapshot) asof.old asof.new result }
 {
     let (its_columns, part) = take_at(asof, query, takes, snapshot)?;
     if !same_columns(columns.as_slice(), its_columns.as_slice()) {
@@ -80,7 +80,7 @@ pub(crate) fn gather<A: AsOf, T: Takes>(
     requires query { IsSelect query.now }
     ensures told { Tells (λ found. (found.0, found.1.items)) (A.told asof.old) query.now (λ answers. gathered (T.take takes.now) answers snapshots.now) result }
     ensures as_many { IfOk result (λ found. length found.1.items ≡ length snapshots.now) }
-    ensures only_asks { OnlyAsks A.may_ask A.told A.faults (IsOfCall snapshots.now) asof.old asof.new result }
+    ensures only_asks { OnlyAsks A.may_ask A.told A.goes A.faults (IsOfCall snapshots.now) asof.old asof.new result }
 {
     let Some((first, later)) = snapshots.split_first() else {
         return Ok((Seq::new(alloc), Vec::new(alloc)));

@@ -171,7 +171,7 @@ pub fn intervals<A: AsOf>(
     requires asked { AllByRecursion (λ snapshot. IsTrue (A.may_ask asof.old snapshot)) snapshots.now }
     requires query { IsSelect query.now }
     ensures told { Tells (λ answer. answer) (A.told asof.old) query.now (λ answers. intervals answers snapshots.now) result }
-    ensures only_asks { OnlyAsks A.may_ask A.told A.faults (IsOfCall snapshots.now) asof.old asof.new result }
+    ensures only_asks { OnlyAsks A.may_ask A.told A.goes A.faults (IsOfCall snapshots.now) asof.old asof.new result }
 {
     let (columns, sets) = gather(alloc, asof, snapshots, query, &AnswerSet { alloc })?;
     let columns = interval_columns(alloc, snapshots, columns)?;

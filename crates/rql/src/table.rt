@@ -236,7 +236,7 @@ pub fn in_table<A: AsOf, F: Folds>(
     requires asked { AllByRecursion (λ snapshot. IsTrue (A.may_ask asof.old snapshot)) snapshots.now }
     requires query { IsSelect query.now }
     ensures told { Tells (λ answer. answer) (A.told asof.old) query.now (λ answers. in_table pairs.now answers snapshots.now) result }
-    ensures only_asks { OnlyAsks A.may_ask A.told A.faults (IsOfCall snapshots.now) asof.old asof.new result }
+    ensures only_asks { OnlyAsks A.may_ask A.told A.goes A.faults (IsOfCall snapshots.now) asof.old asof.new result }
 {
     let (columns, parts) = gather(alloc, asof, snapshots, query, &PairedRows { pairs })?;
     let functions = functions_of(alloc, pairs, columns.as_slice())?;

@@ -120,7 +120,7 @@ pub fn in_variable<A: AsOf, F: Folds>(
     requires asked { AllByRecursion (λ snapshot. IsTrue (A.may_ask asof.old snapshot)) snapshots.now }
     requires query { IsSelect query.now }
     ensures told { Tells (λ answer. answer) (A.told asof.old) query.now (λ answers. in_variable function answers snapshots.now) result }
-    ensures only_asks { OnlyAsks A.may_ask A.told A.faults (IsOfCall snapshots.now) asof.old asof.new result }
+    ensures only_asks { OnlyAsks A.may_ask A.told A.goes A.faults (IsOfCall snapshots.now) asof.old asof.new result }
 {
     let (columns, values) = gather(alloc, asof, snapshots, query, &OneValue { function })?;
     let kind = kind_of_result(function, columns.as_slice());

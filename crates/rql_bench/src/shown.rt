@@ -22,13 +22,19 @@ impl Shown {
 }
 
 impl AsOf for Shown {
-    ghost use Rattle.std.specs.Prelude.{None, true};
+    ghost use Rattle.std.specs.Prelude.{true};
 
     type Fault = Failed;
 
     ghost may_ask = { λ _ _. true };
 
-    ghost told = { λ _. None };
+    ghost told = { λ _ _. ⊥ };
+
+    ghost goes = { λ _ _. Unit {0} };
+
+    ghost stays = { λ _. tt };
+
+    ghost goes_on = { λ _ _ _ _ _. tt };
 
     ghost faults = { λ _. 0 };
 
