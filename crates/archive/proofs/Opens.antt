@@ -2,7 +2,7 @@
 use Rattle.std.proofs.Common.{◌≡◌, inl, inr, ◌∙◌, ◌+◌, ◌*◌, ◌<◌, ◌≤◌, ◌↔◌, ℕ, List, [], None, is_some, length, refl, sym, ap, subst, arith}
 use Rattle.disk_model.specs.Disk.{IsDurable, State}
 use Rattle.disk_model.specs.Sizes.{maplog_half}
-use Rattle.area_log.specs.Listed.{DeviceStandsFor}
+use Rattle.area_log.specs.Listed.{closed_gate, DeviceStandsFor}
 use Rattle.history.specs.declared.log.Version.{Version}
 use Rattle.records.specs.Maplog.{IsMaplog}
 use Rattle.skippy.specs.Mappings.{end_of, Mappings, push}
@@ -15,6 +15,11 @@ use Rattle.race_model.specs.Vault.{listing}
 use Rattle.archive.specs.Archive.{IsVault, Running}
 use Rattle.archive.proofs.Sides.{shows_self}
 use Rattle.archive.specs.Fetching.{IsOpened, NotAnArchive, TooMany}
+
+-- bytes list these mappings, and their closed gate stands there
+record StandsTo (version : Version) (page_count capacity : ℕ) (bytes : List ℕ) (mappings : Mappings) (gate : ℕ) : Type 0 where
+  pub stands : DeviceStandsFor (maplog_half capacity) (IsMaplog version page_count capacity) bytes mappings
+  pub at : gate ≡ closed_gate stands
 
 -- a log of more mappings than there are slots
 pub too_many : (version : Version) (page_count capacity extent : ℕ) (is_honest : Type 0) (log : MapArea) (mappings : Mappings) (old new : State) (broken : ℕ) → IsFetched version page_count capacity log → (is_honest → FetchedMappings log mappings old new)
@@ -69,9 +74,14 @@ is_opened is_honest state archive version page_count capacity maplog is held few
   slots = slots;
   laid = laid;
   going = going;
-  mappings = λ told.
-      subst (λ v. DeviceStandsFor (maplog_half capacity) (IsMaplog v page_count capacity) (state maplog).seen archive.side.levels) is.in_version
-      (subst (λ p. DeviceStandsFor (maplog_half capacity) (IsMaplog archive.side.log.version p capacity) (state maplog).seen archive.side.levels) is.pages
-      (subst (λ k. DeviceStandsFor (maplog_half k) (IsMaplog archive.side.log.version archive.side.log.page_count k) (state maplog).seen archive.side.levels) is.images (fetched told).lists));
+  mappings = λ told. (there told).stands;
+  closed = λ told. (there told).at;
   vault = is_opened_vault is_honest state archive version page_count capacity (state maplog) is.is is held laid going (λ told. fetched (same.1 told)) (λ told. settled (alike.1 told));
 }
+  where
+    there : is_honest maplog → StandsTo version page_count capacity (state maplog).seen archive.side.levels (archive.side.log.area.log.place + archive.side.log.area.log.gate)
+    there told =
+        subst (λ v. StandsTo v page_count capacity (state maplog).seen archive.side.levels (archive.side.log.area.log.place + archive.side.log.area.log.gate)) is.in_version
+        (subst (λ p. StandsTo archive.side.log.version p capacity (state maplog).seen archive.side.levels (archive.side.log.area.log.place + archive.side.log.area.log.gate)) is.pages
+        (subst (λ k. StandsTo archive.side.log.version archive.side.log.page_count k (state maplog).seen archive.side.levels (archive.side.log.area.log.place + archive.side.log.area.log.gate)) is.images
+        (record { stands = (fetched told).lists; at = (fetched told).closed })))

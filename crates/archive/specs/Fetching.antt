@@ -49,8 +49,8 @@ IsRefusedFetch extent is_honest state faults version page_count capacity pagelog
     × IsReadRefusal (NotAnArchive version page_count capacity (extent maplog) (is_honest maplog) (state maplog).seen)
     Maplog (faults maplog) (faults maplog_after) why)
 
--- An archive that was opened of these sizes: it goes on, all mappings in memory are entered, and no slot is laid beyond
--- them. It is each opened vault of these mappings, and of slots as an honest device has them.
+-- An archive that was opened of these sizes: it goes on, all mappings in memory are entered, no slot is laid beyond
+-- them, and it knows where the closed gate behind their list stands. It is each opened vault of these mappings, and of slots as an honest device has them.
 pub record IsOpened {D : Type 0} (is_honest : D → Type 0)
     (state : D → State) (version : Version) (page_count capacity : ℕ) (maplog : D) (archive : Running D) : Type 0 where
   pub log : IsFetched version page_count capacity archive.side.log
@@ -61,6 +61,8 @@ pub record IsOpened {D : Type 0} (is_honest : D → Type 0)
   pub going : archive.first_fault ≡ None
   pub mappings : is_honest maplog → DeviceStandsFor (maplog_half capacity) (IsMaplog version page_count capacity)
       (state maplog).seen archive.side.levels
+  pub closed : (honest : is_honest maplog) → archive.side.log.area.log.place + archive.side.log.area.log.gate
+      ≡ closed_gate (mappings honest)
   pub vault : (contents : Contents) → contents.mappings ≡ archive.side.levels
       → (is_honest archive.pagelog.disk → (slot : ℕ) → contents.slots slot
       ≡ block_at (state archive.pagelog.disk).seen slot)

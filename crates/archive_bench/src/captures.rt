@@ -26,10 +26,10 @@ fn byte_of(number: u64) -> u8 {
     (number % 251) as u8 + 1
 }
 
-/// Makes it the batch of 64 captures from that one on, before which those below `low` may be forgotten.
-pub fn refill(batch: &mut Batch, first: u64, low: u64) {
+/// Makes it the batch of so many captures from that one on, before which those below `low` may be forgotten.
+pub fn refill(batch: &mut Batch, first: u64, count: u64, low: u64) {
     batch.restart(first, low);
-    for number in first..first.saturating_add(BATCH as u64) {
+    for number in first..first.saturating_add(count) {
         if batch.len() < BATCH {
             batch.add(page_of(number), &Page::of([byte_of(number); PAGE_BYTES]));
         }
@@ -43,6 +43,16 @@ pub fn mappings_of(alloc: Global, from: u64, to: u64) -> Result<Vec<(u64, u32)>,
         mappings.push((number, page_of(number)))?;
     }
     Ok(mappings)
+}
+
+/// Whether these are the pages of the captures from that one on.
+pub fn are_pages_from(pages: &[u32], first: u64) -> bool {
+    for (place, page) in pages.iter().enumerate() {
+        if *page != page_of(first.saturating_add(place as u64)) {
+            return false;
+        }
+    }
+    true
 }
 
 /// For each page the byte of its first of these captures, if it has one.

@@ -1,170 +1,177 @@
-//! What the calls of an archive cost, by the mappings that it keeps; and whether an archive of the most slots keeps and
-//! finds what a plain list does.
-//! With no words an archive of 65,536 slots and one of the most are filled past their ends, opened again and compared
-//! with a list. With a call and the number of slots, as `enter 65536`, an archive is filled to that, and the call made
-//! as often as a third word says, as `enter 65536 4096`.
+//! What the calls of an archive cost, by the mappings that it keeps; and whether archives, one of the most slots among
+//! them, keep and find what a plain list does.
+//! With no words archives are filled past their ends, trimmed, opened again and compared with a list. With a call, the
+//! number of slots and a third word, as `enter 65536 4096`, an archive is filled to that, and the call made so often.
 #![tactic(auto)]
 
 ghost use Rattle.std.specs.Prelude.{◌≡◌};
 
 mod captures;
+mod filled;
 mod slim;
 
-use archive_tests::{Trial, make};
-use captures::{PAGES, mappings_of, refill, wanted};
-use disk_model::Sizes;
-use race_model::{Batch, Fault};
-use retro_base::Refusal;
-use slim::Slim;
+use archive_tests::Trial;
+use captures::wanted;
+use filled::{BATCH, again, empty, fill, find_each, is_as_plain, trim};
+use retro_base::{PAGE_BYTES, Refusal};
+use slim::{Calls, Slim};
 use std::alloc::Global;
 use std::env;
 use std::env::Env;
 use std::marker::Brand;
 use std::process::ExitCode;
-use std::sync::ledger::{Blank, Ledger};
+use std::sync::ledger::Blank;
 
-const BATCH: u64 = 64;
-
-fn sizes(slots: u32) -> Sizes {
-    Sizes {
-        pages: PAGES,
-        capacity: slots,
-    }
+/// The lowest mapping that is kept, the number of captures, and where the list of the Maplog ends; and whether all is
+/// as in a plain list, before and after the archive is opened again.
+#[derive(Drop)]
+struct Kept {
+    low: u64,
+    held: u64,
+    end: u64,
+    filled: bool,
+    opened: bool,
 }
 
-/// An archive of so many slots, without a capture.
-fn empty(alloc: Global, slots: u32) -> Result<Trial<Slim>, Refusal> {
-    let sizes = sizes(slots);
-    let pagelog = Slim::new(alloc, sizes.pagelog_bytes(), 1024)?;
-    let mut maplog = Slim::new(alloc, sizes.maplog_bytes(), 1)?;
-    make(alloc, &mut maplog, sizes)?;
-    Trial::open(alloc, pagelog, maplog, sizes)
-}
-
-/// Lays and enters a batch.
-fn send(trial: &mut Trial<Slim>, batch: &Batch) -> Result<(), Fault> {
-    trial.lay(batch)?;
-    trial.enter(batch)?;
-    Ok(())
-}
-
-/// Sends the captures up to that number, batch by batch. As many are kept as there are slots.
-fn fill(alloc: Global, trial: &mut Trial<Slim>, slots: u32, upto: u64) -> Result<(), Refusal> {
-    let mut batch = Batch::new(alloc)?;
-    for index in trial.held() / BATCH..upto / BATCH {
-        let first = index * BATCH;
-        let low = (first + BATCH).saturating_sub(u64::from(slots));
-        refill(&mut batch, first, low);
-        match send(trial, &batch) {
-            Ok(()) => {}
-            Err(fault) => return Err(fault.why),
-        }
-    }
-    Ok(())
-}
-
-/// Whether the archive keeps exactly the mappings of these captures, and finds each page's first from `from` on.
-fn is_as_plain(alloc: Global, trial: &mut Trial<Slim>, from: u64) -> Result<bool, Refusal> {
-    let (low, held) = (trial.low(), trial.held());
-    let mappings = trial.mappings()?;
-    if mappings.as_slice() != mappings_of(alloc, low, held)?.as_slice() {
-        return Ok(false);
-    }
-    let wanted = wanted(alloc, from, held)?;
-    find_each::<Brand>(Blank::new(1), alloc, trial, from, &wanted)
-}
-
-/// Whether each page's first capture from `from` on has that byte, or there is none.
-fn find_each<L: Ledger>(
-    blank: Blank,
-    alloc: Global,
-    trial: &mut Trial<Slim>,
-    from: u64,
-    wanted: &[(u32, Option<u8>)],
-) -> Result<bool, Refusal>
-    requires name { blank.name ≡ L.name }
-    requires parts { blank.parts ≡ L.parts }
-    requires one_part { blank.parts ≡ 1 }
-{
-    let upto = trial.held();
-    match trial.finds_each::<L>(alloc, blank, from, upto, wanted) {
-        Ok(found) => Ok(found),
-        Err(fault) => Err(fault.why),
-    }
-}
-
-/// The archive of these devices, opened again.
-fn again(alloc: Global, trial: Trial<Slim>, slots: u32) -> Result<Trial<Slim>, Refusal> {
-    let (pagelog, maplog) = trial.into_disks();
-    Trial::open(alloc, pagelog, maplog, sizes(slots))
-}
-
-/// Fills an archive a quarter past its slots, and tells whether it is then as a plain list, and once more when it is
-/// opened again.
-fn compare(alloc: Global, slots: u32) -> Result<(u64, u64, bool, bool), Refusal> {
-    let mut trial = empty(alloc, slots)?;
-    fill(alloc, &mut trial, slots, u64::from(slots) / 4 * 5)?;
-    let (low, held) = (trial.low(), trial.held());
+/// What an archive keeps, and the archive opened again.
+fn reopened(alloc: Global, trial: Trial<Slim>, slots: u32) -> Result<(Kept, Trial<Slim>), Refusal> {
+    let mut trial = trial;
+    let (low, held, end) = (trial.low(), trial.held(), trial.end());
     let filled = is_as_plain(alloc, &mut trial, low.saturating_add(100))?;
-    let mut opened = again(alloc, trial, slots)?;
-    let same = is_as_plain(alloc, &mut opened, low)?;
-    Ok((low, held, filled, same))
+    let mut trial = again(alloc, trial, slots)?;
+    let same = (trial.low(), trial.held(), trial.end()) == (low, held, end);
+    let opened = is_as_plain(alloc, &mut trial, low)? && same;
+    let kept = Kept {
+        low,
+        held,
+        end,
+        filled,
+        opened,
+    };
+    Ok((kept, trial))
 }
 
-fn tell(rt: &(impl Print + AllocGlobal), slots: u32) -> Option<()> {
-    let (low, held, filled, opened) = compare(rt.alloc(), slots).ok()?;
+fn tell_kept(rt: &impl Print, slots: u32, kept: &Kept) -> Option<()> {
+    let Kept {
+        low,
+        held,
+        end,
+        filled,
+        opened,
+    } = kept;
     let told = |same: bool| if same { "the same" } else { "others" };
     println!(rt;
-        "{slots} slots: mappings {low} to {held}, {} as in a plain list, {} opened again",
-        told(filled),
-        told(opened)
+        "{slots} slots: mappings {low} to {held}, listed up to byte {end}, {} as in a plain list, {} opened again",
+        told(*filled),
+        told(*opened)
     )
     .ok()
+}
+
+fn tell_calls(rt: &impl Print, device: &str, calls: Calls) -> Option<()> {
+    let Calls {
+        reads,
+        writes,
+        syncs,
+    } = calls;
+    println!(rt; "  {device}: {reads} reads, {writes} writes, {syncs} syncs").ok()
+}
+
+fn tell_devices(rt: &impl Print, trial: Trial<Slim>) -> Option<()> {
+    let (pagelog, maplog) = trial.into_disks();
+    tell_calls(rt, "Pagelog", pagelog.calls())?;
+    tell_calls(rt, "Maplog", maplog.calls())
+}
+
+/// Fills an archive a quarter past its slots, and then forgets mappings one by one.
+fn tell(rt: &(impl Print + AllocGlobal), slots: u32, forgotten: u64) -> Option<()> {
+    let alloc = rt.alloc();
+    let mut trial = empty(alloc, slots, PAGE_BYTES as u64).ok()?;
+    fill(
+        alloc,
+        &mut trial,
+        slots,
+        u64::from(slots) / BATCH / 4 * 5,
+        BATCH,
+    )
+    .ok()?;
+    let (kept, mut trial) = reopened(alloc, trial, slots).ok()?;
+    tell_kept(rt, slots, &kept)?;
+    trim(&mut trial, forgotten, 1).ok()?;
+    let (kept, trial) = reopened(alloc, trial, slots).ok()?;
+    tell_kept(rt, slots, &kept)?;
+    tell_devices(rt, trial)
+}
+
+/// Fills an archive of 8,192 slots so that its list is written anew, by a capture and then by a trim.
+fn tell_anew(rt: &(impl Print + AllocGlobal)) -> Option<()> {
+    let (alloc, slots) = (rt.alloc(), 8_192);
+    let mut trial = empty(alloc, slots, PAGE_BYTES as u64).ok()?;
+    // Each half has 266,240 bytes. Behind 36 stand 128 runs of 64 pages, of 146 bytes each, and then for each capture a
+    // low mark and a run, 34 together. With the gate behind them they fit behind 7,278 of these, and not behind 7,279.
+    fill(alloc, &mut trial, slots, 128, BATCH).ok()?;
+    fill(alloc, &mut trial, slots, 7_280, 1).ok()?;
+    let (kept, mut trial) = reopened(alloc, trial, slots).ok()?;
+    tell_kept(rt, slots, &kept)?;
+    // Behind 36 stand runs of 4,096, of 4,095 and of one page, of 8,210, 8,208 and 20 bytes, and then 34 for each
+    // capture: two bytes are left behind 7,346 of these, and a low mark does not fit.
+    fill(alloc, &mut trial, slots, 7_346, 1).ok()?;
+    trim(&mut trial, 1, 1).ok()?;
+    let (kept, trial) = reopened(alloc, trial, slots).ok()?;
+    tell_kept(rt, slots, &kept)?;
+    tell_devices(rt, trial)
 }
 
 /// Makes a call so often on an archive of which each slot is taken, and gives how many captures it has then, and the
 /// lowest mapping.
 fn calls(alloc: Global, call: &str, slots: u32, times: u64) -> Result<Option<(u64, u64)>, Refusal> {
-    let mut trial = empty(alloc, slots)?;
-    fill(alloc, &mut trial, slots, u64::from(slots))?;
-    let held = trial.held();
+    // Only to read whole images each byte of them is kept.
+    let grain = if call == "read" { 1 } else { PAGE_BYTES as u64 };
+    let mut trial = empty(alloc, slots, grain)?;
+    fill(alloc, &mut trial, slots, u64::from(slots) / BATCH, BATCH)?;
     match call {
         "open" => trial = again(alloc, trial, slots)?,
-        "enter" => fill(
-            alloc,
-            &mut trial,
-            slots,
-            held.saturating_add(times.saturating_mul(BATCH)),
-        )?,
-        "trim" => trim(&mut trial, times)?,
-        "find" => {
-            let wanted = wanted(alloc, 0, held)?;
-            let count = wanted.len().min(times as usize);
-            if !find_each::<Brand>(Blank::new(1), alloc, &mut trial, 0, &wanted[..count])? {
-                return Ok(None);
-            }
-        }
+        "enter" => fill(alloc, &mut trial, slots, times, BATCH)?,
+        "enter-one" => fill(alloc, &mut trial, slots, times, 1)?,
+        "trim" => trim(&mut trial, times, BATCH)?,
+        "find" => return searched(alloc, trial, times, false),
+        "read" => return searched(alloc, trial, times, true),
         _ => return Ok(None),
     }
     Ok(Some((trial.low(), trial.held())))
 }
 
-/// Forgets 64 mappings so often.
-fn trim(trial: &mut Trial<Slim>, times: u64) -> Result<(), Refusal> {
-    for count in 0..times {
-        if let Err(fault) = trial.trim((count + 1).saturating_mul(BATCH)) {
-            return Err(fault.why);
-        }
+/// Finds the first so many pages, or those of them that have a capture.
+fn searched(
+    alloc: Global,
+    trial: Trial<Slim>,
+    times: u64,
+    captured: bool,
+) -> Result<Option<(u64, u64)>, Refusal> {
+    let mut trial = trial;
+    let held = trial.held();
+    let mut wanted = wanted(alloc, 0, held)?;
+    if captured {
+        wanted.retain(|(_page, byte)| byte.is_some());
     }
-    Ok(())
+    let count = wanted.len().min(times as usize);
+    let found = find_each::<Brand>(
+        Blank::new(1),
+        alloc,
+        &mut trial,
+        (0, held),
+        &wanted[..count],
+    )?;
+    Ok(found.then_some((trial.low(), held)))
 }
 
 /// What the words ask for; nothing where they ask for nothing known, or memory runs out.
 fn run(rt: &(impl Print + AllocGlobal), words: &[String]) -> Option<()> {
     match words {
         [] => {
-            tell(rt, 65_536)?;
-            tell(rt, 1_048_576)
+            tell_anew(rt)?;
+            tell(rt, 65_536, 64)?;
+            tell(rt, 1_048_576, 131_072)
         }
         [call, slots, times] => {
             let (slots, times) = (slots.parse().ok()?, times.parse().ok()?);

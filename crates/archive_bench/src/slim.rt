@@ -6,14 +6,23 @@ use disk_model::{Disk, Failed};
 use retro_base::Refusal;
 use std::alloc::Global;
 
+/// How many calls of each kind there were.
+#[derive(Clone, Copy, Drop)]
+pub struct Calls {
+    pub reads: u64,
+    pub writes: u64,
+    pub syncs: u64,
+}
+
 /// A device in memory of which no call fails, which keeps the first of every so many bytes, and reads them all as that
-/// one: of page images the first byte, so that a million of them take a million bytes; of each byte, that byte. It does
-/// not say that it is honest.
+/// one: of page images the first byte, so that a million of them take a million bytes; of each byte, that byte. It
+/// counts its calls. It does not say that it is honest.
 #[derive(Drop)]
 pub struct Slim {
     bytes: Vec<u8>,
     grain: u64,
     size: u64,
+    calls: Calls,
 }
 
 impl Slim {
@@ -21,7 +30,22 @@ impl Slim {
     pub fn new(alloc: Global, size: u64, grain: u64) -> Result<Slim, Refusal> {
         let kept = size.checked_div(grain).unwrap_or(0);
         let bytes = vec![in alloc; 0; kept as usize]?;
-        Ok(Slim { bytes, grain, size })
+        let calls = Calls {
+            reads: 0,
+            writes: 0,
+            syncs: 0,
+        };
+        Ok(Slim {
+            bytes,
+            grain,
+            size,
+            calls,
+        })
+    }
+
+    /// How often it was called.
+    pub fn calls(&self) -> Calls {
+        self.calls
     }
 
     // Where the bytes that it keeps of so many from that place on begin and end.
@@ -63,18 +87,21 @@ impl Disk for Slim {
     }
 
     fn read_at(&mut self, place: u64, out: &mut [u8]) -> Result<(), Failed> {
+        self.calls.reads = self.calls.reads.saturating_add(1);
         let (start, end) = self.range(place, out.len());
         spread(&self.bytes[start..end], out);
         Ok(())
     }
 
     fn write_at(&mut self, place: u64, bytes: &[u8]) -> Result<(), Failed> {
+        self.calls.writes = self.calls.writes.saturating_add(1);
         let (start, end) = self.range(place, bytes.len());
         gather(bytes, &mut self.bytes[start..end]);
         Ok(())
     }
 
     fn sync(&mut self) -> Result<(), Failed> {
+        self.calls.syncs = self.calls.syncs.saturating_add(1);
         Ok(())
     }
 }

@@ -3,6 +3,7 @@
 
 #[cfg(test)]
 mod faults;
+mod on_mem_disks;
 #[cfg(test)]
 mod openings;
 #[cfg(test)]
@@ -13,4 +14,5 @@ mod support;
 mod tests;
 mod trial;
 
+pub use on_mem_disks::{enter_on, lay_on, trim_on};
 pub use trial::{Trial, make};

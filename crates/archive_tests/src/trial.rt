@@ -11,7 +11,7 @@ use map_log::MapLog;
 use page_table::SnapTable;
 use race_model::{Batch, Fault};
 use retro_base::{BATCH, MAX_CAPACITY, MAX_CAPTURES, MAX_PAGES, Page, Refusal};
-use skippy::Steps;
+use skippy::{Mappings, Steps};
 use std::alloc::Global;
 use std::sync::ledger::{Blank, Ledger};
 
@@ -91,6 +91,11 @@ impl<D: Disk + Drop> Trial<D> {
         self.archive.mappings()
     }
 
+    /// The mappings in memory.
+    pub fn kept(&self) -> Result<Mappings, Refusal> {
+        self.archive.kept()
+    }
+
     // Whether the batch may be laid.
     fn takes(&self, batch: &Batch) -> bool
         ensures { IsTrue result → IsNextBatch self.now.archive.side batch.now }
@@ -157,26 +162,29 @@ impl<D: Disk + Drop> Trial<D> {
         Ok(found.then_some(out))
     }
 
-    /// Whether the image of each of these pages' first capture from `start` on and below `upto` begins with that byte,
-    /// or there is none. One table serves all.
+    /// Whether the image of each of these pages' first capture of a range begins with that byte, or there is none. One
+    /// table serves all, and covers the mappings below `covered` before.
     pub fn finds_each<L: Ledger>(
         &mut self,
         alloc: Global,
         blank: Blank,
-        start: u64,
-        upto: u64,
+        range: (u64, u64),
+        covered: u64,
         wanted: &[(u32, Option<u8>)],
     ) -> Result<bool, Fault>
         requires name { blank.name ≡ L.name }
         requires parts { blank.parts ≡ L.parts }
         requires one_part { blank.parts ≡ 1 }
     {
-        if start < self.archive.low() || upto > self.archive.held() {
+        let ((start, upto), held) = (range, self.archive.held());
+        if start < self.archive.low() || upto > held || covered > held {
             return Err(NOT_ASKED);
         }
         let mut table = SnapTable::new(alloc, start);
         let mut steps = Steps::<L>::new(blank);
         let mut out = Page::zero();
+        self.archive
+            .find(&mut table, 0, covered, &mut out, &mut steps)?;
         for (page, byte) in wanted {
             let found = self
                 .archive

@@ -152,14 +152,15 @@ desk_of honest state log list bytes mappings slots pool base queue read version 
 }
 
 pub fetches : {D : Type 0} (honest : D → Type 0) (state : D → State) (version : Version) (log pages : D) (mappings : Mappings) (list : Log) (r : Result (RunningDesk D) (Unopened D)) → (honest log → DeviceStandsFor LOG_REGION_BYTES (IsLog version) (state log).seen list)
-    → ((slots : ℕ → List ℕ) → IfOk r (λ desk. IsDesk honest state desk (opened_desk (contents_of list (state pages).seen mappings slots)) × DeskFits (opened_desk (contents_of list (state pages).seen mappings slots))))
+    → ((slots : ℕ → List ℕ) → IfOk r (λ desk. IsDesk honest state desk (opened_desk (contents_of list (state pages).seen mappings slots)) × DeskFits (opened_desk (contents_of list (state pages).seen mappings slots))
+    × AreJoined (contents_of list (state pages).seen mappings slots)))
     → IfOk r (λ desk. (page : ℕ) → held desk.pool page ≡ false) → IfOk r (FetchesDesk honest state version log pages mappings)
-fetches honest state version log pages mappings list (Ok desk) lists is free = record { list = list; lists = lists; is = λ slots. (is slots).0; fits = λ slots. (is slots).1; free = free }
+fetches honest state version log pages mappings list (Ok desk) lists is free = record { list = list; lists = lists; joined = λ slots. (is slots).2; is = λ slots. (is slots).0; fits = λ slots. (is slots).1; free = free }
 fetches honest state version log pages mappings list (Err e) lists is free = tt
 
-pub whole_of : {D : Type 0} (honest : D → Type 0) (state : D → State) (r : Result (RunningDesk D) (Unopened D)) (desk : Desk) → IfOk r (λ running. IsDesk honest state running desk × DeskFits desk) → IfOk r (IsWhole honest state)
-whole_of honest state (Ok running) desk is = record { desk = desk; is = is.0; fits = is.1 }
-whole_of honest state (Err e) desk is = tt
+pub whole_of : {D : Type 0} (honest : D → Type 0) (state : D → State) (r : Result (RunningDesk D) (Unopened D)) (desk : Desk) (Joined : Type 0) → IfOk r (λ running. IsDesk honest state running desk × DeskFits desk × Joined) → IfOk r (IsWhole honest state)
+whole_of honest state (Ok running) desk Joined is = record { desk = desk; is = is.0; fits = is.1 }
+whole_of honest state (Err e) desk Joined is = tt
 
 -- ---- refusals
 

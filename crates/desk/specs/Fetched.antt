@@ -62,10 +62,11 @@ pub record IsMemoryOf {D : Type 0} (is_honest : D → Type 0) (state : D → Sta
   pub bytes : is_honest pool.file.disk → queue.images ≡ pending_of (opened_desk contents)
   pub free : (page : ℕ) → held pool page ≡ false
 
--- The log's device lists a log, and the running desk is the one that the devices open to beside the mappings, whatever the slots have.
+-- The log's device lists a log, to which the mappings belong, and the running desk is the one that the devices open to beside them, whatever the slots have.
 pub record FetchesDesk {D : Type 0} (is_honest : D → Type 0) (state : D → State) (version : Version) (log pages : D) (mappings : Mappings) (running : RunningDesk D) : Type 0 where
   pub list : Log
   pub lists : is_honest log → DeviceStandsFor LOG_REGION_BYTES (IsLog version) (state log).seen list
+  pub joined : (slots : ℕ → List ℕ) → AreJoined (contents_of list (state pages).seen mappings slots)
   pub is : (slots : ℕ → List ℕ) → IsDesk is_honest state running (opened_desk (contents_of list (state pages).seen mappings slots))
   pub fits : (slots : ℕ → List ℕ) → DeskFits (opened_desk (contents_of list (state pages).seen mappings slots))
   pub free : (page : ℕ) → held running.pool page ≡ false

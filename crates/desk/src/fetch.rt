@@ -16,6 +16,7 @@ ghost use Rattle.page_pool.specs.Side.{held, HoldsSame, IsPageSide};
 ghost use Rattle.race_model.specs.Fits.{DeskFits};
 ghost use Rattle.race_model.specs.Reopened.{opened_desk};
 ghost use Rattle.redo_log.specs.Side.{IsLogSide};
+ghost use Rattle.replay.specs.Joined.{AreJoined};
 ghost use Rattle.desk.specs.Desk.{IsDesk, IsWhole};
 ghost use Rattle.desk.specs.Fetched.{ArePagesUnread, contents_of, FetchesDesk, IsLogUnread, IsMemoryOf, IsPagesRefusal, IsReadable, IsRedone, IsSizeRefusal, ReadsBytes};
 
@@ -299,7 +300,8 @@ fn open<D: Disk + Drop>(
     ensures desk { (bytes : List ℕ) (slots : ℕ → List ℕ)
         → IsPageSide D.is_honest D.state pool (block_at bytes) (block_at bytes) (λ _. false) (λ _. false)
         → IfOk result (λ desk. IsDesk D.is_honest D.state desk (opened_desk (contents_of list bytes mappings.now slots))
-        × DeskFits (opened_desk (contents_of list bytes mappings.now slots))) }
+        × DeskFits (opened_desk (contents_of list bytes mappings.now slots))
+        × AreJoined (contents_of list bytes mappings.now slots)) }
     ensures quiet { D.is_honest pool.file.disk → MatchResult result
         (λ desk. OnlyReads D.remembers D.state D.clock pool.file.disk desk.pool.file.disk)
         (λ e. OnlyReads D.remembers D.state D.clock pool.file.disk e.pages) }

@@ -70,6 +70,13 @@ impl Book {
         self.images
     }
 
+    /// How many lines are kept for faults of the workers.
+    pub fn workers(&self) -> usize
+        ensures { result ≡ self.now.workers }
+    {
+        self.workers
+    }
+
     /// The first fault that a write or a sync met, where a line tells one.
     pub fn stop(&self) -> Option<Stop>
         ensures { result ≡ first_stop self.now.lines }

@@ -42,6 +42,7 @@ pub fetches : {D : Type 0} (honest : D → Type 0) (state : D → State) (versio
 fetches honest state version log pages mappings desk ledger count fetched goes same empty works = record {
   list = fetched.list;
   lists = fetched.lists;
+  joined = fetched.joined;
   is = λ slots. subst (λ (l : Ledger). IsCore honest state (opened (contents_of fetched.list (state pages).seen mappings slots)) (record { desk = desk; ledger = l }) (opened_desk (contents_of fetched.list (state pages).seen mappings slots))) (sym empty)
       (core_opened honest state desk (opened_desk (contents_of fetched.list (state pages).seen mappings slots)) count (fetched.is slots) (fetched.fits slots) fetched.free goes same (subst WorksFit empty works));
 }

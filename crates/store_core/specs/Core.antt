@@ -15,6 +15,7 @@ use Rattle.history.specs.Sound.{IsSound}
 use Rattle.page_pool.specs.Side.{Pool, held}
 use Rattle.race_model.specs.Desk.{Desk}
 use Rattle.records.specs.Log.{IsLog}
+use Rattle.replay.specs.Joined.{AreJoined}
 use Rattle.replay.specs.Opened.{opened}
 use Rattle.skippy.specs.Mappings.{Mappings}
 use Rattle.race_model.specs.Fits.{DeskFits}
@@ -66,10 +67,11 @@ pub record IsWholeCore {D : Type 0} (is_honest : D → Type 0) (state : D → St
 abbrev pub StaysCore : {D : Type 0} → (D → Type 0) → (D → State) → Core D → Core D → Type 0
 StaysCore is_honest state old new = (opening : History) (plain : Desk) → IsCore is_honest state opening old plain → IsCore is_honest state opening new plain
 
--- The log's device lists a log, and the core is the one that the devices open to beside the mappings, whatever the slots have.
+-- The log's device lists a log, to which the mappings belong, and the core is the one that the devices open to beside them, whatever the slots have.
 pub record FetchesCore {D : Type 0} (is_honest : D → Type 0) (state : D → State) (version : Version) (log pages : D) (mappings : Mappings) (core : Core D) : Type 0 where
   pub list : Log
   pub lists : is_honest log → DeviceStandsFor LOG_REGION_BYTES (IsLog version) (state log).seen list
+  pub joined : (slots : ℕ → List ℕ) → AreJoined (contents_of list (state pages).seen mappings slots)
   pub is : (slots : ℕ → List ℕ) → IsCore is_honest state (opened (contents_of list (state pages).seen mappings slots)) core (opened_desk (contents_of list (state pages).seen mappings slots))
 
 -- the bytes of a log's device list a log with these sizes

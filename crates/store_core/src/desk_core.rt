@@ -29,6 +29,13 @@ impl<D: Disk + Drop> Core<D> {
         self.ledger.book.stop().is_some()
     }
 
+    /// The journal, and what each session has open.
+    pub fn ledger(&self) -> &Ledger
+        ensures { result.now ≡ self.now.ledger }
+    {
+        &self.ledger
+    }
+
     /// How many pages the store has, and how many page images its archive holds.
     pub fn sizes(&self) -> Sizes
         ensures { result ≡ record { pages = self.now.desk.base.page_count; capacity = self.now.desk.base.capacity } }

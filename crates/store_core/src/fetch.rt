@@ -1,6 +1,6 @@
 //! The core that its devices open to.
 
-ghost use Rattle.std.specs.Prelude.{◌≡◌, ◌≤◌, ◌*◌, ◌⊎◌, ◌↔◌, IfOk, MatchResult};
+ghost use Rattle.std.specs.Prelude.{◌≡◌, ◌≤◌, ◌*◌, ◌⊎◌, ◌↔◌, IfOk, MatchResult, OnOk};
 ghost use Rattle.disk_model.specs.Runs.{SameDevice, WritesNothing};
 ghost use Rattle.retro_base.specs.declared.device.Device.TheVariants.{Log};
 ghost use Rattle.retro_base.specs.declared.limits.TheConstants.{LOG_REGION_BYTES, MAX_CAPACITY, MAX_PAGES, MIN_CAPACITY, PAGE_BYTES};
@@ -78,6 +78,7 @@ pub fn sizes<D: Disk>(alloc: Global, version: Version, log: &mut D) -> Result<Si
     ensures cause { MatchResult result (λ _. D.faults log.new ≡ D.faults log.old)
         (IsReadRefusal (IsRefused LOG_REGION_BYTES (IsLog version) (D.is_honest log.old)
         (D.extent log.old) (D.state log.old).seen) Log (D.faults log.old) (D.faults log.new)) }
+    ensures size { OnOk result (D.extent log.old ≡ 2 * LOG_REGION_BYTES) }
     ensures right { IfOk result (λ sizes. (sizes.pages ≤ MAX_PAGES) × (MIN_CAPACITY ≤ sizes.capacity)
         × (sizes.capacity ≤ MAX_CAPACITY)) }
     ensures listed { D.is_honest log.old → IfOk result (AreSizesOf version (D.state log.old).seen) }

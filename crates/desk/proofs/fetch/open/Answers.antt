@@ -11,6 +11,7 @@ returns-in-Ok-clause-desk g c = λ bytes slots side.
     let m = c.in-Ok.ensures.memory bytes slots side in (
       desk_of g.D.Disk.is_honest g.D.Disk.state c.args.log c.args.list bytes c.args.mappings.now slots c.joined.new.pool c.in-Ok.base c.in-Ok.queue c.requires.read c.requires.version c.requires.side m,
       of_store c.args.list bytes c.args.mappings.now slots c.requires.read m.joined,
+      m.joined,
     )
 
 pub returns-in-Err-clause-cause : goal.returns-in-Err-clause-cause

@@ -46,4 +46,4 @@ returns-in-Ok-settled_pool-clause-quiet_pages g c = λ told.
     (c.open.ensures.quiet (c.in-Ok-settled_pool.ensures.honest.0 told))
 
 pub returns-in-Ok-settled_pool-clause-whole : goal.returns-in-Ok-settled_pool-clause-whole
-returns-in-Ok-settled_pool-clause-whole g c = whole_of g.D.Disk.is_honest g.D.Disk.state c.open.result _ (c.open.ensures.desk (g.D.Disk.state c.args.pages).seen (λ slot. []) c.in-Ok-settled_pool.ensures.side)
+returns-in-Ok-settled_pool-clause-whole g c = whole_of g.D.Disk.is_honest g.D.Disk.state c.open.result _ _ (c.open.ensures.desk (g.D.Disk.state c.args.pages).seen (λ slot. []) c.in-Ok-settled_pool.ensures.side)
