@@ -17,7 +17,7 @@ use Rattle.gate_log.specs.Cause.{IsReadRefusal}
 use Rattle.area_log.specs.Listed.{DeviceStandsFor, IsRefused}
 use Rattle.history.specs.Replayed.{page_in}
 use Rattle.history.specs.declared.log.Log as declared
-use Rattle.history.specs.declared.log.Version.TheVariants.{One}
+use Rattle.history.specs.declared.log.Version.{Version}
 use Rattle.records.specs.Log.{IsLog}
 use Rattle.records.specs.Maplog.{IsMaplog}
 use Rattle.replay.specs.Joined.{AreJoined}
@@ -43,16 +43,16 @@ module _ {D : Type 0} (extent : D → ℕ) (is_honest : D → Type 0) (remembers
   pub read_only : (old new : D) → SameDevice extent is_honest old new → (is_honest old → OnlyReads remembers state clock old new) → Unwritten extent is_honest remembers state clock old new
   read_only old new same quiet = record { same = same; quiet = λ h. reads_write_nothing remembers state clock old new (quiet h) }
 
-module _ {D : Type 0} (extent faults : D → ℕ) (is_honest : D → Type 0) (state : D → State) (disks : Four D) where
+module _ {D : Type 0} (extent faults : D → ℕ) (is_honest : D → Type 0) (state : D → State) (version : Version) (disks : Four D) where
   abbrev Breaks : Device → ℕ → Type 0
-  Breaks device broken = SizesTell (of_each extent disks) device broken × (AreHonest is_honest disks → DevicesBreak (seen_of state disks) device broken)
+  Breaks device broken = SizesTell (of_each extent disks) device broken × (AreHonest is_honest disks → DevicesBreak version (seen_of state disks) device broken)
 
   -- the log was read, and the devices of pages have the sizes that it says
   pub record LogRead (log : declared.Log) : Type 0 where
     pub log_size : extent disks.log ≡ log_bytes
     pub pages : extent disks.pages ≡ pages_bytes log.base.page_count
     pub pagelog : extent disks.pagelog ≡ pagelog_bytes log.base.capacity
-    pub stands : is_honest disks.log → DeviceStandsFor LOG_REGION_BYTES (IsLog One) (state disks.log).seen log
+    pub stands : is_honest disks.log → DeviceStandsFor LOG_REGION_BYTES (IsLog version) (state disks.log).seen log
     pub whole : (d : D) → is_honest d → length (state d).seen ≡ extent d
 
   are_sized : (log : declared.Log) → LogRead log → AreHonest is_honest disks → AreSized (seen_of state disks) log
@@ -75,7 +75,7 @@ module _ {D : Type 0} (extent faults : D → ℕ) (is_honest : D → Type 0) (st
 
     -- the Maplog was refused
     pub maplog_unopened : (log : declared.Log) → LogRead log → (e : Refusal)
-        → IsReadRefusal (IsRefused (maplog_half log.base.capacity) (IsMaplog One log.base.page_count log.base.capacity) (is_honest disks.maplog) (extent disks.maplog) (state disks.maplog).seen) Maplog (faults disks.maplog) (faults new.maplog) e
+        → IsReadRefusal (IsRefused (maplog_half log.base.capacity) (IsMaplog version log.base.page_count log.base.capacity) (is_honest disks.maplog) (extent disks.maplog) (state disks.maplog).seen) Maplog (faults disks.maplog) (faults new.maplog) e
         → IsUnopened Breaks (of_each faults disks) (of_each faults new) e
     maplog_unopened log read refusals.OutOfMemory is = same_counts is
     maplog_unopened log read (refusals.NotAStore which broken) is = (
@@ -90,7 +90,7 @@ module _ {D : Type 0} (extent faults : D → ℕ) (is_honest : D → Type 0) (st
     maplog_unopened log read _ is = absurd is
 
     module _ (maplog_count : faults new.maplog ≡ faults disks.maplog) (log : declared.Log) (read : LogRead log) (maplog_size : extent disks.maplog ≡ maplog_bytes log.base.capacity) (mappings : Mappings) (end : ℕ)
-        (maps : is_honest disks.maplog → StandsWithGate (maplog_half log.base.capacity) (IsMaplog One log.base.page_count log.base.capacity) (state disks.maplog).seen mappings end) (pages slots : List (List ℕ))
+        (maps : is_honest disks.maplog → StandsWithGate (maplog_half log.base.capacity) (IsMaplog version log.base.page_count log.base.capacity) (state disks.maplog).seen mappings end) (pages slots : List (List ℕ))
         (same : is_honest disks.pages → (k : ℕ) → page_in pages k ≡ page_at (state disks.pages).seen k) (alike : is_honest disks.pagelog → (k : ℕ) → page_in slots k ≡ page_at (state disks.pagelog).seen k) where
       -- contents that do not open
       pub joined_told : (r : Result Opened Refusal) → IfErr r (IsApart (contents_of log pages mappings slots) end) → MatchResult r (λ _. SameCounts (of_each faults disks) (of_each faults new)) (IsUnopened Breaks (of_each faults disks) (of_each faults new))
@@ -111,7 +111,7 @@ module _ {D : Type 0} (extent faults : D → ℕ) (is_honest : D → Type 0) (st
       joined_told (Err _) is = absurd is
 
       -- contents that open
-      pub joined_opens : (r : Result Opened Refusal) → IfOk r (Opens (contents_of log pages mappings slots)) → OnOk r (AreJoined (contents_of log pages mappings slots)) → AreHonest is_honest disks → IfOk r (DevicesOpen (seen_of state disks))
+      pub joined_opens : (r : Result Opened Refusal) → IfOk r (Opens (contents_of log pages mappings slots)) → OnOk r (AreJoined (contents_of log pages mappings slots)) → AreHonest is_honest disks → IfOk r (DevicesOpen version (seen_of state disks))
       joined_opens (Ok store) opens joined h = record {
         contents = contents_of log pages mappings slots;
         hold = record { log = read.stands h.log; sized = are_sized log read h; pages = fun_ext (same h.pages); slots = fun_ext (alike h.pagelog); maplog = (maps h.maplog).device };

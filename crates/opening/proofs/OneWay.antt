@@ -10,7 +10,7 @@ use Rattle.area_log.specs.Regions.{Counts, DeviceLists}
 use Rattle.area_log.proofs.Unique.{counts_once, device_one_way}
 use Rattle.skippy.specs.Mappings.{Mappings}
 use Rattle.history.specs.declared.log.Log as declared
-use Rattle.history.specs.declared.log.Version.TheVariants.{One}
+use Rattle.history.specs.declared.log.Version.{Version}
 use Rattle.gate_log.specs.Bodies.{BreaksBehind}
 use Rattle.replay.specs.Joined.{AreJoined}
 use Rattle.records.specs.Laws.{IsReadOneWay}
@@ -65,16 +65,16 @@ one_gate half more bytes same bodies others this that =
 
 -- ---- the four devices
 
-module _ (devices : Four (List ℕ)) where
-  same_log : (log other : declared.Log) → LogStandsFor devices log → LogStandsFor devices other → log ≡ other
-  same_log = one_value LOG_REGION_BYTES (IsLog One) (log_one_way One) devices.log
+module _ (version : Version) (devices : Four (List ℕ)) where
+  same_log : (log other : declared.Log) → LogStandsFor version devices log → LogStandsFor version devices other → log ≡ other
+  same_log = one_value LOG_REGION_BYTES (IsLog version) (log_one_way version) devices.log
 
   abbrev MaplogStandsFor : declared.Log → Mappings → Type 0
-  MaplogStandsFor log mappings = DeviceStandsFor (maplog_half log.base.capacity) (IsMaplog One log.base.page_count log.base.capacity) devices.maplog mappings
+  MaplogStandsFor log mappings = DeviceStandsFor (maplog_half log.base.capacity) (IsMaplog version log.base.page_count log.base.capacity) devices.maplog mappings
 
   same_maplog : (log other : declared.Log) (mappings more : Mappings) → log ≡ other → MaplogStandsFor log mappings → MaplogStandsFor other more → mappings ≡ more
   same_maplog log other mappings more same this that =
-      one_value (maplog_half other.base.capacity) (IsMaplog One other.base.page_count other.base.capacity) (maplog_one_way One other.base.page_count other.base.capacity) devices.maplog mappings more
+      one_value (maplog_half other.base.capacity) (IsMaplog version other.base.page_count other.base.capacity) (maplog_one_way version other.base.page_count other.base.capacity) devices.maplog mappings more
       (subst (λ (l : declared.Log). MaplogStandsFor l mappings) same this) that
 
   contents_are : (log other : declared.Log) (pages more slots others : ℕ → List ℕ) (mappings maps : Mappings) → log ≡ other → pages ≡ more → mappings ≡ maps → slots ≡ others
@@ -85,33 +85,33 @@ module _ (devices : Four (List ℕ)) where
       ∙ ap (λ (m : Mappings). let one : Contents = record { log = other; pages = more; mappings = m; slots = slots } in one) c
       ∙ ap (λ (s : ℕ → List ℕ). let one : Contents = record { log = other; pages = more; mappings = maps; slots = s } in one) d
 
-  one_store : (contents other : Contents) → Hold devices contents → Hold devices other → contents ≡ other
+  one_store : (contents other : Contents) → Hold version devices contents → Hold version devices other → contents ≡ other
   one_store contents other this that =
       let log = same_log contents.log other.log this.log that.log in
       contents_are contents.log other.log contents.pages other.pages contents.slots other.slots contents.mappings other.mappings log (this.pages ∙ sym that.pages)
       (same_maplog contents.log other.log contents.mappings other.mappings log this.maplog that.maplog) (this.slots ∙ sym that.slots)
 
   -- the log's device is refused for no log
-  log_stands : (log : declared.Log) (broken : ℕ) → LogStandsFor devices log → DevicesBreak devices Log broken → ⊥
-  log_stands = not_refused LOG_REGION_BYTES (IsLog One) (log_one_way One) devices.log
+  log_stands : (log : declared.Log) (broken : ℕ) → LogStandsFor version devices log → DevicesBreak version devices Log broken → ⊥
+  log_stands = not_refused LOG_REGION_BYTES (IsLog version) (log_one_way version) devices.log
 
-  pages_whole : (log : declared.Log) (broken : ℕ) → LogStandsFor devices log → AreSized devices log → PagesRefused devices broken → ⊥
+  pages_whole : (log : declared.Log) (broken : ℕ) → LogStandsFor version devices log → AreSized devices log → PagesRefused version devices broken → ⊥
   pages_whole log broken stands sized refused =
       let same = same_log log refused.log stands refused.stands in
       refused.size.other (subst (AreSized devices) same sized).pages
 
-  pagelog_whole : (log : declared.Log) (broken : ℕ) → LogStandsFor devices log → AreSized devices log → PagelogRefused devices broken → ⊥
+  pagelog_whole : (log : declared.Log) (broken : ℕ) → LogStandsFor version devices log → AreSized devices log → PagelogRefused version devices broken → ⊥
   pagelog_whole log broken stands sized refused =
       let same = same_log log refused.log stands refused.stands in
       refused.size.other (subst (AreSized devices) same sized).pagelog
 
-  maplog_stands : (log : declared.Log) (mappings : Mappings) (broken : ℕ) → LogStandsFor devices log → MaplogStandsFor log mappings → MaplogRefused devices broken → ⊥
+  maplog_stands : (log : declared.Log) (mappings : Mappings) (broken : ℕ) → LogStandsFor version devices log → MaplogStandsFor log mappings → MaplogRefused version devices broken → ⊥
   maplog_stands log mappings broken stands maps refused =
       let same = same_log log refused.log stands refused.stands in
-      not_refused (maplog_half refused.log.base.capacity) (IsMaplog One refused.log.base.page_count refused.log.base.capacity) (maplog_one_way One refused.log.base.page_count refused.log.base.capacity) devices.maplog mappings broken
+      not_refused (maplog_half refused.log.base.capacity) (IsMaplog version refused.log.base.page_count refused.log.base.capacity) (maplog_one_way version refused.log.base.page_count refused.log.base.capacity) devices.maplog mappings broken
       (subst (λ (l : declared.Log). MaplogStandsFor l mappings) same maps) refused.refused
 
-  joined_not_refused : (contents : Contents) (device : Device) (broken : ℕ) → Hold devices contents → AreJoined contents → DevicesBreak devices device broken → ⊥
+  joined_not_refused : (contents : Contents) (device : Device) (broken : ℕ) → Hold version devices contents → AreJoined contents → DevicesBreak version devices device broken → ⊥
   joined_not_refused contents Log broken hold joined breaks = log_stands contents.log broken hold.log breaks
   joined_not_refused contents Pages broken hold joined breaks = pages_whole contents.log broken hold.log hold.sized breaks
   joined_not_refused contents Pagelog broken hold joined breaks = pagelog_whole contents.log broken hold.log hold.sized breaks
@@ -120,7 +120,7 @@ module _ (devices : Four (List ℕ)) where
   joined_not_refused contents Cabinet broken hold joined breaks = breaks
 
   -- what the devices before the one that breaks hold
-  log_of : (device : Device) (broken : ℕ) → (device ≡ Log → ⊥) → DevicesBreak devices device broken → (log : declared.Log) × LogStandsFor devices log
+  log_of : (device : Device) (broken : ℕ) → (device ≡ Log → ⊥) → DevicesBreak version devices device broken → (log : declared.Log) × LogStandsFor version devices log
   log_of Log broken other breaks = absurd (other refl)
   log_of Pages broken other breaks = (breaks.log, breaks.stands)
   log_of Pagelog broken other breaks = (breaks.log, breaks.stands)
@@ -128,25 +128,25 @@ module _ (devices : Four (List ℕ)) where
   log_of Maplog broken other (inr breaks) = (breaks.contents.log, breaks.hold.log)
   log_of Cabinet broken other breaks = absurd breaks
 
-  sized_at_maplog : (broken : ℕ) → DevicesBreak devices Maplog broken → (log : declared.Log) × LogStandsFor devices log × AreSized devices log
+  sized_at_maplog : (broken : ℕ) → DevicesBreak version devices Maplog broken → (log : declared.Log) × LogStandsFor version devices log × AreSized devices log
   sized_at_maplog broken (inl breaks) = (breaks.log, breaks.stands, breaks.sized)
   sized_at_maplog broken (inr breaks) = (breaks.contents.log, breaks.hold.log, breaks.hold.sized)
 
-  pages_and_pagelog : (broken place : ℕ) → PagesRefused devices broken → PagelogRefused devices place → ⊥
+  pages_and_pagelog : (broken place : ℕ) → PagesRefused version devices broken → PagelogRefused version devices place → ⊥
   pages_and_pagelog broken place this that =
       let same = same_log this.log that.log this.stands that.stands in
       this.size.other (subst (λ (l : declared.Log). length devices.pages ≡ 1024 * l.base.page_count) (sym same) that.pages)
 
-  pages_and_maplog : (broken place : ℕ) → PagesRefused devices broken → DevicesBreak devices Maplog place → ⊥
+  pages_and_maplog : (broken place : ℕ) → PagesRefused version devices broken → DevicesBreak version devices Maplog place → ⊥
   pages_and_maplog broken place this that = let at = sized_at_maplog place that in pages_whole at.0 broken at.1 at.2 this
 
-  pagelog_and_maplog : (broken place : ℕ) → PagelogRefused devices broken → DevicesBreak devices Maplog place → ⊥
+  pagelog_and_maplog : (broken place : ℕ) → PagelogRefused version devices broken → DevicesBreak version devices Maplog place → ⊥
   pagelog_and_maplog broken place this that = let at = sized_at_maplog place that in pagelog_whole at.0 broken at.1 at.2 this
 
-  log_and_other : (device : Device) (broken place : ℕ) → (device ≡ Log → ⊥) → DevicesBreak devices Log broken → DevicesBreak devices device place → ⊥
+  log_and_other : (device : Device) (broken place : ℕ) → (device ≡ Log → ⊥) → DevicesBreak version devices Log broken → DevicesBreak version devices device place → ⊥
   log_and_other device broken place other this that = let at = log_of device place other that in log_stands at.0 broken at.1 this
 
-  one_device : (device other : Device) (broken place : ℕ) → DevicesBreak devices device broken → DevicesBreak devices other place → device ≡ other
+  one_device : (device other : Device) (broken place : ℕ) → DevicesBreak version devices device broken → DevicesBreak version devices other place → device ≡ other
   one_device Log Log broken place this that = refl
   one_device Log Pages broken place this that = absurd (log_and_other Pages broken place (λ e. absurd cc) this that)
   one_device Log Pagelog broken place this that = absurd (log_and_other Pagelog broken place (λ e. absurd cc) this that)
@@ -169,11 +169,11 @@ module _ (devices : Four (List ℕ)) where
   one_device Pagelog Cabinet broken place this that = absurd that
   one_device Maplog Cabinet broken place this that = absurd that
 
-  maplog_once : (broken place : ℕ) → DevicesBreak devices Maplog broken → DevicesBreak devices Maplog place → broken ≡ place
+  maplog_once : (broken place : ℕ) → DevicesBreak version devices Maplog broken → DevicesBreak version devices Maplog place → broken ≡ place
   maplog_once broken place (inl this) (inl that) =
       let same = same_log this.log that.log this.stands that.stands in
-      refused_once (maplog_half that.log.base.capacity) (IsMaplog One that.log.base.page_count that.log.base.capacity) (maplog_one_way One that.log.base.page_count that.log.base.capacity) devices.maplog broken place
-      (subst (λ (l : declared.Log). DeviceRefused (maplog_half l.base.capacity) (IsMaplog One l.base.page_count l.base.capacity) devices.maplog broken) same this.refused) that.refused
+      refused_once (maplog_half that.log.base.capacity) (IsMaplog version that.log.base.page_count that.log.base.capacity) (maplog_one_way version that.log.base.page_count that.log.base.capacity) devices.maplog broken place
+      (subst (λ (l : declared.Log). DeviceRefused (maplog_half l.base.capacity) (IsMaplog version l.base.page_count l.base.capacity) devices.maplog broken) same this.refused) that.refused
   maplog_once broken place (inl this) (inr that) = absurd (maplog_stands that.contents.log that.contents.mappings broken that.hold.log that.hold.maplog this)
   maplog_once broken place (inr this) (inl that) = absurd (maplog_stands this.contents.log this.contents.mappings place this.hold.log this.hold.maplog that)
   maplog_once broken place (inr this) (inr that) =
@@ -182,8 +182,8 @@ module _ (devices : Four (List ℕ)) where
       (ap (λ (l : declared.Log). maplog_half l.base.capacity) (same_log this.contents.log that.contents.log this.hold.log that.hold.log)) this.hold.maplog.bodies that.hold.maplog.bodies this.hold.maplog.lists that.hold.maplog.lists
       ∙ sym that.told
 
-  once : (device : Device) (broken place : ℕ) → DevicesBreak devices device broken → DevicesBreak devices device place → broken ≡ place
-  once Log broken place this that = refused_once LOG_REGION_BYTES (IsLog One) (log_one_way One) devices.log broken place this that
+  once : (device : Device) (broken place : ℕ) → DevicesBreak version devices device broken → DevicesBreak version devices device place → broken ≡ place
+  once Log broken place this that = refused_once LOG_REGION_BYTES (IsLog version) (log_one_way version) devices.log broken place this that
   once Pages broken place this that = this.size.told ∙ sym that.size.told
   once Pagelog broken place this that = this.size.told ∙ sym that.size.told
   once Maplog broken place this that = maplog_once broken place this that

@@ -1,6 +1,6 @@
 -- What an opening says of one device, and of the four.
 use Rattle.std.specs.Prelude.{◌≡◌, ◌≢◌, ℕ, List}
-use Rattle.disk_model.specs.Disk.{State}
+use Rattle.disk_model.specs.Disk.{IsImage, State}
 use Rattle.disk_model.specs.Moments.{Clock}
 use Rattle.disk_model.specs.Runs.{SameDevice, WritesNothing}
 use Rattle.disk_model.specs.Sizes.{log_bytes, maplog_bytes, pagelog_bytes, pages_bytes}
@@ -46,6 +46,13 @@ seen_of state disks = record {
   pagelog = (state disks.pagelog).seen;
   maplog = (state disks.maplog).seen;
 }
+
+-- a crash may leave these bytes of the four
+pub record AreImages {D : Type 0} (state : D → State) (disks : Four D) (devices : Four (List ℕ)) : Type 0 where
+  pub log : IsImage (state disks.log) devices.log
+  pub pages : IsImage (state disks.pages) devices.pages
+  pub pagelog : IsImage (state disks.pagelog) devices.pagelog
+  pub maplog : IsImage (state disks.maplog) devices.maplog
 
 -- a number of each of the four, as of a device by its name
 abbrev pub of_each : {D : Type 0} → (D → ℕ) → Four D → Device → ℕ

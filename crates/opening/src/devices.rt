@@ -10,7 +10,6 @@ ghost use Rattle.gate_log.specs.Cause.{IsReadRefusal};
 ghost use Rattle.area_log.specs.Listed.{DeviceStandsFor, IsRefused};
 ghost use Rattle.history.specs.Replayed.{page_in};
 ghost use Rattle.history.specs.Right.{AreRight, IsBase};
-ghost use Rattle.history.specs.declared.log.Version.TheVariants.{One};
 ghost use Rattle.records.specs.Log.{IsLog};
 ghost use Rattle.records.specs.Maplog.{IsMaplog};
 ghost use Rattle.opening.specs.Devices.{StandsWithGate};
@@ -25,29 +24,30 @@ use retro_base::{Device, LOG_REGION_BYTES, PAGE_BYTES, Page, Refusal};
 use skippy::Mappings;
 use std::alloc::Global;
 
-/// What the log lists. Its device is read, and synced before that.
-pub fn log_of<D: Disk>(alloc: Global, disk: &mut D) -> Result<Log, Refusal>
+/// What the log lists, in records of that version. Its device is read, and synced before that.
+pub fn log_of<D: Disk>(alloc: Global, version: Version, disk: &mut D) -> Result<Log, Refusal>
     ensures same { SameDevice D.extent D.is_honest disk.old disk.new }
     ensures cause { MatchResult result
         (λ _. D.faults disk.new ≡ D.faults disk.old)
-        (IsReadRefusal (IsRefused LOG_REGION_BYTES (IsLog One) (D.is_honest disk.old) (D.extent disk.old)
+        (IsReadRefusal (IsRefused LOG_REGION_BYTES (IsLog version) (D.is_honest disk.old) (D.extent disk.old)
         (D.state disk.old).seen) kinds.Log (D.faults disk.old) (D.faults disk.new)) }
     ensures size { OnOk result (D.extent disk.old ≡ log_bytes) }
     ensures right { IfOk result (λ log. IsBase log.base × AreRight log.base log.changes) }
     ensures stands { D.is_honest disk.old
-        → IfOk result (DeviceStandsFor LOG_REGION_BYTES (IsLog One) (D.state disk.old).seen) }
+        → IfOk result (DeviceStandsFor LOG_REGION_BYTES (IsLog version) (D.state disk.old).seen) }
     ensures quiet { D.is_honest disk.old → WritesNothing D.remembers D.state D.clock disk.old disk.new }
 {
     let (area, bodies) = listed(alloc, disk, Device::Log, LOG_REGION_BYTES)?;
-    match read_log(alloc, Version::One, &bodies) {
+    match read_log(alloc, version, &bodies) {
         Ok(log) => Ok(log),
         Err(error) => Err(area.refusal_of(&bodies, error)),
     }
 }
 
-/// The mappings, and where the closed gate behind their list stands. Their device is read, and synced before that.
+/// The mappings, in records of that version, and where the closed gate behind their list stands. Their device is read, and synced before that.
 pub fn mappings_of<D: Disk>(
     alloc: Global,
+    version: Version,
     disk: &mut D,
     sizes: Sizes,
 ) -> Result<(Mappings, u64), Refusal>
@@ -55,16 +55,16 @@ pub fn mappings_of<D: Disk>(
     ensures same { SameDevice D.extent D.is_honest disk.old disk.new }
     ensures cause { MatchResult result
         (λ _. D.faults disk.new ≡ D.faults disk.old)
-        (IsReadRefusal (IsRefused (maplog_half sizes.capacity) (IsMaplog One sizes.pages sizes.capacity)
+        (IsReadRefusal (IsRefused (maplog_half sizes.capacity) (IsMaplog version sizes.pages sizes.capacity)
         (D.is_honest disk.old) (D.extent disk.old) (D.state disk.old).seen)
         kinds.Maplog (D.faults disk.old) (D.faults disk.new)) }
     ensures size { OnOk result (D.extent disk.old ≡ maplog_bytes sizes.capacity) }
     ensures stands { D.is_honest disk.old → IfOk result (λ p. StandsWithGate (maplog_half sizes.capacity)
-        (IsMaplog One sizes.pages sizes.capacity) (D.state disk.old).seen p.0 p.1) }
+        (IsMaplog version sizes.pages sizes.capacity) (D.state disk.old).seen p.0 p.1) }
     ensures quiet { D.is_honest disk.old → WritesNothing D.remembers D.state D.clock disk.old disk.new }
 {
     let (area, bodies) = listed(alloc, disk, Device::Maplog, sizes.maplog_half())?;
-    match read_maplog(alloc, Version::One, sizes.pages, sizes.capacity, &bodies) {
+    match read_maplog(alloc, version, sizes.pages, sizes.capacity, &bodies) {
         Ok(mappings) => Ok((mappings, area.end())),
         Err(error) => Err(area.refusal_of(&bodies, error)),
     }

@@ -11,7 +11,7 @@ ghost use Rattle.opening.specs.Opening.{DevicesBreak, DevicesOpen, IsApart};
 
 use crate::devices::{log_of, mappings_of, pages_of};
 use disk_model::{Disk, Four, Sizes};
-use history::Log;
+use history::{Log, Version};
 use replay::{Opened, join};
 use retro_base::{Device, Page, Refusal};
 use skippy::Mappings;
@@ -53,22 +53,26 @@ fn joined(
     }
 }
 
-/// The store that four devices open to. Refused for want of memory, where a call of a device fails, and exactly where
+/// The store that four devices open to, their logs in records of that version. Refused for want of memory, where a call of a device fails, and exactly where
 /// their bytes are those of no store, with the first device that breaks and the place where it does. The log is looked
 /// at first: its size, its headers, its framing, and its records in turn; then the sizes of the pages and of the page
 /// images; then the Maplog as the log was; then pages and page images are read; and last whether the Maplog belongs to
 /// the log. Nothing is written; log and Maplog are synced before they are read.
-pub fn open_devices<D: Disk>(alloc: Global, disks: &mut Four<D>) -> Result<Opened, Refusal>
+pub fn open_devices<D: Disk>(
+    alloc: Global,
+    version: Version,
+    disks: &mut Four<D>,
+) -> Result<Opened, Refusal>
     ensures unwritten { AreUnwritten D.extent D.is_honest D.remembers D.state D.clock disks.old disks.new }
     ensures cause { MatchResult result
         (λ _. SameCounts (of_each D.faults disks.old) (of_each D.faults disks.new))
         (IsUnopened (λ device broken. SizesTell (of_each D.extent disks.old) device broken
-        × (AreHonest D.is_honest disks.old → DevicesBreak (seen_of D.state disks.old) device broken))
+        × (AreHonest D.is_honest disks.old → DevicesBreak version (seen_of D.state disks.old) device broken))
         (of_each D.faults disks.old) (of_each D.faults disks.new)) }
     ensures sizes { OnOk result (HaveSizes (of_each D.extent disks.old)) }
-    ensures opens { AreHonest D.is_honest disks.old → IfOk result (DevicesOpen (seen_of D.state disks.old)) }
+    ensures opens { AreHonest D.is_honest disks.old → IfOk result (DevicesOpen version (seen_of D.state disks.old)) }
 {
-    let log = log_of(alloc, &mut disks.log)?;
+    let log = log_of(alloc, version, &mut disks.log)?;
     let (page_count, capacity) = (log.base.page_count, log.base.capacity);
     let sizes = Sizes {
         pages: page_count,
@@ -76,7 +80,7 @@ pub fn open_devices<D: Disk>(alloc: Global, disks: &mut Four<D>) -> Result<Opene
     };
     sized(Device::Pages, disks.pages.size(), sizes.pages_bytes())?;
     sized(Device::Pagelog, disks.pagelog.size(), sizes.pagelog_bytes())?;
-    let (mappings, end) = mappings_of(alloc, &mut disks.maplog, sizes)?;
+    let (mappings, end) = mappings_of(alloc, version, &mut disks.maplog, sizes)?;
     let pages = pages_of(alloc, &mut disks.pages, Device::Pages, page_count)?;
     let slots = pages_of(alloc, &mut disks.pagelog, Device::Pagelog, capacity)?;
     joined(alloc, log, pages, &mappings, &slots, end)

@@ -3,6 +3,7 @@
 use crate::{begin, made, put};
 use disk_mem::{Call, MemDisk, RamDisk};
 use disk_model::{Disk, Four};
+use history::Version;
 use opening::open_devices;
 use replay::Opened;
 use retro_base::{Device, PAGE_BYTES, Page, Refusal};
@@ -11,7 +12,7 @@ use std::test::Fail;
 
 // How many pages and captures the store on the devices has.
 fn open<D: Disk>(alloc: Global, disks: &mut Four<D>) -> Result<(usize, usize), Refusal> {
-    let store = open_devices(alloc, disks)?;
+    let store = open_devices(alloc, Version::One, disks)?;
     Ok((store.pages.len(), store.captures.len()))
 }
 
@@ -298,7 +299,7 @@ struct Told {
 }
 
 fn opens_to<D: Disk>(alloc: Global, disks: &mut Four<D>) -> Result<Told, Refusal> {
-    let store = open_devices(alloc, disks)?;
+    let store = open_devices(alloc, Version::One, disks)?;
     Ok(Told {
         counts: (store.pages.len(), store.captures.len(), store.held),
         pages: [
