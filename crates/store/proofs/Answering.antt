@@ -1,19 +1,15 @@
 -- Reads, edits, commits and rollbacks may be made in a visit to the desk.
-use Rattle.std.proofs.Common.{◌≡◌, ◌≤◌, ◌<◌, ◌+◌, ◌⊎◌, ◌∙◌, ◌++◌, ◌||◌, ◌&&◌, ℕ, Bool, true, false, cond, List, [], ◌∷◌, Option, Some, None, Result, Ok, Err, refl, sym, ap, subst, inl, inr, ⊎_elim, arith}
+use Rattle.std.proofs.Common.{◌≡◌, ◌≤◌, ◌<◌, ◌⊎◌, ◌∙◌, ℕ, Bool, true, false, cond, List, Option, Some, None, Result, Ok, Err, refl, sym, ap, subst, inl, inr, ⊎_elim, arith}
 use Rattle.block_file.specs.Blocks.{File, SameFile}
-use Rattle.std.specs.Prelude.{◌↔◌, IfErr, IfOk, OnOk, OnErr, MatchResult, is_some, option_map}
+use Rattle.std.specs.Prelude.{◌↔◌, IfErr, OnOk, MatchResult, option_map}
 use Rattle.std.specs.Option.{option_or}
 use Rattle.disk_model.specs.Disk.{State}
-use Rattle.disk_model.specs.Moments.{Clock}
 use Rattle.retro_base.specs.declared.device.Device.{Device}
-use Rattle.retro_base.specs.declared.device.Device.TheVariants.{Log, Pages}
+use Rattle.retro_base.specs.declared.device.Device.TheVariants.{Pages}
 use Rattle.retro_base.specs.declared.refusal.Refusal.{Refusal}
 use Rattle.retro_base.specs.declared.refusal.Refusal.TheVariants.{DiskFault}
 use Rattle.retro_base.specs.declared.refusal.Refusal.TheVariants as refusals
 use Rattle.retro_base.specs.declared.who.Who.{Who}
-use Rattle.gate_log.specs.Cause.{IsDiskFault}
-use Rattle.history.specs.declared.journal.What.{What}
-use Rattle.history.specs.declared.journal.What.TheVariants as whats
 use Rattle.history.specs.Lines.{changed_since}
 use Rattle.journal_book.specs.declared.work.Transaction.{Transaction}
 use Rattle.journal_book.specs.declared.work.Work.{Work}
@@ -29,19 +25,19 @@ use Rattle.txn_set.specs.Refused.{edit_refused, overlap, read_refused, too_many,
 use Rattle.store_core.specs.declared.desk_core.Core.{Core}
 use Rattle.store_core.specs.Calls.{HasAnswered}
 use Rattle.store_core.specs.Core.{StaysCore}
-use Rattle.turn.specs.declared.view.Holding.{Holding}
 use Rattle.turn.specs.Faults.{LAST, desk_faults, fault_times}
 use Rattle.store.specs.declared.desk_side.DeskSide.{DeskSide}
 use Rattle.retro_base.specs.Cause.{FaultsAlone}
 use Rattle.store_core.specs.declared.copying.Peeked.{Peeked}
 use Rattle.store.specs.Calls.{EditDoes, PeekDoes, ReadDoes, RollbackDoes}
-use Rattle.store.specs.Seats.{CountFits, EndingIsTold, HasOwn, IsGlance, IsVisit, KeptIsTold, always, slots_of}
+use Rattle.store.specs.Seats.{CountFits, EndingIsTold, IsGlance, IsVisit, always, journal, slots_of}
 use Rattle.store.specs.Sides.{DeskStands}
 use Rattle.store.specs.Start.{AreAsHonest, desk_counts}
 use Rattle.store.proofs.Adding.{adds_closed, adds_open, slot_own}
 use Rattle.store.proofs.Calling.{IsClosed, closes, counts_up, fault_is, told_more, visit}
 use Rattle.store.proofs.Leaving.{IsToldIn, may_leave_quiet, stands_stays}
-use Rattle.store.proofs.Telling.{Behind, Told, keeps_open, told_pages}
+use Rattle.store.proofs.Telling.{Told, keeps_open, told_pages}
+use Rattle.store.proofs.Trying.{closing_ends, kept_who, same_attempt}
 
 -- ---- refusals that tell no fault
 
@@ -107,9 +103,9 @@ module _ {D : Type 0} (is_honest : D → Type 0) (state : D → State) (faults :
   peek_up before now (Err _) e = absurd e
 
   pub peeks : (page snapshot : ℕ) (before after : List ℕ) (result : Result Peeked Refusal) → PeekDoes is_honest state faults page snapshot before after result old.core new.core → IsGlance is_honest state faults old new
-  peeks page snapshot before after result does = λ most mine le.
+  peeks page snapshot before after result does = λ most mine keeps le.
       may_leave_quiet is_honest state old new start faults most mine
-      (stands_stays is_honest state old new start does.stays (record { log = same_log is_honest old.core new.core does.rest; pages = does.same.honest }) stands)
+      (stands_stays is_honest state old new start does.stays (record { log = same_log is_honest old.core new.core does.rest; pages = does.same.honest }) stands) keeps
       (counts_up faults old.core new.core (let e = ap (λ (r : RunningDesk D). faults r.log.disk) does.rest in omega (arith, e)) (peek_up _ _ result does.cause)) does.ledger
       (subst (λ (k : ℕ). k ≤ most) (sym (ap (λ (r : RunningDesk D). r.queue.first) does.rest)) le)
 
@@ -122,22 +118,22 @@ module _ {D : Type 0} (is_honest : D → Type 0) (state : D → State) (faults :
   pages_up (Some why) result same cause = let e = ap (λ (r : RunningDesk D). faults r.pool.file.disk) (same why refl) in omega (arith, e)
 
   answers : (t next : Transaction) (refused : Option Refusal) (result : Result (Unit {0}) Refusal) → new.core.desk ≡ record old.core.desk { pool = new.core.desk.pool } → StaysCore is_honest state old.core new.core → SameFile is_honest old.core.desk.pool.file new.core.desk.pool.file
-      → HasAnswered who t next refused old.core.ledger new.core.ledger result → work_at (slots_of old) who.session ≡ Some (Open t) → next.kept ≡ t.kept → CountFits result
+      → HasAnswered who t next refused old.core.ledger new.core.ledger result → work_at (slots_of old) who.session ≡ Some (Open t) → next.kept ≡ t.kept → next.who ≡ t.who → CountFits result
       → ((why : Refusal) → refused ≡ Some why → (result ≡ Err why) × (new.core.desk ≡ old.core.desk)) → ((d : Device) (c : ℕ) → refused ≡ Some (DiskFault d c) → t.kept ≡ Some (DiskFault d c))
       → (refused ≡ None → MatchResult result (λ _. faults new.core.desk.pool.file.disk ≡ faults old.core.desk.pool.file.disk) (IsMemoryOrFault Pages (faults old.core.desk.pool.file.disk) (faults new.core.desk.pool.file.disk)))
       → IsVisit is_honest state faults who always old new
-  answers t next refused result rest stays file answered there same few is tells cause = go result refl where
+  answers t next refused result rest stays file answered there same who_is few is tells cause = go result refl where
     honest : AreAsHonest is_honest old.core new.core
     honest = record { log = same_log is_honest old.core new.core rest; pages = file.honest }
 
     log_up : faults old.core.desk.log.disk ≤ faults new.core.desk.log.disk
     log_up = let e = ap (λ (r : RunningDesk D). faults r.log.disk) rest in omega (arith, e)
 
-    made : (u : Transaction) → new.core.ledger ≡ with_open who u old.core.ledger → ((d : Device) (c : ℕ) → u.kept ≡ Some (DiskFault d c) → (t.kept ≡ Some (DiskFault d c)) ⊎ (0 < fault_times d c (Told is_honest state faults who always old new)))
+    made : (u : Transaction) → u.who ≡ t.who → new.core.ledger ≡ with_open who u old.core.ledger → ((d : Device) (c : ℕ) → u.kept ≡ Some (DiskFault d c) → (t.kept ≡ Some (DiskFault d c)) ⊎ (0 < fault_times d c (Told is_honest state faults who always old new)))
         → IsVisit is_honest state faults who always old new
-    made u e from_ = visit is_honest state faults who always old new start (stands_stays is_honest state old new start stays honest stands)
+    made u of e from_ = visit is_honest state faults who always old new start (stands_stays is_honest state old new start stays honest stands)
         (counts_up faults old.core new.core log_up (pages_up refused result (λ why e. (is why e).1) cause)) (ap (λ (r : RunningDesk D). r.queue.first) rest)
-        (λ mine own. adds_open who (IsToldIn _) old.core.ledger new.core.ledger u e)
+        (λ mine own. adds_open who (IsToldIn _) old.core.ledger new.core.ledger u (λ tried. same_attempt (journal old) who.session (work_at (slots_of old) who.session) t u there of (tried.works who.session)) e)
         (λ mine own. keeps_open is_honest state faults who always old new mine own t u there (ap (λ (l : Ledger). work_at l.works.slots who.session) e ∙ slot_own (slots_of old) who.session _) (ap (λ (l : Ledger). l.book.lines) e) from_)
 
     -- a refusal that tells a fault
@@ -149,19 +145,19 @@ module _ {D : Type 0} (is_honest : D → Type 0) (state : D → State) (faults :
       pick (Some because) e = inl (tells d c (e ∙ ap Some (cc ((is because e).0, r, w))))
 
     go : (r : Result (Unit {0}) Refusal) → result ≡ r → IsVisit is_honest state faults who always old new
-    go (Ok x) e = made next (subst (λ z. OnOk z ((refused ≡ None) × (new.core.ledger ≡ with_open who next old.core.ledger))) e answered.allowed).1 (λ d c k. inl (sym same ∙ k))
-    go (Err why) e = made (kept_behind why t) (subst (λ z. IfErr z (λ w. new.core.ledger ≡ with_open who (kept_behind w t) old.core.ledger)) e answered.kept)
+    go (Ok x) e = made next who_is (subst (λ z. OnOk z ((refused ≡ None) × (new.core.ledger ≡ with_open who next old.core.ledger))) e answered.allowed).1 (λ d c k. inl (sym same ∙ k))
+    go (Err why) e = made (kept_behind why t) (kept_who why t) (subst (λ z. IfErr z (λ w. new.core.ledger ≡ with_open who (kept_behind w t) old.core.ledger)) e answered.kept)
         (λ d c k. ⊎_elim (λ before. inl before) (λ w. new_fault why d c e w) (kept_from why t d c k))
 
   pub reads : (page : ℕ) (before after : List ℕ) (t : Transaction) (result : Result (Unit {0}) Refusal) → work_at (slots_of old) who.session ≡ Some (Open t) → CountFits result → ReadDoes is_honest state faults who page before after t result old.core new.core
       → IsVisit is_honest state faults who always old new
   reads page before after t result there few does =
-      answers t (reading page t) (read_refused old.core.ledger.book.lines t page) result does.rest does.stays does.same does.answered there refl few (λ why e. let r = does.refused why e in (r.0, r.1)) (read_tells old.core.ledger.book.lines t page) does.cause
+      answers t (reading page t) (read_refused old.core.ledger.book.lines t page) result does.rest does.stays does.same does.answered there refl refl few (λ why e. let r = does.refused why e in (r.0, r.1)) (read_tells old.core.ledger.book.lines t page) does.cause
 
   pub edits : (page : ℕ) (bytes : List ℕ) (t : Transaction) (result : Result (Unit {0}) Refusal) → work_at (slots_of old) who.session ≡ Some (Open t) → CountFits result → EditDoes is_honest state faults who page bytes t result old.core new.core
       → IsVisit is_honest state faults who always old new
   edits page bytes t result there few does =
-      answers t (editing (record { page = page; bytes = bytes }) t) (edit_refused old.core.ledger.book.lines old.core.ledger.works.slots t page) result does.rest does.stays does.same does.answered there refl few does.refused
+      answers t (editing (record { page = page; bytes = bytes }) t) (edit_refused old.core.ledger.book.lines old.core.ledger.works.slots t page) result does.rest does.stays does.same does.answered there refl refl few does.refused
       (edit_tells old.core.ledger.book.lines old.core.ledger.works.slots t page) does.cause
 
   -- the line that closes a transaction tells what its seat was told
@@ -177,5 +173,5 @@ module _ {D : Type 0} (is_honest : D → Type 0) (state : D → State) (faults :
   rolls_back why t there does = visit is_honest state faults who (EndingIsTold why) old new start (stands_stays is_honest state old new start does.stays (record { log = same_log is_honest old.core new.core does.rest; pages = same_pages is_honest old.core new.core does.file }) stands)
       (counts_up faults old.core new.core (let e = ap (λ (r : RunningDesk D). faults r.log.disk) does.rest in omega (arith, e)) (let e = ap (λ f. faults f.disk) does.file in omega (arith, e))) (ap (λ (r : RunningDesk D). r.queue.first) does.rest)
       (λ mine own. adds_closed who (IsToldIn _) old.core.ledger new.core.ledger (closing t.kept why)
-      (λ d c p. told_more mine.faults _ d c (closing_told t.kept why mine.faults (λ e n k. own.kept t e n (own.work ∙ there) k) own.told d c p)) does.closed)
+      (λ d c p. told_more mine.faults _ d c (closing_told t.kept why mine.faults (λ e n k. own.kept t e n (own.work ∙ there) k) own.told d c p)) (λ tried. closing_ends (journal old) who t.kept why) does.closed)
       (closes is_honest state faults who old new start stands (EndingIsTold why) (subst IsClosed (sym (ap (λ (l : Ledger). work_at l.works.slots who.session) does.closed ∙ slot_own (slots_of old) who.session None)) tt))

@@ -1,47 +1,42 @@
 -- Each call of the core may be made in a visit to the desk.
-use Rattle.std.proofs.Common.{◌≡◌, ◌≤◌, ◌<◌, ◌+◌, ◌⊎◌, ◌∙◌, ◌++◌, ◌||◌, ◌&&◌, ℕ, Bool, true, false, cond, eqb, ltb, List, [], ◌∷◌, length, map, Option, Some, None, Result, Ok, Err, refl, sym, ap, subst, inl, inr, ⊎_elim, arith}
+use Rattle.std.proofs.Common.{◌≡◌, ◌≤◌, ◌<◌, ◌∙◌, ◌++◌, ℕ, Bool, true, false, cond, eqb, List, map, Option, Some, None, Result, Ok, Err, refl, sym, ap, subst, ⊎_elim, arith}
 use Rattle.std.proofs.lemmas.Bool.{eqb-true}
-use Rattle.std.specs.Prelude.{IfErr, OnOk, OnErr, MatchResult, is_some, option_map}
-use Rattle.std.specs.Option.{option_or}
 use Rattle.disk_model.specs.Disk.{State}
-use Rattle.disk_model.specs.Moments.{Clock}
-use Rattle.retro_base.specs.Cause.{IsFault, Rose}
 use Rattle.retro_base.specs.declared.device.Device.{Device}
 use Rattle.retro_base.specs.declared.device.Device.TheVariants.{Log, Pages, Pagelog, Maplog, Cabinet}
 use Rattle.retro_base.specs.declared.refusal.Refusal.{Refusal}
-use Rattle.retro_base.specs.declared.refusal.Refusal.TheVariants.{DiskFault}
 use Rattle.retro_base.specs.declared.who.Who.{Who}
 use Rattle.history.specs.declared.entry.Mark.{Mark}
 use Rattle.history.specs.declared.journal.What.{What}
 use Rattle.history.specs.declared.journal.What.TheVariants as whats
 use Rattle.history.specs.Lines.{same_device}
 use Rattle.history.specs.Marks.{newest, oldest}
-use Rattle.journal_book.specs.declared.work.Look.{Look}
 use Rattle.journal_book.specs.declared.work.Transaction.{Transaction}
 use Rattle.journal_book.specs.declared.work.Work.{Work}
-use Rattle.journal_book.specs.declared.work.Work.TheVariants.{Open, Looking, KeptDrop}
+use Rattle.journal_book.specs.declared.work.Work.TheVariants.{Open}
 use Rattle.journal_book.specs.Book.{lines_refused}
-use Rattle.journal_book.specs.Works.{keeping_refusal, with_work, work_at}
+use Rattle.journal_book.specs.Works.{work_at}
 use Rattle.desk.specs.declared.desk.RunningDesk.{RunningDesk}
 use Rattle.txn_set.specs.declared.ending.Ending.{Ending}
 use Rattle.txn_set.specs.declared.ending.Ending.TheVariants as ending
 use Rattle.txn_set.specs.declared.ledger.Ledger.{Ledger}
-use Rattle.txn_set.specs.Ledger.{closed, closing, ended, fresh, given_up, is_idle, is_kept, kept_behind, looking, opened, told, with_open}
-use Rattle.txn_set.specs.Refused.{look_refused, overlap}
+use Rattle.txn_set.specs.Ledger.{closed, ended, fresh, given_up, is_idle, looking, told}
+use Rattle.txn_set.specs.Refused.{look_refused}
 use Rattle.txn_set.proofs.FitSteps.{idle_none}
 use Rattle.store_core.specs.declared.desk_core.Core.{Core}
-use Rattle.store_core.specs.Calls.{HasAnswered, HasLooked, HasOpened}
+use Rattle.store_core.specs.Calls.{HasLooked, HasOpened}
 use Rattle.turn.specs.declared.view.Holding.{Holding}
-use Rattle.turn.specs.Faults.{LAST, fault_times, line_fault, one_fault}
+use Rattle.turn.specs.Faults.{fault_times, line_fault, one_fault}
 use Rattle.turn.proofs.Faults.{times_append}
 use Rattle.store.specs.declared.desk_side.DeskSide.{DeskSide}
-use Rattle.store.specs.Calls.{BeginDoes, LookAllDoes, LookDoes, RollbackDoes, UnlookDoes}
+use Rattle.store.specs.Calls.{BeginDoes, LookAllDoes, LookDoes, UnlookDoes}
 use Rattle.store.specs.Seats.{EndingIsTold, HasOwn, IsVisit, KeptIsTold, always, journal, slots_of}
 use Rattle.store.specs.Sides.{DeskStands}
 use Rattle.store.specs.Start.{desk_counts}
-use Rattle.store.proofs.Adding.{AddsOwn, adds_closed, adds_given, adds_open, adds_opened, adds_told, given_lines, slot_own}
+use Rattle.store.proofs.Adding.{AddsOwn, adds_closed, adds_given, adds_opened, adds_told, slot_own}
 use Rattle.store.proofs.Leaving.{IsToldIn, as_honest, may_leave, stands_stays}
-use Rattle.store.proofs.Telling.{Behind, Told, keeps_none, keeps_open, open_is}
+use Rattle.store.proofs.Telling.{Behind, Told, keeps_none, open_is}
+use Rattle.store.proofs.Trying.{ended_ends, trying_began}
 
 module _ {D : Type 0} (faults : D → ℕ) (old new : Core D) where
   pub counts_up : faults old.desk.log.disk ≤ faults new.desk.log.disk → faults old.desk.pool.file.disk ≤ faults new.desk.pool.file.disk → (d : Device) → desk_counts faults old d ≤ desk_counts faults new d
@@ -61,7 +56,7 @@ module _ {D : Type 0} (is_honest : D → Type 0) (state : D → State) (faults :
       → ((mine : Holding Work) → HasOwn who tells old mine → KeptIsTold (Behind is_honest state faults who tells old new mine).work (Behind is_honest state faults who tells old new mine).faults)
       → IsVisit is_honest state faults who tells old new
   visit stands counts acked adds keeps = record {
-    leaves = λ most mine own le. may_leave is_honest state old new start faults who tells most mine stands counts acked (adds mine own) own le;
+    leaves = λ most mine own later le. may_leave is_honest state old new start faults who tells most mine stands counts acked (adds mine own) own later le;
     keeps = keeps;
   }
 
@@ -119,7 +114,7 @@ module _ {D : Type 0} (is_honest : D → Type 0) (state : D → State) (faults :
 
     at : (r : Result (Unit {0}) Refusal) → HasOpened who whats.Began work old.core.ledger new.core.ledger r → IsVisit is_honest state faults who always old new
     at (Ok x) opens = visit is_honest state faults who always old new start stays (counts_same faults old.core new.core does.desk) acked
-        (λ mine own. adds_opened who (IsToldIn _) old.core.ledger new.core.ledger whats.Began work (tells_none _ whats.Began (λ d c. refl)) opens.done)
+        (λ mine own. adds_opened who (IsToldIn _) old.core.ledger new.core.ledger whats.Began work (tells_none _ whats.Began (λ d c. refl)) tt (refl, trying_began who (journal old)) opens.done)
         (λ mine own. keeps_none is_honest state faults who always old new mine own
         (λ t e. ap (λ (x : Transaction). x.kept) (sym (open_is _ t (sym (ap (λ (l : Ledger). work_at l.works.slots who.session) opens.done ∙ slot_own (given_up who old.core.ledger).works.slots who.session (Some work)) ∙ e)))))
     at (Err why) opens = visit is_honest state faults who always old new start stays (counts_same faults old.core new.core does.desk) acked
@@ -136,7 +131,7 @@ module _ {D : Type 0} (is_honest : D → Type 0) (state : D → State) (faults :
 
     at : (r : Result (List Mark) Refusal) → HasOpened who whats.LookedAll (looking who (journal old) (map (λ (m : Mark). m.number) old.core.desk.base.marks)) old.core.ledger new.core.ledger r → IsVisit is_honest state faults who always old new
     at (Ok x) opens = visit is_honest state faults who always old new start stays (counts_same faults old.core new.core does.desk) acked
-        (λ mine own. adds_opened who (IsToldIn _) old.core.ledger new.core.ledger whats.LookedAll _ (tells_none _ whats.LookedAll (λ d c. refl)) opens.done)
+        (λ mine own. adds_opened who (IsToldIn _) old.core.ledger new.core.ledger whats.LookedAll _ (tells_none _ whats.LookedAll (λ d c. refl)) tt tt opens.done)
         (closes always (subst IsClosed (sym (ap (λ (l : Ledger). work_at l.works.slots who.session) opens.done ∙ slot_own (given_up who old.core.ledger).works.slots who.session _)) tt))
     at (Err why) opens = visit is_honest state faults who always old new start stays (counts_same faults old.core new.core does.desk) acked
         (λ mine own. adds_given who (IsToldIn _) old.core.ledger new.core.ledger opens.stays)
@@ -157,12 +152,12 @@ module _ {D : Type 0} (is_honest : D → Type 0) (state : D → State) (faults :
 
     refused : (why : Refusal) → new.core.ledger ≡ told who (whats.Refused why) (given_up who old.core.ledger) → IsVisit is_honest state faults who always old new
     refused why e = visit is_honest state faults who always old new start stays (counts_same faults old.core new.core does.desk) acked
-        (λ mine own. adds_told who (IsToldIn _) old.core.ledger new.core.ledger (whats.Refused why) (tells_none _ (whats.Refused why) (λ d c. refl)) e)
+        (λ mine own. adds_told who (IsToldIn _) old.core.ledger new.core.ledger (whats.Refused why) (tells_none _ (whats.Refused why) (λ d c. refl)) tt (idle_none old.core.ledger who idle) e)
         (closes always (subst IsClosed (sym (ap (λ (l : Ledger). work_at l.works.slots who.session) e ∙ idle_none old.core.ledger who idle)) tt))
 
     at : (r : Result ℕ Refusal) → HasLooked who number (oldest old.core.desk.base.marks) (newest old.core.desk.base.marks) old.core.ledger new.core.ledger r → IsVisit is_honest state faults who always old new
     at (Ok x) looked = visit is_honest state faults who always old new start stays (counts_same faults old.core new.core does.desk) acked
-        (λ mine own. adds_opened who (IsToldIn _) old.core.ledger new.core.ledger (whats.Looked number) _ (tells_none _ (whats.Looked number) (λ d c. refl)) looked.done.1)
+        (λ mine own. adds_opened who (IsToldIn _) old.core.ledger new.core.ledger (whats.Looked number) _ (tells_none _ (whats.Looked number) (λ d c. refl)) tt tt looked.done.1)
         (closes always (subst IsClosed (sym (ap (λ (l : Ledger). work_at l.works.slots who.session) looked.done.1 ∙ slot_own (given_up who old.core.ledger).works.slots who.session _)) tt))
     at (Err why) looked = full (lines_refused (given_up who old.core.ledger).book 2) refl where
       asked : (r : Option Refusal) → look_refused number (oldest old.core.desk.base.marks) (newest old.core.desk.base.marks) ≡ r → lines_refused (given_up who old.core.ledger).book 2 ≡ None → IsVisit is_honest state faults who always old new
@@ -181,5 +176,5 @@ module _ {D : Type 0} (is_honest : D → Type 0) (state : D → State) (faults :
 
   pub unlooks : (why : Ending) → UnlookDoes is_honest state who why old.core new.core → IsVisit is_honest state faults who (EndingIsTold why) old new
   unlooks why does = visit is_honest state faults who (EndingIsTold why) old new start (stands_stays is_honest state old new start does.stays (as_honest is_honest old.core new.core does.desk) stands) (counts_same faults old.core new.core does.desk) (ap (λ (r : RunningDesk D). r.queue.first) does.desk)
-      (λ mine own. adds_closed who (IsToldIn _) old.core.ledger new.core.ledger (ended why) (λ d c p. told_more mine.faults _ d c (ends_told why mine.faults own.told d c p)) does.closed)
+      (λ mine own. adds_closed who (IsToldIn _) old.core.ledger new.core.ledger (ended why) (λ d c p. told_more mine.faults _ d c (ends_told why mine.faults own.told d c p)) (λ tried. ended_ends (journal old) who why) does.closed)
       (closes (EndingIsTold why) (subst IsClosed (sym (ap (λ (l : Ledger). work_at l.works.slots who.session) does.closed ∙ slot_own old.core.ledger.works.slots who.session None)) tt))

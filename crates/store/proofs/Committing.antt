@@ -1,7 +1,6 @@
 -- A commit may be made in a visit to the desk.
-use Rattle.std.proofs.Common.{◌≡◌, ◌≤◌, ◌<◌, ◌⊎◌, ◌∙◌, ◌++◌, ℕ, Bool, true, false, cond, List, [], ◌∷◌, Option, Some, None, Result, Ok, Err, Bor, refl, sym, ap, subst, inl, inr, ⊎_elim, arith}
+use Rattle.std.proofs.Common.{◌≡◌, ◌≤◌, ◌<◌, ◌⊎◌, ◌∙◌, ◌++◌, ℕ, Bool, true, false, cond, List, Option, Some, None, Result, Ok, Err, Bor, refl, sym, ap, subst, inl, inr, ⊎_elim, arith}
 use Rattle.std.specs.Prelude.{◌||◌, nat_lt, IfErr, IfOk, OnOk, MatchResult, is_some, option_copied, option_map, length}
-use Rattle.std.specs.Option.{option_or}
 use Rattle.block_file.specs.Blocks.{File}
 use Rattle.disk_model.specs.Disk.{State}
 use Rattle.disk_model.specs.Moments.{Clock}
@@ -11,8 +10,7 @@ use Rattle.retro_base.specs.declared.refusal.Refusal.{Refusal}
 use Rattle.retro_base.specs.declared.refusal.Refusal.TheVariants as refusals
 use Rattle.retro_base.specs.declared.refusal.Refusal.TheVariants.{DiskFault}
 use Rattle.retro_base.specs.declared.who.Who.{Who}
-use Rattle.gate_log.specs.Cause.{IsAppendRefusal, IsDiskFault}
-use Rattle.gate_log.specs.Log.{Region}
+use Rattle.gate_log.specs.Cause.{IsDiskFault}
 use Rattle.history.specs.declared.entry.Change.TheVariants.{Commit}
 use Rattle.history.specs.declared.journal.Line.{Line}
 use Rattle.history.specs.declared.journal.What.TheVariants as whats
@@ -20,7 +18,6 @@ use Rattle.history.specs.declared.stop.Stop.{Stop}
 use Rattle.history.specs.Lines.{first_stop}
 use Rattle.history.specs.declared.writes.PageImage.{PageImage}
 use Rattle.journal_book.specs.declared.work.Transaction.{Transaction}
-use Rattle.journal_book.specs.declared.work.Work.{Work}
 use Rattle.journal_book.specs.declared.work.Work.TheVariants.{Open}
 use Rattle.journal_book.specs.Works.{work_at}
 use Rattle.records.specs.Entries.{change_bytes}
@@ -30,25 +27,26 @@ use Rattle.desk.specs.Cause.{IsChangeRefusal}
 use Rattle.desk.specs.declared.desk.RunningDesk.{RunningDesk}
 use Rattle.txn_set.specs.declared.ledger.Ledger.{Ledger}
 use Rattle.txn_set.specs.declared.counts.Counts.{Counts}
-use Rattle.txn_set.specs.Ledger.{closed, committed, faulted, kept_behind, taken, with_open}
+use Rattle.txn_set.specs.Ledger.{closed, committed, faulted, kept_behind, taken}
 use Rattle.txn_set.specs.Refused.{archive_refused, commit_refused, counts_of, first_changed, images_refused, leaves_record, overlap, snapshots_refused, stopped_refused}
 use Rattle.store_core.specs.declared.desk_core.Core.{Core}
 use Rattle.store_core.specs.Calls.{failed}
 use Rattle.store_core.specs.Commits.{desk_behind}
-use Rattle.store_core.specs.Core.{IsCore, StaysCore}
-use Rattle.turn.specs.declared.view.Holding.{Holding}
+use Rattle.store_core.specs.Core.{IsCore}
 use Rattle.turn.specs.Faults.{LAST, desk_faults, fault_times}
 use Rattle.turn.proofs.Faults.{times_append}
 use Rattle.store.specs.declared.desk_side.DeskSide.{DeskSide}
 use Rattle.store.specs.Calls.{CommitDoes, CommitMakes, refused_so}
-use Rattle.store.specs.Seats.{CountFits, HasOwn, IsVisit, always, journal, slots_of}
+use Rattle.store.specs.Seats.{CountFits, IsVisit, always, journal, slots_of}
 use Rattle.store.specs.Sides.{DeskStands}
 use Rattle.store.specs.Start.{AreAsHonest, IsCoreFrom, Origin, desk_counts}
+use Rattle.store.specs.Tried.{is_trying}
 use Rattle.store.proofs.Adding.{adds_committed, adds_faulted, adds_nothing, adds_open, faulted_closed, slot_own}
 use Rattle.store.proofs.Answering.{TellsNoFault, kept_first, kept_from, none_first, overlap_tells, same_pages, where_tells}
-use Rattle.store.proofs.Calling.{IsClosed, closes, counts_same, counts_up, fault_is, told_more, visit}
-use Rattle.store.proofs.Leaving.{IsToldIn, as_honest, stands_moved, stands_stays}
-use Rattle.store.proofs.Telling.{Behind, Told, keeps_open, told_log}
+use Rattle.store.proofs.Calling.{IsClosed, closes, counts_same, counts_up, fault_is, visit}
+use Rattle.store.proofs.Leaving.{IsToldIn, stands_moved, stands_stays}
+use Rattle.store.proofs.Telling.{keeps_open, told_log}
+use Rattle.store.proofs.Trying.{attempt_there, kept_who, same_attempt}
 
 stopped_tells : (fault : Option Stop) (declares : Bool) (writes : List PageImage) → TellsNoFault (stopped_refused fault declares writes)
 stopped_tells fault declares writes = at (declares || nat_lt 0 (length writes)) fault where
@@ -98,9 +96,9 @@ module _ {D : Type 0} (is_honest : D → Type 0) (state : D → State) (faults :
     at true = (refl, refl)
     at false = (refl, refl)
 
-  pub commits : (label : Option (List ℕ)) (t : Transaction) (result : Result (Option ℕ) Refusal) → work_at (slots_of old) who.session ≡ Some (Open t) → CountFits result
+  pub commits : (label : Option (List ℕ)) (t : Transaction) (result : Result (Option ℕ) Refusal) → work_at (slots_of old) who.session ≡ Some (Open t) → t.who ≡ who → CountFits result
       → CommitDoes is_honest state faults remembers clock who label t result old.core new.core → IsVisit is_honest state faults who always old new
-  commits label t result there few does = pick (refused_so is_honest state faults old.core t label) refl where
+  commits label t result there is_of few does = pick (refused_so is_honest state faults old.core t label) refl where
     honest : AreAsHonest is_honest old.core new.core
     honest = record { log = does.honest; pages = same_pages is_honest old.core new.core does.pages }
 
@@ -118,7 +116,8 @@ module _ {D : Type 0} (is_honest : D → Type 0) (state : D → State) (faults :
         (stands_moved is_honest state old new start (λ origin from_. record { plain = desk_behind from_.plain label t.edits; is = done origin from_; floor = (floor_behind from_.plain label t.edits).0 ∙ from_.floor }) honest stands)
         (counts_up faults old.core new.core (omega (arith, log)) pages_up)
         (acked_by first.plain (desk_behind first.plain label t.edits) (floor_behind first.plain label t.edits).1 stands.origin first.is (done stands.origin first))
-        (λ mine own. adds_committed who (IsToldIn _) old.core.ledger new.core.ledger label t.edits (λ d c p. absurd (omega (arith, p))) ledger)
+        (λ mine own. adds_committed who (IsToldIn _) old.core.ledger new.core.ledger label t.edits (λ d c p. absurd (omega (arith, p)))
+        (λ tried. subst (λ (w : Who). is_trying w (journal old) ≡ true) is_of (attempt_there (journal old) who.session (work_at (slots_of old) who.session) t there (tried.works who.session)).1) ledger)
         (closes is_honest state faults who old new start stands always (subst IsClosed (sym (ap (λ (l : Ledger). work_at l.works.slots who.session) ledger ∙ slot_own (slots_of old) who.session None)) tt))
     made m (Err why) e = ⊎_elim (λ f. fails f.0 f.1 f.2) untouched (fault_or why) where
       untouched : (IsDiskFault why → ⊥) → IsVisit is_honest state faults who always old new
@@ -148,7 +147,7 @@ module _ {D : Type 0} (is_honest : D → Type 0) (state : D → State) (faults :
           (stands_moved is_honest state old new start (λ origin from_. record { plain = change_failed from_.plain (Commit label t.edits); is = failing origin from_; floor = from_.floor }) honest stands)
           (counts_up faults old.core new.core fault.2 pages_up)
           (acked_by first.plain (change_failed first.plain (Commit label t.edits)) refl stands.origin first.is (failing stands.origin first))
-          (λ mine own. adds_faulted who (IsToldIn _) old.core.ledger new.core.ledger d c true (λ e n p. more_told mine.faults _ e n (fault_is _ d c told e n p)) ledger)
+          (λ mine own. adds_faulted who (IsToldIn _) old.core.ledger new.core.ledger d c true (λ none. absurd (cc (sym none ∙ ap is_some there))) (λ e n p. more_told mine.faults _ e n (fault_is _ d c told e n p)) ledger)
           (closes is_honest state faults who old new start stands always (subst IsClosed (sym (ap (λ (l : Ledger). work_at l.works.slots who.session) closes_so ∙ slot_own (slots_of old) who.session None)) tt))
 
     pick : (r : Option Refusal) → refused_so is_honest state faults old.core t label ≡ r → IsVisit is_honest state faults who always old new
@@ -156,6 +155,6 @@ module _ {D : Type 0} (is_honest : D → Type 0) (state : D → State) (faults :
     pick (Some why) e =
         let r = does.refused why e in
         visit is_honest state faults who always old new start (stands_stays is_honest state old new start r.3 honest stands) (counts_same faults old.core new.core r.1) (ap (λ (x : RunningDesk D). x.queue.first) r.1)
-        (λ mine own. adds_open who (IsToldIn _) old.core.ledger new.core.ledger (kept_behind why t) r.2)
+        (λ mine own. adds_open who (IsToldIn _) old.core.ledger new.core.ledger (kept_behind why t) (λ tried. same_attempt (journal old) who.session (work_at (slots_of old) who.session) t (kept_behind why t) there (kept_who why t) (tried.works who.session)) r.2)
         (λ mine own. keeps_open is_honest state faults who always old new mine own t (kept_behind why t) there (ap (λ (l : Ledger). work_at l.works.slots who.session) r.2 ∙ slot_own (slots_of old) who.session _) (ap (λ (l : Ledger). l.book.lines) r.2)
         (λ d c k. ⊎_elim (λ before. inl before) (λ w. inl (commit_tells (first_stop (journal old)) (counts_of old.core.desk.base t.edits) (journal old) t (is_some label) d c (e ∙ ap Some w))) (kept_from why t d c k)))

@@ -1,8 +1,7 @@
 -- A seat that enters the desk, and leaves it.
-use Rattle.std.proofs.Common.{◌≡◌, ◌≤◌, ◌<◌, ◌∙◌, ◌++◌, ℕ, List, [], ◌∷◌, length, Option, Some, None, IfSome, refl, sym, ap, subst, arith}
-use Rattle.std.specs.Prelude.{filter, true}
+use Rattle.std.proofs.Common.{◌≡◌, ◌≤◌, ◌<◌, ◌∙◌, ◌++◌, ℕ, List, [], ◌∷◌, length, Option, IfSome, refl, sym, ap, subst, arith}
+use Rattle.std.specs.Prelude.{true}
 use Rattle.std.proofs.lemmas.List.Elements.{filter-append}
-use mathlib.Core.List.{IsPrefix}
 use Rattle.atomic_table.specs.Seated.{TableId}
 use Rattle.disk_model.specs.Disk.{State}
 use Rattle.retro_base.specs.declared.device.Device.{Device}
@@ -12,10 +11,9 @@ use Rattle.history.specs.declared.journal.Line.{Line}
 use Rattle.history.specs.History.{now}
 use Rattle.history.specs.Journal.{changes_of}
 use Rattle.history.specs.Lines.{lines_of}
-use Rattle.journal_book.specs.declared.work.Transaction.{Transaction}
 use Rattle.journal_book.specs.declared.work.Work.{Work}
 use Rattle.journal_book.specs.declared.work.Work.TheVariants.{Open, Looking, KeptDrop}
-use Rattle.journal_book.specs.Works.{who_of, work_at}
+use Rattle.journal_book.specs.Works.{work_at}
 use Rattle.desk.proofs.Sent.{count_stays}
 use Rattle.txn_set.specs.Ledger.{IsLookingAs, IsOpenAs, is_idle}
 use Rattle.txn_set.specs.WorksFit.{WorkFits}
@@ -23,13 +21,13 @@ use Rattle.store_core.proofs.Cores.{base_is}
 use Rattle.turn.specs.declared.view.Holding.{Holding}
 use Rattle.turn.specs.declared.view.Place.{Place}
 use Rattle.turn.specs.declared.view.Place.TheVariants.{Inside}
-use Rattle.turn.specs.Seats.{IsInDesk, IsSame, MayLeave, Rests, held, mine, opening, seen}
-use Rattle.turn.specs.Views.{PARTS, behind_desk}
+use Rattle.turn.specs.Seats.{IsInDesk, IsSame, Rests, held, mine, seen}
+use Rattle.turn.specs.Views.{behind_desk}
 use Rattle.store.specs.declared.desk_side.DeskSide.{DeskSide}
 use Rattle.store.specs.declared.start.Start.{Start}
-use Rattle.store.specs.Seats.{HasEntered, HasOwn, IsLookingIn, IsOpenIn, IsOwnWork, IsPage, IsReady, IsVisit, IsWhole, KeptIsTold, MayGiveBack, Sat, Visited, began_of, journal, slots_of}
+use Rattle.store.specs.Seats.{HasEntered, HasOwn, IsLookingIn, IsOpenIn, IsOwnWork, IsPage, IsVisit, IsWhole, KeptIsTold, MayGiveBack, Sat, Visited, began_of, journal, slots_of}
 use Rattle.store.specs.Sides.{DeskStands, of_desk}
-use Rattle.store.specs.Start.{of_start, opened_base}
+use Rattle.store.specs.Start.{opened_base}
 
 -- ---- lines of one session
 
@@ -99,12 +97,14 @@ module _ {D : Type 0} (is_honest : D → Type 0) (state : D → State) where
       work = entered.work ∙ ap (work_at (slots_of d0)) (sym own);
       kept = whole.kept;
       told = told;
+      workers = entered.keeps.workers;
+      tried = entered.keeps.tried;
     }
 
     -- ---- leaving
 
     pub may_give : (who : Who) (tells : List (Device × ℕ) → Type 0) (d1 : DeskSide D) → HasOwn who tells d0 (mine s0) → IsVisit is_honest state faults who tells d0 d1 → MayGiveBack is_honest state faults z s1 d1
-    may_give who tells d1 own visit = (s0, d0, entered, visit.leaves (held s1) (mine s0) own entered.acked)
+    may_give who tells d1 own visit = (s0, d0, entered, visit.leaves (held s1) (mine s0) own entered.keeps.later entered.acked)
 
     module _ (s2 : Sat D) (d1 : DeskSide D) where
       pub visited : Rests z s2 → IsSame s1 s2 → held s2 ≡ held s1 → seen s2 ≡ journal d1 → mine s2 ≡ behind_desk (of_desk is_honest state faults) d0 d1 (mine s1) → d1.start ≡ d0.start → DeskStands is_honest state d1
@@ -124,6 +124,7 @@ module _ {D : Type 0} (is_honest : D → Type 0) (state : D → State) where
             opening = entered.opening;
             start = start;
             stands = entered.stands;
+            keeps = entered.keeps;
             stands_after = stands;
             others = entered.front.0;
             place = entered.front.1;

@@ -1,19 +1,17 @@
 -- What a seat finds in the vault.
-use Rattle.std.proofs.Common.{◌≡◌, ◌∙◌, ◌+◌, ◌≤◌, ◌<◌, ◌⊎◌, ◌++◌, ◌||◌, ℕ, Bool, true, false, cond, max, List, [], ◌∷◌, length, Option, Some, None, Result, Ok, Err, refl, sym, ap, subst, inl, inr, ⊎_elim, arith, eq-eqb}
-use Rattle.std.specs.Prelude.{◌↔◌, IfErr, MatchResult, OnOk, is_some}
-use mathlib.Core.List.{IsPrefix}
+use Rattle.std.proofs.Common.{◌≡◌, ◌∙◌, ◌+◌, ◌≤◌, ◌<◌, ◌++◌, ℕ, Bool, true, false, cond, max, List, [], ◌∷◌, Some, Result, Ok, Err, refl, sym, ap, subst, ⊎_elim, arith, eq-eqb}
+use Rattle.std.specs.Prelude.{◌↔◌, IfErr, MatchResult, OnOk}
 use Rattle.atomic_table.specs.Seated.{TableId}
 use Rattle.block_file.specs.Blocks.{SameFile}
 use Rattle.disk_model.specs.Disk.{State}
-use Rattle.retro_base.specs.Cause.{IsFault, Rose}
+use Rattle.retro_base.specs.Cause.{Rose}
 use Rattle.retro_base.specs.declared.device.Device.{Device}
 use Rattle.retro_base.specs.declared.device.Device.TheVariants.{Log, Pages, Pagelog, Maplog, Cabinet}
 use Rattle.retro_base.specs.declared.refusal.Refusal.{Refusal}
 use Rattle.retro_base.specs.declared.refusal.Refusal.TheVariants.{DiskFault, OutOfMemory}
-use Rattle.retro_base.specs.declared.who.Who.{Who}
 use Rattle.history.specs.declared.entry.Base.{Base}
 use Rattle.history.specs.declared.journal.Line.{Line}
-use Rattle.history.specs.History.{History, captures, now}
+use Rattle.history.specs.History.{History, now}
 use Rattle.history.specs.Journal.{after_journal}
 use Rattle.history.specs.Lines.{base_of, lines_of, pinned_by}
 use Rattle.history.specs.Marks.{is_retained, start_of}
@@ -29,7 +27,7 @@ use Rattle.race_model.specs.Fits.{HistoryFits, VaultFits}
 use Rattle.race_model.specs.Reading.{in_slot}
 use Rattle.race_model.specs.Vault.{Vault}
 use Rattle.race_model.proofs.Apart.{history_outlives_lines}
-use Rattle.skippy.specs.Mappings.{Mappings, end_of, first_in}
+use Rattle.skippy.specs.Mappings.{first_in}
 use Rattle.archive.specs.Archive.{Finds, IsVault, Running}
 use Rattle.archive.specs.Cause.{IsRefusedFind}
 use Rattle.archive.specs.Finding.{Covers}
@@ -39,10 +37,10 @@ use Rattle.turn.specs.Faults.{LAST, fault_times, one_fault, rose, vault_faults}
 use Rattle.turn.specs.Seats.{held, mine, opening, seen}
 use Rattle.turn.proofs.Faults.{times_append}
 use Rattle.store.specs.declared.start.Start.{Start}
-use Rattle.store.specs.Past.{FindsIn, FoundIn, IsPastCause, IsPastRefusal, IsSeeking, IsTableIn, IsTableOf, all_mapped}
-use Rattle.store.specs.Seats.{FaultFits, HasEnteredVault, Sat, StaysIn, VisitedVault}
+use Rattle.store.specs.Past.{IsNewFault, FindsIn, IsPastCause, IsPastRefusal, IsSeeking, IsTableIn, IsTableOf}
+use Rattle.store.specs.Seats.{HasEnteredVault, Sat, VisitedVault}
 use Rattle.store.specs.Sides.{VaultStands}
-use Rattle.store.specs.Start.{IsOpenedTo, IsVaultFrom, Origin, opened_base, vault_counts, with_slots}
+use Rattle.store.specs.Start.{IsAbove, IsOpenedTo, IsVaultFrom, Origin, opened_base, vault_counts, with_slots}
 use Rattle.journal_book.specs.declared.work.Work.{Work}
 use Rattle.store.proofs.Committing.{more_told}
 use Rattle.store.proofs.Entering.{apart}
@@ -109,15 +107,36 @@ module _ {D : Type 0} (is_honest : D → Type 0) (state : D → State) (s0 s1 : 
         (table_behind is_honest state x o op (seen s0) more (sound_so x (sym same ∙ e)) table (fits.among x o (sym same ∙ e) op));
   }
 
+-- ---- new faults
+
+pub fault_device : (x y : Device) (k c : ℕ) → DiskFault x k ≡ DiskFault y c → x ≡ y
+fault_device x y k c e = cc e
+
+pub fault_count : (x y : Device) (k c : ℕ) → DiskFault x k ≡ DiskFault y c → k ≡ c
+fault_count x y k c e = cc e
+
+-- a count that rose is above what it was at the opening
+pub above_so : (opened before now c : ℕ) → opened ≤ before → Rose before now → c ≡ now → c < LAST → opened < c
+above_so opened before now c le up is less = omega (arith, le, up, is, less)
+
 -- ---- in the vault
 
-told_pagelog : (old new : Device → ℕ) → Rose (old Pagelog) (new Pagelog) → new Pagelog ≤ LAST → 0 < fault_times Pagelog (new Pagelog) (vault_faults old new)
+pub told_pagelog : (old new : Device → ℕ) → Rose (old Pagelog) (new Pagelog) → new Pagelog ≤ LAST → 0 < fault_times Pagelog (new Pagelog) (vault_faults old new)
 told_pagelog old new up few =
     let all = times_append Pagelog (new Pagelog) (rose old new Pagelog) (rose old new Maplog ++ rose old new Cabinet) in
     let here : fault_times Pagelog (new Pagelog) (rose old new Pagelog) ≡ one_fault Pagelog (new Pagelog) (Pagelog, new Pagelog) + 0 =
     ap (λ (b : Bool). fault_times Pagelog (new Pagelog) (cond b ((Pagelog, new Pagelog) ∷ []) [])) (rose_so (old Pagelog) (new Pagelog) up few) in
     let one : one_fault Pagelog (new Pagelog) (Pagelog, new Pagelog) ≡ 1 = ap (λ (b : Bool). cond b 1 0) (eq-eqb (new Pagelog) (new Pagelog) refl) in
     omega (arith, all, here, one)
+
+pub told_maplog : (old new : Device → ℕ) → Rose (old Maplog) (new Maplog) → new Maplog ≤ LAST → 0 < fault_times Maplog (new Maplog) (vault_faults old new)
+told_maplog old new up few =
+    let all = times_append Maplog (new Maplog) (rose old new Pagelog) (rose old new Maplog ++ rose old new Cabinet) in
+    let rest = times_append Maplog (new Maplog) (rose old new Maplog) (rose old new Cabinet) in
+    let here : fault_times Maplog (new Maplog) (rose old new Maplog) ≡ one_fault Maplog (new Maplog) (Maplog, new Maplog) + 0 =
+    ap (λ (b : Bool). fault_times Maplog (new Maplog) (cond b ((Maplog, new Maplog) ∷ []) [])) (rose_so (old Maplog) (new Maplog) up few) in
+    let one : one_fault Maplog (new Maplog) (Maplog, new Maplog) ≡ 1 = ap (λ (b : Bool). cond b 1 0) (eq-eqb (new Maplog) (new Maplog) refl) in
+    omega (arith, all, rest, here, one)
 
 module _ {D : Type 0} (is_honest : D → Type 0) (state : D → State) (faults : D → ℕ) (z : TableId) (s0 s1 : Sat D) (a0 : Running D) (entered : HasEnteredVault is_honest state faults z s0 s1 a0) (snapshot : ℕ) (table : Table) (seeking : IsSeeking is_honest state s0 snapshot table) where
   abbrev More : List Line
@@ -244,6 +263,7 @@ module _ {D : Type 0} (is_honest : D → Type 0) (state : D → State) (faults :
         let old = entered.stands x (sym entered.same.opening ∙ e) in
         record {
           honest = record { pagelog = both old.honest.pagelog file.honest; maplog = both old.honest.maplog honest_maplog };
+          slots = ap (λ (a : Running D). a.side.log.capacity) same ∙ (old.slots ∙ sym file.blocks);
           stands = λ o op.
               let from_ = old.stands o op in
               record {
@@ -263,3 +283,16 @@ module _ {D : Type 0} (is_honest : D → Type 0) (state : D → State) (faults :
     counts_rise up Pagelog = up
     counts_rise up Maplog = let e = ap (λ (a : Running D). faults a.side.disk) same in omega (arith, e)
     counts_rise up Cabinet = omega arith
+
+    -- a fault that a search met is new
+    pub fault_is_new : (fault : Fault) (covered upto : ℕ) → IsRefusedFind covered upto (faults a0.pagelog.disk) (faults a1.pagelog.disk) fault.why fault.wrote → IsNewFault faults s0 fault
+    fault_is_new fault covered upto refused start d c e w = at fault.why w refused where
+      at : (why : Refusal) → why ≡ DiskFault d c → IsRefusedFind covered upto (faults a0.pagelog.disk) (faults a1.pagelog.disk) why fault.wrote → IsAbove faults start d c
+      at OutOfMemory e r = absurd (cc e)
+      at (DiskFault x k) is r =
+          let f = r.1 in
+          let up = entered.later start e Pagelog in
+          let device : d ≡ Pagelog = sym (fault_device x d k c is) ∙ f.0 in
+          let count : c ≡ faults a1.pagelog.disk = sym (fault_count x d k c is) ∙ f.1 in
+          subst (λ (y : Device). IsAbove faults start y c) (sym device) (λ less. above_so (faults start.archive.value.pagelog.disk) (faults a0.pagelog.disk) (faults a1.pagelog.disk) c up f.3 count less)
+      at _ e r = absurd r.1

@@ -1,29 +1,29 @@
 -- When a seat may leave the desk as a call made it.
-use Rattle.std.proofs.Common.{◌≡◌, ◌≤◌, ◌<◌, ◌⊎◌, ◌∙◌, ◌++◌, ℕ, List, Option, Some, None, refl, sym, ap, subst, inl, inr, ⊎_elim}
+use Rattle.std.proofs.Common.{◌≡◌, ◌≤◌, ◌<◌, ◌∙◌, ◌++◌, ℕ, List, sym, ap, subst, inl, inr, ⊎_elim, arith}
 use Rattle.disk_model.specs.Disk.{State}
 use Rattle.retro_base.specs.declared.device.Device.{Device}
 use Rattle.retro_base.specs.declared.who.Who.{Who}
 use Rattle.history.specs.declared.entry.Base.{Base}
 use Rattle.history.specs.declared.journal.What.{What}
-use Rattle.history.specs.History.{History}
 use Rattle.journal_book.specs.declared.work.Work.{Work}
 use Rattle.journal_book.specs.Works.{work_at}
 use Rattle.txn_set.specs.declared.ledger.Ledger.{Ledger}
 use Rattle.history.specs.Sound.{IsSound}
-use Rattle.race_model.specs.Desk.{Desk}
 use Rattle.std.specs.Prelude.{◌↔◌}
 use Rattle.desk.specs.declared.desk.RunningDesk.{RunningDesk}
 use Rattle.store_core.specs.declared.desk_core.Core.{Core}
-use Rattle.store_core.specs.Core.{IsCore, IsWholeCore, StaysCore}
+use Rattle.store_core.specs.Core.{IsWholeCore, StaysCore}
 use Rattle.turn.specs.declared.view.Holding.{Holding}
 use Rattle.turn.specs.Faults.{desk_faults, fault_times, line_fault}
-use Rattle.turn.specs.Seats.{AddsLine, MayLeave}
+use Rattle.turn.specs.Seats.{MayLeave}
 use Rattle.store.specs.declared.desk_side.DeskSide.{DeskSide}
 use Rattle.store.specs.declared.start.Start.{Start}
-use Rattle.store.specs.Seats.{HasOwn, journal, slots_of}
-use Rattle.store.specs.Sides.{DeskStands, of_desk}
-use Rattle.store.specs.Start.{AreAsHonest, IsCoreFrom, IsOpenedTo, Origin, desk_counts, of_start, opened_base}
-use Rattle.store.proofs.Adding.{AddsOwn, OneLine}
+use Rattle.store.specs.Seats.{HasOwn, journal}
+use Rattle.store.specs.Sides.{DeskStands, Keeps, of_desk}
+use Rattle.store.specs.Start.{AreAsHonest, IsCoreFrom, IsLaterCore, IsOpenedTo, Origin, desk_counts, of_start, opened_base}
+use Rattle.store.specs.Tried.{AreTried}
+use Rattle.store.specs.Workers.{WorkersFit}
+use Rattle.store.proofs.Adding.{AddsOwn}
 
 -- each fault that a line tells is among these
 abbrev pub IsToldIn : List (Device × ℕ) → What → Type 0
@@ -56,12 +56,16 @@ module _ {D : Type 0} (is_honest : D → Type 0) (state : D → State) where
     pub stands_stays : StaysCore is_honest state old.core new.core → AreAsHonest is_honest old.core new.core → DeskStands is_honest state old → DeskStands is_honest state new
     stands_stays stays = stands_moved (λ origin from_. record { plain = from_.plain; is = stays origin.history from_.plain from_.is; floor = from_.floor })
 
+    -- faults are not fewer than at the opening
+    later_on : (faults : D → ℕ) → IsLaterCore faults old.start.core.value old.core → ((d : Device) → desk_counts faults old.core d ≤ desk_counts faults new.core d) → IsLaterCore faults new.start.core.value new.core
+    later_on faults later counts = subst (λ (s : Start D). IsLaterCore faults s.core.value new.core) (sym start) (λ d. let a = later d in let b = counts d in omega (arith, a, b))
+
     -- a line of the seat's own, or none, with its work
     pub may_leave : (faults : D → ℕ) (who : Who) (tells : List (Device × ℕ) → Type 0) (most : ℕ) (mine : Holding Work) → DeskStands is_honest state new
         → ((d : Device) → desk_counts faults old.core d ≤ desk_counts faults new.core d) → new.core.desk.queue.first ≡ old.core.desk.queue.first
         → AddsOwn who.session (IsToldIn (mine.faults ++ desk_faults (desk_counts faults old.core) (desk_counts faults new.core))) old.core.ledger new.core.ledger
-        → HasOwn who tells old mine → old.core.desk.queue.first ≤ most → MayLeave (of_desk is_honest state faults) (of_start faults) most mine old new
-    may_leave faults who tells most mine stands counts acked adds own le = record {
+        → HasOwn who tells old mine → IsLaterCore faults old.start.core.value old.core → old.core.desk.queue.first ≤ most → MayLeave (of_desk is_honest state faults) (of_start faults) most mine old new
+    may_leave faults who tells most mine stands counts acked adds own later le = record {
       opening = start;
       counts = counts;
       change = inr (record {
@@ -69,19 +73,19 @@ module _ {D : Type 0} (is_honest : D → Type 0) (state : D → State) where
         works = λ n ne. adds.works n (λ e. ne (e ∙ sym own.number));
         journal = ⊎_elim (λ same. inl same) (λ one. inr (record { line = one.line; number = one.of ∙ sym own.number; journal = one.is; told = one.may })) adds.lines;
       });
-      fits = stands;
+      fits = (stands, record { workers = adds.workers own.workers; tried = adds.tried own.tried; later = later_on faults later counts });
       lawful = sound_journal new stands;
       acked = subst (λ (k : ℕ). k ≤ most) (sym acked) le;
     }
 
     -- nothing that the journal or the works would tell
-    pub may_leave_quiet : (faults : D → ℕ) (most : ℕ) (mine : Holding Work) → DeskStands is_honest state new → ((d : Device) → desk_counts faults old.core d ≤ desk_counts faults new.core d)
+    pub may_leave_quiet : (faults : D → ℕ) (most : ℕ) (mine : Holding Work) → DeskStands is_honest state new → Keeps is_honest state faults old → ((d : Device) → desk_counts faults old.core d ≤ desk_counts faults new.core d)
         → new.core.ledger ≡ old.core.ledger → new.core.desk.queue.first ≤ most → MayLeave (of_desk is_honest state faults) (of_start faults) most mine old new
-    may_leave_quiet faults most mine stands counts same acked = record {
+    may_leave_quiet faults most mine stands keeps counts same acked = record {
       opening = start;
       counts = counts;
       change = inl (record { journal = ap (λ (l : Ledger). l.book.lines) same; works = λ n. ap (λ (l : Ledger). work_at l.works.slots n) same });
-      fits = stands;
+      fits = (stands, record { workers = subst WorkersFit (sym same) keeps.workers; tried = subst AreTried (sym same) keeps.tried; later = later_on faults keeps.later counts });
       lawful = sound_journal new stands;
       acked = acked;
     }

@@ -1,5 +1,5 @@
 -- Seats that see more, or tell one another.
-use Rattle.std.proofs.Common.{◌≡◌, ◌≤◌, ◌<◌, ◌∙◌, ◌+◌, ◌++◌, ℕ, List, [], ◌∷◌, length, length-append, max, Option, Some, None, IfSome, refl, sym, ap, subst, arith, append-nil, append_assoc}
+use Rattle.std.proofs.Common.{◌≡◌, ◌≤◌, ◌∙◌, ◌++◌, ℕ, List, [], ◌∷◌, Option, Some, IfSome, refl, sym, ap, subst, arith, append-nil, append_assoc}
 use mathlib.Core.List.{IsPrefix}
 use Rattle.atomic_table.specs.Seated.{TableId}
 use Rattle.disk_model.specs.Disk.{State}
@@ -8,13 +8,9 @@ use Rattle.history.specs.declared.journal.Line.{Line}
 use Rattle.history.specs.Lines.{lines_of}
 use Rattle.journal_book.specs.declared.work.Work.{Work}
 use Rattle.turn.specs.declared.view.Holding.{Holding}
-use Rattle.turn.specs.Seats.{Agrees, IsSame, Rests, held, mine, opening, seen}
-use Rattle.turn.specs.Views.{lending, lent, returned}
-use Rattle.store.specs.declared.start.Start.{Start}
-use Rattle.store.specs.Seats.{HasEntered, IsGlance, IsOwnWork, IsReady, IsWhole, KeptIsTold, MayGiveBack, Sat, StaysIn, Visited, Waits}
+use Rattle.turn.specs.Seats.{IsSame, Rests, held, mine, seen}
+use Rattle.store.specs.Seats.{HasEntered, IsOwnWork, IsReady, IsWhole, KeptIsTold, MayGiveBack, Sat, StaysIn, Waits}
 use Rattle.store.specs.declared.desk_side.DeskSide.{DeskSide}
-use Rattle.store.specs.Sides.{DeskStands}
-use Rattle.store.specs.Start.{of_start, opened_base}
 use Rattle.store.proofs.Calling.{told_more}
 use Rattle.store.proofs.Entering.{apart}
 use Rattle.store.proofs.Leaving.{may_leave_quiet}
@@ -61,7 +57,7 @@ stays_same s0 s1 same is rises = record {
 
 -- a side that is given back as it was found
 pub gives_same : {D : Type 0} (is_honest : D → Type 0) (state : D → State) (faults : D → ℕ) (z : TableId) (s0 s1 : Sat D) (d0 : DeskSide D) → HasEntered is_honest state faults z s0 s1 d0 → MayGiveBack is_honest state faults z s1 d0
-gives_same is_honest state faults z s0 s1 d0 entered = (s0, d0, entered, may_leave_quiet is_honest state d0 d0 refl faults (held s1) (mine s0) entered.stands (λ d. omega arith) refl entered.acked)
+gives_same is_honest state faults z s0 s1 d0 entered = (s0, d0, entered, may_leave_quiet is_honest state d0 d0 refl faults (held s1) (mine s0) entered.stands entered.keeps (λ d. omega arith) refl entered.acked)
 
 -- what is so of the opening is so of the one that the desk has
 pub of_opening : {X : Type 0} (o : Option X) (x : X) (P : X → Type 0) → o ≡ Some x → P x → IfSome o P

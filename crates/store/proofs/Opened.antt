@@ -1,5 +1,5 @@
 -- A core and an archive that were just opened.
-use Rattle.std.proofs.Common.{◌≡◌, ◌≤◌, ◌<◌, ◌∙◌, ◌+◌, ◌-◌, ◌%◌, ◌++◌, ℕ, List, [], ◌∷◌, length, drop, map, replicate, refl, sym, ap, subst, arith, append_assoc}
+use Rattle.std.proofs.Common.{◌≡◌, ◌≤◌, ◌∙◌, ◌+◌, ◌-◌, ◌++◌, ℕ, List, [], ◌∷◌, length, drop, replicate, refl, sym, ap, subst, arith, append_assoc}
 use Rattle.std.proofs.lemmas.List.{length-map, map-append, length-replicate}
 use Rattle.std.proofs.Math.Seq.{drop-append_seam}
 use Rattle.block_file.specs.Blocks.{block_at}
@@ -8,7 +8,7 @@ use Rattle.disk_model.specs.Disk.{State}
 use Rattle.history.specs.declared.entry.Base.{Base}
 use Rattle.history.specs.declared.log.Version.{Version}
 use Rattle.history.specs.declared.writes.PageImage.{PageImage}
-use Rattle.history.specs.History.{History, captures, captures_of, now}
+use Rattle.history.specs.History.{History, captures_of}
 use Rattle.history.specs.Writes.{pages_of}
 use Rattle.history.proofs.Captures.{with_changes-none}
 use Rattle.race_model.specs.Fits.{DeskFits, VaultFits}
@@ -17,15 +17,13 @@ use Rattle.race_model.proofs.Grows.{contains_none}
 use Rattle.race_model.proofs.Histories.{capacity_stays}
 use Rattle.race_model.proofs.Opening.{opened_held}
 use Rattle.replay.specs.Opened.{Contents, forgotten, opened, slot_images}
-use Rattle.skippy.specs.Mappings.{Mappings, end_of}
+use Rattle.skippy.specs.Mappings.{Mappings}
 use Rattle.desk.specs.Fetched.{contents_of}
 use Rattle.archive.specs.Archive.{Running}
-use Rattle.txn_set.specs.declared.ledger.Ledger.{Ledger}
-use Rattle.txn_set.specs.Ledger.{no_lines}
+use Rattle.archive.specs.Fetching.{IsOpened}
 use Rattle.store_core.specs.declared.desk_core.Core.{Core}
 use Rattle.store_core.specs.Core.{FetchesCore}
-use Rattle.store.specs.Opening.{IsFresh}
-use Rattle.store.specs.Start.{AreJustOpened}
+use Rattle.store.specs.Start.{AreOpenedTo}
 
 pages_of-slots : (slots : ℕ → List ℕ) (capacity number : ℕ) (pages : List ℕ) → pages_of (slot_images slots capacity number pages) ≡ pages
 pages_of-slots slots capacity number [] = refl
@@ -60,9 +58,11 @@ vault_fits version contents fits few =
       slots = λ number ge lt. (refl, sym (ap (λ (i : PageImage). i.bytes) (opened_held contents number (let a = fits.history.floor_low in omega (arith, a, ge)) lt)));
     }
 
-pub just_opened : {D : Type 0} (is_honest : D → Type 0) (state : D → State) (version : Version) (log pages : D) (mappings : Mappings) (core : Core D) (archive : Running D) (sizes : Sizes) (count : ℕ) → FetchesCore is_honest state version log pages mappings core
-    → mappings ≡ archive.side.levels → IsFresh is_honest state version sizes archive → core.desk.base.capacity ≡ sizes.capacity → core.desk.base.page_count ≡ sizes.pages → core.ledger ≡ no_lines count → AreJustOpened is_honest state core archive
-just_opened is_honest state version log pages mappings core archive sizes count fetched same fresh capacity page_count empty =
+-- They were opened to the history of the log over the pages' bytes, with these mappings and the slots as their device has them.
+pub opened_to : {D : Type 0} (is_honest : D → Type 0) (state : D → State) (version : Version) (log pages maplog : D) (mappings : Mappings) (core : Core D) (archive : Running D) (sizes : Sizes) (fetched : FetchesCore is_honest state version log pages mappings core)
+    → mappings ≡ archive.side.levels → IsOpened is_honest state version sizes.pages sizes.capacity maplog archive → core.desk.base.capacity ≡ sizes.capacity → core.desk.base.page_count ≡ sizes.pages
+    → let contents : Contents = contents_of fetched.list (state pages).seen mappings (block_at (state archive.pagelog.disk).seen) in AreOpenedTo is_honest state core archive (record { history = opened contents; floor = mappings.low })
+opened_to is_honest state version log pages maplog mappings core archive sizes fetched same fresh capacity page_count =
     let slots : ℕ → List ℕ = block_at (state archive.pagelog.disk).seen in
     let contents : Contents = contents_of fetched.list (state pages).seen mappings slots in
     let is = fetched.is slots in
@@ -70,22 +70,16 @@ just_opened is_honest state version log pages mappings core archive sizes count 
     let few : length mappings.pages ≤ contents.log.base.capacity = let f = fresh.few in let e = ap (λ (m : Mappings). length m.pages) same in omega (arith, f, e, size, capacity) in
     let vault = vault_fits version contents is.fits few in
     record {
-      origin = record { history = opened contents; floor = mappings.low };
-      opened = record {
-        base = sym is.is.base;
-        fits = is.fits.history;
-        core = record { plain = opened_desk contents; is = is; floor = refl };
-        vault = record {
-          vault = opened_vault version contents;
-          is = fresh.vault contents same (λ honest slot. refl);
-          captured = slots;
-          numbers = subst (λ (h : History). VaultFits h mappings.low (opened_vault version contents)) (sym (with_changes-none (opened contents))) vault;
-          fits = λ honest. subst (λ (h : History). VaultFits h mappings.low (opened_vault version contents)) (sym (with_changes-none (opened contents))) vault;
-          slots = fresh.slots ∙ (sym capacity ∙ size);
-          pages = fresh.pages ∙ (sym page_count ∙ ap (λ (b : Base). b.page_count) is.is.base);
-        };
+      base = sym is.is.base;
+      fits = is.fits.history;
+      core = record { plain = opened_desk contents; is = is; floor = refl };
+      vault = record {
+        vault = opened_vault version contents;
+        is = fresh.vault contents same (λ honest slot. refl);
+        captured = slots;
+        numbers = subst (λ (h : History). VaultFits h mappings.low (opened_vault version contents)) (sym (with_changes-none (opened contents))) vault;
+        fits = λ honest. subst (λ (h : History). VaultFits h mappings.low (opened_vault version contents)) (sym (with_changes-none (opened contents))) vault;
+        slots = fresh.slots ∙ (sym capacity ∙ size);
+        pages = fresh.log.pages ∙ (sym page_count ∙ ap (λ (b : Base). b.page_count) is.is.base);
       };
-      lines = ap (λ (l : Ledger). l.book.lines) empty;
-      works = ap (λ (l : Ledger). l.works.slots) empty;
-      held = let f = is.is.first in let h = fresh.held in let e = ap end_of same in omega (arith, f, h, e);
     }

@@ -1,11 +1,10 @@
 -- What a reader of the past is given is right.
-use Rattle.std.proofs.Common.{◌≡◌, ◌∙◌, ◌+◌, ◌-◌, ◌≤◌, ◌<◌, ◌⊎◌, ◌++◌, ◌||◌, ℕ, Bool, true, false, cond, eqb, max, List, [], ◌∷◌, length, map, take, drop, Option, Some, None, Result, Ok, Err, position, refl, sym, ap, subst, inl, inr, ⊎_elim, arith, append_assoc, append-nil, eq-eqb}
-use Rattle.std.specs.Prelude.{◌==◌, filter, is_some, OnOk, IfOk}
+use Rattle.std.proofs.Common.{◌≡◌, ◌∙◌, ◌+◌, ◌-◌, ◌≤◌, ◌<◌, ◌⊎◌, ◌++◌, ◌||◌, ℕ, Bool, true, false, cond, eqb, max, List, [], ◌∷◌, length, map, take, drop, Option, position, refl, sym, ap, subst, inl, inr, ⊎_elim, arith, append_assoc, append-nil, eq-eqb}
+use Rattle.std.specs.Prelude.{◌==◌, filter}
 use Rattle.std.specs.Option.{option_map}
 use Rattle.std.specs.List.{AllByRecursion}
 use Rattle.std.proofs.lemmas.Bool.{cases_lt, eqb-true}
 use Rattle.std.proofs.lemmas.List.{drop-append-le, drop-drop, take-append-le, take-append-drop, length-append, length-drop, length-map, map-append}
-use Rattle.retro_base.specs.FirstMet.{first_met}
 use Rattle.retro_base.specs.declared.who.Who.{Who}
 use Rattle.history.specs.declared.entry.Base.{Base}
 use Rattle.history.specs.declared.journal.Line.{Line}
@@ -14,7 +13,7 @@ use Rattle.history.specs.History.{History, bytes_at, captures, now, pages_as_of}
 use Rattle.history.specs.Journal.{after_journal}
 use Rattle.history.specs.Laws.{IsConsistent}
 use Rattle.history.specs.Lines.{base_of, lines_of, pinned_by}
-use Rattle.history.specs.Marks.{is_retained, newest, oldest_start, start_of}
+use Rattle.history.specs.Marks.{is_retained, newest, start_of}
 use Rattle.history.specs.Sound.{IsSound, Pin, pins_of, same_item}
 use Rattle.history.specs.Writes.{is_among, pages_of}
 use Rattle.history.proofs.Items.{others_pins_stay}
@@ -24,12 +23,12 @@ use Rattle.history.proofs.MarkLaws.{retained-newest}
 use Rattle.history.proofs.SoundLaws.{base_stays_right}
 use Rattle.page_table.specs.Table.{IsFirstMet, Table}
 use Rattle.race_model.specs.Apart.{ToldBelow}
-use Rattle.race_model.specs.Fits.{HistoryFits, MappingsFit, VaultFits}
+use Rattle.race_model.specs.Fits.{HistoryFits, VaultFits}
 use Rattle.race_model.specs.Reading.{Told}
 use Rattle.race_model.specs.Vault.{Maplog, Vault, listing}
-use Rattle.race_model.proofs.Apart.{all_outlive_lines, history_outlives_lines}
+use Rattle.race_model.proofs.Apart.{all_outlive_lines}
 use Rattle.race_model.proofs.Readings.{oldest-start}
-use Rattle.skippy.specs.Mappings.{Mappings, end_of, pages_in}
+use Rattle.skippy.specs.Mappings.{Mappings, pages_in}
 use Rattle.archive.specs.Side.{IsLowestOf, Shows}
 use Rattle.archive.proofs.Tables.{table_is_shown, table_stays}
 use Rattle.store.specs.Past.{IsTableIn, all_mapped}

@@ -1,5 +1,5 @@
 -- What a seat has behind a read of the past.
-use Rattle.std.proofs.Common.{◌≡◌, ◌∙◌, ◌+◌, ◌≤◌, ◌<◌, ◌⊎◌, ◌++◌, ℕ, Bool, true, false, cond, eqb, List, [], ◌∷◌, length, Option, Some, None, Result, Ok, Err, refl, sym, ap, subst, inl, inr, arith, append_assoc, append-nil, eq-eqb}
+use Rattle.std.proofs.Common.{◌≡◌, ◌∙◌, ◌≤◌, ◌<◌, ◌++◌, ℕ, Bool, true, cond, eqb, List, [], length, Option, Some, Result, Ok, Err, refl, sym, ap, subst, inl, arith, append_assoc, append-nil, eq-eqb}
 use Rattle.std.specs.Prelude.{IfOk, OnOk}
 use Rattle.std.proofs.lemmas.List.Elements.{filter-append}
 use Rattle.atomic_table.specs.Seated.{TableId}
@@ -9,7 +9,6 @@ use Rattle.retro_base.specs.declared.device.Device.{Device}
 use Rattle.retro_base.specs.declared.device.Device.TheVariants.{Pages}
 use Rattle.retro_base.specs.declared.refusal.Refusal.{Refusal}
 use Rattle.retro_base.specs.declared.refusal.Refusal.TheVariants.{DiskFault}
-use Rattle.retro_base.specs.declared.who.Who.{Who}
 use Rattle.history.specs.declared.entry.Base.{Base}
 use Rattle.history.specs.declared.journal.Line.{Line}
 use Rattle.history.specs.History.{History, now, pages_as_of}
@@ -21,7 +20,6 @@ use Rattle.history.specs.Writes.{is_among}
 use Rattle.history.proofs.Items.{same_self}
 use Rattle.history.proofs.Journals.{front_is_sound}
 use Rattle.history.proofs.Lines.{base_after_journal}
-use Rattle.journal_book.specs.declared.work.Look.{Look}
 use Rattle.journal_book.specs.declared.work.Work.{Work}
 use Rattle.journal_book.specs.declared.work.Work.TheVariants.{Looking}
 use Rattle.journal_book.specs.Works.{work_at}
@@ -37,18 +35,18 @@ use Rattle.store_core.specs.declared.copying.Peeked.{Peeked}
 use Rattle.txn_set.specs.declared.ledger.Ledger.{Ledger}
 use Rattle.txn_set.specs.WorksFit.{pins_at}
 use Rattle.turn.specs.declared.view.Holding.{Holding}
-use Rattle.turn.specs.Faults.{LAST, desk_faults, fault_times}
-use Rattle.turn.specs.Seats.{held, mine, opening, seen}
+use Rattle.turn.specs.Faults.{desk_faults, fault_times}
+use Rattle.turn.specs.Seats.{mine, opening, seen}
 use Rattle.turn.specs.Views.{holding}
 use Rattle.store.specs.declared.desk_side.DeskSide.{DeskSide}
 use Rattle.store.specs.declared.start.Start.{Start}
 use Rattle.store.specs.Calls.{PeekDoes}
-use Rattle.store.specs.Past.{FindsIn, IsPastCause, IsPastOf, IsPinnedBy, IsSeeking, IsTableOf}
+use Rattle.store.specs.Past.{FindsIn, IsNewFault, IsPastCause, IsPastOf, IsPinnedBy, IsSeeking, IsTableOf}
 use Rattle.store.specs.Seats.{CountFits, IsReady, Sat, StaysIn, Visited, Visits, Waits, journal, slots_of}
-use Rattle.store.specs.Start.{IsOpenedTo, Origin, desk_counts, opened_base}
+use Rattle.store.specs.Start.{IsAbove, IsOpenedTo, Origin, desk_counts, opened_base}
 use Rattle.store.proofs.Answering.{page_told}
 use Rattle.store.proofs.Committing.{more_told}
-use Rattle.store.proofs.Finding.{some_is, table_moves}
+use Rattle.store.proofs.Finding.{above_so, some_is, table_moves}
 use Rattle.store.proofs.Leaving.{sound_journal}
 use Rattle.store.proofs.Reading.{pinned_retained, pins_stay}
 
@@ -134,6 +132,14 @@ module _ {D : Type 0} (is_honest : D → Type 0) (state : D → State) (faults :
     at : (w : Refusal) → result ≡ Err w → IsFault Pages (faults v.before.core.desk.pool.file.disk) (faults v.after.core.desk.pool.file.disk) w → IsPastCause s1 covered w
     at (DiskFault d c) e f = subst (λ (h : Holding Work). 0 < fault_times d c h.faults) (sym mine_so) (more_told (mine s0).faults Told d c (page_told faults v.before.core v.after.core d c (few d c e) f))
     at _ e f = absurd f
+
+  -- and is new
+  pub fault_so : (fault : Fault) → result ≡ Err fault.why → IsNewFault faults s0 fault
+  fault_so fault is start d c e w =
+      let f = subst (λ (r : Result Peeked Refusal). FaultsAlone Pages (faults v.before.core.desk.pool.file.disk) (faults v.after.core.desk.pool.file.disk) r) (is ∙ ap Err w) v.does.cause in
+      let now_is : v.before.start ≡ start = some_is v.before.start start (sym v.visited.opening ∙ e) in
+      let up : faults start.core.value.desk.pool.file.disk ≤ faults v.before.core.desk.pool.file.disk = subst (λ (x : Start D). faults x.core.value.desk.pool.file.disk ≤ faults v.before.core.desk.pool.file.disk) now_is (v.visited.keeps.later Pages) in
+      subst (λ (y : Device). IsAbove faults start y c) (sym f.0) (λ less. above_so (faults start.core.value.desk.pool.file.disk) (faults v.before.core.desk.pool.file.disk) (faults v.after.core.desk.pool.file.disk) c up f.3 f.1 less)
 
   module _ (pinned : IsPinnedBy s0 n) where
     abbrev Now : Start D

@@ -1,5 +1,5 @@
 -- A new table of a snapshot that was just looked at.
-use Rattle.std.proofs.Common.{◌≡◌, ◌∙◌, ◌-◌, ◌≤◌, ◌++◌, ℕ, List, [], ◌∷◌, drop, filter, length, max, take, Option, Some, Result, Ok, Err, refl, sym, ap, subst, arith}
+use Rattle.std.proofs.Common.{◌≡◌, ◌∙◌, ◌-◌, ◌++◌, ℕ, List, [], ◌∷◌, drop, filter, take, Result, Ok, Err, sym, ap, subst, arith}
 use Rattle.std.specs.Prelude.{IfOk, is_none}
 use Rattle.atomic_table.specs.Seated.{TableId}
 use Rattle.disk_model.specs.Disk.{State}
@@ -8,17 +8,16 @@ use Rattle.retro_base.specs.declared.who.Who.{Who}
 use Rattle.history.specs.declared.entry.Base.{Base}
 use Rattle.history.specs.declared.journal.Line.{Line}
 use Rattle.history.specs.declared.journal.What.TheVariants as whats
-use Rattle.history.specs.History.{History, captures, now}
+use Rattle.history.specs.History.{History}
 use Rattle.history.specs.Journal.{after_journal}
 use Rattle.history.specs.Lines.{base_of}
 use Rattle.history.specs.Marks.{start_of}
 use Rattle.history.proofs.Lines.{base_of_one_more}
-use Rattle.page_table.specs.Table.{Table}
 use Rattle.skippy.specs.Mappings.{Mappings, first_in, first_mappings, numbered}
 use Rattle.store_core.proofs.Cores.{base_is}
 use Rattle.txn_set.specs.declared.ledger.Ledger.{Ledger}
 use Rattle.txn_set.specs.Ledger.{line_of}
-use Rattle.turn.specs.Seats.{held, opening, seen}
+use Rattle.turn.specs.Seats.{seen}
 use Rattle.store.specs.declared.desk_side.DeskSide.{DeskSide}
 use Rattle.store.specs.declared.start.Start.{Start}
 use Rattle.store.specs.Calls.{LookDoes}

@@ -1,12 +1,10 @@
 -- The faults that a seat is told in a visit to the desk, and those that its transaction keeps.
-use Rattle.std.proofs.Common.{◌≡◌, ◌≤◌, ◌<◌, ◌+◌, ◌-◌, ◌^◌, ◌⊎◌, ◌∙◌, ◌++◌, ◌||◌, ℕ, Bool, true, false, cond, eqb, ltb, List, [], ◌∷◌, length, Option, Some, None, Result, Ok, Err, refl, sym, ap, subst, inl, inr, ⊎_elim, arith, eq-eqb}
-use Rattle.std.specs.Prelude.{min, IfErr, OnOk}
+use Rattle.std.proofs.Common.{◌≡◌, ◌≤◌, ◌<◌, ◌+◌, ◌⊎◌, ◌∙◌, ◌++◌, ◌||◌, ℕ, Bool, true, false, cond, eqb, ltb, List, [], ◌∷◌, length, Some, None, refl, sym, ap, subst, ⊎_elim, arith, eq-eqb}
 use Rattle.std.proofs.lemmas.Bool.{ltb-false}
 use Rattle.disk_model.specs.Disk.{State}
 use Rattle.retro_base.specs.Cause.{Rose}
 use Rattle.retro_base.specs.declared.device.Device.{Device}
 use Rattle.retro_base.specs.declared.device.Device.TheVariants.{Log, Pages}
-use Rattle.retro_base.specs.declared.refusal.Refusal.{Refusal}
 use Rattle.retro_base.specs.declared.refusal.Refusal.TheVariants.{DiskFault}
 use Rattle.retro_base.specs.declared.who.Who.{Who}
 use Rattle.journal_book.specs.declared.work.Transaction.{Transaction}

@@ -1,5 +1,5 @@
 -- A seat that enters the vault, and leaves it.
-use Rattle.std.proofs.Common.{◌≡◌, ◌≤◌, ◌∙◌, ◌++◌, ◌+◌, ℕ, List, [], length, length-append, Option, Some, None, refl, sym, ap, subst, arith}
+use Rattle.std.proofs.Common.{◌≡◌, ◌≤◌, ◌∙◌, ℕ, List, length, length-append, Option, Some, sym, ap, subst, arith}
 use mathlib.Core.List.{IsPrefix}
 use Rattle.atomic_table.specs.Seated.{TableId}
 use Rattle.disk_model.specs.Disk.{State}
@@ -14,7 +14,7 @@ use Rattle.turn.specs.declared.view.Place.TheVariants.{Inside}
 use Rattle.turn.specs.Seats.{IsInVault, IsSame, Rests, held, mine, opening, seen}
 use Rattle.turn.specs.Views.{behind_vault}
 use Rattle.store.specs.declared.start.Start.{Start}
-use Rattle.store.specs.Seats.{HasEnteredVault, IsOwnWork, IsReady, Sat, StaysIn, VisitedVault, Waits}
+use Rattle.store.specs.Seats.{HasEnteredVault, IsOwnWork, Sat, VisitedVault}
 use Rattle.store.specs.Sides.{VaultStands, of_vault}
 use Rattle.store.specs.Start.{opened_base}
 use Rattle.store.proofs.Entering.{apart}
@@ -56,6 +56,7 @@ module _ {D : Type 0} (is_honest : D → Type 0) (state : D → State) (faults :
         sound = λ start e. subst (λ (l : List Line). IsSound (opened_base start) l) (sym sees) (entered.sound start e);
         stands = λ start e. subst (λ (l : List Line). VaultStands is_honest state a0 start l) (sym sees) (entered.stands start e);
         stands_after = λ start e. subst (λ (l : List Line). VaultStands is_honest state a1 start l) (sym sees) (stands start (entered.same.opening ∙ e));
+        later = entered.later;
         rises = let e = holds in let f = entered.held_is in let u = entered.rises in omega (arith, e, f, u, up);
         held_is = holds;
         mine_is = behind;

@@ -1,6 +1,6 @@
 -- What a seat has open behind its calls.
-use Rattle.std.proofs.Common.{◌≡◌, ◌∙◌, ◌||◌, ℕ, Bool, true, false, cond, eqb, List, [], ◌∷◌, Option, Some, None, Result, Ok, Err, refl, sym, ap, subst, eq-eqb}
-use Rattle.std.specs.Prelude.{OnOk, OnErr, MatchResult, is_some}
+use Rattle.std.proofs.Common.{◌≡◌, ◌∙◌, ◌||◌, ℕ, Bool, true, false, cond, List, Option, Some, None, Result, Ok, Err, refl, sym, ap, eq-eqb}
+use Rattle.std.specs.Prelude.{IfErr, OnOk, OnErr}
 use Rattle.atomic_table.specs.Seated.{TableId}
 use Rattle.disk_model.specs.Disk.{State}
 use Rattle.disk_model.specs.Moments.{Clock}
@@ -8,13 +8,11 @@ use Rattle.retro_base.specs.declared.refusal.Refusal.{Refusal}
 use Rattle.retro_base.specs.declared.who.Who.{Who}
 use Rattle.history.specs.declared.entry.Mark.{Mark}
 use Rattle.history.specs.declared.journal.What.{What}
-use Rattle.history.specs.Writes.{is_among}
 use Rattle.journal_book.specs.declared.work.Transaction.{Transaction}
 use Rattle.journal_book.specs.declared.work.Work.{Work}
-use Rattle.journal_book.specs.declared.work.Work.TheVariants.{Open, Looking}
 use Rattle.journal_book.specs.Works.{keeping_refusal, work_at}
 use Rattle.txn_set.specs.declared.ledger.Ledger.{Ledger}
-use Rattle.txn_set.specs.Ledger.{closed, committed, fresh, given_up, is_idle, is_kept, kept_behind, looking, taken}
+use Rattle.txn_set.specs.Ledger.{closed, given_up, is_idle, is_kept, keeps_drop, kept_behind}
 use Rattle.txn_set.proofs.FitSteps.{idle_none}
 use Rattle.store_core.specs.Calls.{HasAnswered}
 use Rattle.turn.specs.declared.view.Holding.{Holding}
@@ -22,9 +20,10 @@ use Rattle.turn.specs.Seats.{mine}
 use Rattle.store.specs.declared.desk_side.DeskSide.{DeskSide}
 use Rattle.store.specs.Calls.{BeginDoes, CommitDoes, LookAllDoes, LookDoes, refused_so}
 use Rattle.store.specs.Past.{IsPinnedBy}
-use Rattle.store.specs.Seats.{IsLookingIn, IsOpenIn, Sat, Visited, journal, slots_of}
+use Rattle.store.specs.Rounds.{IsRoom}
+use Rattle.store.specs.Seats.{IsLookingIn, IsOpenIn, Sat, Visited, slots_of}
+use Rattle.store.proofs.Trying.{kept_who}
 use Rattle.store.proofs.Adding.{slot_own}
-use Rattle.store.proofs.Committing.{on_ok}
 
 module _ {D : Type 0} (is_honest : D → Type 0) (state : D → State) (faults : D → ℕ) (z : TableId) (s0 s2 : Sat D) (d0 d1 : DeskSide D) (v : Visited is_honest state faults z s0 s2 d0 d1) (who : Who) (own : who.session ≡ s0.number) where
   pub work_now : (mine s2).work ≡ work_at (slots_of d1) who.session
@@ -42,12 +41,6 @@ module _ {D : Type 0} (is_honest : D → Type 0) (state : D → State) (faults :
   pub begun_idle : (result : Result (Unit {0}) Refusal) → is_idle who (work_at (slots_of d0) who.session) ≡ true → BeginDoes is_honest state who result d0.core d1.core → OnErr result (is_idle who (mine s2).work ≡ true)
   begun_idle (Ok x) idle does = tt
   begun_idle (Err why) idle does = ap (is_idle who) (work_as _ None does.begun.stays (idle_none d0.core.ledger who idle))
-
-  kept_who : (why : Refusal) (t : Transaction) → (kept_behind why t).who ≡ t.who
-  kept_who why t = at (is_kept why) where
-    at : (test : Bool) → (cond test (keeping_refusal why t) t).who ≡ t.who
-    at true = refl
-    at false = refl
 
   pub answered_open : (t next : Transaction) (refused : Option Refusal) (result : Result (Unit {0}) Refusal) → t.who ≡ who → next.who ≡ t.who → HasAnswered who t next refused d0.core.ledger d1.core.ledger result → IsOpenIn s2 who
   answered_open t next refused (Ok x) is same answered = record { transaction = next; open_there = work_as _ _ answered.allowed.1 (slot_own (slots_of d0) who.session _); is_of = same ∙ is }
@@ -72,3 +65,8 @@ module _ {D : Type 0} (is_honest : D → Type 0) (state : D → State) (faults :
   pub all_looking : (result : Result (List Mark) Refusal) → LookAllDoes is_honest state who result d0.core d1.core → OnOk result (IsLookingIn s2 who)
   all_looking (Ok x) does = record { look = _; open_there = work_as _ _ does.looked.done (slot_own (given_up who d0.core.ledger).works.slots who.session _); is_of = refl }
   all_looking (Err why) does = tt
+
+  -- the line that a drop keeps is the seat's
+  pub dropped_kept : (result : Result (Unit {0}) Refusal) → IfErr result (λ why. IsRoom why → keeps_drop who (work_at (slots_of d1) who.session) ≡ true) → IfErr result (λ why. IsRoom why → keeps_drop who (mine s2).work ≡ true)
+  dropped_kept (Ok x) kept = tt
+  dropped_kept (Err why) kept = λ room. ap (keeps_drop who) work_now ∙ kept room

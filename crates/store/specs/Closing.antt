@@ -2,7 +2,6 @@
 use Rattle.std.specs.Prelude.{◌≡◌, ◌≤◌, ℕ, List, [], slice_get, Some}
 use mathlib.Core.List.{IsPrefix}
 use Rattle.atomic_table.specs.Seated.{TableId}
-use Rattle.disk_model.specs.declared.four.Four.{Four}
 use Rattle.disk_model.specs.Disk.{State}
 use Rattle.history.specs.Lines.{FaultsDiffer, lines_of}
 use Rattle.journal_book.specs.Works.{work_at}

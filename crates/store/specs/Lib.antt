@@ -1,7 +1,12 @@
 pub mod Start
+pub mod Tried
+pub mod Workers
 pub mod Sides
 pub mod Seats
 pub mod Calls
 pub mod Past
+pub mod Carrying
+pub mod RoundCalls
+pub mod Rounds
 pub mod Opening
 pub mod Closing

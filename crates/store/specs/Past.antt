@@ -1,18 +1,17 @@
 -- What a reader of the past has, and what it is given.
-use Rattle.std.specs.Prelude.{◌≡◌, ◌≤◌, ◌<◌, ◌++◌, max, true, false, ℕ, Bool, List, [], length, Option, Some, Result, Ok, Err, IfErr, OnOk}
+use Rattle.std.specs.Prelude.{◌≡◌, ◌≤◌, ◌<◌, max, true, false, ℕ, Bool, List, [], length, Some, Result, OnOk}
 use Rattle.disk_model.specs.Disk.{State}
 use Rattle.retro_base.specs.declared.device.Device.{Device}
 use Rattle.retro_base.specs.declared.refusal.Refusal.{Refusal}
 use Rattle.retro_base.specs.declared.who.Who.{Who}
 use Rattle.retro_base.specs.declared.refusal.Refusal.TheVariants.{DiskFault, OutOfMemory}
-use Rattle.history.specs.History.{History, captures, now, pages_as_of}
+use Rattle.history.specs.History.{History, captures, pages_as_of}
 use Rattle.history.specs.Journal.{after_journal}
 use Rattle.history.specs.Lines.{base_of, pinned_by}
 use Rattle.history.specs.Marks.{is_retained, start_of}
 use Rattle.history.specs.Writes.{is_among, pages_of}
 use Rattle.history.specs.Sound.{IsSound, pins_of}
 use Rattle.journal_book.specs.declared.work.Look.{Look}
-use Rattle.journal_book.specs.declared.work.Work.{Work}
 use Rattle.journal_book.specs.declared.work.Work.TheVariants.{Looking}
 use Rattle.page_table.specs.Table.{IsFirstMet, Table}
 use Rattle.race_model.specs.declared.fault.Fault.{Fault}
@@ -25,7 +24,7 @@ use Rattle.turn.specs.Faults.{fault_times}
 use Rattle.turn.specs.Seats.{held, mine, opening, seen}
 use Rattle.store.specs.declared.start.Start.{Start}
 use Rattle.store.specs.Seats.{Sat}
-use Rattle.store.specs.Start.{IsOpenedTo, Origin, opened_base}
+use Rattle.store.specs.Start.{IsAbove, IsOpenedTo, Origin, opened_base}
 
 -- a look of the seat, or of the one that it helps, pins the snapshot
 pub record IsPinnedBy {D : Type 0} (s : Sat D) (snapshot : ℕ) : Type 0 where
@@ -101,3 +100,7 @@ IsPastCause s covered why = ⊥
 -- no write failed
 abbrev pub IsPastRefusal : {D : Type 0} → Sat D → Table → Fault → Type 0
 IsPastRefusal s table fault = (fault.wrote ≡ false) × IsPastCause s table.covered fault.why
+
+-- a fault that it tells is new since the opening
+abbrev pub IsNewFault : {D : Type 0} → (D → ℕ) → Sat D → Fault → Type 0
+IsNewFault {D} faults s fault = (start : Start D) (d : Device) (c : ℕ) → opening s ≡ Some start → fault.why ≡ DiskFault d c → IsAbove faults start d c

@@ -27,8 +27,10 @@ use Rattle.turn.specs.Seats.{IsInDesk, IsInVault, IsSame, MayLeave, MayLeaveVaul
 use Rattle.turn.specs.Views.{PARTS, behind_desk, behind_vault}
 use Rattle.store.specs.declared.desk_side.DeskSide.{DeskSide}
 use Rattle.store.specs.declared.start.Start.{Start}
-use Rattle.store.specs.Sides.{DeskStands, VaultStands, of_desk, of_vault}
-use Rattle.store.specs.Start.{of_start, opened_base}
+use Rattle.store.specs.Sides.{DeskStands, Keeps, VaultStands, of_desk, of_vault}
+use Rattle.store.specs.Start.{IsLaterArchive, IsLaterCore, of_start, opened_base}
+use Rattle.store.specs.Tried.{AreTried}
+use Rattle.store.specs.Workers.{WorkersFit}
 
 abbrev pub Sat : Type 0 → Type 0
 Sat D = SeatOver (Start D) Work (DeskSide D) (Running D)
@@ -112,7 +114,7 @@ pub record StaysIn {D : Type 0} (old new : Sat D) : Type 0 where
   pub more : List (Device × ℕ)
   pub mine_is : mine new ≡ record (mine old) { faults = (mine old).faults ++ more }
 
--- what a seat that calls the desk has under its number
+-- what a seat that calls the desk has under its number, and the lines that are kept for workers
 pub record HasOwn {D : Type 0} (who : Who) (tells : List (Device × ℕ) →
     Type 0) (side : DeskSide D) (mine : Holding Work) : Type 0 where
   pub parts : mine.parts ≡ PARTS
@@ -120,18 +122,20 @@ pub record HasOwn {D : Type 0} (who : Who) (tells : List (Device × ℕ) →
   pub work : mine.work ≡ work_at (slots_of side) who.session
   pub kept : KeptIsTold mine.work mine.faults
   pub told : tells mine.faults
+  pub workers : WorkersFit side.core.ledger
+  pub tried : AreTried side.core.ledger
 
 module _ {D : Type 0} (is_honest : D → Type 0) (state : D → State) (faults : D → ℕ) where
   -- a call of the item may be made between entering the desk and leaving it, by a seat that was told so
   pub record IsVisit (who : Who) (tells : List (Device × ℕ) → Type 0) (old new : DeskSide D) : Type 0 where
-    pub leaves : (most : ℕ) (mine : Holding Work) → HasOwn who tells old mine → old.core.desk.queue.first ≤ most →
-        MayLeave (of_desk is_honest state faults) (of_start faults) most mine old new
+    pub leaves : (most : ℕ) (mine : Holding Work) → HasOwn who tells old mine →
+        IsLaterCore faults old.start.core.value old.core → old.core.desk.queue.first ≤ most → MayLeave (of_desk is_honest state faults) (of_start faults) most mine old new
     pub keeps : (mine : Holding Work) → HasOwn who tells old mine →
         let behind : Holding Work = behind_desk (of_desk is_honest state faults) old new mine in KeptIsTold behind.work behind.faults
 
   -- A call that tells nothing may be made so by any seat, or helper of one.
   abbrev pub IsGlance : DeskSide D → DeskSide D → Type 0
-  IsGlance old new = (most : ℕ) (mine : Holding Work) → old.core.desk.queue.first ≤ most →
+  IsGlance old new = (most : ℕ) (mine : Holding Work) → Keeps is_honest state faults old → old.core.desk.queue.first ≤ most →
       MayLeave (of_desk is_honest state faults) (of_start faults) most mine old new
 
   -- the seat has entered the desk, and found this
@@ -144,6 +148,7 @@ module _ {D : Type 0} (is_honest : D → Type 0) (state : D → State) (faults :
     pub acked : side.core.desk.queue.first ≤ held new
     pub opening : opening old ≡ Some side.start
     pub stands : DeskStands is_honest state side
+    pub keeps : Keeps is_honest state faults side
     pub front : IsPrefix (seen old) (journal side)
     pub lines : (mine old).lines ≡ lines_of old.number (journal side)
     pub work : (mine old).work ≡ work_at (slots_of side) old.number
@@ -161,6 +166,7 @@ module _ {D : Type 0} (is_honest : D → Type 0) (state : D → State) (faults :
     pub opening : opening old ≡ Some before.start
     pub start : after.start ≡ before.start
     pub stands : DeskStands is_honest state before
+    pub keeps : Keeps is_honest state faults before
     pub stands_after : DeskStands is_honest state after
     pub others : List Line
     pub place : seen old ++ others ≡ journal before
@@ -188,6 +194,7 @@ module _ {D : Type 0} (is_honest : D → Type 0) (state : D → State) (faults :
     pub lines : (mine old).lines ≡ lines_of old.number (seen new)
     pub stands : (start : Start D) → opening old ≡ Some start → VaultStands is_honest state archive start (seen new)
     pub sound : (start : Start D) → opening old ≡ Some start → IsSound (opened_base start) (seen new)
+    pub later : (start : Start D) → opening old ≡ Some start → IsLaterArchive faults start.archive.value archive
     pub held_is : held new ≡ archive.side.held
     pub rises : held old ≤ held new
 
@@ -205,6 +212,7 @@ module _ {D : Type 0} (is_honest : D → Type 0) (state : D → State) (faults :
     pub stands : (start : Start D) → opening old ≡ Some start → VaultStands is_honest state before start (seen new)
     pub stands_after : (start : Start D) → opening old ≡ Some start →
         VaultStands is_honest state after start (seen new)
+    pub later : (start : Start D) → opening old ≡ Some start → IsLaterArchive faults start.archive.value before
     pub rises : held old ≤ held new
     pub held_is : held new ≡ after.side.held
     pub mine_is : mine new ≡ behind_vault (of_vault is_honest state faults) before after (mine old)

@@ -1,8 +1,9 @@
 -- What a store was opened with, and what it may have been opened to.
-use Rattle.std.specs.Prelude.{◌≡◌, ◌≤◌, ◌++◌, ◌↔◌, ℕ, false, List, [], Option, Some, None}
+use Rattle.std.specs.Prelude.{◌≡◌, ◌≤◌, ◌<◌, ◌++◌, ◌↔◌, ℕ, false, List, [], Option, Some, None}
 use Rattle.disk_model.specs.Disk.{State}
 use Rattle.retro_base.specs.declared.device.Device.{Device}
 use Rattle.retro_base.specs.declared.device.Device.TheVariants.{Log, Pages, Pagelog, Maplog}
+use Rattle.retro_base.specs.declared.limits.TheConstants.{WORKER_LINES}
 use Rattle.history.specs.declared.entry.Base.{Base}
 use Rattle.history.specs.declared.journal.Line.{Line}
 use Rattle.history.specs.History.{History, now}
@@ -15,7 +16,7 @@ use Rattle.race_model.specs.Vault.{Vault}
 use Rattle.archive.specs.Archive.{IsVault, Running}
 use Rattle.store_core.specs.declared.desk_core.Core.{Core}
 use Rattle.store_core.specs.Core.{IsCore}
-use Rattle.turn.specs.Faults.{count_of}
+use Rattle.turn.specs.Faults.{LAST, count_of}
 use Rattle.turn.specs.Meanings.{OpeningMeaning}
 use Rattle.store.specs.declared.start.Start.{Start}
 
@@ -63,7 +64,9 @@ module _ {D : Type 0} (is_honest : D → Type 0) (state : D → State) where
     pub opened : AreOpenedTo core archive origin
     pub lines : core.ledger.book.lines ≡ []
     pub works : core.ledger.works.slots ≡ []
+    pub workers : core.ledger.book.workers ≡ WORKER_LINES
     pub held : core.desk.queue.first ≤ archive.side.held
+    pub slots : archive.side.log.capacity ≡ archive.pagelog.blocks
 
 -- the devices of the one core are as honest as those of the other
 pub record AreAsHonest {D : Type 0} (is_honest : D → Type 0) (old new : Core D) : Type 0 where
@@ -86,14 +89,29 @@ vault_counts faults archive Pagelog = faults archive.pagelog.disk
 vault_counts faults archive Maplog = faults archive.side.disk
 vault_counts faults archive _ = 0
 
+-- no device of the core has had fewer faults than it had then, nor one of the archive
+abbrev pub IsLaterCore : {D : Type 0} → (D → ℕ) → Core D → Core D → Type 0
+IsLaterCore faults old new = (device : Device) → desk_counts faults old device ≤ desk_counts faults new device
+
+abbrev pub IsLaterArchive : {D : Type 0} → (D → ℕ) → Running D → Running D → Type 0
+IsLaterArchive faults old new = (device : Device) → vault_counts faults old device ≤ vault_counts faults new device
+
 -- what the log said at the opening
 abbrev pub opened_base : {D : Type 0} → Start D → Base
 opened_base start = start.core.value.desk.base
 
+-- how many faults each device had had
+abbrev pub opened_counts : {D : Type 0} → (D → ℕ) → Start D → Device → ℕ
+opened_counts faults start = count_of (desk_counts faults start.core.value) (vault_counts faults start.archive.value)
+
+-- a fault is above what its device had had at the opening; the last count is excepted, since counts stay there
+abbrev pub IsAbove : {D : Type 0} → (D → ℕ) → Start D → Device → ℕ → Type 0
+IsAbove faults start device count = count < LAST → opened_counts faults start device < count
+
 abbrev pub of_start : {D : Type 0} → (D → ℕ) → OpeningMeaning (Start D)
 of_start faults = record {
   base = opened_base;
-  counts = λ start. count_of (desk_counts faults start.core.value) (vault_counts faults start.archive.value);
+  counts = opened_counts faults;
   Lawful = λ start. IsSound (opened_base start);
 }
 

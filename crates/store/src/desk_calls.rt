@@ -1,13 +1,15 @@
 //! The calls of the core, as a seat makes them between entering the desk and leaving it.
 
-ghost use Rattle.std.specs.Prelude.{◌≡◌, ◌<◌, IsTrue, Some, IfSome, option_copied, true};
+ghost use Rattle.std.specs.Prelude.{◌≡◌, ◌<◌, IsTrue, Some, IfErr, IfSome, option_copied, true};
 ghost use Rattle.history.specs.Label.{is_label};
 ghost use Rattle.journal_book.specs.Works.{work_at};
 ghost use Rattle.journal_book.specs.declared.work.Transaction.{Transaction};
 ghost use Rattle.journal_book.specs.declared.work.Work.TheVariants.{Open};
-ghost use Rattle.txn_set.specs.Ledger.{IsLookingAs, IsOpenAs, is_idle};
+ghost use Rattle.txn_set.specs.Ledger.{IsOpenAs, is_closed, is_idle, keeps_drop};
 ghost use Rattle.store_core.specs.Calls.{IsPinned};
-ghost use Rattle.store.specs.Calls.{BeginDoes, CommitDoes, EditDoes, LookAllDoes, LookDoes, PeekDoes, ReadDoes, RollbackDoes, UnlookDoes};
+ghost use Rattle.store.specs.Calls.{BeginDoes, CommitDoes, EditDoes, LookAllDoes, LookDoes, PeekDoes, ReadDoes, RollbackDoes};
+ghost use Rattle.store.specs.RoundCalls.{DropDoes};
+ghost use Rattle.store.specs.Rounds.{IsRoom};
 ghost use Rattle.store.specs.Seats.{CountFits, EndingIsTold, FaultFits, IsGlance, IsVisit, always, slots_of};
 ghost use Rattle.store.specs.Sides.{DeskStands};
 
@@ -128,13 +130,19 @@ impl<D: Disk + Drop> DeskSide<D> {
         self.core.look_all(alloc, who)
     }
 
-    pub(crate) fn unlook(&mut self, who: Who, why: Ending)
+    pub(crate) fn drop_below(&mut self, alloc: Global, who: Who, below: u64) -> Result<(), Refusal>
         requires stands { DeskStands D.is_honest D.state self.old }
-        requires is_looking { IsLookingAs (slots_of self.old) who }
-        ensures does { UnlookDoes D.is_honest D.state who why self.old.core self.new.core }
-        ensures visit { IsVisit D.is_honest D.state D.faults who (EndingIsTold why) self.old self.new }
+        requires is_closed { is_closed (work_at (slots_of self.old) who.session) ≡ true }
+        ensures does { DropDoes D.is_honest D.state D.faults D.remembers D.clock who below result
+            self.old.core self.new.core }
+        ensures visit { IsVisit D.is_honest D.state D.faults who always self.old self.new }
+        ensures is_closed { is_closed (work_at (slots_of self.new) who.session) ≡ true }
+        ensures kept { IfErr result (λ why. IsRoom why → keeps_drop who (work_at (slots_of self.new) who.session) ≡ true) }
     {
-        self.core.unlook(who, why);
+        self.core.names_log();
+        let answer = self.core.drop_below(alloc, who, below);
+        count_fits(&answer);
+        answer
     }
 
     pub(crate) fn peek(

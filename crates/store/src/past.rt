@@ -2,7 +2,7 @@
 
 ghost use Rattle.std.specs.Prelude.{◌≡◌, ◌≤◌, IfErr, IfOk, MatchResult, OnOk};
 ghost use Rattle.store.specs.Calls.{PeekDoes};
-ghost use Rattle.store.specs.Past.{FindsIn, IsPastOf, IsPastRefusal, IsPinnedBy, IsSeeking, IsTableOf};
+ghost use Rattle.store.specs.Past.{FindsIn, IsNewFault, IsPastOf, IsPastRefusal, IsPinnedBy, IsSeeking, IsTableOf};
 ghost use Rattle.store.specs.Seats.{CountFits, IsPage, IsReady, IsWhole, StaysIn, Visits, Waits};
 ghost use Rattle.turn.specs.Seats.{held, mine};
 ghost use Rattle.turn.specs.Tables.{table_of};
@@ -62,6 +62,7 @@ impl<D: Disk + Drop> Store<D> {
         ensures finds { FindsIn D.is_honest D.state seat.old seat.new snapshot table.old table.new upto page
             out.old out.new result }
         ensures cause { IfErr result (IsPastRefusal seat.new table.old) }
+        ensures fault { IfErr result (IsNewFault D.faults seat.old) }
     {
         let mut archive = self.enter_vault(rt, seat);
         let found = archive.find(table, page, upto, out, steps);
@@ -96,6 +97,7 @@ impl<D: Disk + Drop> Store<D> {
         ensures first_met { IsTableOf D.is_honest D.state seat.new snapshot table.new }
         ensures page { OnOk result (IsPastOf D.is_honest D.state seat.new snapshot page out.new) }
         ensures cause { IfErr result (IsPastRefusal seat.new table.old) }
+        ensures fault { IfErr result (IsNewFault D.faults seat.old) }
     {
         match self.told(rt, seat, snapshot, page, out) {
             Err(why) => Err(Fault { why, wrote: false }),

@@ -97,10 +97,8 @@ impl<D: Disk + Drop> Store<D> {
         answer
     }
 
-    /// Commits the transaction of this item: its edits become public, and where there is a mark a snapshot with that
-    /// label is declared, whose number it answers. The refusals are those of `Core::commit`, in that order: NoRoom is
-    /// one of them.
-    pub fn commit<R: Wait>(
+    // Commits the transaction of this item: one visit to the desk, which may find no room in the log.
+    pub(crate) fn ask_commit<R: Wait>(
         &self,
         rt: &R,
         seat: &mut Seat<D>,
@@ -207,7 +205,7 @@ impl<D: Disk + Drop> Store<D> {
             (UnlookDoes D.is_honest D.state who why) seat.old seat.new }
     {
         let mut side = self.enter(rt, seat);
-        side.unlook(who, why);
+        side.core.unlook(who, why);
         self.leave(seat, side);
     }
 }

@@ -11,7 +11,7 @@ impl<D: Disk> VaultValue<Start<D>> for Archive<D> {
     ghost meaning = { of_vault D.is_honest D.state D.faults };
 
     ghost outlives = { λ archive start lines more stands lawful.
-        vault_outlives D.is_honest D.state archive start lines more stands lawful };
+        (vault_outlives D.is_honest D.state archive start lines more stands.0 lawful, stands.1) };
 
     fn held(&self) -> u64 {
         Archive::held(self)

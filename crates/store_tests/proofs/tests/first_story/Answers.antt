@@ -14,3 +14,9 @@ pub first_past-found-requires-clause-idle : goal.first_past-found-requires-claus
 first_past-found-requires-clause-idle g c =
     let P = λ (s : Sat _). (s.number ≡ s.number) × ((mine s).work ≡ None) in
     (of_last P c.pop.new.self.items c.in-Some.seat (subst (Each P) c.in-Some.ensures.items (λ k s e. (refl, (c.in-Ok.ensures.new k s e).1)))).1
+
+pub close-closed-requires-clause-ready : goal.close-closed-requires-clause-ready
+close-closed-requires-clause-ready g c =
+    let P = λ (s : Sat _). IsReady (table_of c.in-Ok.store.turn) s × IsWhole s in
+    let rest = of_front P c.pop.new.self.items c.in-Some.seat (subst (Each P) c.in-Some.ensures.items c.in-Ok.ensures.ready) in
+    subst (Each P) (sym c.push_reserved.ensures.items) (with_last P c.pop.new.self.items _ rest c.first_past-found.ensures.ready)

@@ -1,4 +1,4 @@
-use Rattle.std.proofs.Common.{◌∙◌, refl, sym, ap}
+use Rattle.std.proofs.Common.{◌∙◌, sym}
 use Rattle.store.proofs.shared.Store.close.Goals as goal
 
 pub close-side-requires-clause-whole : goal.close-side-requires-clause-whole
@@ -13,8 +13,8 @@ returns g c =
       closed = record {
         side = c.close-side.result.0;
         archive = c.close-side.result.1;
-        stands = e.closed.desk_fits;
-        vault = e.closed.vault_fits;
+        stands = e.closed.desk_fits.0;
+        vault = e.closed.vault_fits.0;
         acked = e.closed.acked;
         each = λ k s there. let r = e.right k s there in let own = c.requires.ready k s there in record { front = r.front; lines = sym own.0.lines ∙ r.lines; work = r.work };
         foreign = λ n le. (e.closed.foreign n le).0;

@@ -12,9 +12,10 @@ returns g c =
       rises = e.held;
       acked = e.acked;
       opening = e.opening;
-      stands = e.fits;
+      stands = e.fits.0;
+      keeps = e.fits.1;
       front = e.front;
       lines = e.lines;
       work = e.work;
-      pages = pages_stay g.D.Disk.is_honest g.D.Disk.state c.enter_desk.result e.fits;
+      pages = pages_stay g.D.Disk.is_honest g.D.Disk.state c.enter_desk.result e.fits.0;
     }

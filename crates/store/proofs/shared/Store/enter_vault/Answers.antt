@@ -1,7 +1,7 @@
 use Rattle.std.proofs.Common.{IfSome, subst}
 use Rattle.history.specs.Sound.{IsSound}
 use Rattle.turn.specs.Seats.{seen}
-use Rattle.store.specs.Sides.{VaultStands}
+use Rattle.store.specs.Sides.{IsVaultSide}
 use Rattle.store.specs.Start.{opened_base}
 use Rattle.store.proofs.shared.Store.enter_vault.Goals as goal
 
@@ -15,8 +15,9 @@ returns g c =
       mine_stays = e.same.1;
       front = e.front;
       lines = e.own;
-      stands = λ start is. subst (λ o. IfSome o (λ x. VaultStands g.D.Disk.is_honest g.D.Disk.state c.enter_vault.result x (seen c.enter_vault.new.seat))) is e.fits;
+      stands = λ start is. (subst (λ o. IfSome o (λ x. IsVaultSide g.D.Disk.is_honest g.D.Disk.state g.D.Disk.faults c.enter_vault.result x (seen c.enter_vault.new.seat))) is e.fits).0;
       sound = λ start is. subst (λ o. IfSome o (λ x. IsSound (opened_base x) (seen c.enter_vault.new.seat))) is e.lawful;
+      later = λ start is. (subst (λ o. IfSome o (λ x. IsVaultSide g.D.Disk.is_honest g.D.Disk.state g.D.Disk.faults c.enter_vault.result x (seen c.enter_vault.new.seat))) is e.fits).1;
       held_is = e.held;
       rises = e.rises;
     }

@@ -1,5 +1,5 @@
 use Rattle.store.proofs.Meeting.{ready_on, stays_same, waits_so, whole_stays}
-use Rattle.std.proofs.Common.{ap, arith, sym}
+use Rattle.std.proofs.Common.{ap, arith}
 use Rattle.store.proofs.shared.Store.horizon.Goals as goal
 
 pub returns-clause-ready : goal.returns-clause-ready

@@ -1,4 +1,4 @@
-use Rattle.std.proofs.Common.{ap, sym, subst, arith, ◌∙◌, max}
+use Rattle.std.proofs.Common.{ap, sym, arith, ◌∙◌}
 use Rattle.history.specs.Lines.{lines_of}
 use Rattle.store.proofs.Meeting.{own_in, ready_on, stays_same, waits_so, whole_stays}
 use Rattle.store.proofs.shared.Store.meet.Goals as goal

@@ -1,5 +1,8 @@
-use Rattle.store.proofs.Seating.{new_ready, new_seats}
+use Rattle.store.proofs.Seating.{may_open, new_ready, new_seats}
 use Rattle.store.proofs.shared.Store.new.Goals as goal
+
+pub new-requires-clause-open : goal.new-requires-clause-open
+new-requires-clause-open g c = may_open g.D.Disk.is_honest g.D.Disk.state g.D.Disk.faults c.args.core c.args.archive (record { core = c.of.result; archive = c.of-2.result }) c.of.ensures c.of-2.ensures c.requires.opened
 
 pub returns-in-Ok-clause-ready : goal.returns-in-Ok-clause-ready
 returns-in-Ok-clause-ready g c = new_ready _ _ c.in-Ok.seats.items c.in-Ok.ensures.new

@@ -1,5 +1,5 @@
-use Rattle.std.proofs.Common.{refl, sym}
-use Rattle.store.proofs.Recalling.{cause_so, past_so, seeks_so, stays_on, stays_so, table_so, waits_on, waits_so}
+use Rattle.std.proofs.Common.{◌∙◌, false, refl}
+use Rattle.store.proofs.Recalling.{cause_so, fault_so, past_so, seeks_so, stays_on, stays_so, table_so, waits_on, waits_so}
 use Rattle.store.proofs.Meeting.{whole_stays, work_stays}
 use Rattle.store.proofs.shared.Store.past.Goals as goal
 
@@ -49,3 +49,9 @@ returns-in-Err-sought-clause-whole g c = λ w. whole_stays c.args.seat.now c.sou
 
 pub returns-in-Err-sought-clause-work : goal.returns-in-Err-sought-clause-work
 returns-in-Err-sought-clause-work g c = work_stays c.args.seat.now c.sought.new.seat (stays_on c.args.seat.now c.told.new.seat c.sought.new.seat (stays_so g.D.Disk.is_honest g.D.Disk.state g.D.Disk.faults _ c.args.seat.now c.told.new.seat c.args.page c.args.snapshot c.args.out.now c.told.new.out c.told.result c.requires.ready c.told.ensures.visits) c.sought.ensures.same)
+
+pub returns-in-Err-clause-fault : goal.returns-in-Err-clause-fault
+returns-in-Err-clause-fault g c = fault_so g.D.Disk.is_honest g.D.Disk.state g.D.Disk.faults _ c.args.seat.now c.told.new.seat c.args.page c.args.snapshot c.args.out.now c.told.new.out c.told.result c.requires.ready c.told.ensures.visits (record { why = c.in-Err.why; wrote = false }) c.in-Err.is
+
+pub returns-in-Err-sought-clause-fault : goal.returns-in-Err-sought-clause-fault
+returns-in-Err-sought-clause-fault g c = λ start d k e w. c.in-Err-sought.ensures.fault start d k (c.told.ensures.visits.visited.same.opening ∙ e) w

@@ -1,6 +1,4 @@
-use Rattle.std.proofs.Common.{◌∙◌, ◌<◌, refl, sym, ap, subst}
-use Rattle.std.specs.Prelude.{is_some}
-use Rattle.history.specs.Lines.{first_stop}
+use Rattle.std.proofs.Common.{◌∙◌, ◌<◌, refl, ap, subst}
 use Rattle.store.proofs.Meeting.{gives_same, of_opening, whole_stays, work_stays}
 use Rattle.store.proofs.Recalling.{stays_glance, waits_glance}
 use Rattle.store.proofs.shared.Store.sizes.Goals as goal

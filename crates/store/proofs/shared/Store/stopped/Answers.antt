@@ -1,7 +1,7 @@
 use Rattle.std.proofs.Common.{◌∙◌, refl, sym, ap}
 use Rattle.std.specs.Prelude.{is_some}
 use Rattle.history.specs.Lines.{first_stop}
-use Rattle.store.proofs.Meeting.{gives_same, of_opening, whole_stays, work_stays}
+use Rattle.store.proofs.Meeting.{gives_same, whole_stays, work_stays}
 use Rattle.store.proofs.Recalling.{stays_glance, waits_glance}
 use Rattle.store.proofs.shared.Store.stopped.Goals as goal
 

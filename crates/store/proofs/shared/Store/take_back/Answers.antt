@@ -1,4 +1,4 @@
-use Rattle.std.proofs.Common.{ap, sym, subst, arith, ◌∙◌, max}
+use Rattle.std.proofs.Common.{ap, sym, arith, ◌∙◌}
 use Rattle.history.specs.Lines.{lines_of}
 use Rattle.store.proofs.Meeting.{own_in, ready_on, waits_so}
 use Rattle.store.proofs.shared.Store.take_back.Goals as goal

@@ -1,0 +1,10 @@
+pub mod Agreeing
+pub mod Coming
+pub mod Committing
+pub mod Edited
+pub mod Gives
+pub mod Limits
+pub mod Named
+pub mod Overlaps
+pub mod Reading
+pub mod Worlds

@@ -1,0 +1,4 @@
+pub mod Ending
+pub mod Ground
+pub mod Seen
+pub mod Worlds

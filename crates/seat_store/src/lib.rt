@@ -1,0 +1,11 @@
+//! The seat of a store in its locks, as sessions see it.
+#![tactic(auto)]
+
+mod ending;
+mod held;
+mod laws;
+mod told;
+
+pub use held::Held;
+pub use laws::laws_of_worlds;
+pub use told::ToldFault;
