@@ -4,7 +4,6 @@ use Rattle.std.proofs.lemmas.List.{append-nil}
 use Rattle.std.specs.Fmt.{decimal}
 use Rattle.std.specs.Prelude.{codes}
 use Rattle.retro_base.specs.declared.refusal.Refusal.{Refusal}
-use Rattle.retro_base.specs.declared.refusal.Refusal.TheVariants as refusal
 use Rattle.retro_base.specs.declared.who.Who.{Who}
 use Rattle.script.specs.declared.structure.End.{End}
 use Rattle.script.specs.declared.structure.End.TheVariants as ending
@@ -12,8 +11,8 @@ use Rattle.script.specs.declared.structure.Item.{Item}
 use Rattle.script.specs.declared.structure.Item.TheVariants as item
 use Rattle.script.specs.declared.structure.Phase.{Phase}
 use Rattle.script.specs.declared.structure.Reading.{Reading}
-use Rattle.script.specs.declared.structure.Reading.TheVariants.{Read, Syntax}
 use Rattle.script.specs.declared.structure.Session.{Session}
+use Rattle.script.specs.declared.structure.Single.TheVariants as single
 use Rattle.sql_tree.specs.declared.statement.Statement.{Statement}
 use Rattle.sql_parts.specs.declared.parsed.AsOf.{AsOf}
 use Rattle.sql_select.specs.declared.answer.Answer.{Answer}
@@ -50,8 +49,12 @@ onto_look who query (Err why) s = refl
 
 onto_item : (who : Who) (one : Item) (s : State) → run_item who one s ≡ onto s (run_item who one (fresh s.now))
 onto_item who (item.Transaction t) s = onto_transaction who t.statements t.end s
-onto_item who (item.AsOf (Read query)) s = onto_look who query (as_of query.snapshot s.now) s
-onto_item who (item.AsOf (Syntax place)) s = simp append-nil
+onto_item who (item.Single (single.AsOf query)) s = onto_look who query (as_of query.snapshot s.now) s
+onto_item who (item.Single (single.Syntax place)) s = simp append-nil
+onto_item who (item.Single (single.DropBelow below)) s = simp append-nil
+onto_item who (item.Single (single.SnapIds query)) s = simp append-nil
+onto_item who (item.Single (single.Call call places)) s = simp append-nil
+onto_item who (item.Single (single.Results query)) s = simp append-nil
 
 -- what an item leaves, from a world on
 abbrev pub lines_of : World → Entry → List Line

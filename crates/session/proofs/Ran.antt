@@ -10,8 +10,8 @@ use Rattle.script.specs.declared.structure.End.{End}
 use Rattle.script.specs.declared.structure.End.TheVariants as ending
 use Rattle.script.specs.declared.structure.Item.{Item}
 use Rattle.script.specs.declared.structure.Item.TheVariants as item
-use Rattle.script.specs.declared.structure.Reading.TheVariants.{Read, Syntax}
 use Rattle.script.specs.declared.structure.Transaction.{Transaction}
+use Rattle.script.specs.declared.structure.Single.TheVariants as single
 use Rattle.sql_parts.specs.declared.parsed.AsOf.{AsOf}
 use Rattle.sql_select.specs.declared.answer.Answer.{Answer}
 use Rattle.session.specs.InTurn.{State, run_item, run_transaction, run_look_at, run_query, note}
@@ -192,42 +192,43 @@ ran_rolled entries now who t here end = from_state entries now now who (item.Tra
 ))
 
 -- a look that did not begin
-ran_unknown : (entries : List Entry) (now : World) (who : Who) (query : AsOf) (why : Refusal) → item_of entries who ≡ Some (item.AsOf (Read query)) → as_of query.snapshot now ≡ Err why
-    → Ran entries now (record { who = who; item = item.AsOf (Read query) })
-ran_unknown entries now who query why here unknown = from_state entries now now who (item.AsOf (Read query)) (Refused why ∷ []) _ (ap (λ (f : Result Tables Refusal). run_look_at who query f (fresh now)) unknown) tt (refl) (ap (reply (item.AsOf (Read query))) (fate_one entries who now (Refused why))) (λ opening before e none. (
-  fine entries opening before who (Refused why) (Some (item.AsOf (Read query))) now false here e (none_looked who before none) (record { ends = tt; query = tt; look = unknown; limit = tt }),
+ran_unknown : (entries : List Entry) (now : World) (who : Who) (query : AsOf) (why : Refusal) → item_of entries who ≡ Some (item.Single (single.AsOf query)) → as_of query.snapshot now ≡ Err why
+    → Ran entries now (record { who = who; item = item.Single (single.AsOf query) })
+ran_unknown entries now who query why here unknown = from_state entries now now who (item.Single (single.AsOf query)) (Refused why ∷ []) _ (ap (λ (f : Result Tables Refusal). run_look_at who query f (fresh now)) unknown) tt (refl) (ap (reply (item.Single (single.AsOf query))) (fate_one entries who now (Refused why))) (λ opening before e none. (
+  fine entries opening before who (Refused why) (Some (item.Single (single.AsOf query))) now false here e (none_looked who before none) (record { ends = tt; query = tt; look = unknown; limit = tt }),
   tt,
 ))
 
 -- a look that ended with its answer
-ran_answered : (entries : List Entry) (now : World) (who : Who) (query : AsOf) (tables : Tables) (a : Answer) → item_of entries who ≡ Some (item.AsOf (Read query)) → as_of query.snapshot now ≡ Ok tables
-    → answer_at query tables ≡ Ok a → Ran entries now (record { who = who; item = item.AsOf (Read query) })
-ran_answered entries now who query tables a here found answered = from_state entries now now who (item.AsOf (Read query)) (Looked query.snapshot ∷ Unlooked ∷ []) _ (look_state now who query tables (Ok a) found answered) tt (refl) (ap (reply (item.AsOf (Read query))) (fate_two entries who now (Looked query.snapshot) Unlooked) ∙ ap query_text (answer_is now query tables (Ok a) found answered)) (λ opening before e none. (
-  fine entries opening before who (Looked query.snapshot) (Some (item.AsOf (Read query))) now false here e (none_looked who before none)
+ran_answered : (entries : List Entry) (now : World) (who : Who) (query : AsOf) (tables : Tables) (a : Answer) → item_of entries who ≡ Some (item.Single (single.AsOf query)) → as_of query.snapshot now ≡ Ok tables
+    → answer_at query tables ≡ Ok a → Ran entries now (record { who = who; item = item.Single (single.AsOf query) })
+ran_answered entries now who query tables a here found answered = from_state entries now now who (item.Single (single.AsOf query)) (Looked query.snapshot ∷ Unlooked ∷ []) _ (look_state now who query tables (Ok a) found answered) tt (refl) (ap (reply (item.Single (single.AsOf query))) (fate_two entries who now (Looked query.snapshot) Unlooked) ∙ ap query_text (answer_is now query tables (Ok a) found answered)) (λ opening before e none. (
+  fine entries opening before who (Looked query.snapshot) (Some (item.Single (single.AsOf query))) now false here e (none_looked who before none)
       (record { ends = tt; query = tt; look = (refl, is_retained query.snapshot now tables found); limit = tt }),
   (
-    fine entries opening (before ++ record { who = who; what = Looked query.snapshot } ∷ []) who Unlooked (Some (item.AsOf (Read query))) now true here (same_world entries opening now before who (Looked query.snapshot) e refl)
+    fine entries opening (before ++ record { who = who; what = Looked query.snapshot } ∷ []) who Unlooked (Some (item.Single (single.AsOf query))) now true here (same_world entries opening now before who (Looked query.snapshot) e refl)
         (looked_first who before (Looked query.snapshot) none) (record { ends = tt; query = (a, answer_is now query tables (Ok a) found answered); look = tt; limit = tt }),
     tt,
   ),
 ))
 
 -- a look whose query was refused
-ran_refused : (entries : List Entry) (now : World) (who : Who) (query : AsOf) (tables : Tables) (why : Refusal) → item_of entries who ≡ Some (item.AsOf (Read query)) → as_of query.snapshot now ≡ Ok tables
-    → answer_at query tables ≡ Err why → Ran entries now (record { who = who; item = item.AsOf (Read query) })
-ran_refused entries now who query tables why here found refused = from_state entries now now who (item.AsOf (Read query)) (Looked query.snapshot ∷ Refused why ∷ []) _ (look_state now who query tables (Err why) found refused) tt (refl) (ap (reply (item.AsOf (Read query))) (fate_two entries who now (Looked query.snapshot) (Refused why))) (λ opening before e none. (
-  fine entries opening before who (Looked query.snapshot) (Some (item.AsOf (Read query))) now false here e (none_looked who before none)
+ran_refused : (entries : List Entry) (now : World) (who : Who) (query : AsOf) (tables : Tables) (why : Refusal) → item_of entries who ≡ Some (item.Single (single.AsOf query)) → as_of query.snapshot now ≡ Ok tables
+    → answer_at query tables ≡ Err why → Ran entries now (record { who = who; item = item.Single (single.AsOf query) })
+ran_refused entries now who query tables why here found refused = from_state entries now now who (item.Single (single.AsOf query)) (Looked query.snapshot ∷ Refused why ∷ []) _ (look_state now who query tables (Err why) found refused) tt (refl) (ap (reply (item.Single (single.AsOf query))) (fate_two entries who now (Looked query.snapshot) (Refused why))) (λ opening before e none. (
+  fine entries opening before who (Looked query.snapshot) (Some (item.Single (single.AsOf query))) now false here e (none_looked who before none)
       (record { ends = tt; query = tt; look = (refl, is_retained query.snapshot now tables found); limit = tt }),
   (
-    fine entries opening (before ++ record { who = who; what = Looked query.snapshot } ∷ []) who (Refused why) (Some (item.AsOf (Read query))) now true here (same_world entries opening now before who (Looked query.snapshot) e refl)
+    fine entries opening (before ++ record { who = who; what = Looked query.snapshot } ∷ []) who (Refused why) (Some (item.Single (single.AsOf query))) now true here (same_world entries opening now before who (Looked query.snapshot) e refl)
         (looked_first who before (Looked query.snapshot) none) (record { ends = tt; query = inr (answer_is now query tables (Err why) found refused); look = tt; limit = tt }),
     tt,
   ),
 ))
 
--- a look that the grammar refuses
-ran_syntax : (entries : List Entry) (now : World) (who : Who) (place : ℕ) → Ran entries now (record { who = who; item = item.AsOf (Syntax place) })
-ran_syntax entries now who place = record { whats = []; lines = refl; shape = tt; behind = refl; replied = refl; rules = λ opening before e none. tt }
+-- an item without a line
+ran_unlined : (entries : List Entry) (now : World) (who : Who) (one : Item) (place : ℕ) → run_item who one (fresh now) ≡ record { now = now; journal = []; text = refusal_text (refusal.Syntax place) } → IsRun one []
+    → reply one None ≡ refusal_text (refusal.Syntax place) → Ran entries now (record { who = who; item = one })
+ran_unlined entries now who one place is shape replied = from_state entries now now who one [] _ is shape refl replied (λ opening before e none. tt)
 
 by_room : (entries : List Entry) (now : World) (who : Who) (t : Transaction) (label : Option (List ℕ)) → item_of entries who ≡ Some (item.Transaction t) → t.end ≡ ending.Commit label
     → (full : Bool) → (is_some label && is_full now) ≡ full → Ran entries now (record { who = who; item = item.Transaction t })
@@ -238,20 +239,24 @@ by_end : (entries : List Entry) (now : World) (who : Who) (t : Transaction) → 
 by_end entries now who t here (ending.Commit label) e = by_room entries now who t label here e (is_some label && is_full now) refl
 by_end entries now who t here ending.Rollback e = ran_rolled entries now who t here e
 
-by_answer : (entries : List Entry) (now : World) (who : Who) (query : AsOf) (tables : Tables) → item_of entries who ≡ Some (item.AsOf (Read query)) → as_of query.snapshot now ≡ Ok tables
-    → (a : Result Answer Refusal) → answer_at query tables ≡ a → Ran entries now (record { who = who; item = item.AsOf (Read query) })
+by_answer : (entries : List Entry) (now : World) (who : Who) (query : AsOf) (tables : Tables) → item_of entries who ≡ Some (item.Single (single.AsOf query)) → as_of query.snapshot now ≡ Ok tables
+    → (a : Result Answer Refusal) → answer_at query tables ≡ a → Ran entries now (record { who = who; item = item.Single (single.AsOf query) })
 by_answer entries now who query tables here found (Ok a) e = ran_answered entries now who query tables a here found e
 by_answer entries now who query tables here found (Err why) e = ran_refused entries now who query tables why here found e
 
-by_snapshot : (entries : List Entry) (now : World) (who : Who) (query : AsOf) → item_of entries who ≡ Some (item.AsOf (Read query)) → (found : Result Tables Refusal) → as_of query.snapshot now ≡ found
-    → Ran entries now (record { who = who; item = item.AsOf (Read query) })
+by_snapshot : (entries : List Entry) (now : World) (who : Who) (query : AsOf) → item_of entries who ≡ Some (item.Single (single.AsOf query)) → (found : Result Tables Refusal) → as_of query.snapshot now ≡ found
+    → Ran entries now (record { who = who; item = item.Single (single.AsOf query) })
 by_snapshot entries now who query here (Ok tables) e = by_answer entries now who query tables here e (answer_at query tables) refl
 by_snapshot entries now who query here (Err why) e = ran_unknown entries now who query why here e
 
 by_item : (entries : List Entry) (now : World) (who : Who) (one : Item) → item_of entries who ≡ Some one → Ran entries now (record { who = who; item = one })
 by_item entries now who (item.Transaction t) here = by_end entries now who t here t.end refl
-by_item entries now who (item.AsOf (Read query)) here = by_snapshot entries now who query here (as_of query.snapshot now) refl
-by_item entries now who (item.AsOf (Syntax place)) here = ran_syntax entries now who place
+by_item entries now who (item.Single (single.AsOf query)) here = by_snapshot entries now who query here (as_of query.snapshot now) refl
+by_item entries now who (item.Single (single.Syntax place)) here = ran_unlined entries now who (item.Single (single.Syntax place)) place refl tt refl
+by_item entries now who (item.Single (single.DropBelow below)) here = ran_unlined entries now who (item.Single (single.DropBelow below)) 0 refl tt refl
+by_item entries now who (item.Single (single.SnapIds query)) here = ran_unlined entries now who (item.Single (single.SnapIds query)) 0 refl tt refl
+by_item entries now who (item.Single (single.Call call places)) here = ran_unlined entries now who (item.Single (single.Call call places)) 0 refl tt refl
+by_item entries now who (item.Single (single.Results query)) here = ran_unlined entries now who (item.Single (single.Results query)) 0 refl tt refl
 
 pub ran : (entries : List Entry) (now : World) (e : Entry) → item_of entries e.who ≡ Some e.item → Ran entries now e
 ran entries now e here = by_item entries now e.who e.item here

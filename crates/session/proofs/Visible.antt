@@ -4,11 +4,11 @@ use Rattle.std.specs.List.{AllByRecursion}
 use Rattle.std.specs.Option.{option_map}
 use Rattle.retro_base.specs.declared.who.Who.{Who}
 use Rattle.script.specs.declared.structure.Item.{Item}
-use Rattle.script.specs.declared.structure.Item.TheVariants.{Transaction, AsOf}
+use Rattle.script.specs.declared.structure.Item.TheVariants.{Transaction, Single}
 use Rattle.script.specs.declared.structure.Phase.{Phase}
-use Rattle.script.specs.declared.structure.Reading.TheVariants.{Read, Syntax}
 use Rattle.script.specs.declared.structure.Script.{Script}
 use Rattle.script.specs.declared.structure.Session.{Session}
+use Rattle.script.specs.declared.structure.Single.TheVariants.{AsOf, DropBelow, SnapIds, Call, Results, Syntax}
 use Rattle.session.specs.Items.{Entry, entries_of, entries_of_items, entries_of_phases, entries_of_sessions, item_of, same_who}
 use Rattle.session.specs.Journal.{declared_by, is_shown, shown_line, visible, visible_text, what_text}
 use Rattle.session.specs.Lawful.{IsRun, Lawful, own}
@@ -61,10 +61,14 @@ run_shown : (one : Item) (whats : List What) → IsRun one whats → LastShown w
 run_shown (Transaction t) (Began ∷ Done label ∷ []) r = refl
 run_shown (Transaction t) (Began ∷ RolledBack ∷ []) r = refl
 run_shown (Transaction t) (Began ∷ Refused why ∷ []) r = refl
-run_shown (AsOf (Read query)) (Looked snapshot ∷ Unlooked ∷ []) r = refl
-run_shown (AsOf (Read query)) (Looked snapshot ∷ Refused why ∷ []) r = refl
-run_shown (AsOf (Read query)) (Refused why ∷ []) r = refl
-run_shown (AsOf (Syntax place)) [] r = tt
+run_shown (Single (AsOf query)) (Looked snapshot ∷ Unlooked ∷ []) r = refl
+run_shown (Single (AsOf query)) (Looked snapshot ∷ Refused why ∷ []) r = refl
+run_shown (Single (AsOf query)) (Refused why ∷ []) r = refl
+run_shown (Single (Syntax place)) [] r = tt
+run_shown (Single (DropBelow below)) [] r = tt
+run_shown (Single (SnapIds query)) [] r = tt
+run_shown (Single (Call call places)) [] r = tt
+run_shown (Single (Results query)) [] r = tt
 run_shown one whats r = absurd r
 
 tail_shown : (what : What) (whats : List What) → LastShown (what ∷ whats) → LastShown whats
@@ -170,18 +174,42 @@ reply_at_same (Transaction t) f g RolledBack e r = rw (e, r) refl
 reply_at_same (Transaction t) f g (Looked snapshot) e r = refl
 reply_at_same (Transaction t) f g Unlooked e r = refl
 reply_at_same (Transaction t) f g (Refused why) e r = refl
-reply_at_same (AsOf (Read query)) f g Began e r = refl
-reply_at_same (AsOf (Read query)) f g (Done label) e r = refl
-reply_at_same (AsOf (Read query)) f g RolledBack e r = refl
-reply_at_same (AsOf (Read query)) f g (Looked snapshot) e r = refl
-reply_at_same (AsOf (Read query)) f g Unlooked e r = rw e refl
-reply_at_same (AsOf (Read query)) f g (Refused why) e r = refl
-reply_at_same (AsOf (Syntax place)) f g Began e r = refl
-reply_at_same (AsOf (Syntax place)) f g (Done label) e r = refl
-reply_at_same (AsOf (Syntax place)) f g RolledBack e r = refl
-reply_at_same (AsOf (Syntax place)) f g (Looked snapshot) e r = refl
-reply_at_same (AsOf (Syntax place)) f g Unlooked e r = refl
-reply_at_same (AsOf (Syntax place)) f g (Refused why) e r = refl
+reply_at_same (Single (AsOf query)) f g Began e r = refl
+reply_at_same (Single (AsOf query)) f g (Done label) e r = refl
+reply_at_same (Single (AsOf query)) f g RolledBack e r = refl
+reply_at_same (Single (AsOf query)) f g (Looked snapshot) e r = refl
+reply_at_same (Single (AsOf query)) f g Unlooked e r = rw e refl
+reply_at_same (Single (AsOf query)) f g (Refused why) e r = refl
+reply_at_same (Single (Syntax place)) f g Began e r = refl
+reply_at_same (Single (Syntax place)) f g (Done label) e r = refl
+reply_at_same (Single (Syntax place)) f g RolledBack e r = refl
+reply_at_same (Single (Syntax place)) f g (Looked snapshot) e r = refl
+reply_at_same (Single (Syntax place)) f g Unlooked e r = refl
+reply_at_same (Single (Syntax place)) f g (Refused why) e r = refl
+reply_at_same (Single (DropBelow below)) f g Began e r = refl
+reply_at_same (Single (DropBelow below)) f g (Done label) e r = refl
+reply_at_same (Single (DropBelow below)) f g RolledBack e r = refl
+reply_at_same (Single (DropBelow below)) f g (Looked snapshot) e r = refl
+reply_at_same (Single (DropBelow below)) f g Unlooked e r = refl
+reply_at_same (Single (DropBelow below)) f g (Refused why) e r = refl
+reply_at_same (Single (SnapIds query)) f g Began e r = refl
+reply_at_same (Single (SnapIds query)) f g (Done label) e r = refl
+reply_at_same (Single (SnapIds query)) f g RolledBack e r = refl
+reply_at_same (Single (SnapIds query)) f g (Looked snapshot) e r = refl
+reply_at_same (Single (SnapIds query)) f g Unlooked e r = refl
+reply_at_same (Single (SnapIds query)) f g (Refused why) e r = refl
+reply_at_same (Single (Call call places)) f g Began e r = refl
+reply_at_same (Single (Call call places)) f g (Done label) e r = refl
+reply_at_same (Single (Call call places)) f g RolledBack e r = refl
+reply_at_same (Single (Call call places)) f g (Looked snapshot) e r = refl
+reply_at_same (Single (Call call places)) f g Unlooked e r = refl
+reply_at_same (Single (Call call places)) f g (Refused why) e r = refl
+reply_at_same (Single (Results query)) f g Began e r = refl
+reply_at_same (Single (Results query)) f g (Done label) e r = refl
+reply_at_same (Single (Results query)) f g RolledBack e r = refl
+reply_at_same (Single (Results query)) f g (Looked snapshot) e r = refl
+reply_at_same (Single (Results query)) f g Unlooked e r = refl
+reply_at_same (Single (Results query)) f g (Refused why) e r = refl
 
 reply_same : (one : Item) (a b : Option Fate) → seen a ≡ seen b → rolled_from a ≡ rolled_from b → reply one a ≡ reply one b
 reply_same one (Some f) (Some g) s r =

@@ -10,8 +10,9 @@ use Rattle.script.specs.declared.structure.Item.{Item}
 use Rattle.script.specs.declared.structure.Item.TheVariants as item
 use Rattle.script.specs.declared.structure.Phase.{Phase}
 use Rattle.script.specs.declared.structure.Reading.{Reading}
-use Rattle.script.specs.declared.structure.Reading.TheVariants.{Read, Syntax}
 use Rattle.script.specs.declared.structure.Session.{Session}
+use Rattle.script.specs.declared.structure.Single.{Single}
+use Rattle.script.specs.declared.structure.Single.TheVariants as single
 use Rattle.script.specs.declared.structure.Transaction.{Transaction}
 use Rattle.sql_parts.specs.declared.parsed.AsOf.{AsOf}
 use Rattle.sql_tree.specs.declared.statement.Statement.{Statement}
@@ -79,10 +80,21 @@ run_look_at who query (Err why) s = run_refused who why s
 abbrev pub run_look : Who → AsOf → State → State
 run_look who query s = run_look_at who query (as_of query.snapshot s.now) s
 
+-- refused with no line of the journal
+abbrev pub run_unlined : ℕ → State → State
+run_unlined place s = say (refusal_text (refusal.Syntax place)) s
+
+abbrev pub run_single : Who → Single → State → State
+run_single who (single.AsOf query) s = run_look who query s
+run_single who (single.Syntax place) s = run_unlined place s
+run_single who (single.DropBelow below) s = run_unlined 0 s
+run_single who (single.SnapIds query) s = run_unlined 0 s
+run_single who (single.Call call places) s = run_unlined 0 s
+run_single who (single.Results query) s = run_unlined 0 s
+
 abbrev pub run_item : Who → Item → State → State
 run_item who (item.Transaction t) s = run_transaction who t s
-run_item who (item.AsOf (Read query)) s = run_look who query s
-run_item who (item.AsOf (Syntax place)) s = say (refusal_text (refusal.Syntax place)) s
+run_item who (item.Single single) s = run_single who single s
 
 abbrev pub run_items : ℕ → ℕ → ℕ → List Item → State → State
 run_items phase session number [] s = s

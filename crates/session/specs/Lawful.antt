@@ -6,8 +6,8 @@ use Rattle.retro_base.specs.declared.refusal.Refusal.TheVariants.{OutOfMemory, S
 use Rattle.retro_base.specs.declared.who.Who.{Who}
 use Rattle.script.specs.declared.structure.End.TheVariants as ending
 use Rattle.script.specs.declared.structure.Item.{Item}
-use Rattle.script.specs.declared.structure.Item.TheVariants.{Transaction, AsOf}
-use Rattle.script.specs.declared.structure.Reading.TheVariants.{Read, Syntax}
+use Rattle.script.specs.declared.structure.Item.TheVariants.{Transaction, Single}
+use Rattle.script.specs.declared.structure.Single.TheVariants.{AsOf, DropBelow, SnapIds, Call, Results, Syntax}
 use Rattle.sql_select.specs.declared.answer.Answer.{Answer}
 use Rattle.session.specs.Items.{Entry, same_who, item_of}
 use Rattle.session.specs.World.{World, world, as_of, answer, mark_of, is_full}
@@ -36,15 +36,20 @@ abbrev pub has_looked : Who → List Line → Bool
 has_looked who lines = list_any is_looked (own who lines)
 
 -- What the lines of an item say, in order: a transaction begins and then is done, rolled back or refused; a look begins and then ends with its answer
--- or refused, or it is refused alone; a line that the grammar refuses leaves none.
+-- or refused, or it is refused alone; a line that the grammar refuses leaves none, and so does
+-- an item that this version does not run.
 abbrev pub IsRun : Item → List What → Type 0
 IsRun (Transaction t) (Began ∷ Done label ∷ []) = Unit {0}
 IsRun (Transaction t) (Began ∷ RolledBack ∷ []) = Unit {0}
 IsRun (Transaction t) (Began ∷ Refused why ∷ []) = Unit {0}
-IsRun (AsOf (Read query)) (Looked snapshot ∷ Unlooked ∷ []) = Unit {0}
-IsRun (AsOf (Read query)) (Looked snapshot ∷ Refused why ∷ []) = Unit {0}
-IsRun (AsOf (Read query)) (Refused why ∷ []) = Unit {0}
-IsRun (AsOf (Syntax place)) [] = Unit {0}
+IsRun (Single (AsOf query)) (Looked snapshot ∷ Unlooked ∷ []) = Unit {0}
+IsRun (Single (AsOf query)) (Looked snapshot ∷ Refused why ∷ []) = Unit {0}
+IsRun (Single (AsOf query)) (Refused why ∷ []) = Unit {0}
+IsRun (Single (Syntax place)) [] = Unit {0}
+IsRun (Single (DropBelow below)) [] = Unit {0}
+IsRun (Single (SnapIds query)) [] = Unit {0}
+IsRun (Single (Call call places)) [] = Unit {0}
+IsRun (Single (Results query)) [] = Unit {0}
 IsRun item whats = ⊥
 
 -- phases come one after the other, and so do the items of a session
@@ -71,15 +76,15 @@ IsEnding item what = Unit {0}
 
 -- a look that has begun ends with its answer only where there is one, and refused only with its refusal, or for want of memory
 abbrev pub IsQueryEnd : World → Option Item → Bool → What → Type 0
-IsQueryEnd now (Some (AsOf (Read query))) true Unlooked = (a : Answer) × (answer query now ≡ Ok a)
-IsQueryEnd now (Some (AsOf (Read query))) true (Refused why) = (why ≡ OutOfMemory) ⊎ (answer query now ≡ Err why)
+IsQueryEnd now (Some (Single (AsOf query))) true Unlooked = (a : Answer) × (answer query now ≡ Ok a)
+IsQueryEnd now (Some (Single (AsOf query))) true (Refused why) = (why ≡ OutOfMemory) ⊎ (answer query now ≡ Err why)
 IsQueryEnd now item looked Unlooked = ⊥
 IsQueryEnd now item looked what = Unit {0}
 
 -- a look begins only at a snapshot that is retained, the one that is asked; and it is refused alone only with the refusal of that number
 abbrev pub IsLook : World → Option Item → Bool → What → Type 0
-IsLook now (Some (AsOf (Read query))) false (Looked snapshot) = (snapshot ≡ query.snapshot) × (is_some (mark_of snapshot now.marks) ≡ true)
-IsLook now (Some (AsOf (Read query))) false (Refused why) = as_of query.snapshot now ≡ Err why
+IsLook now (Some (Single (AsOf query))) false (Looked snapshot) = (snapshot ≡ query.snapshot) × (is_some (mark_of snapshot now.marks) ≡ true)
+IsLook now (Some (Single (AsOf query))) false (Refused why) = as_of query.snapshot now ≡ Err why
 IsLook now item looked (Looked snapshot) = ⊥
 IsLook now item looked what = Unit {0}
 

@@ -5,11 +5,11 @@ use Rattle.std.specs.Option.{option_or, option_map_or}
 use Rattle.retro_base.specs.declared.who.Who.{Who}
 use Rattle.retro_base.specs.declared.refusal.Refusal.TheVariants as refusal
 use Rattle.script.specs.declared.structure.Item.{Item}
-use Rattle.script.specs.declared.structure.Item.TheVariants.{Transaction, AsOf}
+use Rattle.script.specs.declared.structure.Item.TheVariants.{Transaction, Single}
 use Rattle.script.specs.declared.structure.Phase.{Phase}
-use Rattle.script.specs.declared.structure.Reading.TheVariants.{Read, Syntax}
 use Rattle.script.specs.declared.structure.Script.{Script}
 use Rattle.script.specs.declared.structure.Session.{Session}
+use Rattle.script.specs.declared.structure.Single.TheVariants.{AsOf, DropBelow, SnapIds, Call, Results, Syntax}
 use Rattle.session.specs.Items.{Entry, entries_of, item_of, same_who}
 use Rattle.session.specs.Journal.{visible_text}
 use Rattle.session.specs.Line.{line}
@@ -56,14 +56,18 @@ began_at f = option_map_or (λ began. began) f.began f.now
 abbrev pub reply_at : Item → Fate → What → List ℕ
 reply_at (Transaction t) f (Done label) = flat_map outcome_text (replies t.statements f.now.current) ++ end_text (newest f.now + 1) label
 reply_at (Transaction t) f RolledBack = flat_map outcome_text (replies t.statements (began_at f).current) ++ line (codes "rolled back")
-reply_at (AsOf (Read query)) f Unlooked = query_text (answer query f.now)
+reply_at (Single (AsOf query)) f Unlooked = query_text (answer query f.now)
 reply_at item f (Refused why) = refusal_text why
 reply_at item f what = line (codes "not run")
 
--- the reply lines of an item by what became of it; a look that the grammar refuses has no line
+-- the reply lines of an item by what became of it; an item that the grammar refuses has no line, nor has one that this version does not run
 abbrev pub reply : Item → Option Fate → List ℕ
 reply item (Some f) = reply_at item f f.last
-reply (AsOf (Syntax place)) None = refusal_text (refusal.Syntax place)
+reply (Single (Syntax place)) None = refusal_text (refusal.Syntax place)
+reply (Single (DropBelow below)) None = refusal_text (refusal.Syntax 0)
+reply (Single (SnapIds query)) None = refusal_text (refusal.Syntax 0)
+reply (Single (Call call places)) None = refusal_text (refusal.Syntax 0)
+reply (Single (Results query)) None = refusal_text (refusal.Syntax 0)
 reply item None = line (codes "not run")
 
 -- the items of a session, the first having this number

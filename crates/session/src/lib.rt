@@ -1,13 +1,48 @@
 //! Runs scripts, and says in a journal and a transcript what became of each item.
 #![tactic(auto)]
 
+mod asking;
+mod attempt;
+mod beside;
+mod calling;
+mod combining;
+mod driving;
+mod dropping;
+mod ending;
+mod gate;
+mod item;
+mod items;
 mod journal;
+mod kept;
 mod laws;
+mod listing;
+mod looking;
+mod nothing;
+mod numbers;
+mod passing;
+mod plan;
+mod printing;
+mod result_table;
 mod rows;
 mod run;
+mod shown;
+mod statements;
+#[cfg(test)]
+mod tests;
 mod texts;
+mod transacting;
+mod wording;
 mod world;
 
+pub use driving::{Finished, run_plan};
+pub use gate::{Gate, NoGate, Point};
+pub use item::{Done, RunItems};
+pub use items::Items;
 pub use journal::{Journal, Line, What};
-pub use laws::visible_lines_decide;
+pub use kept::Kept;
+pub use laws::{law_of_runs, turns_make_runs, visible_lines_decide};
+pub use passing::run_session;
+pub use plan::{Plan, SessionPlan, Task, names_of, plan_of};
+pub use printing::print;
+pub use result_table::ResultTable;
 pub use run::{Ended, run_script};

@@ -4,7 +4,7 @@ ghost use Rattle.std.specs.Prelude.{◌≡◌, ◌≤◌, ◌++◌, ◌∷◌, [
 ghost use Rattle.std.specs.Fmt.{decimal};
 ghost use Rattle.std.specs.List.{AllByRecursion};
 ghost use Rattle.script.specs.Limits.{ItemFits, PhaseFits, ScriptFits, SessionFits, StatementFits};
-ghost use Rattle.session.specs.InTurn.{note, rolled_back, run_end, run_item, run_items, run_look, run_phase, run_phases, run_query, run_refused, run_session, run_statements, run_transaction, say, state_of};
+ghost use Rattle.session.specs.InTurn.{note, rolled_back, run_end, run_item, run_items, run_look, run_phase, run_phases, run_query, run_refused, run_session, run_single, run_statements, run_transaction, run_unlined, say, state_of};
 ghost use Rattle.session.specs.Items.{entries_of};
 ghost use Rattle.session.specs.Lawful.{Lawful};
 ghost use Rattle.session.specs.Line.{line};
@@ -15,7 +15,7 @@ use crate::journal::{Journal, Line, What, write_visible};
 use crate::texts::{write_answer, write_refusal, write_reply};
 use crate::world::World;
 use retro_base::{PHASES, RETAINED_SNAPSHOTS, Refusal, Who};
-use script::{End, Item, Phase, Reading, Script, Session, Transaction};
+use script::{End, Item, Phase, Reading, Script, Session, Single, Transaction};
 use sql_text::AsOf;
 use sql_tree::Statement;
 use std::alloc::{AllocError, Global};
@@ -194,12 +194,30 @@ impl Run {
     {
         match item {
             Item::Transaction(transaction) => self.transaction(alloc, who, transaction),
-            Item::AsOf(Reading::Read(query)) => self.look(alloc, who, query),
-            Item::AsOf(Reading::Syntax { place }) => {
-                let why = Refusal::Syntax { place: *place };
-                write_refusal(alloc, why, &mut self.replies)
-            }
+            Item::Single(single) => self.single(alloc, who, single),
         }
+    }
+
+    // This version runs no drops, no queries of snapshots or results, and no calls: they are refused as lines are that
+    // the grammar does not have.
+    fn single(&mut self, alloc: Global, who: Who, single: &Single) -> Result<(), AllocError>
+        ensures { OnOk result (state_of self.new ≡ run_single who single.now (state_of self.old)) }
+    {
+        match single {
+            Single::AsOf(query) => self.look(alloc, who, query),
+            Single::Syntax { place } => self.refuse_line(alloc, *place),
+            Single::DropBelow(_) => self.refuse_line(alloc, 0),
+            Single::SnapIds(_) => self.refuse_line(alloc, 0),
+            Single::Call { .. } => self.refuse_line(alloc, 0),
+            Single::Results(_) => self.refuse_line(alloc, 0),
+        }
+    }
+
+    // Says that the item is refused at this place of its line, and notes nothing.
+    fn refuse_line(&mut self, alloc: Global, place: u32) -> Result<(), AllocError>
+        ensures { OnOk result (state_of self.new ≡ run_unlined place (state_of self.old)) }
+    {
+        write_refusal(alloc, Refusal::Syntax { place }, &mut self.replies)
     }
 
     fn say_item(&mut self, alloc: Global, number: u32) -> Result<(), AllocError>

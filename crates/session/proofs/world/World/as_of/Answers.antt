@@ -1,6 +1,6 @@
 use Rattle.std.proofs.Common.{◌≡◌, ◌-◌, ◌<◌, ◌≤◌, ap, sym, length, refl, arith, ◌∙◌}
 use Rattle.std.proofs.lemmas.Option.{slice_get_read}
-use Rattle.session.proofs.Numbers.{as_of_at}
+use Rattle.session.proofs.Decimals.{as_of_at}
 use Rattle.session.specs.World.{as_of}
 use Rattle.session.proofs.world.World.as_of.Goals as goal
 

@@ -1,5 +1,5 @@
 use Rattle.std.proofs.Common.{◌≡◌, ◌<◌, ap, length, length-append, arith, ◌∙◌}
-use Rattle.session.proofs.Numbers.{numbered_push, room}
+use Rattle.session.proofs.Decimals.{numbered_push, room}
 use Rattle.session.specs.World.{is_full}
 use Rattle.session.specs.declared.world.Mark.{Mark}
 use Rattle.session.proofs.world.World.declare.Goals as goal

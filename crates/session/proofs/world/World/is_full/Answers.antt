@@ -1,5 +1,5 @@
 use Rattle.std.proofs.Common.{sym, ap, ◌∙◌}
-use Rattle.session.proofs.Numbers.{full_count}
+use Rattle.session.proofs.Decimals.{full_count}
 use Rattle.session.specs.World.{is_full}
 use Rattle.session.proofs.world.World.is_full.Goals as goal
 

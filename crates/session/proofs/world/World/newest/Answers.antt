@@ -1,5 +1,5 @@
 use Rattle.std.proofs.Common.{sym, ap, ◌∙◌}
-use Rattle.session.proofs.Numbers.{newest_count}
+use Rattle.session.proofs.Decimals.{newest_count}
 use Rattle.session.specs.World.{newest}
 use Rattle.session.proofs.world.World.newest.Goals as goal
 

@@ -1,0 +1,11 @@
+use Rattle.std.proofs.Common.{◌≡◌, ◌+◌, length}
+use Rattle.retro_base.specs.declared.limits.TheConstants.{DEFAULT_CAPACITY, MEMORY_PAGES}
+use Rattle.plain_store.specs.Plain.{zero_ground}
+use Rattle.session.specs.Turns.{CameThrough}
+use Rattle.session.proofs.driving.run_plan.Given as goal
+
+abbrev pub invariant-loop-index : goal.invariant-loop-index
+invariant-loop-index g l = record {
+  long : length l.kept ≡ l.index;
+  came : CameThrough l.plan (zero_ground MEMORY_PAGES DEFAULT_CAPACITY) l.store l.kept (l.index + 1) 0;
+}
