@@ -9,8 +9,8 @@ ghost use Rattle.script.specs.declared.structure.Script.{Script};
 ghost use Rattle.retro.specs.Program.{HoldsFront, IsTheBadLine, IsTranscript, ReadToEnd, Says, WritesOneJournal, bad_script_line as bad_script_text, bad_words_line, is_run, out_of_memory_line, source_fault_line};
 
 use feeds::{Sink, Source, put_all, read_front};
-use retro_base::{Failed, Refusal, SCRIPT_BYTES};
-use script::front_law;
+use retro_base::{Failed, Refusal};
+use script::{SCRIPT_BYTES, front_law};
 use session::run_script;
 use std::alloc::{AllocError, Global};
 

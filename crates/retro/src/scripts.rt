@@ -4,7 +4,7 @@ use crate::tests::run;
 use std::test::Fail;
 
 // A status, a script, and the transcript worked out by hand.
-const SCRIPTS: [(u8, &[u8], &[u8]); 66] = [
+const SCRIPTS: [(u8, &[u8], &[u8]); 69] = [
     (0, b"", b"journal\n"),
     (0, b"\n\n# only a comment\n", b"journal\n"),
     (0, b"PHASE", b"phase 1\njournal\n"),
@@ -187,8 +187,22 @@ const SCRIPTS: [(u8, &[u8], &[u8]); 66] = [
         b"retro: bad script at line 1\n",
     ),
     (3, b"SESSIONa", b"retro: bad script at line 1\n"),
-    (3, b"SESSION a\nSESSION b", b"retro: bad script at line 2\n"),
-    (3, b"SESSION a\nPHASE", b"retro: bad script at line 2\n"),
+    (3, b"SESSION a\nSESSION a", b"retro: bad script at line 2\n"),
+    (
+        0,
+        b"SESSION a\nSESSION b",
+        b"phase 1\nsession a\nsession b\njournal\n",
+    ),
+    (
+        0,
+        b"SESSION a\nPHASE",
+        b"phase 1\nsession a\nphase 2\njournal\n",
+    ),
+    (
+        0,
+        b"SESSION b\nCREATE TABLE t(a INT)\nCOMMIT\nSESSION a\nINSERT INTO t VALUES (1)\nCOMMIT\nCOMMIT WITH SNAPSHOT\nPHASE\nSESSION a\nSELECT * FROM t\nROLLBACK\nSESSION b\nSELECT AS OF 1 * FROM t\nPHASE\nPHASE\nSESSION b",
+        b"phase 1\nsession b\nitem 1\nok\ncommitted\nsession a\nitem 1\nok 1\ncommitted\nitem 2\ncommitted as 1\nphase 2\nsession a\nitem 1\nrows 1\n1\nrolled back\nsession b\nitem 1\nrows 1\n1\nphase 3\nphase 4\nsession b\njournal\n1 b 1 done\n1 a 1 done\n1 a 2 done as 1\n2 a 1 rolled back\n2 b 1 looked 1\n2 b 1 unlooked\n",
+    ),
     (
         0,
         b"SESSION a\nROLLBACK",
@@ -205,24 +219,29 @@ const SCRIPTS: [(u8, &[u8], &[u8]); 66] = [
         b"retro: bad script at line 2\n",
     ),
     (
-        3,
+        0,
         b"SESSION a\nDROP SNAPSHOTS BELOW 2",
-        b"retro: bad script at line 2\n",
+        b"phase 1\nsession a\nitem 1\nrefused 19 Syntax 0\njournal\n",
     ),
     (
-        3,
+        0,
         b"SESSION a\nSELECT * FROM rql_x\nCOMMIT",
-        b"retro: bad script at line 2\n",
+        b"phase 1\nsession a\nitem 1\nrefused 19 Syntax 0\nitem 2\ncommitted\njournal\n1 a 2 done\n",
     ),
     (
-        3,
+        0,
         b"SESSION a\nSELECT a FROM SnapIds, t\nCOMMIT",
-        b"retro: bad script at line 2\n",
+        b"phase 1\nsession a\nitem 1\nrefused 19 Syntax 0\nitem 2\ncommitted\njournal\n1 a 2 done\n",
+    ),
+    (
+        0,
+        b"SESSION a\nCollateData('a','b','c')\nCollateData('a'\nDROP SNAPSHOTS BELOW\nSELECT FROM rql_x",
+        b"phase 1\nsession a\nitem 1\nrefused 19 Syntax 0\nitem 2\nrefused 19 Syntax 15\nitem 3\nrefused 19 Syntax 20\nitem 4\nrefused 19 Syntax 7\njournal\n",
     ),
     (
         3,
-        b"SESSION a\nCollateData('a','b','c')",
-        b"retro: bad script at line 2\n",
+        b"SESSION a\nHELLO\nDROP SNAPSHOTS BELOW 2\nCOMMIT",
+        b"retro: bad script at line 3\n",
     ),
     (3, b"SESSION a\nCOMMIT x", b"retro: bad script at line 2\n"),
     (3, b"SESSION a\nCOMMIT ?", b"retro: bad script at line 2\n"),

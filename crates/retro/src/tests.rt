@@ -109,7 +109,7 @@ fn fields_are_quoted_where_they_need_it(rt: HostRuntime) -> Result<(), Fail> {
 #[test]
 fn a_line_as_long_as_a_script_is_bad(rt: HostRuntime) -> Result<(), Fail> {
     let mut script = b"SESSION a\n".to_vec(rt.alloc())?;
-    for _ in 0..65_526 {
+    for _ in 0..4_194_294 {
         script.push(b'(')?;
     }
     let outcome = run(&rt, script.as_slice())?;

@@ -1,5 +1,5 @@
 use Rattle.std.proofs.Common.{Ok}
-use Rattle.retro_base.specs.declared.limits.TheConstants.{SCRIPT_BYTES}
+use Rattle.script.specs.declared.limits.TheConstants.{SCRIPT_BYTES}
 use Rattle.script.specs.Script.{ReadsAs, IsOnlyReading}
 use Rattle.retro.proofs.Front.{bad_front, reads_front, read_to_end}
 use Rattle.retro.proofs.program.transcript.Goals as goal
