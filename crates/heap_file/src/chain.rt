@@ -2,12 +2,13 @@
 
 ghost use Rattle.std.specs.Prelude.{◌≡◌, ◌<◌, ◌++◌, All, IfErr, IfOk, OnOk};
 ghost use Rattle.retro_base.specs.declared.refusal.Refusal.TheVariants.{OutOfMemory};
-ghost use Rattle.heap_file.specs.HeapPage.{IsHeapPage};
-ghost use Rattle.pager.specs.Draft.{Reads};
+ghost use Rattle.heap_file.specs.HeapPage.{IsHeapPage, page_bytes};
+ghost use Rattle.pager.specs.Draft.{Reads, drafted};
+ghost use Rattle.pager.specs.Pages.{Pages, written};
 ghost use Rattle.pager.specs.Stop.{OnlyReads};
 ghost use Rattle.heap_file.specs.Chain.{IsPlaceOf, IsWritable, chain, heap_page, met, rows_of, rows_on};
 
-use crate::page::{HeapPage, held};
+use crate::page::{HeapPage, held, page_of};
 use pager::{Draft, Pager, Stop, broken};
 use retro_base::Refusal;
 use std::alloc::Global;
@@ -50,6 +51,21 @@ pub fn load<P: Pager>(
         Some(held) => Ok(held),
         None => Err(Stop::Refused(broken(page))),
     }
+}
+
+/// Drafts that a page holds this.
+pub fn store(alloc: Global, draft: &mut Draft, page: u32, held: &HeapPage) -> Result<(), Refusal>
+    requires there { page < draft.old.size }
+    requires held { IsHeapPage held.now }
+    ensures drafted { OnOk result
+        ((pages : Pages) → drafted pages draft.new.list
+        ≡ written (drafted pages draft.old.list) page (page_bytes held.now)) }
+    ensures memory { IfErr result (λ why. why ≡ OutOfMemory) }
+    ensures size { draft.new.size ≡ draft.old.size }
+{
+    let bytes = page_of(alloc, held)?;
+    draft.put(page, &bytes)?;
+    Ok(())
 }
 
 /// The chain that begins with that page.

@@ -1,6 +1,7 @@
 //! Tables as chains of pages: rows under numbers of their own, over any pager.
 #![tactic(auto)]
 
+mod appending;
 mod calls;
 mod chain;
 pub mod drafting;

@@ -5,7 +5,8 @@ ghost use Rattle.sql_tree.specs.Condition.{tree_of as condition_tree};
 ghost use Rattle.sql_tree.specs.Expression.{tree_of as expression_tree};
 ghost use Rattle.sql_build.specs.Built.{acted, built, compare_step, condition_ends, condition_on, empty, expression_ends, leaf, leaf_step, said, stepped, taken, with_parts};
 
-use crate::pieces::{line, output, query, row, select_list, table, term, update};
+use crate::pieces::{line, row, table, term, update};
+use crate::selects::{output, query, select_list};
 use sql_parts::{Action, Op, Parsed, Part, Parts, StepAction};
 use sql_tree::{Comparison, Condition, ConditionStep, Expression, ExpressionStep, Operand};
 use std::alloc::{AllocError, Global};

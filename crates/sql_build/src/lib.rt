@@ -3,5 +3,6 @@
 
 mod draft;
 mod pieces;
+mod selects;
 
 pub use draft::assemble;

@@ -3,6 +3,8 @@
 
 mod grammar;
 mod machine;
+mod sentences;
+mod symbols;
 mod table;
 
 pub use grammar::{Class, Room, Rule, Symbol};
