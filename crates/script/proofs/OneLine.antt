@@ -24,16 +24,16 @@ parsed_only one apart text tokens ending places p line l at i s only other (toke
 parsed_only one apart text tokens ending places p line l at i s only other (tokens', ending', l', inr (place, broken, e)) = absurd (apart text place p broken s)
 
 -- where the grammar refuses it
-pub refused_is : (text : List ℕ) (tokens : List Placed) (ending : Ending) (place : ℕ) (kind : Class) (line : Line) → Lexes 0 text tokens ending → kind ≡ class_of tokens → line ≡ refused_line kind place → SyntaxAt text place
+pub refused_is : (text : List ℕ) (tokens : List Placed) (ending : Ending) (place : ℕ) (kind : Class) (line : Line) → Lexes 0 text tokens ending → kind ≡ class_of text tokens → line ≡ refused_line kind place → SyntaxAt text place
     → IsStatementLine text line
 refused_is text tokens ending place kind line l k e s = (tokens, ending, l, inr (place, s, e ∙ ap (λ x. refused_line x place) k))
 
-pub refused_only : HasOneReading → BrokenLinesSayNothing → LinesBreakAtOnePlace → (text : List ℕ) (tokens : List Placed) (ending : Ending) (place : ℕ) (kind : Class) (line : Line) → Lexes 0 text tokens ending → kind ≡ class_of tokens
+pub refused_only : HasOneReading → BrokenLinesSayNothing → LinesBreakAtOnePlace → (text : List ℕ) (tokens : List Placed) (ending : Ending) (place : ℕ) (kind : Class) (line : Line) → Lexes 0 text tokens ending → kind ≡ class_of text tokens
     → line ≡ refused_line kind place → SyntaxAt text place → IsOnly (IsStatementLine text) line
 refused_only one apart at_one text tokens ending place kind line l k i s other (tokens', ending', l', inl (q, says, e)) = absurd (apart text place q s says)
 refused_only one apart at_one text tokens ending place kind line l k i s other (tokens', ending', l', inr (p, broken, e)) =
     let same = one text tokens' tokens ending' ending l' l in
-    e ∙ ap (λ ts. refused_line (class_of ts) p) same.0 ∙ ap (refused_line (class_of tokens)) (at_one text p place broken s) ∙ sym (i ∙ ap (λ x. refused_line x place) k)
+    e ∙ ap (λ ts. refused_line (class_of text ts) p) same.0 ∙ ap (refused_line (class_of text tokens)) (at_one text p place broken s) ∙ sym (i ∙ ap (λ x. refused_line x place) k)
 
 before_more : (tokens : List Placed) (m n : ℕ) → m < n → AllBefore m tokens → AllBefore n tokens
 before_more [] m n h all = tt

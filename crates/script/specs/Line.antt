@@ -63,7 +63,7 @@ IsRead tokens text line = (p : Parsed) × Spells text p × (line ≡ parsed_line
 
 -- one that it refuses is what its first tokens say
 abbrev pub IsRefused : List Placed → List ℕ → Line → Type 0
-IsRefused tokens text line = (place : ℕ) × SyntaxAt text place × (line ≡ refused_line (class_of tokens) place)
+IsRefused tokens text line = (place : ℕ) × SyntaxAt text place × (line ≡ refused_line (class_of text tokens) place)
 
 -- what a statement line is
 abbrev pub IsStatementLine : List ℕ → Line → Type 0

@@ -1,9 +1,9 @@
 //! What a statement line that the grammar refuses is, by its first tokens.
 
-ghost use Rattle.std.specs.Prelude.{◌≡◌, ◌&&◌, ◌||◌, false, if◌then◌else◌};
+ghost use Rattle.std.specs.Prelude.{◌≡◌, ◌&&◌, ◌||◌, false, drop, slice_get, if◌then◌else◌};
 ghost use Rattle.std.specs.List.{position_or_len};
 ghost use Rattle.std.specs.Option.{option_map_or};
-ghost use Rattle.script.specs.Class.{keyword_of, keyword_at, name_of, name_at, is_from, is_as, is_of, is_snapshots, is_snap_ids, is_result_name, is_own_table, reads_own_table, class_of};
+ghost use Rattle.script.specs.Class.{keyword_of, keyword_at, is_from, is_as, is_of, is_snapshots, is_snap_ids, is_result_name, is_own_table, names_own_table, reads_own_table, class_of};
 
 use sql_lexer::{Keyword, Placed, Token};
 
@@ -18,9 +18,9 @@ pub enum Class {
     Single,
 }
 
-/// What a statement line with these tokens is, where the grammar refuses it.
-pub fn class_of(tokens: &[Placed]) -> Class
-    ensures { result ≡ class_of tokens.now }
+/// What a statement line of this text and these tokens is, where the grammar refuses it.
+pub fn class_of(text: &[u8], tokens: &[Placed]) -> Class
+    ensures { result ≡ class_of text.now tokens.now }
 {
     match keyword_at(tokens, 0) {
         Some(Keyword::Commit) => Class::End,
@@ -30,7 +30,7 @@ pub fn class_of(tokens: &[Placed]) -> Class
         Some(Keyword::AggregateDataInTable) => Class::Single,
         Some(Keyword::CollateDataIntoIntervals) => Class::Single,
         Some(Keyword::Drop) => drop_class(tokens),
-        Some(Keyword::Select) => select_class(tokens),
+        Some(Keyword::Select) => select_class(text, tokens),
         _ => Class::Statement,
     }
 }
@@ -45,10 +45,12 @@ fn drop_class(tokens: &[Placed]) -> Class
     }
 }
 
-fn select_class(tokens: &[Placed]) -> Class
-    ensures { result ≡ (if (is_as (keyword_at tokens.now 1) && is_of (keyword_at tokens.now 2)) || reads_own_table tokens.now then Class.Single else Class.Statement) }
+fn select_class(text: &[u8], tokens: &[Placed]) -> Class
+    ensures { result ≡ (if (is_as (keyword_at tokens.now 1) && is_of (keyword_at tokens.now 2)) || reads_own_table text.now tokens.now then Class.Single else Class.Statement) }
 {
-    if (is_as(keyword_at(tokens, 1)) && is_of(keyword_at(tokens, 2))) || reads_own_table(tokens) {
+    if (is_as(keyword_at(tokens, 1)) && is_of(keyword_at(tokens, 2)))
+        || reads_own_table(text, tokens)
+    {
         Class::Single
     } else {
         Class::Statement
@@ -98,18 +100,18 @@ fn is_snapshots(keyword: Option<Keyword>) -> bool
 }
 
 /// Whether the name behind the first FROM is that of snapshots or of results.
-fn reads_own_table(tokens: &[Placed]) -> bool
-    ensures { result ≡ reads_own_table tokens.now }
+fn reads_own_table(text: &[u8], tokens: &[Placed]) -> bool
+    ensures { result ≡ reads_own_table text.now tokens.now }
 {
     let from = first_from(tokens);
-    from < tokens.len() && is_own_table_at(tokens, from + 1)
+    from < tokens.len() && names_own_table_at(text, tokens, from + 1)
 }
 
-fn is_own_table_at(tokens: &[Placed], place: usize) -> bool
-    ensures { result ≡ option_map_or is_own_table (name_at tokens.now place) false }
+fn names_own_table_at(text: &[u8], tokens: &[Placed], index: usize) -> bool
+    ensures { result ≡ option_map_or (λ t. names_own_table text.now t.place t.token) (slice_get tokens.now index) false }
 {
-    match tokens.get(place) {
-        Some(placed) => is_own_table_token(&placed.token),
+    match tokens.get(index) {
+        Some(placed) => names_own_table(text, placed.place, &placed.token),
         None => false,
     }
 }
@@ -126,13 +128,22 @@ fn first_from(tokens: &[Placed]) -> usize
     tokens.len()
 }
 
-fn is_own_table_token(token: &Token) -> bool
-    ensures { result ≡ option_map_or is_own_table (name_of token.now) false }
+/// Whether the token at this place of the text is the name of such a table.
+fn names_own_table(text: &[u8], place: usize, token: &Token) -> bool
+    ensures { result ≡ names_own_table text.now place token.now }
 {
     match token {
         Token::Name(name) => is_own_table(name.bytes()),
+        Token::LongWord => is_result_name(text_from(text, place)),
         _ => false,
     }
+}
+
+fn text_from(text: &[u8], place: usize) -> &[u8]
+    ensures { result.now ≡ drop place text.now }
+{
+    let (_, rest) = text.split_at(text.len().min(place));
+    rest
 }
 
 fn is_own_table(name: &[u8]) -> bool

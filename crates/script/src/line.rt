@@ -94,7 +94,7 @@ fn statement_line(alloc: Global, text: &[u8]) -> Result<Line, Refusal>
     broken_lines_say_nothing();
     lines_break_at_one_place();
     let lexed = lex(alloc, text)?;
-    let class = class_of(lexed.tokens.as_slice());
+    let class = class_of(text, lexed.tokens.as_slice());
     let places = text_places(alloc, lexed.tokens.as_slice())?;
     match parse_lexed(alloc, text, lexed) {
         Ok(parsed) => Ok(parsed_line(places, parsed)),

@@ -131,6 +131,14 @@ fn good_scripts(rt: HostRuntime) -> Result<(), Fail> {
             "phase; session a; snapshots; results; single, syntax 7; single, syntax 24; single, syntax 19",
         ),
         (
+            b"SESSION a\nSELECT * FROM rql_abcdefghijklmnopqrstuvwxyzabcdefghij\nCOMMIT\nSELECT * FROM rql_abcdefghijklmnopqrstuvwxyzabc\nROLLBACK",
+            "phase; session a; single, syntax 14; commit; single, syntax 14; rollback",
+        ),
+        (
+            b"SESSION a\nSELECT * FROM arql_abcdefghijklmnopqrstuvwxyzabcdefghij\nSELECT * FROM t\nSELECT * FROM RQL_abcdefghijklmnopqrstuvwxyzabcdefghij\nCOMMIT",
+            "phase; session a; syntax 14; select; syntax 14; commit",
+        ),
+        (
             b"SESSION a\nCollateData ( 'a' , 'it''s' , '' )\naggregatedatainvariable('a','b','c','d')\nCollateData('a','b')\nCollateData('a','b','\xff')\nAGGREGATEDATAINTABLE 'x\nCollateDataIntoIntervals !\nSELECT 'CollateData' FROM t\nCOMMIT",
             "phase; session a; call 14 20 30; call 24 28 32 36; single, syntax 19; single, syntax 21; single, syntax 23; single, syntax 25; select; commit",
         ),

@@ -24,12 +24,12 @@ returns-in-Ok-clause-only c =
 pub returns-in-Err-Syntax-clause-found : goal.returns-in-Err-Syntax-clause-found
 returns-in-Err-Syntax-clause-found c =
     let lexed = c.in_ok-lexed.lexed in
-    let class : c.class_of-class.result ≡ class_of lexed.tokens = cc in
+    let class : c.class_of-class.result ≡ class_of c.args.text.now lexed.tokens = cc in
     refused_is c.args.text.now lexed.tokens lexed.ending c.in-Err-Syntax.place _ _ c.in_ok-lexed.ensures class (rw c.in-Err-Syntax.field-0-is at c.refused_line.ensures.found) (rw c.in-Err-Syntax.field-0-is at c.in-Err-Syntax.ensures.refused)
 
 pub returns-in-Err-Syntax-clause-only : goal.returns-in-Err-Syntax-clause-only
 returns-in-Err-Syntax-clause-only c =
     let lexed = c.in_ok-lexed.lexed in
-    let class : c.class_of-class.result ≡ class_of lexed.tokens = cc in
+    let class : c.class_of-class.result ≡ class_of c.args.text.now lexed.tokens = cc in
     refused_only c.one_reading.ensures c.broken_lines_say_nothing.ensures c.lines_break_at_one_place.ensures c.args.text.now lexed.tokens lexed.ending c.in-Err-Syntax.place _ _ c.in_ok-lexed.ensures class
     (rw c.in-Err-Syntax.field-0-is at c.refused_line.ensures.found) (rw c.in-Err-Syntax.field-0-is at c.in-Err-Syntax.ensures.refused)
