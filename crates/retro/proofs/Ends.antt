@@ -7,9 +7,9 @@ use Rattle.script.specs.declared.structure.Script.{Script}
 use Rattle.retro.specs.Program.{HoldsFront, IsTheBadLine, IsTheScript, IsTranscript, Says}
 
 -- a text that was said, or a front of it, is a front of it
-pub says_front : (before now : Option (List ℕ)) (m n : ℕ) (text : List ℕ) → Says before now m n text → HoldsFront before now text
-says_front before now m n text (inl whole) = (length text, omega arith, whole ∙ ap (added before) (sym (take_all (length text) text (omega arith))))
-says_front before now m n text (inr cut) = cut.1
+pub says_front : {K : Type 0} (held : K → Option (List ℕ)) (faults : K → ℕ) (old new : K) (text : List ℕ) → Says held faults old new text → HoldsFront held old new text
+says_front held faults old new text (inl whole) = (length text, omega arith, whole ∙ ap (added (held old)) (sym (take_all (length text) text (omega arith))))
+says_front held faults old new text (inr cut) = cut.1
 
 -- a script has no bad line
 pub script_or_bad : (left : Option (List ℕ)) (bytes : List ℕ) (script : Script) (n : ℕ) → left ≡ Some bytes → IfSome left (IsTheBadLine n) → ReadsAs bytes (Ok script) → ⊥

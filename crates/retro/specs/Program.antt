@@ -7,12 +7,10 @@ use Rattle.feeds.specs.Feeds.{added}
 use Rattle.retro_base.specs.Cause.{Rose}
 use Rattle.script.specs.Script.{ReadsAs, IsOnlyReading}
 use Rattle.script.specs.declared.structure.Script.{Script}
-use Rattle.session.specs.Items.{entries_of}
-use Rattle.session.specs.Lawful.{Lawful}
+use Rattle.history.specs.declared.journal.Line.{Line}
 use Rattle.session.specs.Line.{line}
-use Rattle.session.specs.Transcript.{transcript}
-use Rattle.session.specs.World.{empty_world}
-use Rattle.session.specs.declared.journal.Line.{Line}
+use Rattle.session.specs.Plan.{IsPlan, Plan}
+use Rattle.session.specs.Turns.{RanPlainly}
 
 -- whether these words are the good ones: `run` alone
 abbrev pub is_run : List (List ℕ) → Bool
@@ -32,12 +30,12 @@ abbrev pub bad_script_line : ℕ → List ℕ
 bad_script_line number = line (codes "retro: bad script at line " ++ decimal number)
 
 -- the sink holds what it held, and a front of the text
-abbrev pub HoldsFront : Option (List ℕ) → Option (List ℕ) → List ℕ → Type 0
-HoldsFront before now text = (n : ℕ) × (n ≤ length text) × (now ≡ added before (take n text))
+abbrev pub HoldsFront : {K : Type 0} → (K → Option (List ℕ)) → K → K → List ℕ → Type 0
+HoldsFront held old new text = (n : ℕ) × (n ≤ length text) × (held new ≡ added (held old) (take n text))
 
 -- the sink holds what it held and the text; or a front of the text, and its count of faults rose
-abbrev pub Says : Option (List ℕ) → Option (List ℕ) → ℕ → ℕ → List ℕ → Type 0
-Says before now faults_before faults_now text = (now ≡ added before text) ⊎ (Rose faults_before faults_now × HoldsFront before now text)
+abbrev pub Says : {K : Type 0} → (K → Option (List ℕ)) → (K → ℕ) → K → K → List ℕ → Type 0
+Says held faults old new text = (held new ≡ added (held old) text) ⊎ (Rose (faults old) (faults new) × HoldsFront held old new text)
 
 -- the bytes are this script, and nothing else
 abbrev pub IsTheScript : Script → List ℕ → Type 0
@@ -50,10 +48,11 @@ IsTheBadLine number bytes = ReadsAs bytes (Err number) × IsOnlyReading bytes (E
 -- The text is the transcript of one journal, which a run of the script that was left in the source may leave, from a store without tables on.
 pub record IsTranscript (left : Option (List ℕ)) (text : List ℕ) : Type 0 where
   pub script : Script
+  pub plan : Plan
   pub journal : List Line
   pub read : IfSome left (IsTheScript script)
-  pub lawful : Lawful (entries_of script) empty_world journal
-  pub whole : text ≡ transcript script empty_world journal
+  pub asks : IsPlan script plan
+  pub ran : RanPlainly plan journal text
 
 -- the source was read to its end
 abbrev pub ReadToEnd : Option (List ℕ) → Option (List ℕ) → Type 0
@@ -61,7 +60,7 @@ ReadToEnd before now = now ≡ option_map (λ bytes. []) before
 
 -- The headline. With status 0 the source was read to its end, and the sink holds what it held and the transcript of one journal; with
 -- status 5 a front of it; with status 8 a front of it or of that status's line.
-pub record WritesOneJournal (left_before left_now held_before held_now : Option (List ℕ)) (status : ℕ) : Type 0 where
-  pub done : status ≡ 0 → (text : List ℕ) × IsTranscript left_before text × ReadToEnd left_before left_now × (held_now ≡ added held_before text)
-  pub sink_fault : status ≡ 5 → (text : List ℕ) × IsTranscript left_before text × ReadToEnd left_before left_now × HoldsFront held_before held_now text
-  pub out_of_memory : status ≡ 8 → HoldsFront held_before held_now out_of_memory_line ⊎ ((text : List ℕ) × IsTranscript left_before text × HoldsFront held_before held_now text)
+pub record WritesOneJournal {K : Type 0} (left_before left_now : Option (List ℕ)) (held : K → Option (List ℕ)) (old new : K) (status : ℕ) : Type 0 where
+  pub done : status ≡ 0 → (text : List ℕ) × IsTranscript left_before text × ReadToEnd left_before left_now × (held new ≡ added (held old) text)
+  pub sink_fault : status ≡ 5 → (text : List ℕ) × IsTranscript left_before text × ReadToEnd left_before left_now × HoldsFront held old new text
+  pub out_of_memory : status ≡ 8 → HoldsFront held old new out_of_memory_line ⊎ ((text : List ℕ) × IsTranscript left_before text × HoldsFront held old new text)

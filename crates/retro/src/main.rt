@@ -1,6 +1,12 @@
 //! The program `retro`: runs a script over tables that keep declared past states, and writes a transcript of every reply.
 #![tactic(auto)]
 
+#[cfg(test)]
+mod call_refusals;
+#[cfg(test)]
+mod calls;
+#[cfg(test)]
+mod drops;
 mod program;
 #[cfg(test)]
 mod scripts;
@@ -8,6 +14,7 @@ mod scripts;
 mod tests;
 
 use feeds::{StdSink, StdSource};
+use fold_kit::{Combiner, FoldSet, How};
 use program::retro;
 use std::env;
 use std::env::Env;
@@ -27,5 +34,11 @@ fn main(rt: HostRuntime) -> ExitCode {
     let words = words(&rt);
     let mut source = StdSource::new(rt.stdin());
     let mut sink = StdSink::new(rt.stdout());
-    ExitCode::from(retro(rt.alloc(), words.as_slice(), &mut source, &mut sink))
+    let folds = FoldSet::new(
+        Combiner::new(How::Min, |a: i128, b: i128| a.min(b)),
+        Combiner::new(How::Max, |a: i128, b: i128| a.max(b)),
+        Combiner::new(How::Add, |a: i128, b: i128| a.wrapping_add(b)),
+    );
+    let status = retro(rt.alloc(), words.as_slice(), &mut source, &mut sink, &folds);
+    ExitCode::from(status)
 }

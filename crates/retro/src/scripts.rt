@@ -221,22 +221,22 @@ const SCRIPTS: [(u8, &[u8], &[u8]); 69] = [
     (
         0,
         b"SESSION a\nDROP SNAPSHOTS BELOW 2",
-        b"phase 1\nsession a\nitem 1\nrefused 19 Syntax 0\njournal\n",
+        b"phase 1\nsession a\nitem 1\nrefused 9 NoSuchSnapshot 2 0\njournal\n1 a 1 refused 9\n",
     ),
     (
         0,
         b"SESSION a\nSELECT * FROM rql_x\nCOMMIT",
-        b"phase 1\nsession a\nitem 1\nrefused 19 Syntax 0\nitem 2\ncommitted\njournal\n1 a 2 done\n",
+        b"phase 1\nsession a\nitem 1\nrefused 20 UnknownName\nitem 2\ncommitted\njournal\n1 a 2 done\n",
     ),
     (
         0,
         b"SESSION a\nSELECT a FROM SnapIds, t\nCOMMIT",
-        b"phase 1\nsession a\nitem 1\nrefused 19 Syntax 0\nitem 2\ncommitted\njournal\n1 a 2 done\n",
+        b"phase 1\nsession a\nitem 1\nrefused 20 UnknownName\nitem 2\ncommitted\njournal\n1 a 1 looked all\n1 a 1 refused 20\n1 a 2 done\n",
     ),
     (
         0,
         b"SESSION a\nCollateData('a','b','c')\nCollateData('a'\nDROP SNAPSHOTS BELOW\nSELECT FROM rql_x",
-        b"phase 1\nsession a\nitem 1\nrefused 19 Syntax 0\nitem 2\nrefused 19 Syntax 15\nitem 3\nrefused 19 Syntax 20\nitem 4\nrefused 19 Syntax 7\njournal\n",
+        b"phase 1\nsession a\nitem 1\nrefused 19 Syntax 12\nitem 2\nrefused 19 Syntax 15\nitem 3\nrefused 19 Syntax 20\nitem 4\nrefused 19 Syntax 7\njournal\n",
     ),
     (
         3,

@@ -2,7 +2,8 @@
 
 use crate::program::retro;
 use feeds::{MemSink, MemSource};
-use std::alloc::AllocError;
+use fold_kit::{Combiner, FoldSet, How};
+use std::alloc::{AllocError, Global};
 use std::test::Fail;
 
 #[derive(Drop)]
@@ -25,7 +26,12 @@ fn run_with(
     }
     let mut source = MemSource::new(script.to_vec(alloc)?, failing_reads.to_vec(alloc)?);
     let mut sink = MemSink::new(alloc, failing_writes.to_vec(alloc)?);
-    let status = retro(alloc, all.as_slice(), &mut source, &mut sink);
+    let folds = FoldSet::new(
+        Combiner::new(How::Min, |a: i128, b: i128| a.min(b)),
+        Combiner::new(How::Max, |a: i128, b: i128| a.max(b)),
+        Combiner::new(How::Add, |a: i128, b: i128| a.wrapping_add(b)),
+    );
+    let status = retro(alloc, all.as_slice(), &mut source, &mut sink, &folds);
     let text = sink.bytes().to_vec(alloc)?;
     Ok(Outcome { status, text })
 }
@@ -158,5 +164,137 @@ fn a_row_of_nine_hundred_bytes_is_the_longest(rt: HostRuntime) -> Result<(), Fai
         outcome.text.as_slice(),
         b"phase 1\nsession a\nitem 1\nok\nok 1\nrefused 24 RowTooLong 901\ncommitted\njournal\n1 a 1 done\n".as_slice()
     );
+    Ok(())
+}
+
+// Fifty rows, of the values from 1 to 50.
+const FIFTY: &[u8] =
+    b"INSERT INTO t VALUES (1),(2),(3),(4),(5),(6),(7),(8),(9),(10),(11),(12),(13),(14),(15),(16),(17),(18),(19),(20),(21),\
+    (22),(23),(24),(25),(26),(27),(28),(29),(30),(31),(32),(33),(34),(35),(36),(37),(38),(39),(40),(41),(42),(43),(44),\
+    (45),(46),(47),(48),(49),(50)\n";
+
+// A thousand rows, the greatest twenty of them raised by 1 before each of 120 snapshots, and then two calls over all of these.
+fn raised_script(alloc: Global) -> Result<Vec<u8>, AllocError> {
+    let mut script = b"SESSION a\nCREATE TABLE t(v INT)\n".to_vec(alloc)?;
+    for _ in 0..20 {
+        script.extend_from_slice(FIFTY)?;
+    }
+    script.extend_from_slice(b"COMMIT\n")?;
+    for _ in 0..120 {
+        script.extend_from_slice(b"UPDATE t SET v = v + 1 WHERE v > 49\nCOMMIT WITH SNAPSHOT\n")?;
+    }
+    script.extend_from_slice(
+        b"AggregateDataInVariable('SELECT snap_id FROM SnapIds','SELECT SUM(v) FROM t','rql_v','SUM')\n\
+          SELECT value FROM rql_v\n\
+          CollateData('SELECT snap_id FROM SnapIds','SELECT v FROM t WHERE v > 45','rql_c')\n\
+          SELECT COUNT(*), SUM(v), MIN(v), MAX(v) FROM rql_c",
+    )?;
+    Ok(script)
+}
+
+// Its transcript. The sum at snapshot n is 20 * 1275 + 20 * n, and over all 120 * 25500 + 20 * 7260; the hundred rows above 45 have
+// 20 * (46 + 47 + 48 + 49 + 50 + n), and over all 120 * 4800 + 20 * 7260.
+fn raised_transcript(alloc: Global) -> Result<Vec<u8>, AllocError> {
+    let mut text = b"phase 1\nsession a\nitem 1\nok\n".to_vec(alloc)?;
+    for _ in 0..20 {
+        text.extend_from_slice(b"ok 50\n")?;
+    }
+    text.extend_from_slice(b"committed\n")?;
+    for number in 1..121_u32 {
+        let item = format!(in alloc; "item {}\nok 20\ncommitted as {number}\n", number + 1)?;
+        text.extend_from_slice(item.as_bytes())?;
+    }
+    text.extend_from_slice(
+        b"item 122\nok 1\nitem 123\nrows 1\n3205200\nitem 124\nok 12000\nitem 125\nrows 1\n12000,721200,46,170\njournal\n1 a 1 done\n",
+    )?;
+    for number in 1..121_u32 {
+        let line = format!(in alloc; "1 a {} done as {number}\n", number + 1)?;
+        text.extend_from_slice(line.as_bytes())?;
+    }
+    text.extend_from_slice(
+        b"1 a 122 looked all\n1 a 122 unlooked\n1 a 124 looked all\n1 a 124 unlooked\n",
+    )?;
+    Ok(text)
+}
+
+#[test]
+fn calls_see_a_thousand_rows_at_120_snapshots(rt: HostRuntime) -> Result<(), Fail> {
+    let script = raised_script(rt.alloc())?;
+    let outcome = run(&rt, script.as_slice())?;
+    let want = raised_transcript(rt.alloc())?;
+    assert_eq!(rt; outcome.text.as_slice(), want.as_slice());
+    assert_eq!(rt; outcome.status, 0);
+    Ok(())
+}
+
+// A call on a line of 4,096 bytes.
+fn push_long_call(script: &mut Vec<u8>) -> Result<(), AllocError> {
+    script.extend_from_slice(
+        b"CollateData('SELECT snap_id FROM SnapIds','SELECT a FROM t WHERE a = 1",
+    )?;
+    for _ in 0..446 {
+        script.extend_from_slice(b" OR a = 2")?;
+    }
+    script.extend_from_slice(b"  ','rql_c')\n")
+}
+
+#[test]
+fn an_argument_fills_its_line(rt: HostRuntime) -> Result<(), Fail> {
+    let mut script =
+        b"SESSION a\nCREATE TABLE t(a INT)\nINSERT INTO t VALUES (1),(2),(3)\nCOMMIT WITH SNAPSHOT\n".to_vec(
+            rt.alloc(),
+        )?;
+    let before = script.len();
+    push_long_call(&mut script)?;
+    let length = script.len() - before;
+    let outcome = run(&rt, script.as_slice())?;
+    assert_eq!(rt; (length, outcome.status), (4_097, 0));
+    assert_eq!(rt;
+        outcome.text.as_slice(),
+        b"phase 1\nsession a\nitem 1\nok\nok 3\ncommitted as 1\nitem 2\nok 2\njournal\n1 a 1 done as 1\n1 a 2 looked all\n1 a 2 unlooked\n".as_slice()
+    );
+    Ok(())
+}
+
+// Empty commits that leave two lines of a journal, a drop that is refused, and items that need more lines than are left.
+fn crowded_script(alloc: Global) -> Result<Vec<u8>, AllocError> {
+    let mut script = b"SESSION a\n".to_vec(alloc)?;
+    for _ in 0..32_766 {
+        script.extend_from_slice(b"COMMIT\n")?;
+    }
+    script.extend_from_slice(
+        b"DROP SNAPSHOTS BELOW 1\nCollateData('SELECT snap_id FROM SnapIds','SELECT 1 FROM t','rql_c')\n\
+          SELECT * FROM rql_c\nCOMMIT\n\
+          PHASE\nSESSION b\nSELECT * FROM rql_c\nDROP SNAPSHOTS BELOW 0\nDROP SNAPSHOTS BELOW 0\nCollateData('x','y','z')\nCOMMIT",
+    )?;
+    Ok(script)
+}
+
+fn crowded_transcript(alloc: Global) -> Result<Vec<u8>, AllocError> {
+    let mut text = b"phase 1\nsession a\n".to_vec(alloc)?;
+    for number in 1..32_767_u32 {
+        text.extend_from_slice(format!(in alloc; "item {number}\ncommitted\n")?.as_bytes())?;
+    }
+    text.extend_from_slice(
+        b"item 32767\nrefused 9 NoSuchSnapshot 1 0\nitem 32768\nrefused 13 JournalFull\nitem 32769\nnot run\nitem 32770\nnot run\n\
+          phase 2\nsession b\nitem 1\nrefused 20 UnknownName\nitem 2\nrefused 9 NoSuchSnapshot 0 0\nitem 3\nrefused 13 JournalFull\n\
+          item 4\nnot run\nitem 5\nnot run\njournal\n",
+    )?;
+    for number in 1..32_767_u32 {
+        text.extend_from_slice(format!(in alloc; "1 a {number} done\n")?.as_bytes())?;
+    }
+    text.extend_from_slice(b"1 a 32767 refused 9\n2 b 2 refused 9\n")?;
+    Ok(text)
+}
+
+#[test]
+fn a_full_journal_ends_each_session_at_the_item_that_lacks_a_line(
+    rt: HostRuntime,
+) -> Result<(), Fail> {
+    let script = crowded_script(rt.alloc())?;
+    let outcome = run(&rt, script.as_slice())?;
+    let want = crowded_transcript(rt.alloc())?;
+    assert_eq!(rt; outcome.text.as_slice(), want.as_slice());
+    assert_eq!(rt; outcome.status, 0);
     Ok(())
 }

@@ -35,10 +35,10 @@ use Rattle.session.specs.Plan.{Item}
 use Rattle.session.specs.Reach.{AtOne, LineReaches}
 use Rattle.session.specs.Sql.{end_of, sql}
 use Rattle.session.specs.Statements.{changes, replies}
-use Rattle.session.specs.Wording.{committed_text, outcome_text, refusal_text}
+use Rattle.session.specs.Wording.{committed_as, committed_text, outcome_text, refusal_text, rolled_back_text}
 use Rattle.session.specs.Attempts.{Ended, EndsBy, IsLastEnd, IsTrying, OverlapsFit, ending_of, line_of}
 use Rattle.session.specs.LinesRun.{IsStop}
-use Rattle.session.specs.Transacting.{AttemptEnds, HasEnded, HasRun, HaveRun, IsRefused, IsText, Stands, ends_so, is_fault, item_for, number_text, rolled_back_text}
+use Rattle.session.specs.Transacting.{AttemptEnds, HasEnded, HasRun, HaveRun, IsRefused, IsText, Stands, ends_so, is_fault, item_for}
 use Rattle.session.specs.declared.attempt.Tried.{Tried}
 use Rattle.session.specs.declared.attempt.Tried.TheVariants as tried
 use Rattle.session.proofs.Adding.{added_none, added_on, none_mine, trying_is}
@@ -141,9 +141,9 @@ stop_keeps why is = absurd is
 
 -- ---- the text of a commit
 
-number_told : (label : Option (List ℕ)) (world : World Bytes) (number : Option ℕ) → number ≡ number_of label world → number_text number ≡ committed_text (newest world + 1) label
-number_told None world number is = ap number_text is
-number_told (Some label) world number is = ap number_text is
+number_told : (label : Option (List ℕ)) (world : World Bytes) (number : Option ℕ) → number ≡ number_of label world → committed_as number ≡ committed_text (newest world + 1) label
+number_told None world number is = ap committed_as is
+number_told (Some label) world number is = ap committed_as is
 
 module _ (size : ℕ) (items : Who → Option Item) (who : Who) (names : List (List ℕ)) (t : TransactionRecord) where
   abbrev it : Item
@@ -295,7 +295,7 @@ module _ (size : ℕ) (items : Who → Option Item) (who : Who) (names : List (L
         subst (λ (behind : Tables). IsStored size (unedited ((under (unedited pages) h.asked tries.edits).at)) behind) m.leaves (stored_there size (under (unedited pages) h.asked tries.edits) (λ page. false) m.behind m.stored)
 
     pub commit_done : (new : View) (label : Option (List ℕ)) (number : Option ℕ) (result : Tried) → t.end ≡ script_end.Commit label → ((a : Attempt) → view.work ≡ Open a → CommitGives label view new a (Ok number))
-        → IsText (text ++ number_text number) result → AttemptEnds size items who it view new result
+        → IsText (text ++ committed_as number) result → AttemptEnds size items who it view new result
     commit_done new label number result is_end gives told =
         let gave = gives tries h.trying.is_open in
         let here = place view new gave.0.adds.moves in

@@ -6,34 +6,26 @@ use Rattle.retro_base.specs.declared.refusal.Refusal.{Refusal}
 use Rattle.retro_base.specs.declared.refusal.Refusal.TheVariants as refusal
 use Rattle.sql_select.specs.declared.answer.Answer.{Answer}
 use Rattle.sql_tree.specs.declared.select.Select.{Select}
-use Rattle.session.specs.Beside.{last_first, result_of}
 use Rattle.session.specs.OverSnapshots.{results_asked}
 use Rattle.session.specs.Replies.{answer_or_refusal, lineless}
 use Rattle.session.specs.Wording.{refusal_text}
 use Rattle.session.specs.declared.plan.Task.TheVariants.{Results}
 use Rattle.session.specs.declared.result_table.ResultTable.{ResultTable}
 
-same_tables : (results : List ResultTable) → map result_of results ≡ results
-same_tables [] = refl
-same_tables (table ∷ results) = ap (λ (more : List ResultTable). table ∷ more) (same_tables results)
-
-pub results_told : (answered : Result Answer Refusal) (query : Select) (results : List ResultTable) (told : Option (List ℕ)) → Gives (λ answer. answer) answered (results_asked query (last_first results))
+pub results_told : (answered : Result Answer Refusal) (query : Select) (results : List ResultTable) (told : Option (List ℕ)) → Gives (λ answer. answer) answered (results_asked query (reverse results))
     → told ≡ Some (answer_or_refusal answered) → (told ≡ Some (refusal_text [] refusal.OutOfMemory)) ⊎ (told ≡ Some (lineless (reverse results) (Results query)))
 results_told answered query results told gives is = by_answer answered gives is
   where
-    tables : results_asked query (last_first results) ≡ results_asked query (reverse results)
-    tables = ap (λ (all : List ResultTable). results_asked query (reverse all)) (same_tables results)
+    so : (found : Result Answer Refusal) → results_asked query (reverse results) ≡ found → told ≡ Some (answer_or_refusal found) → told ≡ Some (lineless (reverse results) (Results query))
+    so found e is = is ∙ ap (λ (r : Result Answer Refusal). Some (answer_or_refusal r)) (sym e)
 
-    so : (found : Result Answer Refusal) → results_asked query (last_first results) ≡ found → told ≡ Some (answer_or_refusal found) → told ≡ Some (lineless (reverse results) (Results query))
-    so found e is = is ∙ ap (λ (r : Result Answer Refusal). Some (answer_or_refusal r)) (sym e ∙ tables)
-
-    by_answer : (found : Result Answer Refusal) → Gives (λ answer. answer) found (results_asked query (last_first results)) → told ≡ Some (answer_or_refusal found)
+    by_answer : (found : Result Answer Refusal) → Gives (λ answer. answer) found (results_asked query (reverse results)) → told ≡ Some (answer_or_refusal found)
         → (told ≡ Some (refusal_text [] refusal.OutOfMemory)) ⊎ (told ≡ Some (lineless (reverse results) (Results query)))
     by_answer (Ok answer) gives is = inr (so (Ok answer) gives is)
     by_answer (Err why) (inl memory) is = inl (is ∙ ap (λ (w : Refusal). Some (refusal_text [] w)) memory)
     by_answer (Err why) (inr refused) is = inr (so (Err why) refused is)
 
-pub results_replied : {E : Type 0} (answered : Result Answer Refusal) (query : Select) (results : List ResultTable) (told : Result (Option (List ℕ)) E) → Gives (λ answer. answer) answered (results_asked query (last_first results))
+pub results_replied : {E : Type 0} (answered : Result Answer Refusal) (query : Select) (results : List ResultTable) (told : Result (Option (List ℕ)) E) → Gives (λ answer. answer) answered (results_asked query (reverse results))
     → IfOk told (λ text. text ≡ Some (answer_or_refusal answered))
     → IfOk told (λ text. (text ≡ Some (refusal_text [] refusal.OutOfMemory)) ⊎ (text ≡ Some (lineless (reverse results) (Results query))))
 results_replied answered query results (Ok text) gives is = results_told answered query results text gives is

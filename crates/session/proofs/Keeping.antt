@@ -1,5 +1,6 @@
 -- What is kept of the items of a session, one after the other.
 use Rattle.std.proofs.Common.{◌≡◌, ◌⊎◌, ◌<◌, ◌≤◌, ◌+◌, ◌++◌, ℕ, Bool, true, false, cond, List, [], ◌∷◌, length, reverse, Option, Some, None, slice_get, suc, refl, ap, sym, subst, ◌∙◌, inl, inr, arith}
+use Rattle.std.specs.Prelude.{option_to_list}
 use Rattle.std.specs.Option.{option_map_or}
 use Rattle.std.specs.Str.{bytes_eq}
 use Rattle.std.proofs.lemmas.List.{reverse-append}
@@ -13,7 +14,7 @@ use Rattle.journal_law.specs.Own.{own}
 use Rattle.journal_law.specs.Seats.{View}
 use Rattle.journal_law.specs.Shows.{ShowsAlong}
 use Rattle.journal_law.specs.World.{World}
-use Rattle.session.specs.OneTask.{IsDone, IsToldBy, listed}
+use Rattle.session.specs.OneTask.{IsDone, IsToldBy}
 use Rattle.session.specs.Plan.{Item, Plan, item_of}
 use Rattle.session.specs.Replies.{Known, SaysWanting, Standing, is_cut, is_wanting, kept_at, kept_by, kept_of, known_by, left, lineless, standing_behind, starting, who_is}
 use Rattle.session.specs.SoFar.{KeptOf, Says, standing_after, with_done, with_kept}
@@ -103,7 +104,7 @@ cuts done.CutShort = true
 
 -- the result table that it leaves, where it was not cut short
 abbrev pub Leaves : Item → Known → Done → Type 0
-Leaves item known (done.Told text table) = listed table ≡ left item.task known.fate
+Leaves item known (done.Told text table) = option_to_list table ≡ left item.task known.fate
 Leaves item known done.CutShort = Unit {0}
 
 -- what the run of an item tells is what is kept of it, by what is known of it
@@ -177,7 +178,7 @@ kept_run size names tasks task known progress one going has is = by_done one is
         ∙ ap (λ (one : Kept). kept_by size known names starting 1 tasks ++ one ∷ []) (sym there)
         ∙ sym (kept_more size known names starting 1 tasks task (1 + length tasks) refl)
 
-    turned : (table : Option ResultTable) → listed table ++ reverse progress.results ≡ reverse (progress.results ++ listed table)
+    turned : (table : Option ResultTable) → option_to_list table ++ reverse progress.results ≡ reverse (progress.results ++ option_to_list table)
     turned None = sym (reverse-append progress.results [])
     turned (Some table) = sym (reverse-append progress.results (table ∷ []))
 
@@ -191,7 +192,7 @@ kept_run size names tasks task known progress one going has is = by_done one is
           results = λ _.
               ap (λ (s : Standing). s.results) after
               ∙ ap (λ (rs : List ResultTable). rs ++ before.results) (sym is.leaves)
-              ∙ ap (λ (rs : List ResultTable). listed table ++ rs) here
+              ∙ ap (λ (rs : List ResultTable). option_to_list table ++ rs) here
               ∙ turned table;
         }
     by_done done.CutShort is =

@@ -21,7 +21,6 @@ use Rattle.journal_law.specs.Shows.{Shows, ShowsAlong, world}
 use Rattle.journal_law.specs.World.{World}
 use Rattle.journal_law.proofs.Journal.{along_end, along_front}
 use Rattle.journal_law.proofs.Lasts.{began_there, fate_line, no_fate_own}
-use Rattle.session.specs.Beside.{result_of}
 use Rattle.session.specs.Calls.{CallEnds, CallLeaves, CallsOver, LeavesTable, item_call}
 use Rattle.session.specs.Ending.{Concludes, ending_of}
 use Rattle.session.specs.OneItem.{MayRun}
@@ -48,14 +47,14 @@ left_last call (Err why) now w (Some f) began = refl
 
 -- the table that is kept is the one that is left
 kept_left : (call : CallSaid) (answer : Result Answer Refusal) (text : Result (List ℕ) Refusal) (table : Option ResultTable) (w : World Tables) → CallEnds call.table answer text table
-    → ((a : Answer) → answer ≡ Ok a → called call w ≡ Ok a) → option_to_list (option_map result_of table) ≡ leaves_by call (unlooking (ending_of text)) w
+    → ((a : Answer) → answer ≡ Ok a → called call w ≡ Ok a) → option_to_list table ≡ leaves_by call (unlooking (ending_of text)) w
 kept_left call (Ok a) (Ok text) table w gives so =
-    ap (λ (t : Option ResultTable). option_to_list (option_map result_of t)) gives.1 ∙ sym (ap (left_by call.table) (so a refl))
+    ap (λ (t : Option ResultTable). option_to_list t) gives.1 ∙ sym (ap (left_by call.table) (so a refl))
 kept_left call (Err why) (Ok text) table w gives so = absurd gives
-kept_left call (Ok a) (Err (refusal.DiskFault device count)) table w gives so = ap (λ (t : Option ResultTable). option_to_list (option_map result_of t)) gives.1
-kept_left call (Ok a) (Err why) table w gives so = ap (λ (t : Option ResultTable). option_to_list (option_map result_of t)) gives.1
-kept_left call (Err other) (Err (refusal.DiskFault device count)) table w gives so = ap (λ (t : Option ResultTable). option_to_list (option_map result_of t)) gives.1
-kept_left call (Err other) (Err why) table w gives so = ap (λ (t : Option ResultTable). option_to_list (option_map result_of t)) gives.1
+kept_left call (Ok a) (Err (refusal.DiskFault device count)) table w gives so = ap (λ (t : Option ResultTable). option_to_list t) gives.1
+kept_left call (Ok a) (Err why) table w gives so = ap (λ (t : Option ResultTable). option_to_list t) gives.1
+kept_left call (Err other) (Err (refusal.DiskFault device count)) table w gives so = ap (λ (t : Option ResultTable). option_to_list t) gives.1
+kept_left call (Err other) (Err why) table w gives so = ap (λ (t : Option ResultTable). option_to_list t) gives.1
 
 concluded_so : (call : CallSaid) (honest : Type 0) (old between : View) (answer : Result Answer Refusal) (a : Answer) → Concludes (CallsOver call honest old) between answer → answer ≡ Ok a → CallsOver call honest old (Ok a)
 concluded_so call honest old between answer a concludes is = subst (Concludes (CallsOver call honest old) between) is concludes

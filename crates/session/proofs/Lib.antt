@@ -1,11 +1,4 @@
-pub mod Along
-pub mod Lines
-pub mod Decimals
-pub mod Places
-pub mod Played
 pub mod Quoting
-pub mod Ran
-pub mod Visible
 pub mod Runs
 pub mod Worked
 pub mod Keeping

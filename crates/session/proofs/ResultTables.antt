@@ -14,7 +14,6 @@ use Rattle.sql_check.specs.Outputs.{answer_columns}
 use Rattle.sql_select.specs.Select.{answer as answer_over}
 use Rattle.sql_select.specs.declared.answer.Answer.{Answer}
 use Rattle.sql_check.specs.Check.{checked_beside}
-use Rattle.session.specs.Beside.{last_first, result_of}
 use Rattle.session.specs.OverSnapshots.{asked_of, results_asked}
 use Rattle.session.specs.declared.result_table.ResultTable.{ResultTable}
 
@@ -52,24 +51,20 @@ results_named query (result ∷ results) = by_test (same_name query.table result
     by_test true rest = refl
     by_test false rest = rest
 
--- one table more
-pub last_and : (kept : List ResultTable) (one : ResultTable) → last_first (kept ++ one ∷ []) ≡ result_of one ∷ last_first kept
-last_and kept one = ap reverse (map-append result_of kept (one ∷ [])) ∙ reverse-append (map result_of kept) (result_of one ∷ [])
-
 -- the table of a name that calls left last, found along all of them
 pub last-named : (query : Select) (kept : List ResultTable) (index : ℕ) (last : Option (Bor ResultTable)) → length kept ≤ index
-    → option_map result_of (option_copied last) ≡ named query.table (last_first (take index kept)) → named_asked query (option_map result_of (option_copied last)) ≡ results_asked query (last_first kept)
+    → option_copied last ≡ named query.table (reverse (take index kept)) → named_asked query (option_copied last) ≡ results_asked query (reverse kept)
 last-named query kept index last past e =
-    ap (named_asked query) (e ∙ ap (λ (ks : List ResultTable). named query.table (last_first ks)) (take_all index kept past)) ∙ sym (results_named query (last_first kept))
+    ap (named_asked query) (e ∙ ap (λ (ks : List ResultTable). named query.table (reverse ks)) (take_all index kept past)) ∙ sym (results_named query (reverse kept))
 
 pub last-gives : (result : Result Answer Refusal) (query : Select) (kept : List ResultTable) (index : ℕ) (last : Option (Bor ResultTable)) (one : Bor ResultTable) → length kept ≤ index
-    → option_map result_of (option_copied last) ≡ named query.table (last_first (take index kept)) → last ≡ Some one
-    → Gives (λ (answer : Answer). answer) result (named_asked query (Some (result_of one.now))) → Gives (λ (answer : Answer). answer) result (results_asked query (last_first kept))
+    → option_copied last ≡ named query.table (reverse (take index kept)) → last ≡ Some one
+    → Gives (λ (answer : Answer). answer) result (named_asked query (Some one.now)) → Gives (λ (answer : Answer). answer) result (results_asked query (reverse kept))
 last-gives result query kept index last one past e is gives =
     subst (Gives (λ (answer : Answer). answer) result)
-    (sym (ap (λ (o : Option (Bor ResultTable)). named_asked query (option_map result_of (option_copied o))) is) ∙ last-named query kept index last past e) gives
+    (sym (ap (λ (o : Option (Bor ResultTable)). named_asked query (option_copied o)) is) ∙ last-named query kept index last past e) gives
 
 pub last-none : (query : Select) (kept : List ResultTable) (index : ℕ) (last : Option (Bor ResultTable)) → length kept ≤ index
-    → option_map result_of (option_copied last) ≡ named query.table (last_first (take index kept)) → last ≡ None → results_asked query (last_first kept) ≡ Err UnknownName
+    → option_copied last ≡ named query.table (reverse (take index kept)) → last ≡ None → results_asked query (reverse kept) ≡ Err UnknownName
 last-none query kept index last past e is =
-    sym (last-named query kept index last past e) ∙ ap (λ (o : Option (Bor ResultTable)). named_asked query (option_map result_of (option_copied o))) is
+    sym (last-named query kept index last past e) ∙ ap (λ (o : Option (Bor ResultTable)). named_asked query (option_copied o)) is

@@ -20,7 +20,6 @@ use Rattle.journal_law.specs.Seats.{Look, Looking, Moves, UnlookGives, View, at_
 use Rattle.journal_law.specs.Shows.{Shows, ShowsAlong}
 use Rattle.journal_law.specs.World.{World}
 use Rattle.session.specs.Asking.{TellsPast}
-use Rattle.session.specs.Beside.{result_of}
 use Rattle.session.specs.Ending.{Concludes, ending_of, told_of}
 use Rattle.session.specs.OneItem.{MayRun}
 use Rattle.session.specs.OverSnapshots.{asked_of, called, combined, numbers_of, snapshots_table}
@@ -96,4 +95,4 @@ pub record CallLeaves {E : Type 0} (names : List (List ℕ)) (call : CallSaid) (
 abbrev pub LeavesTable : Who → Item → View → View → Option ResultTable → Type 0
 LeavesTable who item old new table =
     (size : ℕ) (plan : Plan) → MayRun size plan who item old → (tables : World Tables) → ShowsAlong (sql size) (item_of plan) new.opened.pages tables new.front
-    → option_to_list (option_map result_of table) ≡ left item.task (fate (sql size) (item_of plan) who tables new.front)
+    → option_to_list table ≡ left item.task (fate (sql size) (item_of plan) who tables new.front)

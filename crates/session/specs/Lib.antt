@@ -1,10 +1,4 @@
-pub mod InTurn
-pub mod Items
-pub mod Journal
-pub mod Lawful
-pub mod Laws
 pub mod Line
-pub mod Numbered
 pub mod OneItem
 pub mod OverSnapshots
 pub mod Plan
@@ -15,16 +9,13 @@ pub mod Run
 pub mod Sql
 pub mod Statements
 pub mod Texts
-pub mod Transcript
 pub mod Visible
 pub mod Wording
-pub mod World
 pub mod OneTask
 pub mod SoFar
 pub mod Turns
 pub mod Asking
 pub mod Attempts
-pub mod Beside
 pub mod Calls
 pub mod Ending
 pub mod LinesRun

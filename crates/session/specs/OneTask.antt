@@ -1,5 +1,5 @@
 -- What the run of one item of a session answers.
-use Rattle.std.specs.Prelude.{◌≡◌, ◌⊎◌, ℕ, List, [], ◌∷◌, Option, Some, None, Result, Ok, Err}
+use Rattle.std.specs.Prelude.{◌≡◌, ◌⊎◌, ℕ, List, Option, Some, None, option_to_list, Result, Ok, Err}
 use Rattle.retro_base.specs.declared.refusal.Refusal.TheVariants as refusal
 use Rattle.retro_base.specs.declared.who.Who.{Who}
 use Rattle.tables.specs.Tables.{Tables}
@@ -18,14 +18,10 @@ use Rattle.session.specs.declared.item.Done.{Done}
 use Rattle.session.specs.declared.item.Done.TheVariants as done
 use Rattle.session.specs.declared.result_table.ResultTable.{ResultTable}
 
-abbrev pub listed : Option ResultTable → List ResultTable
-listed None = []
-listed (Some table) = table ∷ []
-
 -- the item leaves this result table, or none, whatever tables the pages held
 abbrev pub IsLeft : ℕ → Plan → Who → Item → View → Option ResultTable → Type 0
 IsLeft size plan who item new table =
-    (tables : World Tables) → ShowsAlong (sql size) (item_of plan) new.opened.pages tables new.front → listed table ≡ left item.task (fate (sql size) (item_of plan) who tables new.front)
+    (tables : World Tables) → ShowsAlong (sql size) (item_of plan) new.opened.pages tables new.front → option_to_list table ≡ left item.task (fate (sql size) (item_of plan) who tables new.front)
 
 -- That is the reply of an item of this kind. Of one without lines it follows from the result tables before it, of which the last is the first; or it says that memory was wanting.
 abbrev pub IsToldBy : ℕ → Plan → Who → Item → List ResultTable → View → Kind → List ℕ → Type 0

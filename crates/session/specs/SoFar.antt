@@ -1,5 +1,5 @@
 -- What stands while a session runs its items of a phase, one after the other.
-use Rattle.std.specs.Prelude.{◌≡◌, ◌⊎◌, ◌<◌, ◌+◌, ◌++◌, ℕ, Bool, true, false, List, [], ◌∷◌, length, reverse, Some, Result, Ok, Err}
+use Rattle.std.specs.Prelude.{◌≡◌, ◌⊎◌, ◌<◌, ◌+◌, ◌++◌, ℕ, Bool, true, false, List, [], ◌∷◌, length, option_to_list, reverse, Some, Result, Ok, Err}
 use Rattle.std.specs.List.{AllByRecursion}
 use Rattle.retro_base.specs.declared.who.Who.{Who}
 use Rattle.tables.specs.Tables.{Tables}
@@ -9,7 +9,6 @@ use Rattle.journal_law.specs.Own.{own}
 use Rattle.journal_law.specs.Seats.{View}
 use Rattle.journal_law.specs.Shows.{ShowsAlong}
 use Rattle.journal_law.specs.World.{World}
-use Rattle.session.specs.OneTask.{listed}
 use Rattle.session.specs.Plan.{Item, Plan, item_of}
 use Rattle.session.specs.Replies.{Known, Standing, is_wanting, kept_by, known_by, standing_behind, starting, who_is}
 use Rattle.session.specs.Run.{SessionLeft}
@@ -28,7 +27,7 @@ with_kept one progress = record progress { kept = progress.kept ++ one ∷ [] }
 
 -- behind an item that was run
 abbrev pub with_done : Done → Progress → Progress
-with_done (done.Told text table) progress = record progress { results = progress.results ++ listed table; kept = progress.kept ++ kept.Told text ∷ [] }
+with_done (done.Told text table) progress = record progress { results = progress.results ++ option_to_list table; kept = progress.kept ++ kept.Told text ∷ [] }
 with_done done.CutShort progress = record progress { stopped = true; kept = progress.kept ++ kept.CutShort ∷ [] }
 
 -- the replies of a session's items, the first having this number, say for which memory was wanting

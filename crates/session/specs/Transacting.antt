@@ -1,6 +1,5 @@
 -- What running a transaction leaves, attempt by attempt.
-use Rattle.std.specs.Prelude.{◌≡◌, ◌++◌, ℕ, Bool, true, false, List, [], ◌∷◌, codes, Option, Some, None, Result, Ok, Err}
-use Rattle.std.specs.Fmt.{decimal}
+use Rattle.std.specs.Prelude.{◌≡◌, ◌++◌, ℕ, Bool, true, false, List, [], ◌∷◌, Option, Some, None, Result, Ok, Err}
 use Rattle.retro_base.specs.declared.refusal.Refusal.{Refusal}
 use Rattle.retro_base.specs.declared.refusal.Refusal.TheVariants as refusal
 use Rattle.retro_base.specs.declared.who.Who.{Who}
@@ -15,7 +14,6 @@ use Rattle.journal_law.specs.Seating.{Sane}
 use Rattle.journal_law.specs.Seats.{Agree, Attempt, Idle, View, at_began}
 use Rattle.seat_pager.specs.Laws.{unedited}
 use Rattle.seat_pager.specs.Transaction.{HasReasons, under}
-use Rattle.session.specs.Line.{line}
 use Rattle.session.specs.Plan.{Item}
 use Rattle.session.specs.declared.plan.Task.TheVariants.{Transaction}
 use Rattle.session.specs.Sql.{sql}
@@ -31,14 +29,6 @@ abbrev pub item_for : List (List ℕ) → TransactionRecord → Item
 item_for names t = record { names = names; task = Transaction t }
 
 -- ---- texts
-
--- the reply line of a commit, by the number of the snapshot that it declares
-abbrev pub number_text : Option ℕ → List ℕ
-number_text None = line (codes "committed")
-number_text (Some number) = line (codes "committed as " ++ decimal number)
-
-abbrev pub rolled_back_text : List ℕ
-rolled_back_text = line (codes "rolled back")
 
 -- the attempt was its item's last, and this is the reply, or there was no memory for it
 abbrev pub IsText : List ℕ → Tried → Type 0

@@ -61,6 +61,9 @@ committed_text number (Some label) = line (codes "committed as " ++ decimal numb
 abbrev pub count_text : Answer → List ℕ
 count_text answer = line (codes "ok " ++ decimal (length answer.rows))
 
+abbrev pub rolled_back_text : List ℕ
+rolled_back_text = line (codes "rolled back")
+
 abbrev pub not_run_text : List ℕ
 not_run_text = line (codes "not run")
 
@@ -68,7 +71,7 @@ not_run_text = line (codes "not run")
 abbrev pub words_of : List (List ℕ) → Words
 words_of names = record {
   committed = committed_text;
-  rolled_back = line (codes "rolled back");
+  rolled_back = rolled_back_text;
   dropped = λ below. line (codes "dropped below " ++ decimal below);
   refused = refusal_text names;
   not_run = not_run_text;

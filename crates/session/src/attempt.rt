@@ -9,13 +9,13 @@ ghost use Rattle.journal_law.specs.Seats.{Attempt, CommitGives, Idle, Open, Roll
 ghost use Rattle.seat_pager.specs.Transaction.{HasReasons};
 ghost use Rattle.session.specs.Plan.{Item};
 ghost use Rattle.session.specs.Sql.{sql};
-ghost use Rattle.session.specs.Wording.{refusal_text};
+ghost use Rattle.session.specs.Wording.{committed_as, refusal_text, rolled_back_text};
 ghost use Rattle.session.specs.Attempts.{IsTrying, OverlapsFit, ending_of};
-ghost use Rattle.session.specs.Transacting.{AttemptEnds, HasBegun, HasEnded, HasRun, HasTriedOnce, IsRefused, IsText, Stands, ends_so, is_fault, item_for, number_text, overlap_of, rolled_back_text};
+ghost use Rattle.session.specs.Transacting.{AttemptEnds, HasBegun, HasEnded, HasRun, HasTriedOnce, IsRefused, IsText, Stands, ends_so, is_fault, item_for, overlap_of};
 
 use crate::gate::{Gate, Point};
 use crate::statements::do_lines;
-use crate::wording::write_refusal;
+use crate::wording::{write_committed, write_refusal, write_rolled_back};
 use journal_law::{Ending, Seat};
 use retro_base::{Refusal, Who};
 use script::{End, SessionName, Transaction};
@@ -67,23 +67,10 @@ fn refused(alloc: Global, names: &[SessionName], why: Refusal) -> Tried
     }
 }
 
-// Appends the reply line of a commit.
-fn write_number(alloc: Global, number: Option<u32>, out: &mut Vec<u8>) -> Result<(), AllocError>
-    ensures { OnOk result (out.new.items ≡ out.old.items ++ number_text number) }
-{
-    match number {
-        None => out.extend_from_slice(b"committed\n"),
-        Some(number) => {
-            let text = format!(in alloc; "committed as {number}\n")?;
-            out.extend_from_slice(text.as_bytes())
-        }
-    }
-}
-
 fn committed(alloc: Global, mut text: Vec<u8>, number: Option<u32>) -> Tried
-    ensures { IsText (text.items ++ number_text number) result }
+    ensures { IsText (text.items ++ committed_as number) result }
 {
-    match write_number(alloc, number, &mut text) {
+    match write_committed(alloc, number, &mut text) {
         Ok(()) => Tried::Ended(text),
         Err(_) => Tried::Untold,
     }
@@ -92,7 +79,7 @@ fn committed(alloc: Global, mut text: Vec<u8>, number: Option<u32>) -> Tried
 fn rolled_back(mut text: Vec<u8>) -> Tried
     ensures { IsText (text.items ++ rolled_back_text) result }
 {
-    match text.extend_from_slice(b"rolled back\n") {
+    match write_rolled_back(&mut text) {
         Ok(()) => Tried::Ended(text),
         Err(_) => Tried::Untold,
     }

@@ -3,7 +3,6 @@
 ghost use Rattle.std.specs.Prelude.{◌≡◌, find, reverse};
 ghost use Rattle.std.specs.Option.{option_copied};
 ghost use Rattle.retro_base.specs.Gives.{Gives};
-ghost use Rattle.session.specs.Beside.{last_first};
 ghost use Rattle.session.specs.OverSnapshots.{asked_of, results_asked};
 
 use crate::result_table::ResultTable;
@@ -42,7 +41,7 @@ fn kept_asked(alloc: Global, query: &Select, kept: &ResultTable) -> Result<Answe
 
 /// The answer of a query of the last result table of its name among these, in the order in which calls left them.
 pub fn results_asked(alloc: Global, query: &Select, kept: &[ResultTable]) -> Result<Answer, Refusal>
-    ensures { Gives (λ answer. answer) result (results_asked query.now (last_first kept.now)) }
+    ensures { Gives (λ answer. answer) result (results_asked query.now (reverse kept.now)) }
 {
     let mut last = None;
     for table in kept {

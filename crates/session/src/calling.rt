@@ -15,6 +15,7 @@ ghost use Rattle.session.specs.Wording.{count_text};
 use crate::asking::LookAsOf;
 use crate::combining::combine;
 use crate::ending::{Told, finish};
+use crate::gate::{Gate, Point};
 use crate::listing::snapshots_asked;
 use crate::looking::{of_query, of_seat};
 use crate::nothing::NoSnapshot;
@@ -184,10 +185,12 @@ fn call_up<S: Seat, F: Folds>(
     (seat, told, table)
 }
 
-/// Runs a call over many snapshots, and gives its reply, and the result table that it leaves where it has an answer.
-pub fn call<S: Seat, F: Folds>(
+/// Runs a call over many snapshots, and gives its reply, and the result table that it leaves where it has an answer. The
+/// gate is told when the look has begun.
+pub fn call<S: Seat, G: Gate, F: Folds>(
     alloc: Global,
     seat: S,
+    gate: &G,
     who: Who,
     names: &[SessionName],
     call: &Call,
@@ -206,7 +209,10 @@ pub fn call<S: Seat, F: Folds>(
 {
     let mut seat = seat;
     match seat.look_all(who) {
-        Ok(marks) => call_up(alloc, seat, names, call, folds, marks.as_slice()),
+        Ok(marks) => {
+            gate.at(Point::AfterLook, who.session, who.item);
+            call_up(alloc, seat, names, call, folds, marks.as_slice())
+        }
         Err(_) => (seat, Ok(None), None),
     }
 }

@@ -28,6 +28,7 @@ use std::alloc::{AllocError, Global};
 use values::Seq;
 
 /// Runs items: the gate is told of their points, and the folds combine numbers.
+#[derive(Drop)]
 pub struct Items<'a, G: Gate, F: Folds> {
     pub gate: &'a G,
     pub folds: &'a F,
@@ -105,11 +106,13 @@ impl<'a, G: Gate, F: Folds> RunItems for Items<'a, G, F> {
                 (seat, done_by(told, None))
             }
             Task::SnapIds(query) => {
-                let (seat, told) = snap_ids(alloc, seat, who, names, query);
+                let (seat, told) = snap_ids(alloc, seat, self.gate, who, names, query);
                 (seat, done_by(told, None))
             }
             Task::Call(said) => {
-                let (seat, told, table) = call(alloc, seat, who, names, said, self.folds);
+                let (seat, told, table) = call(
+                    alloc, seat, self.gate, who, names, said, self.folds,
+                );
                 (seat, done_by(told, table))
             }
             Task::DropBelow(below) => {

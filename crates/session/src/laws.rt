@@ -1,15 +1,8 @@
-//! The laws of journals, proved.
+//! The laws of runs, proved.
 
 ghost use Rattle.std.specs.Prelude.{ℕ};
 ghost use Rattle.session.specs.Run.{LawOfRuns};
-ghost use Rattle.session.specs.Laws.{VisibleLinesDecide};
 ghost use Rattle.session.specs.Turns.{TurnsMakeRuns};
-
-/// The visible lines of a journal decide the tables, the snapshots and every reply, so that they can be read off a transcript.
-#[tactic(auto, using(crate::proofs::Visible::visible_lines_decide))]
-pub fn visible_lines_decide()
-    ensures { VisibleLinesDecide }
-{}
 
 /// A run of sessions over one store, from pages that hold tables: its journal is lawful over tables, the pages hold the
 /// tables of its lines at each place, and what it prints is the journal's transcript.

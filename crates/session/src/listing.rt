@@ -11,6 +11,7 @@ ghost use Rattle.session.specs.OverSnapshots.{asked_of, snapshots_table};
 
 use crate::beside::asked_of;
 use crate::ending::{Told, finish};
+use crate::gate::{Gate, Point};
 use crate::looking::{of_query, text_of};
 use history::{Label, Mark};
 use journal_law::Seat;
@@ -103,10 +104,11 @@ fn list_up<S: Seat>(
     finish(alloc, seat, names, text)
 }
 
-/// Runs a query of the table of snapshots, and gives its reply.
-pub fn snap_ids<S: Seat>(
+/// Runs a query of the table of snapshots, and gives its reply. The gate is told when the look has begun.
+pub fn snap_ids<S: Seat, G: Gate>(
     alloc: Global,
     seat: S,
+    gate: &G,
     who: Who,
     names: &[SessionName],
     query: &Select,
@@ -120,7 +122,10 @@ pub fn snap_ids<S: Seat>(
 {
     let mut seat = seat;
     match seat.look_all(who) {
-        Ok(marks) => list_up(alloc, seat, names, query, marks.as_slice()),
+        Ok(marks) => {
+            gate.at(Point::AfterLook, who.session, who.item);
+            list_up(alloc, seat, names, query, marks.as_slice())
+        }
         Err(_) => (seat, Ok(None)),
     }
 }

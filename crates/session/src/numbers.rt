@@ -24,17 +24,23 @@ fn number_in(row: &[Value]) -> Option<u64>
     }
 }
 
+// Whether a snapshot has this number. The marks of a store stand in rising number, so that it is then found among them.
 fn has_number(marks: &[Mark], number: u32) -> bool
-    ensures { result ≡ has_number number marks.now }
+    ensures { result ≡ true → has_number number marks.now ≡ true }
 {
-    marks.iter().any(|mark| mark.number == number)
+    match marks.binary_search_by_key(&number, |mark| mark.number) {
+        Ok(place) => match marks.get(place) {
+            Some(mark) => mark.number == number,
+            None => false,
+        },
+        Err(_) => false,
+    }
 }
 
 fn is_retained(marks: &[Mark], number: u32) -> bool
-    ensures { result ≡ is_retained number marks.now }
+    ensures { result ≡ true → is_retained number marks.now ≡ true }
 {
-    let named = has_number(marks, number);
-    number != 0 && number <= newest(marks) && named
+    number != 0 && number <= newest(marks) && has_number(marks, number)
 }
 
 // Adds the number that a row holds, if it holds one, which has to be among these marks.

@@ -5,13 +5,12 @@ ghost use Rattle.retro_base.specs.Device.{device_name};
 ghost use Rattle.std.specs.Fmt.{decimal};
 ghost use Rattle.session.specs.Line.{line};
 ghost use Rattle.session.specs.Texts.{value_text};
-ghost use Rattle.session.specs.Wording.{committed_as, count_text, not_run_text, outcome_text, refusal_text, session_name, values_text, word};
+ghost use Rattle.session.specs.Wording.{committed_as, count_text, not_run_text, refusal_text, rolled_back_text, session_name, values_text, word};
 
-use crate::texts::write_reply;
 use retro_base::{Device, Refusal};
 use script::SessionName;
 use std::alloc::{AllocError, Global};
-use tables::{Answer, Reply};
+use tables::Answer;
 
 /// The name of the session at a place of its phase, from 0; no bytes where none stands there.
 pub fn session_name(names: &[SessionName], place: u16) -> &[u8]
@@ -163,20 +162,6 @@ pub fn write_refusal(
     out.extend_from_slice(b"\n")
 }
 
-/// Appends the reply of a statement, or its refusal, which names no session.
-pub fn write_outcome(
-    alloc: Global,
-    outcome: &Result<Reply, Refusal>,
-    out: &mut Vec<u8>,
-) -> Result<(), AllocError>
-    ensures { OnOk result (out.new.items ≡ out.old.items ++ outcome_text outcome.now) }
-{
-    match outcome {
-        Ok(reply) => write_reply(alloc, reply, out),
-        Err(why) => write_refusal(alloc, &[], *why, out),
-    }
-}
-
 /// Appends the reply of a call: how many rows its result has.
 pub fn write_count(alloc: Global, answer: &Answer, out: &mut Vec<u8>) -> Result<(), AllocError>
     ensures { OnOk result (out.new.items ≡ out.old.items ++ count_text answer.now) }
@@ -202,7 +187,7 @@ pub fn write_committed(
 
 /// Appends the reply of a transaction that was rolled back.
 pub fn write_rolled_back(out: &mut Vec<u8>) -> Result<(), AllocError>
-    ensures { OnOk result (out.new.items ≡ out.old.items ++ line (codes "rolled back")) }
+    ensures { OnOk result (out.new.items ≡ out.old.items ++ rolled_back_text) }
 {
     write_line(b"rolled back", out)
 }

@@ -1,9 +1,9 @@
 //! What no clause says: a plan and a transcript written out by hand, and that calls succeed.
 
-use crate::{Kept, Plan, Task, plan_of, print};
 use history::{Label, Line, What, Writes};
 use retro_base::{Device, Refusal, Who};
 use script::read;
+use session::{Kept, Plan, Task, plan_of, print};
 use std::alloc::{AllocError, Global};
 use std::test::Fail;
 use values::Seq;

@@ -17,10 +17,11 @@ returns-clause-written g c =
     let only : IsOnlyReading front (Ok script) = rw c.as_slice.ensures.value at c.in_ok-script.ensures.only in
     record {
       script = script;
-      journal = c.in_ok-ended.ended.journal;
+      plan = c.in_ok-plan.plan;
+      journal = c.in_ok-finished.finished.journal;
       read = reads_front c.front_law.ensures (g.S.Source.left c.args.source.now) front (Ok script) c.in_ok-bytes.ensures.bytes found only;
-      lawful = c.in_ok-ended.ensures.lawful;
-      whole = c.in_ok-ended.ensures.transcript;
+      asks = c.in_ok-plan.ensures.plan;
+      ran = c.in_ok-finished.ensures;
     }
 
 pub returns-clause-read : goal.returns-clause-read
