@@ -228,14 +228,14 @@ fn calls_see_a_thousand_rows_at_120_snapshots(rt: HostRuntime) -> Result<(), Fai
 }
 
 // A call on a line of 4,096 bytes.
-fn push_long_call(script: &mut Vec<u8>) -> Result<(), AllocError> {
-    script.extend_from_slice(
+fn push_long_call(call: &mut Vec<u8>) -> Result<(), AllocError> {
+    call.extend_from_slice(
         b"CollateData('SELECT snap_id FROM SnapIds','SELECT a FROM t WHERE a = 1",
     )?;
     for _ in 0..446 {
-        script.extend_from_slice(b" OR a = 2")?;
+        call.extend_from_slice(b" OR a = 2")?;
     }
-    script.extend_from_slice(b"  ','rql_c')\n")
+    call.extend_from_slice(b"  ','rql_c')\n")
 }
 
 #[test]
@@ -244,11 +244,11 @@ fn an_argument_fills_its_line(rt: HostRuntime) -> Result<(), Fail> {
         b"SESSION a\nCREATE TABLE t(a INT)\nINSERT INTO t VALUES (1),(2),(3)\nCOMMIT WITH SNAPSHOT\n".to_vec(
             rt.alloc(),
         )?;
-    let before = script.len();
-    push_long_call(&mut script)?;
-    let length = script.len() - before;
+    let mut call = Vec::new(rt.alloc());
+    push_long_call(&mut call)?;
+    script.extend_from_slice(call.as_slice())?;
     let outcome = run(&rt, script.as_slice())?;
-    assert_eq!(rt; (length, outcome.status), (4_097, 0));
+    assert_eq!(rt; (call.len(), outcome.status), (4_097, 0));
     assert_eq!(rt;
         outcome.text.as_slice(),
         b"phase 1\nsession a\nitem 1\nok\nok 3\ncommitted as 1\nitem 2\nok 2\njournal\n1 a 1 done as 1\n1 a 2 looked all\n1 a 2 unlooked\n".as_slice()
