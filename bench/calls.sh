@@ -1,0 +1,30 @@
+#!/bin/sh
+# Instructions of the built program for each of the four calls over a hundred and over a thousand snapshots of a table of a
+# hundred rows, of which one changes between two snapshots; those of the script without the call are taken off. It needs valgrind.
+cd "$(dirname "$0")/../crates/retro" && rt run -- run < stdin > /dev/null 2>&1 || exit 1
+script=$(mktemp)
+trap 'rm -f "$script"' EXIT
+
+# a table of a hundred rows, so many snapshots of it, and a last line
+over() {
+    awk -v snapshots="$1" -v last="$2" 'BEGIN {
+        printf "SESSION a\nCREATE TABLE t(k INT, v INT)\nINSERT INTO t VALUES (0,0)"
+        for (k = 1; k < 100; k++) printf ",(%d,0)", k
+        print ""
+        for (n = 0; n < snapshots; n++) printf "UPDATE t SET v = v + 1 WHERE k = %d\nCOMMIT WITH SNAPSHOT\n", n % 100
+        print last
+    }' > "$script"
+    valgrind --tool=callgrind --callgrind-out-file=/dev/null out/retro run < "$script" 2>&1 > /dev/null | awk '/refs/ { gsub(",", "", $NF); print $NF }'
+}
+
+for snapshots in 100 1000; do
+    without=$(over "$snapshots" '')
+    echo "no call, $snapshots snapshots: $without"
+    list="'SELECT snap_id FROM SnapIds'"
+    for call in "CollateData($list,'SELECT k, v FROM t','rql_c')" \
+        "AggregateDataInVariable($list,'SELECT SUM(v) FROM t','rql_v','SUM')" \
+        "AggregateDataInTable($list,'SELECT k, v FROM t','rql_t','(v,MAX)')" \
+        "CollateDataIntoIntervals($list,'SELECT k, v FROM t','rql_i')"; do
+        echo "${call%%(*}, $snapshots snapshots: $(($(over "$snapshots" "$call") - without))"
+    done
+done
