@@ -1,438 +1,365 @@
-//! The four calls over snapshots and their result tables: scripts and transcripts, worked out by hand from the rules.
+//! The four calls over snapshots: scripts and transcripts, worked out by hand from the rules.
 
 use crate::tests::run;
 use std::test::Fail;
 
 // A status, a script, and the transcript worked out by hand.
-const CALLS: [(u8, &[u8], &[u8]); 33] = [
+const CALLS: [(u8, &[u8], &[u8]); 21] = [
     // The four calls over two snapshots.
     (
         0,
-        b"SESSION a\nCREATE TABLE t(k TEXT, v INT)\nINSERT INTO t VALUES ('p',1),('q',5)\nCOMMIT WITH SNAPSHOT\nUPDATE t SET v = 11 WHERE k = 'p'\n\
-          COMMIT WITH SNAPSHOT\nCollateData('SELECT snap_id FROM SnapIds','SELECT current_snapshot() AS n, v FROM t WHERE k = ''p''','rql_c')\n\
-          SELECT * FROM rql_c\nAggregateDataInTable('SELECT snap_id FROM SnapIds','SELECT k, v FROM t','rql_t','(v,MAX)')\nSELECT * FROM rql_t\n\
-          AggregateDataInVariable('SELECT snap_id FROM SnapIds','SELECT SUM(v) FROM t','rql_v','SUM')\nSELECT value FROM rql_v\n\
+        b"SESSION a\nCREATE TABLE t(k TEXT, v INT)\nINSERT INTO t VALUES ('p',1),('q',5)\nCOMMIT WITH SNAPSHOT\n\
+          UPDATE t SET v = 11 WHERE k = 'p'\nCOMMIT WITH SNAPSHOT\n\
+          CollateData('SELECT snap_id FROM SnapIds','SELECT current_snapshot() AS n, v FROM t WHERE k = ''p''',\
+          'rql_c')\nSELECT * FROM rql_c\n\
+          AggregateDataInTable('SELECT snap_id FROM SnapIds','SELECT k, v FROM t','rql_t','(v,MAX)')\n\
+          SELECT * FROM rql_t\n\
+          AggregateDataInVariable('SELECT snap_id FROM SnapIds','SELECT SUM(v) FROM t','rql_v','SUM')\n\
+          SELECT value FROM rql_v\n\
           CollateDataIntoIntervals('SELECT snap_id FROM SnapIds','SELECT k, v FROM t','rql_i')\nSELECT * FROM rql_i",
-        b"phase 1\nsession a\nitem 1\nok\nok 2\ncommitted as 1\nitem 2\nok 1\ncommitted as 2\nitem 3\nok 2\nitem 4\nrows 2\n1,1\n2,11\nitem 5\nok 2\n\
-          item 6\nrows 2\np,11\nq,5\nitem 7\nok 1\nitem 8\nrows 1\n22\nitem 9\nok 3\nitem 10\nrows 3\np,1,1,1\nq,5,1,2\np,11,2,2\n\
-          journal\n1 a 1 done as 1\n1 a 2 done as 2\n1 a 3 looked all\n1 a 3 unlooked\n1 a 5 looked all\n1 a 5 unlooked\n1 a 7 looked all\n1 a 7 unlooked\n\
+        b"phase 1\nsession a\nitem 1\nok\nok 2\ncommitted as 1\nitem 2\nok 1\ncommitted as 2\nitem 3\nok 2\nitem 4\n\
+          rows 2\n1,1\n2,11\nitem 5\nok 2\nitem 6\nrows 2\np,11\nq,5\nitem 7\nok 1\nitem 8\nrows 1\n22\nitem 9\n\
+          ok 3\nitem 10\nrows 3\np,1,1,1\nq,5,1,2\np,11,2,2\njournal\n1 a 1 done as 1\n1 a 2 done as 2\n\
+          1 a 3 looked all\n1 a 3 unlooked\n1 a 5 looked all\n1 a 5 unlooked\n1 a 7 looked all\n1 a 7 unlooked\n\
           1 a 9 looked all\n1 a 9 unlooked\n",
     ),
     // Answers stand one after the other in the order of the list, newest first here.
     (
         0,
-        b"SESSION a\nCREATE TABLE t(a INT)\nINSERT INTO t VALUES (2),(1)\nCOMMIT WITH SNAPSHOT 'x'\nINSERT INTO t VALUES (3)\nCOMMIT WITH SNAPSHOT 'y'\n\
-          DELETE FROM t WHERE a = 1\nCOMMIT WITH SNAPSHOT 'x'\n\
-          CollateData('SELECT snap_id FROM SnapIds ORDER BY snap_id DESC','SELECT current_snapshot(), a FROM t','rql_c')\nSELECT * FROM rql_c\n\
-          SELECT col1 FROM rql_c WHERE a = 3",
-        b"phase 1\nsession a\nitem 1\nok\nok 2\ncommitted as 1\nitem 2\nok 1\ncommitted as 2\nitem 3\nok 1\ncommitted as 3\nitem 4\nok 7\n\
-          item 5\nrows 7\n3,2\n3,3\n2,2\n2,1\n2,3\n1,2\n1,1\nitem 6\nrows 2\n3\n2\n\
+        b"SESSION a\nCREATE TABLE t(a INT)\nINSERT INTO t VALUES (2),(1)\nCOMMIT WITH SNAPSHOT 'x'\n\
+          INSERT INTO t VALUES (3)\nCOMMIT WITH SNAPSHOT 'y'\nDELETE FROM t WHERE a = 1\nCOMMIT WITH SNAPSHOT 'x'\n\
+          CollateData('SELECT snap_id FROM SnapIds ORDER BY snap_id DESC','SELECT current_snapshot(), a FROM t',\
+          'rql_c')\nSELECT * FROM rql_c\nSELECT col1 FROM rql_c WHERE a = 3",
+        b"phase 1\nsession a\nitem 1\nok\nok 2\ncommitted as 1\nitem 2\nok 1\ncommitted as 2\nitem 3\nok 1\n\
+          committed as 3\nitem 4\nok 7\nitem 5\nrows 7\n3,2\n3,3\n2,2\n2,1\n2,3\n1,2\n1,1\nitem 6\nrows 2\n3\n2\n\
           journal\n1 a 1 done as 1\n1 a 2 done as 2\n1 a 3 done as 3\n1 a 4 looked all\n1 a 4 unlooked\n",
     ),
     // The list of snapshots by label, order and limit.
     (
         0,
-        b"SESSION a\nCREATE TABLE t(a INT)\nINSERT INTO t VALUES (2),(1)\nCOMMIT WITH SNAPSHOT 'x'\nINSERT INTO t VALUES (3)\nCOMMIT WITH SNAPSHOT 'y'\n\
-          DELETE FROM t WHERE a = 1\nCOMMIT WITH SNAPSHOT 'x'\n\
-          CollateData('SELECT snap_id FROM SnapIds WHERE label = ''x''','SELECT current_snapshot() AS n, COUNT(*) AS c FROM t','rql_c')\nSELECT * FROM rql_c\n\
-          CollateData('SELECT snap_id FROM SnapIds ORDER BY label DESC, snap_id DESC LIMIT 2','SELECT current_snapshot() AS n, COUNT(*) AS c FROM t','rql_c')\n\
-          SELECT * FROM rql_c\n\
-          CollateData('SELECT snap_id FROM SnapIds WHERE NOT (snap_id = 1 OR label = ''y'')','SELECT current_snapshot() AS n, COUNT(*) AS c FROM t','rql_c')\n\
-          SELECT * FROM rql_c",
-        b"phase 1\nsession a\nitem 1\nok\nok 2\ncommitted as 1\nitem 2\nok 1\ncommitted as 2\nitem 3\nok 1\ncommitted as 3\nitem 4\nok 2\n\
-          item 5\nrows 2\n1,2\n3,2\nitem 6\nok 2\nitem 7\nrows 2\n2,3\n3,2\nitem 8\nok 1\nitem 9\nrows 1\n3,2\n\
-          journal\n1 a 1 done as 1\n1 a 2 done as 2\n1 a 3 done as 3\n1 a 4 looked all\n1 a 4 unlooked\n1 a 6 looked all\n1 a 6 unlooked\n1 a 8 looked all\n\
-          1 a 8 unlooked\n",
+        b"SESSION a\nCREATE TABLE t(a INT)\nINSERT INTO t VALUES (2),(1)\nCOMMIT WITH SNAPSHOT 'x'\n\
+          INSERT INTO t VALUES (3)\nCOMMIT WITH SNAPSHOT 'y'\nDELETE FROM t WHERE a = 1\nCOMMIT WITH SNAPSHOT 'x'\n\
+          CollateData('SELECT snap_id FROM SnapIds WHERE label = ''x''','SELECT current_snapshot() AS n, COUNT(*) AS \
+          c FROM t','rql_c')\nSELECT * FROM rql_c\n\
+          CollateData('SELECT snap_id FROM SnapIds ORDER BY label DESC, snap_id DESC LIMIT 2','SELECT \
+          current_snapshot() AS n, COUNT(*) AS c FROM t','rql_c')\nSELECT * FROM rql_c\n\
+          CollateData('SELECT snap_id FROM SnapIds WHERE NOT (snap_id = 1 OR label = ''y'')','SELECT \
+          current_snapshot() AS n, COUNT(*) AS c FROM t','rql_c')\nSELECT * FROM rql_c",
+        b"phase 1\nsession a\nitem 1\nok\nok 2\ncommitted as 1\nitem 2\nok 1\ncommitted as 2\nitem 3\nok 1\n\
+          committed as 3\nitem 4\nok 2\nitem 5\nrows 2\n1,2\n3,2\nitem 6\nok 2\nitem 7\nrows 2\n2,3\n3,2\nitem 8\n\
+          ok 1\nitem 9\nrows 1\n3,2\njournal\n1 a 1 done as 1\n1 a 2 done as 2\n1 a 3 done as 3\n1 a 4 looked all\n\
+          1 a 4 unlooked\n1 a 6 looked all\n1 a 6 unlooked\n1 a 8 looked all\n1 a 8 unlooked\n",
     ),
     // The list of snapshots with ties in its order, with a table's name before a column, and cut to the newest.
     (
         0,
-        b"SESSION a\nCREATE TABLE t(a INT)\nINSERT INTO t VALUES (2),(1)\nCOMMIT WITH SNAPSHOT 'x'\nINSERT INTO t VALUES (3)\nCOMMIT WITH SNAPSHOT 'y'\n\
-          DELETE FROM t WHERE a = 1\nCOMMIT WITH SNAPSHOT 'x'\n\
-          CollateData('SELECT snap_id FROM SnapIds ORDER BY label','SELECT current_snapshot() AS n, COUNT(*) AS c FROM t','rql_c')\nSELECT n FROM rql_c\n\
-          CollateData('select snap_id from SnapIds where SnapIds.snap_id <> 2 limit 1','SELECT current_snapshot() AS n, COUNT(*) AS c FROM t','rql_c')\n\
-          SELECT n FROM rql_c\n\
-          CollateData('SELECT snap_id FROM SnapIds ORDER BY snap_id DESC LIMIT 1','SELECT current_snapshot() AS n, COUNT(*) AS c FROM t','rql_c')\n\
-          SELECT n FROM rql_c",
-        b"phase 1\nsession a\nitem 1\nok\nok 2\ncommitted as 1\nitem 2\nok 1\ncommitted as 2\nitem 3\nok 1\ncommitted as 3\nitem 4\nok 3\n\
-          item 5\nrows 3\n1\n3\n2\nitem 6\nok 1\nitem 7\nrows 1\n1\nitem 8\nok 1\nitem 9\nrows 1\n3\n\
-          journal\n1 a 1 done as 1\n1 a 2 done as 2\n1 a 3 done as 3\n1 a 4 looked all\n1 a 4 unlooked\n1 a 6 looked all\n1 a 6 unlooked\n1 a 8 looked all\n\
-          1 a 8 unlooked\n",
+        b"SESSION a\nCREATE TABLE t(a INT)\nINSERT INTO t VALUES (2),(1)\nCOMMIT WITH SNAPSHOT 'x'\n\
+          INSERT INTO t VALUES (3)\nCOMMIT WITH SNAPSHOT 'y'\nDELETE FROM t WHERE a = 1\nCOMMIT WITH SNAPSHOT 'x'\n\
+          CollateData('SELECT snap_id FROM SnapIds ORDER BY label','SELECT current_snapshot() AS n, COUNT(*) AS c \
+          FROM t','rql_c')\nSELECT n FROM rql_c\n\
+          CollateData('select snap_id from SnapIds where SnapIds.snap_id <> 2 limit 1','SELECT current_snapshot() AS \
+          n, COUNT(*) AS c FROM t','rql_c')\nSELECT n FROM rql_c\n\
+          CollateData('SELECT snap_id FROM SnapIds ORDER BY snap_id DESC LIMIT 1','SELECT current_snapshot() AS n, \
+          COUNT(*) AS c FROM t','rql_c')\nSELECT n FROM rql_c",
+        b"phase 1\nsession a\nitem 1\nok\nok 2\ncommitted as 1\nitem 2\nok 1\ncommitted as 2\nitem 3\nok 1\n\
+          committed as 3\nitem 4\nok 3\nitem 5\nrows 3\n1\n3\n2\nitem 6\nok 1\nitem 7\nrows 1\n1\nitem 8\nok 1\n\
+          item 9\nrows 1\n3\njournal\n1 a 1 done as 1\n1 a 2 done as 2\n1 a 3 done as 3\n1 a 4 looked all\n\
+          1 a 4 unlooked\n1 a 6 looked all\n1 a 6 unlooked\n1 a 8 looked all\n1 a 8 unlooked\n",
     ),
-    // A store without snapshots: a count and a sum of nothing are 0, a least and a greatest have no row, the rest no columns.
+    // A store without snapshots: a count and a sum of nothing are 0, a least and a greatest have no row, the rest no
+    // columns.
     (
         0,
-        b"SESSION a\nCollateData('SELECT snap_id FROM SnapIds','SELECT a FROM nosuch','rql_c')\nSELECT * FROM rql_c\nSELECT a FROM rql_c\n\
-          AggregateDataInVariable('SELECT snap_id FROM SnapIds','SELECT a FROM nosuch','rql_v','COUNT')\nSELECT value FROM rql_v\n\
-          AggregateDataInVariable('SELECT snap_id FROM SnapIds','SELECT a FROM nosuch','rql_v','SUM')\nSELECT value FROM rql_v\n\
-          AggregateDataInVariable('SELECT snap_id FROM SnapIds','SELECT a FROM nosuch','rql_v','MIN')\nSELECT value FROM rql_v\n\
-          AggregateDataInVariable('SELECT snap_id FROM SnapIds','SELECT a FROM nosuch','rql_v','MAX')\nSELECT value FROM rql_v\n\
-          AggregateDataInTable('SELECT snap_id FROM SnapIds','SELECT a FROM nosuch','rql_t','(b,SUM)')\nSELECT * FROM rql_t\nSELECT COUNT(*) FROM rql_t\n\
-          CollateDataIntoIntervals('SELECT snap_id FROM SnapIds','SELECT a FROM nosuch','rql_i')\nSELECT * FROM rql_i\nSELECT start_snapshot FROM rql_i",
-        b"phase 1\nsession a\nitem 1\nok 0\nitem 2\nrows 0\nitem 3\nrefused 20 UnknownName\nitem 4\nok 1\nitem 5\nrows 1\n0\nitem 6\nok 1\nitem 7\nrows 1\n0\n\
-          item 8\nok 0\nitem 9\nrows 0\nitem 10\nok 0\nitem 11\nrows 0\nitem 12\nok 0\nitem 13\nrows 0\nitem 14\nrows 1\n0\nitem 15\nok 0\nitem 16\nrows 0\n\
-          item 17\nrefused 20 UnknownName\n\
-          journal\n1 a 1 looked all\n1 a 1 unlooked\n1 a 4 looked all\n1 a 4 unlooked\n1 a 6 looked all\n1 a 6 unlooked\n1 a 8 looked all\n1 a 8 unlooked\n\
-          1 a 10 looked all\n1 a 10 unlooked\n1 a 12 looked all\n1 a 12 unlooked\n1 a 15 looked all\n1 a 15 unlooked\n",
+        b"SESSION a\nCollateData('SELECT snap_id FROM SnapIds','SELECT a FROM nosuch','rql_c')\nSELECT * FROM rql_c\n\
+          SELECT a FROM rql_c\n\
+          AggregateDataInVariable('SELECT snap_id FROM SnapIds','SELECT a FROM nosuch','rql_v','COUNT')\n\
+          SELECT value FROM rql_v\n\
+          AggregateDataInVariable('SELECT snap_id FROM SnapIds','SELECT a FROM nosuch','rql_v','SUM')\n\
+          SELECT value FROM rql_v\n\
+          AggregateDataInVariable('SELECT snap_id FROM SnapIds','SELECT a FROM nosuch','rql_v','MIN')\n\
+          SELECT value FROM rql_v\n\
+          AggregateDataInVariable('SELECT snap_id FROM SnapIds','SELECT a FROM nosuch','rql_v','MAX')\n\
+          SELECT value FROM rql_v\n\
+          AggregateDataInTable('SELECT snap_id FROM SnapIds','SELECT a FROM nosuch','rql_t','(b,SUM)')\n\
+          SELECT * FROM rql_t\nSELECT COUNT(*) FROM rql_t\n\
+          CollateDataIntoIntervals('SELECT snap_id FROM SnapIds','SELECT a FROM nosuch','rql_i')\n\
+          SELECT * FROM rql_i\nSELECT start_snapshot FROM rql_i",
+        b"phase 1\nsession a\nitem 1\nok 0\nitem 2\nrows 0\nitem 3\nrefused 20 UnknownName\nitem 4\nok 1\nitem 5\n\
+          rows 1\n0\nitem 6\nok 1\nitem 7\nrows 1\n0\nitem 8\nok 0\nitem 9\nrows 0\nitem 10\nok 0\nitem 11\nrows 0\n\
+          item 12\nok 0\nitem 13\nrows 0\nitem 14\nrows 1\n0\nitem 15\nok 0\nitem 16\nrows 0\nitem 17\n\
+          refused 20 UnknownName\njournal\n1 a 1 looked all\n1 a 1 unlooked\n1 a 4 looked all\n1 a 4 unlooked\n\
+          1 a 6 looked all\n1 a 6 unlooked\n1 a 8 looked all\n1 a 8 unlooked\n1 a 10 looked all\n1 a 10 unlooked\n\
+          1 a 12 looked all\n1 a 12 unlooked\n1 a 15 looked all\n1 a 15 unlooked\n",
     ),
     // A list without snapshots over a store that has some: the column of a greatest value is then one of integers.
     (
         0,
-        b"SESSION a\nCREATE TABLE t(k TEXT, v INT)\nINSERT INTO t VALUES ('p',1),('q',5)\nCOMMIT WITH SNAPSHOT\nUPDATE t SET v = 11 WHERE k = 'p'\n\
-          COMMIT WITH SNAPSHOT\nAggregateDataInVariable('SELECT snap_id FROM SnapIds LIMIT 0','SELECT k FROM t','rql_v','MAX')\n\
-          SELECT value FROM rql_v WHERE value = 1\nSELECT value FROM rql_v WHERE value = 'x'\nSELECT COUNT(*), SUM(value) FROM rql_v\n\
-          SELECT MAX(value) FROM rql_v\nAggregateDataInVariable('SELECT snap_id FROM SnapIds WHERE snap_id > 2','SELECT v FROM t','rql_v','count')\n\
-          SELECT * FROM rql_v",
-        b"phase 1\nsession a\nitem 1\nok\nok 2\ncommitted as 1\nitem 2\nok 1\ncommitted as 2\nitem 3\nok 0\nitem 4\nrows 0\nitem 5\nrefused 22 WrongType\n\
-          item 6\nrows 1\n0,0\nitem 7\nrows 0\nitem 8\nok 1\nitem 9\nrows 1\n0\n\
-          journal\n1 a 1 done as 1\n1 a 2 done as 2\n1 a 3 looked all\n1 a 3 unlooked\n1 a 8 looked all\n1 a 8 unlooked\n",
+        b"SESSION a\nCREATE TABLE t(k TEXT, v INT)\nINSERT INTO t VALUES ('p',1),('q',5)\nCOMMIT WITH SNAPSHOT\n\
+          UPDATE t SET v = 11 WHERE k = 'p'\nCOMMIT WITH SNAPSHOT\n\
+          AggregateDataInVariable('SELECT snap_id FROM SnapIds LIMIT 0','SELECT k FROM t','rql_v','MAX')\n\
+          SELECT value FROM rql_v WHERE value = 1\nSELECT value FROM rql_v WHERE value = 'x'\n\
+          SELECT COUNT(*), SUM(value) FROM rql_v\nSELECT MAX(value) FROM rql_v\n\
+          AggregateDataInVariable('SELECT snap_id FROM SnapIds WHERE snap_id > 2','SELECT v FROM t','rql_v',\
+          'count')\nSELECT * FROM rql_v",
+        b"phase 1\nsession a\nitem 1\nok\nok 2\ncommitted as 1\nitem 2\nok 1\ncommitted as 2\nitem 3\nok 0\nitem 4\n\
+          rows 0\nitem 5\nrefused 22 WrongType\nitem 6\nrows 1\n0,0\nitem 7\nrows 0\nitem 8\nok 1\nitem 9\nrows 1\n\
+          0\njournal\n1 a 1 done as 1\n1 a 2 done as 2\n1 a 3 looked all\n1 a 3 unlooked\n1 a 8 looked all\n\
+          1 a 8 unlooked\n",
     ),
     // An answer without rows has columns, a list without snapshots has none.
     (
         0,
-        b"SESSION a\nCREATE TABLE t(k TEXT, v INT)\nINSERT INTO t VALUES ('p',1),('q',5)\nCOMMIT WITH SNAPSHOT\nUPDATE t SET v = 11 WHERE k = 'p'\n\
-          COMMIT WITH SNAPSHOT\nCollateData('SELECT snap_id FROM SnapIds','SELECT v FROM t LIMIT 0','rql_c')\nSELECT v FROM rql_c\n\
-          CollateData('SELECT snap_id FROM SnapIds WHERE label = ''none''','SELECT v FROM t','rql_c')\nSELECT v FROM rql_c\n\
-          CollateDataIntoIntervals('SELECT snap_id FROM SnapIds','SELECT k FROM t WHERE v > 11','rql_i')\nSELECT k, start_snapshot FROM rql_i",
-        b"phase 1\nsession a\nitem 1\nok\nok 2\ncommitted as 1\nitem 2\nok 1\ncommitted as 2\nitem 3\nok 0\nitem 4\nrows 0\nitem 5\nok 0\n\
-          item 6\nrefused 20 UnknownName\nitem 7\nok 0\nitem 8\nrows 0\n\
-          journal\n1 a 1 done as 1\n1 a 2 done as 2\n1 a 3 looked all\n1 a 3 unlooked\n1 a 5 looked all\n1 a 5 unlooked\n1 a 7 looked all\n1 a 7 unlooked\n",
+        b"SESSION a\nCREATE TABLE t(k TEXT, v INT)\nINSERT INTO t VALUES ('p',1),('q',5)\nCOMMIT WITH SNAPSHOT\n\
+          UPDATE t SET v = 11 WHERE k = 'p'\nCOMMIT WITH SNAPSHOT\n\
+          CollateData('SELECT snap_id FROM SnapIds','SELECT v FROM t LIMIT 0','rql_c')\nSELECT v FROM rql_c\n\
+          CollateData('SELECT snap_id FROM SnapIds WHERE label = ''none''','SELECT v FROM t','rql_c')\n\
+          SELECT v FROM rql_c\n\
+          CollateDataIntoIntervals('SELECT snap_id FROM SnapIds','SELECT k FROM t WHERE v > 11','rql_i')\n\
+          SELECT k, start_snapshot FROM rql_i",
+        b"phase 1\nsession a\nitem 1\nok\nok 2\ncommitted as 1\nitem 2\nok 1\ncommitted as 2\nitem 3\nok 0\nitem 4\n\
+          rows 0\nitem 5\nok 0\nitem 6\nrefused 20 UnknownName\nitem 7\nok 0\nitem 8\nrows 0\njournal\n\
+          1 a 1 done as 1\n1 a 2 done as 2\n1 a 3 looked all\n1 a 3 unlooked\n1 a 5 looked all\n1 a 5 unlooked\n\
+          1 a 7 looked all\n1 a 7 unlooked\n",
     ),
     // The four functions in any case over the values 4, -6 and 10.
     (
         0,
-        b"SESSION a\nCREATE TABLE t(v INT)\nINSERT INTO t VALUES (4)\nCOMMIT WITH SNAPSHOT\nUPDATE t SET v = -6\nCOMMIT WITH SNAPSHOT\nUPDATE t SET v = 10\n\
-          COMMIT WITH SNAPSHOT\nAggregateDataInVariable('SELECT snap_id FROM SnapIds','SELECT v FROM t','rql_v','min')\nSELECT * FROM rql_v\n\
-          AggregateDataInVariable('SELECT snap_id FROM SnapIds','SELECT v FROM t','rql_v','Max')\nSELECT * FROM rql_v\n\
-          AggregateDataInVariable('SELECT snap_id FROM SnapIds','SELECT v FROM t','rql_v','SUM')\nSELECT * FROM rql_v\n\
-          AggregateDataInVariable('SELECT snap_id FROM SnapIds','SELECT v FROM t','rql_v','cOUNT')\nSELECT * FROM rql_v",
-        b"phase 1\nsession a\nitem 1\nok\nok 1\ncommitted as 1\nitem 2\nok 1\ncommitted as 2\nitem 3\nok 1\ncommitted as 3\nitem 4\nok 1\nitem 5\nrows 1\n-6\n\
-          item 6\nok 1\nitem 7\nrows 1\n10\nitem 8\nok 1\nitem 9\nrows 1\n8\nitem 10\nok 1\nitem 11\nrows 1\n3\n\
-          journal\n1 a 1 done as 1\n1 a 2 done as 2\n1 a 3 done as 3\n1 a 4 looked all\n1 a 4 unlooked\n1 a 6 looked all\n1 a 6 unlooked\n1 a 8 looked all\n\
-          1 a 8 unlooked\n1 a 10 looked all\n1 a 10 unlooked\n",
+        b"SESSION a\nCREATE TABLE t(v INT)\nINSERT INTO t VALUES (4)\nCOMMIT WITH SNAPSHOT\nUPDATE t SET v = -6\n\
+          COMMIT WITH SNAPSHOT\nUPDATE t SET v = 10\nCOMMIT WITH SNAPSHOT\n\
+          AggregateDataInVariable('SELECT snap_id FROM SnapIds','SELECT v FROM t','rql_v','min')\n\
+          SELECT * FROM rql_v\n\
+          AggregateDataInVariable('SELECT snap_id FROM SnapIds','SELECT v FROM t','rql_v','Max')\n\
+          SELECT * FROM rql_v\n\
+          AggregateDataInVariable('SELECT snap_id FROM SnapIds','SELECT v FROM t','rql_v','SUM')\n\
+          SELECT * FROM rql_v\n\
+          AggregateDataInVariable('SELECT snap_id FROM SnapIds','SELECT v FROM t','rql_v','cOUNT')\n\
+          SELECT * FROM rql_v",
+        b"phase 1\nsession a\nitem 1\nok\nok 1\ncommitted as 1\nitem 2\nok 1\ncommitted as 2\nitem 3\nok 1\n\
+          committed as 3\nitem 4\nok 1\nitem 5\nrows 1\n-6\nitem 6\nok 1\nitem 7\nrows 1\n10\nitem 8\nok 1\nitem 9\n\
+          rows 1\n8\nitem 10\nok 1\nitem 11\nrows 1\n3\njournal\n1 a 1 done as 1\n1 a 2 done as 2\n1 a 3 done as 3\n\
+          1 a 4 looked all\n1 a 4 unlooked\n1 a 6 looked all\n1 a 6 unlooked\n1 a 8 looked all\n1 a 8 unlooked\n\
+          1 a 10 looked all\n1 a 10 unlooked\n",
     ),
     // Texts go by bytes, a count of texts is an integer, and a sum of texts is refused and leaves the count.
     (
         0,
-        b"SESSION a\nCREATE TABLE t(k TEXT)\nINSERT INTO t VALUES ('b')\nCOMMIT WITH SNAPSHOT\nUPDATE t SET k = 'Za'\nCOMMIT WITH SNAPSHOT\n\
-          UPDATE t SET k = ''\nCOMMIT WITH SNAPSHOT\nAggregateDataInVariable('SELECT snap_id FROM SnapIds','SELECT k FROM t','rql_v','MIN')\n\
-          SELECT value FROM rql_v\nAggregateDataInVariable('SELECT snap_id FROM SnapIds','SELECT k FROM t','rql_v','MAX')\n\
+        b"SESSION a\nCREATE TABLE t(k TEXT)\nINSERT INTO t VALUES ('b')\nCOMMIT WITH SNAPSHOT\n\
+          UPDATE t SET k = 'Za'\nCOMMIT WITH SNAPSHOT\nUPDATE t SET k = ''\nCOMMIT WITH SNAPSHOT\n\
+          AggregateDataInVariable('SELECT snap_id FROM SnapIds','SELECT k FROM t','rql_v','MIN')\n\
+          SELECT value FROM rql_v\n\
+          AggregateDataInVariable('SELECT snap_id FROM SnapIds','SELECT k FROM t','rql_v','MAX')\n\
           SELECT value FROM rql_v WHERE value = 'b'\nSELECT value FROM rql_v WHERE value = 1\n\
-          AggregateDataInVariable('SELECT snap_id FROM SnapIds','SELECT k FROM t','rql_v','COUNT')\nSELECT value + 1 FROM rql_v\n\
-          AggregateDataInVariable('SELECT snap_id FROM SnapIds','SELECT k FROM t','rql_v','SUM')\nSELECT value FROM rql_v",
-        b"phase 1\nsession a\nitem 1\nok\nok 1\ncommitted as 1\nitem 2\nok 1\ncommitted as 2\nitem 3\nok 1\ncommitted as 3\nitem 4\nok 1\nitem 5\nrows 1\n\"\"\n\
-          item 6\nok 1\nitem 7\nrows 1\nb\nitem 8\nrefused 22 WrongType\nitem 9\nok 1\nitem 10\nrows 1\n4\nitem 11\nrefused 22 WrongType\nitem 12\nrows 1\n3\n\
-          journal\n1 a 1 done as 1\n1 a 2 done as 2\n1 a 3 done as 3\n1 a 4 looked all\n1 a 4 unlooked\n1 a 6 looked all\n1 a 6 unlooked\n1 a 9 looked all\n\
-          1 a 9 unlooked\n1 a 11 looked all\n1 a 11 refused 22\n",
+          AggregateDataInVariable('SELECT snap_id FROM SnapIds','SELECT k FROM t','rql_v','COUNT')\n\
+          SELECT value + 1 FROM rql_v\n\
+          AggregateDataInVariable('SELECT snap_id FROM SnapIds','SELECT k FROM t','rql_v','SUM')\n\
+          SELECT value FROM rql_v",
+        b"phase 1\nsession a\nitem 1\nok\nok 1\ncommitted as 1\nitem 2\nok 1\ncommitted as 2\nitem 3\nok 1\n\
+          committed as 3\nitem 4\nok 1\nitem 5\nrows 1\n\"\"\nitem 6\nok 1\nitem 7\nrows 1\nb\nitem 8\n\
+          refused 22 WrongType\nitem 9\nok 1\nitem 10\nrows 1\n4\nitem 11\nrefused 22 WrongType\nitem 12\nrows 1\n3\n\
+          journal\n1 a 1 done as 1\n1 a 2 done as 2\n1 a 3 done as 3\n1 a 4 looked all\n1 a 4 unlooked\n\
+          1 a 6 looked all\n1 a 6 unlooked\n1 a 9 looked all\n1 a 9 unlooked\n1 a 11 looked all\n1 a 11 refused 22\n",
     ),
     // A sum that passes 64 bits upwards on its way, in three orders; only its end counts.
     (
         0,
-        b"SESSION a\nCREATE TABLE t(v INT)\nINSERT INTO t VALUES (9223372036854775807)\nCOMMIT WITH SNAPSHOT 'b'\nUPDATE t SET v = 1\nCOMMIT WITH SNAPSHOT 'c'\n\
-          UPDATE t SET v = -1\nCOMMIT WITH SNAPSHOT 'a'\nAggregateDataInVariable('SELECT snap_id FROM SnapIds','SELECT v FROM t','rql_v','SUM')\n\
-          SELECT value FROM rql_v\nAggregateDataInVariable('SELECT snap_id FROM SnapIds ORDER BY snap_id DESC','SELECT v FROM t','rql_v','SUM')\n\
-          SELECT value FROM rql_v\nAggregateDataInVariable('SELECT snap_id FROM SnapIds ORDER BY label','SELECT v FROM t','rql_v','SUM')\n\
-          SELECT value FROM rql_v\nAggregateDataInVariable('SELECT snap_id FROM SnapIds WHERE snap_id < 3','SELECT v FROM t','rql_v','SUM')\n\
-          AggregateDataInVariable('SELECT snap_id FROM SnapIds WHERE snap_id < 3 ORDER BY snap_id DESC','SELECT v FROM t','rql_v','SUM')\n\
-          SELECT value FROM rql_v\nSELECT value + 1 FROM rql_v",
-        b"phase 1\nsession a\nitem 1\nok\nok 1\ncommitted as 1\nitem 2\nok 1\ncommitted as 2\nitem 3\nok 1\ncommitted as 3\nitem 4\nok 1\n\
-          item 5\nrows 1\n9223372036854775807\nitem 6\nok 1\nitem 7\nrows 1\n9223372036854775807\nitem 8\nok 1\nitem 9\nrows 1\n9223372036854775807\n\
-          item 10\nrefused 23 Overflow\nitem 11\nrefused 23 Overflow\nitem 12\nrows 1\n9223372036854775807\nitem 13\nrefused 23 Overflow\n\
-          journal\n1 a 1 done as 1\n1 a 2 done as 2\n1 a 3 done as 3\n1 a 4 looked all\n1 a 4 unlooked\n1 a 6 looked all\n1 a 6 unlooked\n1 a 8 looked all\n\
-          1 a 8 unlooked\n1 a 10 looked all\n1 a 10 refused 23\n1 a 11 looked all\n1 a 11 refused 23\n",
+        b"SESSION a\nCREATE TABLE t(v INT)\nINSERT INTO t VALUES (9223372036854775807)\nCOMMIT WITH SNAPSHOT 'b'\n\
+          UPDATE t SET v = 1\nCOMMIT WITH SNAPSHOT 'c'\nUPDATE t SET v = -1\nCOMMIT WITH SNAPSHOT 'a'\n\
+          AggregateDataInVariable('SELECT snap_id FROM SnapIds','SELECT v FROM t','rql_v','SUM')\n\
+          SELECT value FROM rql_v\n\
+          AggregateDataInVariable('SELECT snap_id FROM SnapIds ORDER BY snap_id DESC','SELECT v FROM t','rql_v',\
+          'SUM')\nSELECT value FROM rql_v\n\
+          AggregateDataInVariable('SELECT snap_id FROM SnapIds ORDER BY label','SELECT v FROM t','rql_v','SUM')\n\
+          SELECT value FROM rql_v\n\
+          AggregateDataInVariable('SELECT snap_id FROM SnapIds WHERE snap_id < 3','SELECT v FROM t','rql_v','SUM')\n\
+          AggregateDataInVariable('SELECT snap_id FROM SnapIds WHERE snap_id < 3 ORDER BY snap_id DESC','SELECT v \
+          FROM t','rql_v','SUM')\nSELECT value FROM rql_v\nSELECT value + 1 FROM rql_v",
+        b"phase 1\nsession a\nitem 1\nok\nok 1\ncommitted as 1\nitem 2\nok 1\ncommitted as 2\nitem 3\nok 1\n\
+          committed as 3\nitem 4\nok 1\nitem 5\nrows 1\n9223372036854775807\nitem 6\nok 1\nitem 7\nrows 1\n\
+          9223372036854775807\nitem 8\nok 1\nitem 9\nrows 1\n9223372036854775807\nitem 10\nrefused 23 Overflow\n\
+          item 11\nrefused 23 Overflow\nitem 12\nrows 1\n9223372036854775807\nitem 13\nrefused 23 Overflow\njournal\n\
+          1 a 1 done as 1\n1 a 2 done as 2\n1 a 3 done as 3\n1 a 4 looked all\n1 a 4 unlooked\n1 a 6 looked all\n\
+          1 a 6 unlooked\n1 a 8 looked all\n1 a 8 unlooked\n1 a 10 looked all\n1 a 10 refused 23\n1 a 11 looked all\n\
+          1 a 11 refused 23\n",
     ),
     // The least integer, which no literal has, as a sum; one less is refused.
     (
         0,
-        b"SESSION a\nCREATE TABLE t(v INT)\nINSERT INTO t VALUES (-9223372036854775807)\nCOMMIT WITH SNAPSHOT\nUPDATE t SET v = -1\nCOMMIT WITH SNAPSHOT\n\
-          COMMIT WITH SNAPSHOT\nUPDATE t SET v = 1\nCOMMIT WITH SNAPSHOT\n\
-          AggregateDataInVariable('SELECT snap_id FROM SnapIds WHERE snap_id < 3','SELECT v FROM t','rql_v','SUM')\nSELECT value FROM rql_v\n\
+        b"SESSION a\nCREATE TABLE t(v INT)\nINSERT INTO t VALUES (-9223372036854775807)\nCOMMIT WITH SNAPSHOT\n\
+          UPDATE t SET v = -1\nCOMMIT WITH SNAPSHOT\nCOMMIT WITH SNAPSHOT\nUPDATE t SET v = 1\nCOMMIT WITH SNAPSHOT\n\
+          AggregateDataInVariable('SELECT snap_id FROM SnapIds WHERE snap_id < 3','SELECT v FROM t','rql_v','SUM')\n\
+          SELECT value FROM rql_v\n\
           AggregateDataInVariable('SELECT snap_id FROM SnapIds WHERE snap_id < 4','SELECT v FROM t','rql_v','SUM')\n\
-          AggregateDataInVariable('SELECT snap_id FROM SnapIds','SELECT v FROM t','rql_w','SUM')\nSELECT value + 1 FROM rql_w\nSELECT 0 - value FROM rql_w",
-        b"phase 1\nsession a\nitem 1\nok\nok 1\ncommitted as 1\nitem 2\nok 1\ncommitted as 2\nitem 3\ncommitted as 3\nitem 4\nok 1\ncommitted as 4\n\
-          item 5\nok 1\nitem 6\nrows 1\n-9223372036854775808\nitem 7\nrefused 23 Overflow\nitem 8\nok 1\nitem 9\nrows 1\n-9223372036854775807\n\
-          item 10\nrefused 23 Overflow\n\
-          journal\n1 a 1 done as 1\n1 a 2 done as 2\n1 a 3 done as 3\n1 a 4 done as 4\n1 a 5 looked all\n1 a 5 unlooked\n1 a 7 looked all\n1 a 7 refused 23\n\
-          1 a 8 looked all\n1 a 8 unlooked\n",
+          AggregateDataInVariable('SELECT snap_id FROM SnapIds','SELECT v FROM t','rql_w','SUM')\n\
+          SELECT value + 1 FROM rql_w\nSELECT 0 - value FROM rql_w",
+        b"phase 1\nsession a\nitem 1\nok\nok 1\ncommitted as 1\nitem 2\nok 1\ncommitted as 2\nitem 3\n\
+          committed as 3\nitem 4\nok 1\ncommitted as 4\nitem 5\nok 1\nitem 6\nrows 1\n-9223372036854775808\nitem 7\n\
+          refused 23 Overflow\nitem 8\nok 1\nitem 9\nrows 1\n-9223372036854775807\nitem 10\nrefused 23 Overflow\n\
+          journal\n1 a 1 done as 1\n1 a 2 done as 2\n1 a 3 done as 3\n1 a 4 done as 4\n1 a 5 looked all\n\
+          1 a 5 unlooked\n1 a 7 looked all\n1 a 7 refused 23\n1 a 8 looked all\n1 a 8 unlooked\n",
     ),
     // A sum in the table of all passes 64 bits on its way too, and is refused by its end alone.
     (
         0,
-        b"SESSION a\nCREATE TABLE t(v INT)\nINSERT INTO t VALUES (9223372036854775807)\nCOMMIT WITH SNAPSHOT 'b'\nUPDATE t SET v = 1\nCOMMIT WITH SNAPSHOT 'c'\n\
-          UPDATE t SET v = -1\nCOMMIT WITH SNAPSHOT 'a'\nAggregateDataInTable('SELECT snap_id FROM SnapIds','SELECT v FROM t','rql_t','(v,SUM)')\n\
-          SELECT v FROM rql_t\nAggregateDataInTable('SELECT snap_id FROM SnapIds WHERE snap_id < 3','SELECT v FROM t','rql_t','(v,SUM)')\n\
-          AggregateDataInTable('SELECT snap_id FROM SnapIds WHERE snap_id > 1','SELECT v FROM t','rql_t','(v,SUM)')\nSELECT v FROM rql_t",
-        b"phase 1\nsession a\nitem 1\nok\nok 1\ncommitted as 1\nitem 2\nok 1\ncommitted as 2\nitem 3\nok 1\ncommitted as 3\nitem 4\nok 1\n\
-          item 5\nrows 1\n9223372036854775807\nitem 6\nrefused 23 Overflow\nitem 7\nok 1\nitem 8\nrows 1\n0\n\
-          journal\n1 a 1 done as 1\n1 a 2 done as 2\n1 a 3 done as 3\n1 a 4 looked all\n1 a 4 unlooked\n1 a 6 looked all\n1 a 6 refused 23\n1 a 7 looked all\n\
-          1 a 7 unlooked\n",
+        b"SESSION a\nCREATE TABLE t(v INT)\nINSERT INTO t VALUES (9223372036854775807)\nCOMMIT WITH SNAPSHOT 'b'\n\
+          UPDATE t SET v = 1\nCOMMIT WITH SNAPSHOT 'c'\nUPDATE t SET v = -1\nCOMMIT WITH SNAPSHOT 'a'\n\
+          AggregateDataInTable('SELECT snap_id FROM SnapIds','SELECT v FROM t','rql_t','(v,SUM)')\n\
+          SELECT v FROM rql_t\n\
+          AggregateDataInTable('SELECT snap_id FROM SnapIds WHERE snap_id < 3','SELECT v FROM t','rql_t','(v,SUM)')\n\
+          AggregateDataInTable('SELECT snap_id FROM SnapIds WHERE snap_id > 1','SELECT v FROM t','rql_t','(v,SUM)')\n\
+          SELECT v FROM rql_t",
+        b"phase 1\nsession a\nitem 1\nok\nok 1\ncommitted as 1\nitem 2\nok 1\ncommitted as 2\nitem 3\nok 1\n\
+          committed as 3\nitem 4\nok 1\nitem 5\nrows 1\n9223372036854775807\nitem 6\nrefused 23 Overflow\nitem 7\n\
+          ok 1\nitem 8\nrows 1\n0\njournal\n1 a 1 done as 1\n1 a 2 done as 2\n1 a 3 done as 3\n1 a 4 looked all\n\
+          1 a 4 unlooked\n1 a 6 looked all\n1 a 6 refused 23\n1 a 7 looked all\n1 a 7 unlooked\n",
     ),
     // Several pairs: groups by the unpaired column, a least, a sum and a count.
     (
         0,
-        b"SESSION a\nCREATE TABLE t(k TEXT, v INT, w TEXT)\nINSERT INTO t VALUES ('p',4,'x'),('q',6,'y')\nCOMMIT WITH SNAPSHOT\n\
-          UPDATE t SET v = 2, w = 'z' WHERE k = 'p'\nINSERT INTO t VALUES ('r',1,'W')\nCOMMIT WITH SNAPSHOT\nDELETE FROM t WHERE k = 'q'\nCOMMIT WITH SNAPSHOT\n\
-          AggregateDataInTable('SELECT snap_id FROM SnapIds','SELECT k, v, v AS u, w FROM t','rql_t','(v,MIN),(u,SUM),(w,COUNT)')\nSELECT * FROM rql_t\n\
-          SELECT k FROM rql_t WHERE w = 2 AND u < 9\n\
-          AggregateDataInTable('SELECT snap_id FROM SnapIds','SELECT w, k, v FROM t','rql_t',' ( w , max ) , ( v , Min ) ')\nSELECT * FROM rql_t",
-        b"phase 1\nsession a\nitem 1\nok\nok 2\ncommitted as 1\nitem 2\nok 1\nok 1\ncommitted as 2\nitem 3\nok 1\ncommitted as 3\nitem 4\nok 3\n\
-          item 5\nrows 3\np,2,8,3\nq,6,12,2\nr,1,2,2\nitem 6\nrows 1\nr\nitem 7\nok 3\nitem 8\nrows 3\nz,p,2\ny,q,6\nW,r,1\n\
-          journal\n1 a 1 done as 1\n1 a 2 done as 2\n1 a 3 done as 3\n1 a 4 looked all\n1 a 4 unlooked\n1 a 7 looked all\n1 a 7 unlooked\n",
+        b"SESSION a\nCREATE TABLE t(k TEXT, v INT, w TEXT)\nINSERT INTO t VALUES ('p',4,'x'),('q',6,'y')\n\
+          COMMIT WITH SNAPSHOT\nUPDATE t SET v = 2, w = 'z' WHERE k = 'p'\nINSERT INTO t VALUES ('r',1,'W')\n\
+          COMMIT WITH SNAPSHOT\nDELETE FROM t WHERE k = 'q'\nCOMMIT WITH SNAPSHOT\n\
+          AggregateDataInTable('SELECT snap_id FROM SnapIds','SELECT k, v, v AS u, w FROM t','rql_t','(v,MIN),(u,\
+          SUM),(w,COUNT)')\nSELECT * FROM rql_t\nSELECT k FROM rql_t WHERE w = 2 AND u < 9\n\
+          AggregateDataInTable('SELECT snap_id FROM SnapIds','SELECT w, k, v FROM t','rql_t',' ( w , max ) , ( v , \
+          Min ) ')\nSELECT * FROM rql_t",
+        b"phase 1\nsession a\nitem 1\nok\nok 2\ncommitted as 1\nitem 2\nok 1\nok 1\ncommitted as 2\nitem 3\nok 1\n\
+          committed as 3\nitem 4\nok 3\nitem 5\nrows 3\np,2,8,3\nq,6,12,2\nr,1,2,2\nitem 6\nrows 1\nr\nitem 7\nok 3\n\
+          item 8\nrows 3\nz,p,2\ny,q,6\nW,r,1\njournal\n1 a 1 done as 1\n1 a 2 done as 2\n1 a 3 done as 3\n\
+          1 a 4 looked all\n1 a 4 unlooked\n1 a 7 looked all\n1 a 7 unlooked\n",
     ),
     // Groups come in order of first appearance along the list, newest first here; the least text goes by bytes.
     (
         0,
-        b"SESSION a\nCREATE TABLE t(k TEXT, v INT, w TEXT)\nINSERT INTO t VALUES ('p',4,'x'),('q',6,'y')\nCOMMIT WITH SNAPSHOT\n\
-          UPDATE t SET v = 2, w = 'z' WHERE k = 'p'\nINSERT INTO t VALUES ('r',1,'W')\nCOMMIT WITH SNAPSHOT\nDELETE FROM t WHERE k = 'q'\nCOMMIT WITH SNAPSHOT\n\
-          AggregateDataInTable('SELECT snap_id FROM SnapIds ORDER BY snap_id DESC','SELECT k, w FROM t','rql_t','(w,MIN)')\nSELECT * FROM rql_t\n\
-          SELECT MIN(w), MAX(w) FROM rql_t",
-        b"phase 1\nsession a\nitem 1\nok\nok 2\ncommitted as 1\nitem 2\nok 1\nok 1\ncommitted as 2\nitem 3\nok 1\ncommitted as 3\nitem 4\nok 3\n\
-          item 5\nrows 3\np,x\nr,W\nq,y\nitem 6\nrows 1\nW,y\n\
-          journal\n1 a 1 done as 1\n1 a 2 done as 2\n1 a 3 done as 3\n1 a 4 looked all\n1 a 4 unlooked\n",
+        b"SESSION a\nCREATE TABLE t(k TEXT, v INT, w TEXT)\nINSERT INTO t VALUES ('p',4,'x'),('q',6,'y')\n\
+          COMMIT WITH SNAPSHOT\nUPDATE t SET v = 2, w = 'z' WHERE k = 'p'\nINSERT INTO t VALUES ('r',1,'W')\n\
+          COMMIT WITH SNAPSHOT\nDELETE FROM t WHERE k = 'q'\nCOMMIT WITH SNAPSHOT\n\
+          AggregateDataInTable('SELECT snap_id FROM SnapIds ORDER BY snap_id DESC','SELECT k, w FROM t','rql_t','(w,\
+          MIN)')\nSELECT * FROM rql_t\nSELECT MIN(w), MAX(w) FROM rql_t",
+        b"phase 1\nsession a\nitem 1\nok\nok 2\ncommitted as 1\nitem 2\nok 1\nok 1\ncommitted as 2\nitem 3\nok 1\n\
+          committed as 3\nitem 4\nok 3\nitem 5\nrows 3\np,x\nr,W\nq,y\nitem 6\nrows 1\nW,y\njournal\n\
+          1 a 1 done as 1\n1 a 2 done as 2\n1 a 3 done as 3\n1 a 4 looked all\n1 a 4 unlooked\n",
     ),
     // With every column in a pair all rows are one group, and no rows are none.
     (
         0,
-        b"SESSION a\nCREATE TABLE t(k TEXT, v INT, w TEXT)\nINSERT INTO t VALUES ('p',4,'x'),('q',6,'y')\nCOMMIT WITH SNAPSHOT\n\
-          UPDATE t SET v = 2, w = 'z' WHERE k = 'p'\nINSERT INTO t VALUES ('r',1,'W')\nCOMMIT WITH SNAPSHOT\nDELETE FROM t WHERE k = 'q'\nCOMMIT WITH SNAPSHOT\n\
-          AggregateDataInTable('SELECT snap_id FROM SnapIds','SELECT v FROM t','rql_t','(v,SUM)')\nSELECT v FROM rql_t\n\
-          AggregateDataInTable('SELECT snap_id FROM SnapIds','SELECT v, k FROM t','rql_t','(k,MAX),(v,COUNT)')\nSELECT * FROM rql_t\n\
-          AggregateDataInTable('SELECT snap_id FROM SnapIds','SELECT v FROM t WHERE v > 99','rql_t','(v,SUM)')\nSELECT v FROM rql_t\n\
-          AggregateDataInTable('SELECT snap_id FROM SnapIds','SELECT v + 1 FROM t','rql_t','(col1,MIN)')\nSELECT col1 FROM rql_t",
-        b"phase 1\nsession a\nitem 1\nok\nok 2\ncommitted as 1\nitem 2\nok 1\nok 1\ncommitted as 2\nitem 3\nok 1\ncommitted as 3\nitem 4\nok 1\n\
-          item 5\nrows 1\n22\nitem 6\nok 1\nitem 7\nrows 1\n7,r\nitem 8\nok 0\nitem 9\nrows 0\nitem 10\nok 1\nitem 11\nrows 1\n2\n\
-          journal\n1 a 1 done as 1\n1 a 2 done as 2\n1 a 3 done as 3\n1 a 4 looked all\n1 a 4 unlooked\n1 a 6 looked all\n1 a 6 unlooked\n1 a 8 looked all\n\
-          1 a 8 unlooked\n1 a 10 looked all\n1 a 10 unlooked\n",
+        b"SESSION a\nCREATE TABLE t(k TEXT, v INT, w TEXT)\nINSERT INTO t VALUES ('p',4,'x'),('q',6,'y')\n\
+          COMMIT WITH SNAPSHOT\nUPDATE t SET v = 2, w = 'z' WHERE k = 'p'\nINSERT INTO t VALUES ('r',1,'W')\n\
+          COMMIT WITH SNAPSHOT\nDELETE FROM t WHERE k = 'q'\nCOMMIT WITH SNAPSHOT\n\
+          AggregateDataInTable('SELECT snap_id FROM SnapIds','SELECT v FROM t','rql_t','(v,SUM)')\n\
+          SELECT v FROM rql_t\n\
+          AggregateDataInTable('SELECT snap_id FROM SnapIds','SELECT v, k FROM t','rql_t','(k,MAX),(v,COUNT)')\n\
+          SELECT * FROM rql_t\n\
+          AggregateDataInTable('SELECT snap_id FROM SnapIds','SELECT v FROM t WHERE v > 99','rql_t','(v,SUM)')\n\
+          SELECT v FROM rql_t\n\
+          AggregateDataInTable('SELECT snap_id FROM SnapIds','SELECT v + 1 FROM t','rql_t','(col1,MIN)')\n\
+          SELECT col1 FROM rql_t",
+        b"phase 1\nsession a\nitem 1\nok\nok 2\ncommitted as 1\nitem 2\nok 1\nok 1\ncommitted as 2\nitem 3\nok 1\n\
+          committed as 3\nitem 4\nok 1\nitem 5\nrows 1\n22\nitem 6\nok 1\nitem 7\nrows 1\n7,r\nitem 8\nok 0\nitem 9\n\
+          rows 0\nitem 10\nok 1\nitem 11\nrows 1\n2\njournal\n1 a 1 done as 1\n1 a 2 done as 2\n1 a 3 done as 3\n\
+          1 a 4 looked all\n1 a 4 unlooked\n1 a 6 looked all\n1 a 6 unlooked\n1 a 8 looked all\n1 a 8 unlooked\n\
+          1 a 10 looked all\n1 a 10 unlooked\n",
     ),
     // The snapshot's number as a group, and a count of every row of every answer.
     (
         0,
-        b"SESSION a\nCREATE TABLE t(k TEXT, v INT, w TEXT)\nINSERT INTO t VALUES ('p',4,'x'),('q',6,'y')\nCOMMIT WITH SNAPSHOT\n\
-          UPDATE t SET v = 2, w = 'z' WHERE k = 'p'\nINSERT INTO t VALUES ('r',1,'W')\nCOMMIT WITH SNAPSHOT\nDELETE FROM t WHERE k = 'q'\nCOMMIT WITH SNAPSHOT\n\
-          AggregateDataInTable('SELECT snap_id FROM SnapIds','SELECT current_snapshot() AS n, v FROM t','rql_t','(v,MAX)')\nSELECT * FROM rql_t\n\
-          AggregateDataInTable('SELECT snap_id FROM SnapIds','SELECT 1 AS one, k FROM t','rql_t','(k,COUNT)')\nSELECT * FROM rql_t",
-        b"phase 1\nsession a\nitem 1\nok\nok 2\ncommitted as 1\nitem 2\nok 1\nok 1\ncommitted as 2\nitem 3\nok 1\ncommitted as 3\nitem 4\nok 3\n\
-          item 5\nrows 3\n1,6\n2,6\n3,2\nitem 6\nok 1\nitem 7\nrows 1\n1,7\n\
-          journal\n1 a 1 done as 1\n1 a 2 done as 2\n1 a 3 done as 3\n1 a 4 looked all\n1 a 4 unlooked\n1 a 6 looked all\n1 a 6 unlooked\n",
+        b"SESSION a\nCREATE TABLE t(k TEXT, v INT, w TEXT)\nINSERT INTO t VALUES ('p',4,'x'),('q',6,'y')\n\
+          COMMIT WITH SNAPSHOT\nUPDATE t SET v = 2, w = 'z' WHERE k = 'p'\nINSERT INTO t VALUES ('r',1,'W')\n\
+          COMMIT WITH SNAPSHOT\nDELETE FROM t WHERE k = 'q'\nCOMMIT WITH SNAPSHOT\n\
+          AggregateDataInTable('SELECT snap_id FROM SnapIds','SELECT current_snapshot() AS n, v FROM t','rql_t','(v,\
+          MAX)')\nSELECT * FROM rql_t\n\
+          AggregateDataInTable('SELECT snap_id FROM SnapIds','SELECT 1 AS one, k FROM t','rql_t','(k,COUNT)')\n\
+          SELECT * FROM rql_t",
+        b"phase 1\nsession a\nitem 1\nok\nok 2\ncommitted as 1\nitem 2\nok 1\nok 1\ncommitted as 2\nitem 3\nok 1\n\
+          committed as 3\nitem 4\nok 3\nitem 5\nrows 3\n1,6\n2,6\n3,2\nitem 6\nok 1\nitem 7\nrows 1\n1,7\njournal\n\
+          1 a 1 done as 1\n1 a 2 done as 2\n1 a 3 done as 3\n1 a 4 looked all\n1 a 4 unlooked\n1 a 6 looked all\n\
+          1 a 6 unlooked\n",
     ),
     // Intervals with gaps: what lies between two places of the list does not count.
     (
         0,
-        b"SESSION a\nCREATE TABLE t(a INT)\nINSERT INTO t VALUES (7)\nCOMMIT WITH SNAPSHOT\nCOMMIT WITH SNAPSHOT\nCOMMIT WITH SNAPSHOT\nDELETE FROM t\n\
-          COMMIT WITH SNAPSHOT\nCOMMIT WITH SNAPSHOT\nINSERT INTO t VALUES (7)\nCOMMIT WITH SNAPSHOT\nDELETE FROM t\nCOMMIT WITH SNAPSHOT\n\
-          INSERT INTO t VALUES (7)\nCOMMIT WITH SNAPSHOT\n\
-          CollateDataIntoIntervals('SELECT snap_id FROM SnapIds WHERE snap_id = 2 OR snap_id = 3 OR snap_id = 5 OR snap_id = 8','SELECT a FROM t','rql_i')\n\
-          SELECT * FROM rql_i\nCollateDataIntoIntervals('SELECT snap_id FROM SnapIds','SELECT a FROM t','rql_i')\nSELECT * FROM rql_i\n\
-          CollateDataIntoIntervals('SELECT snap_id FROM SnapIds WHERE snap_id = 3 OR snap_id > 5 AND snap_id <> 7','SELECT a FROM t','rql_i')\n\
-          SELECT * FROM rql_i\nCollateDataIntoIntervals('SELECT snap_id FROM SnapIds WHERE snap_id = 4','SELECT a FROM t','rql_i')\nSELECT a FROM rql_i",
-        b"phase 1\nsession a\nitem 1\nok\nok 1\ncommitted as 1\nitem 2\ncommitted as 2\nitem 3\ncommitted as 3\nitem 4\nok 1\ncommitted as 4\n\
-          item 5\ncommitted as 5\nitem 6\nok 1\ncommitted as 6\nitem 7\nok 1\ncommitted as 7\nitem 8\nok 1\ncommitted as 8\nitem 9\nok 2\n\
-          item 10\nrows 2\n7,2,3\n7,8,8\nitem 11\nok 3\nitem 12\nrows 3\n7,1,3\n7,6,6\n7,8,8\nitem 13\nok 1\nitem 14\nrows 1\n7,3,8\nitem 15\nok 0\n\
-          item 16\nrows 0\n\
-          journal\n1 a 1 done as 1\n1 a 2 done as 2\n1 a 3 done as 3\n1 a 4 done as 4\n1 a 5 done as 5\n1 a 6 done as 6\n1 a 7 done as 7\n1 a 8 done as 8\n\
-          1 a 9 looked all\n1 a 9 unlooked\n1 a 11 looked all\n1 a 11 unlooked\n1 a 13 looked all\n1 a 13 unlooked\n1 a 15 looked all\n1 a 15 unlooked\n",
+        b"SESSION a\nCREATE TABLE t(a INT)\nINSERT INTO t VALUES (7)\nCOMMIT WITH SNAPSHOT\nCOMMIT WITH SNAPSHOT\n\
+          COMMIT WITH SNAPSHOT\nDELETE FROM t\nCOMMIT WITH SNAPSHOT\nCOMMIT WITH SNAPSHOT\nINSERT INTO t VALUES (7)\n\
+          COMMIT WITH SNAPSHOT\nDELETE FROM t\nCOMMIT WITH SNAPSHOT\nINSERT INTO t VALUES (7)\nCOMMIT WITH SNAPSHOT\n\
+          CollateDataIntoIntervals('SELECT snap_id FROM SnapIds WHERE snap_id = 2 OR snap_id = 3 OR snap_id = 5 OR \
+          snap_id = 8','SELECT a FROM t','rql_i')\nSELECT * FROM rql_i\n\
+          CollateDataIntoIntervals('SELECT snap_id FROM SnapIds','SELECT a FROM t','rql_i')\nSELECT * FROM rql_i\n\
+          CollateDataIntoIntervals('SELECT snap_id FROM SnapIds WHERE snap_id = 3 OR snap_id > 5 AND snap_id <> 7',\
+          'SELECT a FROM t','rql_i')\nSELECT * FROM rql_i\n\
+          CollateDataIntoIntervals('SELECT snap_id FROM SnapIds WHERE snap_id = 4','SELECT a FROM t','rql_i')\n\
+          SELECT a FROM rql_i",
+        b"phase 1\nsession a\nitem 1\nok\nok 1\ncommitted as 1\nitem 2\ncommitted as 2\nitem 3\ncommitted as 3\n\
+          item 4\nok 1\ncommitted as 4\nitem 5\ncommitted as 5\nitem 6\nok 1\ncommitted as 6\nitem 7\nok 1\n\
+          committed as 7\nitem 8\nok 1\ncommitted as 8\nitem 9\nok 2\nitem 10\nrows 2\n7,2,3\n7,8,8\nitem 11\nok 3\n\
+          item 12\nrows 3\n7,1,3\n7,6,6\n7,8,8\nitem 13\nok 1\nitem 14\nrows 1\n7,3,8\nitem 15\nok 0\nitem 16\n\
+          rows 0\njournal\n1 a 1 done as 1\n1 a 2 done as 2\n1 a 3 done as 3\n1 a 4 done as 4\n1 a 5 done as 5\n\
+          1 a 6 done as 6\n1 a 7 done as 7\n1 a 8 done as 8\n1 a 9 looked all\n1 a 9 unlooked\n1 a 11 looked all\n\
+          1 a 11 unlooked\n1 a 13 looked all\n1 a 13 unlooked\n1 a 15 looked all\n1 a 15 unlooked\n",
     ),
     // A row that stands twice in an answer counts once.
     (
         0,
-        b"SESSION a\nCREATE TABLE t(a INT)\nINSERT INTO t VALUES (1),(1),(2)\nCOMMIT WITH SNAPSHOT\nDELETE FROM t WHERE a = 1\nINSERT INTO t VALUES (1)\n\
-          COMMIT WITH SNAPSHOT\nINSERT INTO t VALUES (2),(3)\nCOMMIT WITH SNAPSHOT\n\
-          CollateDataIntoIntervals('SELECT snap_id FROM SnapIds','SELECT a FROM t','rql_i')\nSELECT * FROM rql_i\n\
-          CollateDataIntoIntervals('SELECT snap_id FROM SnapIds ORDER BY snap_id DESC','SELECT a FROM t','rql_i')\nSELECT * FROM rql_i\n\
-          CollateDataIntoIntervals('SELECT snap_id FROM SnapIds','SELECT current_snapshot() AS n FROM t','rql_i')\nSELECT * FROM rql_i",
-        b"phase 1\nsession a\nitem 1\nok\nok 3\ncommitted as 1\nitem 2\nok 2\nok 1\ncommitted as 2\nitem 3\nok 2\ncommitted as 3\nitem 4\nok 3\n\
-          item 5\nrows 3\n1,1,3\n2,1,3\n3,3,3\nitem 6\nok 3\nitem 7\nrows 3\n2,3,1\n1,3,1\n3,3,3\nitem 8\nok 3\nitem 9\nrows 3\n1,1,1\n2,2,2\n3,3,3\n\
-          journal\n1 a 1 done as 1\n1 a 2 done as 2\n1 a 3 done as 3\n1 a 4 looked all\n1 a 4 unlooked\n1 a 6 looked all\n1 a 6 unlooked\n1 a 8 looked all\n\
-          1 a 8 unlooked\n",
+        b"SESSION a\nCREATE TABLE t(a INT)\nINSERT INTO t VALUES (1),(1),(2)\nCOMMIT WITH SNAPSHOT\n\
+          DELETE FROM t WHERE a = 1\nINSERT INTO t VALUES (1)\nCOMMIT WITH SNAPSHOT\nINSERT INTO t VALUES (2),(3)\n\
+          COMMIT WITH SNAPSHOT\nCollateDataIntoIntervals('SELECT snap_id FROM SnapIds','SELECT a FROM t','rql_i')\n\
+          SELECT * FROM rql_i\n\
+          CollateDataIntoIntervals('SELECT snap_id FROM SnapIds ORDER BY snap_id DESC','SELECT a FROM t','rql_i')\n\
+          SELECT * FROM rql_i\n\
+          CollateDataIntoIntervals('SELECT snap_id FROM SnapIds','SELECT current_snapshot() AS n FROM t','rql_i')\n\
+          SELECT * FROM rql_i",
+        b"phase 1\nsession a\nitem 1\nok\nok 3\ncommitted as 1\nitem 2\nok 2\nok 1\ncommitted as 2\nitem 3\nok 2\n\
+          committed as 3\nitem 4\nok 3\nitem 5\nrows 3\n1,1,3\n2,1,3\n3,3,3\nitem 6\nok 3\nitem 7\nrows 3\n2,3,1\n\
+          1,3,1\n3,3,3\nitem 8\nok 3\nitem 9\nrows 3\n1,1,1\n2,2,2\n3,3,3\njournal\n1 a 1 done as 1\n\
+          1 a 2 done as 2\n1 a 3 done as 3\n1 a 4 looked all\n1 a 4 unlooked\n1 a 6 looked all\n1 a 6 unlooked\n\
+          1 a 8 looked all\n1 a 8 unlooked\n",
     ),
     // Intervals by the place where they start, then by first appearance in the answer there.
     (
         0,
-        b"SESSION a\nCREATE TABLE t(k TEXT)\nINSERT INTO t VALUES ('a'),('c')\nCOMMIT WITH SNAPSHOT\nDELETE FROM t WHERE k = 'c'\n\
-          INSERT INTO t VALUES ('b'),('d')\nCOMMIT WITH SNAPSHOT\nINSERT INTO t VALUES ('c')\nCOMMIT WITH SNAPSHOT\n\
-          CollateDataIntoIntervals('SELECT snap_id FROM SnapIds','SELECT k FROM t ORDER BY k DESC','rql_i')\nSELECT * FROM rql_i\n\
-          CollateDataIntoIntervals('SELECT snap_id FROM SnapIds ORDER BY snap_id DESC','SELECT k FROM t ORDER BY k DESC','rql_i')\nSELECT * FROM rql_i\n\
-          SELECT k FROM rql_i WHERE start_snapshot = 3 AND end_snapshot = 3",
-        b"phase 1\nsession a\nitem 1\nok\nok 2\ncommitted as 1\nitem 2\nok 1\nok 2\ncommitted as 2\nitem 3\nok 1\ncommitted as 3\nitem 4\nok 5\n\
-          item 5\nrows 5\nc,1,1\na,1,3\nd,2,3\nb,2,3\nc,3,3\nitem 6\nok 5\nitem 7\nrows 5\nd,3,2\nc,3,3\nb,3,2\na,3,1\nc,1,1\nitem 8\nrows 1\nc\n\
-          journal\n1 a 1 done as 1\n1 a 2 done as 2\n1 a 3 done as 3\n1 a 4 looked all\n1 a 4 unlooked\n1 a 6 looked all\n1 a 6 unlooked\n",
+        b"SESSION a\nCREATE TABLE t(k TEXT)\nINSERT INTO t VALUES ('a'),('c')\nCOMMIT WITH SNAPSHOT\n\
+          DELETE FROM t WHERE k = 'c'\nINSERT INTO t VALUES ('b'),('d')\nCOMMIT WITH SNAPSHOT\n\
+          INSERT INTO t VALUES ('c')\nCOMMIT WITH SNAPSHOT\n\
+          CollateDataIntoIntervals('SELECT snap_id FROM SnapIds','SELECT k FROM t ORDER BY k DESC','rql_i')\n\
+          SELECT * FROM rql_i\n\
+          CollateDataIntoIntervals('SELECT snap_id FROM SnapIds ORDER BY snap_id DESC','SELECT k FROM t ORDER BY k \
+          DESC','rql_i')\nSELECT * FROM rql_i\nSELECT k FROM rql_i WHERE start_snapshot = 3 AND end_snapshot = 3",
+        b"phase 1\nsession a\nitem 1\nok\nok 2\ncommitted as 1\nitem 2\nok 1\nok 2\ncommitted as 2\nitem 3\nok 1\n\
+          committed as 3\nitem 4\nok 5\nitem 5\nrows 5\nc,1,1\na,1,3\nd,2,3\nb,2,3\nc,3,3\nitem 6\nok 5\nitem 7\n\
+          rows 5\nd,3,2\nc,3,3\nb,3,2\na,3,1\nc,1,1\nitem 8\nrows 1\nc\njournal\n1 a 1 done as 1\n1 a 2 done as 2\n\
+          1 a 3 done as 3\n1 a 4 looked all\n1 a 4 unlooked\n1 a 6 looked all\n1 a 6 unlooked\n",
     ),
     // The snapshot's number in conditions, sums, aggregates and groups of a query.
     (
         0,
-        b"SESSION a\nCREATE TABLE t(k TEXT, v INT)\nINSERT INTO t VALUES ('p',1),('q',5)\nCOMMIT WITH SNAPSHOT\nUPDATE t SET v = 11 WHERE k = 'p'\n\
-          COMMIT WITH SNAPSHOT\nCollateData('SELECT snap_id FROM SnapIds','SELECT k FROM t WHERE v > current_snapshot()','rql_c')\nSELECT k FROM rql_c\n\
-          CollateData('SELECT snap_id FROM SnapIds','SELECT current_snapshot() * 10 + v AS m FROM t WHERE current_snapshot() = 2','rql_c')\n\
-          SELECT m FROM rql_c\nCollateData('SELECT snap_id FROM SnapIds','SELECT COUNT(*), CURRENT_SNAPSHOT ( ) FROM t WHERE v > 99','rql_c')\n\
-          SELECT * FROM rql_c\nCollateData('SELECT snap_id FROM SnapIds','SELECT k, current_snapshot() FROM t GROUP BY k ORDER BY k DESC LIMIT 1','rql_c')\n\
-          SELECT * FROM rql_c",
-        b"phase 1\nsession a\nitem 1\nok\nok 2\ncommitted as 1\nitem 2\nok 1\ncommitted as 2\nitem 3\nok 3\nitem 4\nrows 3\nq\np\nq\nitem 5\nok 2\n\
-          item 6\nrows 2\n31\n25\nitem 7\nok 2\nitem 8\nrows 2\n0,1\n0,2\nitem 9\nok 2\nitem 10\nrows 2\nq,1\nq,2\n\
-          journal\n1 a 1 done as 1\n1 a 2 done as 2\n1 a 3 looked all\n1 a 3 unlooked\n1 a 5 looked all\n1 a 5 unlooked\n1 a 7 looked all\n1 a 7 unlooked\n\
-          1 a 9 looked all\n1 a 9 unlooked\n",
+        b"SESSION a\nCREATE TABLE t(k TEXT, v INT)\nINSERT INTO t VALUES ('p',1),('q',5)\nCOMMIT WITH SNAPSHOT\n\
+          UPDATE t SET v = 11 WHERE k = 'p'\nCOMMIT WITH SNAPSHOT\n\
+          CollateData('SELECT snap_id FROM SnapIds','SELECT k FROM t WHERE v > current_snapshot()','rql_c')\n\
+          SELECT k FROM rql_c\n\
+          CollateData('SELECT snap_id FROM SnapIds','SELECT current_snapshot() * 10 + v AS m FROM t WHERE \
+          current_snapshot() = 2','rql_c')\nSELECT m FROM rql_c\n\
+          CollateData('SELECT snap_id FROM SnapIds','SELECT COUNT(*), CURRENT_SNAPSHOT ( ) FROM t WHERE v > 99',\
+          'rql_c')\nSELECT * FROM rql_c\n\
+          CollateData('SELECT snap_id FROM SnapIds','SELECT k, current_snapshot() FROM t GROUP BY k ORDER BY k DESC \
+          LIMIT 1','rql_c')\nSELECT * FROM rql_c",
+        b"phase 1\nsession a\nitem 1\nok\nok 2\ncommitted as 1\nitem 2\nok 1\ncommitted as 2\nitem 3\nok 3\nitem 4\n\
+          rows 3\nq\np\nq\nitem 5\nok 2\nitem 6\nrows 2\n31\n25\nitem 7\nok 2\nitem 8\nrows 2\n0,1\n0,2\nitem 9\n\
+          ok 2\nitem 10\nrows 2\nq,1\nq,2\njournal\n1 a 1 done as 1\n1 a 2 done as 2\n1 a 3 looked all\n\
+          1 a 3 unlooked\n1 a 5 looked all\n1 a 5 unlooked\n1 a 7 looked all\n1 a 7 unlooked\n1 a 9 looked all\n\
+          1 a 9 unlooked\n",
     ),
     // Two tables joined at each snapshot: who held a desk from when to when.
     (
         0,
-        b"SESSION a\nCREATE TABLE person(id INT, name TEXT)\nCREATE TABLE desk(number INT, holder INT)\nINSERT INTO person VALUES (1,'Ada'),(2,'Blaise')\n\
-          INSERT INTO desk VALUES (10,1)\nCOMMIT WITH SNAPSHOT\nUPDATE desk SET holder = 2\nCOMMIT WITH SNAPSHOT\nCOMMIT WITH SNAPSHOT\n\
-          CollateDataIntoIntervals('SELECT snap_id FROM SnapIds','SELECT number, person.name FROM desk, person WHERE holder = id','rql_i')\n\
-          SELECT * FROM rql_i\nCollateData('SELECT snap_id FROM SnapIds LIMIT 1','SELECT * FROM desk, person','rql_c')\nSELECT * FROM rql_c",
-        b"phase 1\nsession a\nitem 1\nok\nok\nok 2\nok 1\ncommitted as 1\nitem 2\nok 1\ncommitted as 2\nitem 3\ncommitted as 3\nitem 4\nok 2\n\
-          item 5\nrows 2\n10,Ada,1,1\n10,Blaise,2,3\nitem 6\nok 2\nitem 7\nrows 2\n10,1,1,Ada\n10,1,2,Blaise\n\
-          journal\n1 a 1 done as 1\n1 a 2 done as 2\n1 a 3 done as 3\n1 a 4 looked all\n1 a 4 unlooked\n1 a 6 looked all\n1 a 6 unlooked\n",
-    ),
-    // Fields of result tables are quoted where they need it.
-    (
-        0,
-        b"SESSION a\nCREATE TABLE t(k TEXT)\nINSERT INTO t VALUES ('a,b'),('say \"hi\"'),(''),('it''s')\nCOMMIT WITH SNAPSHOT\n\
-          CollateData('SELECT snap_id FROM SnapIds','SELECT k FROM t WHERE k <> ''it''''s''','rql_c')\nSELECT * FROM rql_c\n\
-          CollateDataIntoIntervals('SELECT snap_id FROM SnapIds','SELECT k FROM t','rql_i')\nSELECT * FROM rql_i",
-        b"phase 1\nsession a\nitem 1\nok\nok 4\ncommitted as 1\nitem 2\nok 3\nitem 3\nrows 3\n\"a,b\"\n\"say \"\"hi\"\"\"\n\"\"\nitem 4\nok 4\n\
-          item 5\nrows 4\n\"a,b\",1,1\n\"say \"\"hi\"\"\",1,1\n,1,1\nit's,1,1\n\
-          journal\n1 a 1 done as 1\n1 a 2 looked all\n1 a 2 unlooked\n1 a 4 looked all\n1 a 4 unlooked\n",
-    ),
-    // An index that is made between two snapshots changes no answer.
-    (
-        0,
-        b"SESSION a\nCREATE TABLE t(k TEXT, v INT)\nINSERT INTO t VALUES ('p',1),('q',5),('r',5)\nCOMMIT WITH SNAPSHOT\nCREATE INDEX by_v ON t(v)\n\
-          UPDATE t SET v = 5 WHERE k = 'p'\nCOMMIT WITH SNAPSHOT\nDELETE FROM t WHERE v = 5 AND k <> 'q'\nCOMMIT WITH SNAPSHOT\n\
-          CollateData('SELECT snap_id FROM SnapIds','SELECT current_snapshot(), k FROM t WHERE v = 5','rql_c')\nSELECT * FROM rql_c\n\
-          SELECT AS OF 1 k FROM t WHERE v = 5\nSELECT AS OF 2 k FROM t WHERE v > 4 ORDER BY k DESC\nSELECT k FROM t WHERE v = 5\nCREATE INDEX by_v ON t(k)\n\
-          CREATE INDEX i ON SnapIds(snap_id)\nCOMMIT",
-        b"phase 1\nsession a\nitem 1\nok\nok 3\ncommitted as 1\nitem 2\nok\nok 1\ncommitted as 2\nitem 3\nok 2\ncommitted as 3\nitem 4\nok 6\n\
-          item 5\nrows 6\n1,q\n1,r\n2,p\n2,q\n2,r\n3,q\nitem 6\nrows 2\nq\nr\nitem 7\nrows 3\nr\nq\np\n\
-          item 8\nrows 1\nq\nrefused 21 NameTaken\nrefused 20 UnknownName\ncommitted\n\
-          journal\n1 a 1 done as 1\n1 a 2 done as 2\n1 a 3 done as 3\n1 a 4 looked all\n1 a 4 unlooked\n1 a 6 looked 1\n1 a 6 unlooked\n1 a 7 looked 2\n\
-          1 a 7 unlooked\n1 a 8 done\n",
-    ),
-    // A result table is queried as any table: groups, orders, limits, aggregates, distinct rows.
-    (
-        0,
-        b"SESSION a\nCREATE TABLE t(k TEXT, v INT, w TEXT)\nINSERT INTO t VALUES ('p',4,'x'),('q',6,'y')\nCOMMIT WITH SNAPSHOT\n\
-          UPDATE t SET v = 2, w = 'z' WHERE k = 'p'\nINSERT INTO t VALUES ('r',1,'W')\nCOMMIT WITH SNAPSHOT\nDELETE FROM t WHERE k = 'q'\nCOMMIT WITH SNAPSHOT\n\
-          CollateData('SELECT snap_id FROM SnapIds','SELECT current_snapshot() AS n, k, v FROM t','rql_c')\n\
-          SELECT k, COUNT(*) AS c, SUM(v) FROM rql_c GROUP BY k\nSELECT n, k FROM rql_c WHERE v = 6 OR k = 'r' ORDER BY v DESC, n DESC\n\
-          SELECT DISTINCT k, v FROM rql_c ORDER BY k LIMIT 3\nSELECT MIN(v), MAX(k), COUNT(v) FROM rql_c WHERE n > 1\n\
-          SELECT rql_c.k FROM rql_c WHERE rql_c.n = 3\nSELECT n * 10 + v AS m FROM rql_c WHERE k = 'p' ORDER BY m DESC\nSELECT * FROM rql_c LIMIT 0",
-        b"phase 1\nsession a\nitem 1\nok\nok 2\ncommitted as 1\nitem 2\nok 1\nok 1\ncommitted as 2\nitem 3\nok 1\ncommitted as 3\nitem 4\nok 7\n\
-          item 5\nrows 3\np,3,8\nq,2,12\nr,2,2\nitem 6\nrows 4\n2,q\n1,q\n3,r\n2,r\nitem 7\nrows 3\np,4\np,2\nq,6\nitem 8\nrows 1\n1,r,5\nitem 9\nrows 2\np\nr\n\
-          item 10\nrows 3\n32\n22\n14\nitem 11\nrows 0\n\
-          journal\n1 a 1 done as 1\n1 a 2 done as 2\n1 a 3 done as 3\n1 a 4 looked all\n1 a 4 unlooked\n",
-    ),
-    // A query of a result table that is refused leaves no line.
-    (
-        0,
-        b"SESSION a\nCREATE TABLE t(k TEXT, v INT, w TEXT)\nINSERT INTO t VALUES ('p',4,'x'),('q',6,'y')\nCOMMIT WITH SNAPSHOT\n\
-          UPDATE t SET v = 2, w = 'z' WHERE k = 'p'\nINSERT INTO t VALUES ('r',1,'W')\nCOMMIT WITH SNAPSHOT\nDELETE FROM t WHERE k = 'q'\nCOMMIT WITH SNAPSHOT\n\
-          CollateData('SELECT snap_id FROM SnapIds','SELECT current_snapshot() AS n, k, v FROM t','rql_c')\nSELECT nosuch FROM rql_c\n\
-          SELECT current_snapshot() FROM rql_c\nSELECT k FROM rql_c, t\nSELECT * FROM rql_d\nSELECT v FROM rql_c GROUP BY k\n\
-          SELECT v * 9223372036854775807 FROM rql_c\nSELECT * FROM rql_c WHERE\nSELECT t.k FROM t, rql_c\nDELETE FROM rql_c\nCOMMIT",
-        b"phase 1\nsession a\nitem 1\nok\nok 2\ncommitted as 1\nitem 2\nok 1\nok 1\ncommitted as 2\nitem 3\nok 1\ncommitted as 3\nitem 4\nok 7\n\
-          item 5\nrefused 20 UnknownName\nitem 6\nrefused 20 UnknownName\nitem 7\nrefused 20 UnknownName\nitem 8\nrefused 20 UnknownName\n\
-          item 9\nrefused 22 WrongType\nitem 10\nrefused 23 Overflow\nitem 11\nrefused 19 Syntax 25\n\
-          item 12\nrefused 20 UnknownName\nrefused 20 UnknownName\ncommitted\n\
-          journal\n1 a 1 done as 1\n1 a 2 done as 2\n1 a 3 done as 3\n1 a 4 looked all\n1 a 4 unlooked\n1 a 12 done\n",
-    ),
-    // Result tables of eighteen and of twenty columns.
-    (
-        0,
-        b"SESSION a\nCREATE TABLE t(a INT, b INT, c INT, d INT, e INT, f INT, g INT, h INT, i INT)\n\
-          CREATE TABLE u(j INT, k INT, l INT, m INT, n INT, o INT, p INT, q INT, r TEXT)\nINSERT INTO t VALUES (1,2,3,4,5,6,7,8,9)\n\
-          INSERT INTO u VALUES (10,11,12,13,14,15,16,17,'last')\nCOMMIT WITH SNAPSHOT\nCollateData('SELECT snap_id FROM SnapIds','SELECT * FROM t, u','rql_w')\n\
-          SELECT * FROM rql_w\nSELECT r, a FROM rql_w WHERE q = 17\nCollateDataIntoIntervals('SELECT snap_id FROM SnapIds','SELECT * FROM t, u','rql_w')\n\
-          SELECT * FROM rql_w",
-        b"phase 1\nsession a\nitem 1\nok\nok\nok 1\nok 1\ncommitted as 1\nitem 2\nok 1\nitem 3\nrows 1\n1,2,3,4,5,6,7,8,9,10,11,12,13,14,15,16,17,last\n\
-          item 4\nrows 1\nlast,1\nitem 5\nok 1\nitem 6\nrows 1\n1,2,3,4,5,6,7,8,9,10,11,12,13,14,15,16,17,last,1,1\n\
-          journal\n1 a 1 done as 1\n1 a 2 looked all\n1 a 2 unlooked\n1 a 5 looked all\n1 a 5 unlooked\n",
-    ),
-    // A query of more than two hundred bytes, with seventeen outputs.
-    (
-        0,
-        b"SESSION a\nCREATE TABLE t(v INT)\nINSERT INTO t VALUES (3)\nCOMMIT WITH SNAPSHOT\n\
-          CollateData('SELECT snap_id FROM SnapIds','SELECT v AS column_number_01, v AS column_number_02, v AS column_number_03, v AS column_number_04, v AS column_number_05, v AS column_number_06, v AS column_number_07, v AS column_number_08, v AS column_number_09, v AS column_number_10, v AS column_number_11, v AS column_number_12, v AS column_number_13, v AS column_number_14, v AS column_number_15, v AS column_number_16, v AS column_number_17 FROM t','rql_w')\n\
-          SELECT * FROM rql_w\nSELECT column_number_01 + column_number_17 FROM rql_w",
-        b"phase 1\nsession a\nitem 1\nok\nok 1\ncommitted as 1\nitem 2\nok 1\nitem 3\nrows 1\n3,3,3,3,3,3,3,3,3,3,3,3,3,3,3,3,3\nitem 4\nrows 1\n6\n\
-          journal\n1 a 1 done as 1\n1 a 2 looked all\n1 a 2 unlooked\n",
-    ),
-    // The names of calls in any case, and a longest and a shortest name of a result table.
-    (
-        0,
-        b"SESSION a\nCREATE TABLE t(k TEXT, v INT)\nINSERT INTO t VALUES ('p',1),('q',5)\nCOMMIT WITH SNAPSHOT\nUPDATE t SET v = 11 WHERE k = 'p'\n\
-          COMMIT WITH SNAPSHOT\nCOLLATEDATA('select snap_id from SnapIds','select k from t limit 1','rql_')\nselect * from rql_\n\
-          aggregatedatainvariable ( 'SELECT snap_id FROM SnapIds' , 'SELECT MAX(v) FROM t' , 'rql_abcdefghijklmnopqrstuvwxyz01' , 'sum' ) ;\n\
-          SELECT value FROM rql_abcdefghijklmnopqrstuvwxyz01;\naggregateDataInTABLE('SELECT snap_id FROM SnapIds','SELECT k, v FROM t','rql_T','(v,sum)')\n\
-          SELECT * FROM rql_T\nSELECT * FROM rql_t\ncollatedataintointervals('SELECT snap_id FROM SnapIds','SELECT k FROM t WHERE v = 5','rql_i')\n\
-          SELECT * FROM rql_i",
-        b"phase 1\nsession a\nitem 1\nok\nok 2\ncommitted as 1\nitem 2\nok 1\ncommitted as 2\nitem 3\nok 2\nitem 4\nrows 2\np\np\nitem 5\nok 1\n\
-          item 6\nrows 1\n16\nitem 7\nok 2\nitem 8\nrows 2\np,12\nq,10\nitem 9\nrefused 20 UnknownName\nitem 10\nok 1\nitem 11\nrows 1\nq,1,2\n\
-          journal\n1 a 1 done as 1\n1 a 2 done as 2\n1 a 3 looked all\n1 a 3 unlooked\n1 a 5 looked all\n1 a 5 unlooked\n1 a 7 looked all\n1 a 7 unlooked\n\
-          1 a 10 looked all\n1 a 10 unlooked\n",
-    ),
-    // A refused call leaves the old table, a second call of its name replaces it, columns too.
-    (
-        0,
-        b"SESSION a\nCREATE TABLE t(k TEXT, v INT)\nINSERT INTO t VALUES ('p',1),('q',5)\nCOMMIT WITH SNAPSHOT\nUPDATE t SET v = 11 WHERE k = 'p'\n\
-          COMMIT WITH SNAPSHOT\nCollateData('SELECT snap_id FROM SnapIds','SELECT k FROM t','rql_c')\n\
-          AggregateDataInTable('SELECT snap_id FROM SnapIds','SELECT nosuch FROM t','rql_c','(v,MAX)')\nSELECT k FROM rql_c LIMIT 1\n\
-          CollateData('SELECT snap_id FROM SnapIds','SELECT','rql_c')\nSELECT COUNT(*) FROM rql_c\n\
-          AggregateDataInVariable('SELECT snap_id FROM SnapIds','SELECT SUM(v) FROM t','rql_c','COUNT')\nSELECT * FROM rql_c\nSELECT k FROM rql_c\n\
-          CollateData('SELECT snap_id FROM SnapIds LIMIT 0','SELECT k FROM t','rql_c')\nSELECT value FROM rql_c",
-        b"phase 1\nsession a\nitem 1\nok\nok 2\ncommitted as 1\nitem 2\nok 1\ncommitted as 2\nitem 3\nok 4\nitem 4\nrefused 20 UnknownName\nitem 5\nrows 1\np\n\
-          item 6\nrefused 19 Syntax 42\nitem 7\nrows 1\n4\nitem 8\nok 1\nitem 9\nrows 1\n2\nitem 10\nrefused 20 UnknownName\nitem 11\nok 0\n\
-          item 12\nrefused 20 UnknownName\n\
-          journal\n1 a 1 done as 1\n1 a 2 done as 2\n1 a 3 looked all\n1 a 3 unlooked\n1 a 4 looked all\n1 a 4 refused 20\n1 a 8 looked all\n1 a 8 unlooked\n\
-          1 a 11 looked all\n1 a 11 unlooked\n",
-    ),
-    // A result table is the session's own, in its phase alone.
-    (
-        0,
-        b"SESSION a\nCREATE TABLE t(k TEXT, v INT)\nINSERT INTO t VALUES ('p',1),('q',5)\nCOMMIT WITH SNAPSHOT\nUPDATE t SET v = 11 WHERE k = 'p'\n\
-          COMMIT WITH SNAPSHOT\nPHASE\nSESSION a\nCollateData('SELECT snap_id FROM SnapIds','SELECT v FROM t','rql_c')\nSELECT COUNT(*) FROM rql_c\nSESSION b\n\
-          SELECT COUNT(*) FROM rql_c\nPHASE\nSESSION b\nSELECT COUNT(*) FROM rql_c\n\
-          CollateData('SELECT snap_id FROM SnapIds LIMIT 1','SELECT v FROM t','rql_c')\nSELECT COUNT(*) FROM rql_c\nPHASE\nSESSION a\n\
-          SELECT COUNT(*) FROM rql_c",
-        b"phase 1\nsession a\nitem 1\nok\nok 2\ncommitted as 1\nitem 2\nok 1\ncommitted as 2\nphase 2\nsession a\nitem 1\nok 4\nitem 2\nrows 1\n4\nsession b\n\
-          item 1\nrefused 20 UnknownName\nphase 3\nsession b\nitem 1\nrefused 20 UnknownName\nitem 2\nok 2\nitem 3\nrows 1\n2\nphase 4\nsession a\n\
-          item 1\nrefused 20 UnknownName\n\
-          journal\n1 a 1 done as 1\n1 a 2 done as 2\n2 a 1 looked all\n2 a 1 unlooked\n3 b 2 looked all\n3 b 2 unlooked\n",
-    ),
-    // A call sees what was committed, and the tables of a declaration stay as they were.
-    (
-        0,
-        b"SESSION a\nCREATE TABLE t(k TEXT, v INT)\nINSERT INTO t VALUES ('p',1),('q',5)\nCOMMIT WITH SNAPSHOT\nUPDATE t SET v = 11 WHERE k = 'p'\n\
-          COMMIT WITH SNAPSHOT\nPHASE\nSESSION b\nDELETE FROM t\nINSERT INTO t VALUES ('z',100)\nCOMMIT\n\
-          CollateData('SELECT snap_id FROM SnapIds','SELECT * FROM t','rql_c')\nSELECT * FROM rql_c\nCOMMIT WITH SNAPSHOT\nSELECT COUNT(*) FROM rql_c\n\
-          CollateData('SELECT snap_id FROM SnapIds WHERE snap_id > 1','SELECT * FROM t','rql_c')\nSELECT * FROM rql_c",
-        b"phase 1\nsession a\nitem 1\nok\nok 2\ncommitted as 1\nitem 2\nok 1\ncommitted as 2\nphase 2\nsession b\nitem 1\nok 2\nok 1\ncommitted\nitem 2\nok 4\n\
-          item 3\nrows 4\np,1\nq,5\np,11\nq,5\nitem 4\ncommitted as 3\nitem 5\nrows 1\n4\nitem 6\nok 3\nitem 7\nrows 3\np,11\nq,5\nz,100\n\
-          journal\n1 a 1 done as 1\n1 a 2 done as 2\n2 b 1 done\n2 b 2 looked all\n2 b 2 unlooked\n2 b 4 done as 3\n2 b 6 looked all\n2 b 6 unlooked\n",
-    ),
-    // Groups by two columns; a count of texts is a column of integers, a least text one of texts.
-    (
-        0,
-        b"SESSION a\nCREATE TABLE t(k TEXT, v INT, w TEXT)\nINSERT INTO t VALUES ('p',4,'x'),('q',6,'y')\nCOMMIT WITH SNAPSHOT\n\
-          UPDATE t SET v = 2, w = 'z' WHERE k = 'p'\nINSERT INTO t VALUES ('r',1,'W')\nCOMMIT WITH SNAPSHOT\nDELETE FROM t WHERE k = 'q'\nCOMMIT WITH SNAPSHOT\n\
-          AggregateDataInTable('SELECT snap_id FROM SnapIds','SELECT k, w, v FROM t','rql_t','(v,SUM)')\nSELECT * FROM rql_t\n\
-          AggregateDataInTable('SELECT snap_id FROM SnapIds','SELECT k, w FROM t','rql_t','(w,COUNT)')\nSELECT k FROM rql_t WHERE w = 'x'\n\
-          SELECT k FROM rql_t WHERE w = 3\nAggregateDataInTable('SELECT snap_id FROM SnapIds','SELECT k, w FROM t','rql_t','(w,MIN)')\n\
-          SELECT k FROM rql_t WHERE w = 'x'",
-        b"phase 1\nsession a\nitem 1\nok\nok 2\ncommitted as 1\nitem 2\nok 1\nok 1\ncommitted as 2\nitem 3\nok 1\ncommitted as 3\nitem 4\nok 4\n\
-          item 5\nrows 4\np,x,4\nq,y,12\np,z,4\nr,W,2\nitem 6\nok 3\nitem 7\nrefused 22 WrongType\nitem 8\nrows 1\np\nitem 9\nok 3\nitem 10\nrows 1\np\n\
-          journal\n1 a 1 done as 1\n1 a 2 done as 2\n1 a 3 done as 3\n1 a 4 looked all\n1 a 4 unlooked\n1 a 6 looked all\n1 a 6 unlooked\n1 a 9 looked all\n\
-          1 a 9 unlooked\n",
-    ),
-    // Literals as outputs, blanks and parentheses within the query of snapshots.
-    (
-        0,
-        b"SESSION a\nCREATE TABLE t(k TEXT, v INT)\nINSERT INTO t VALUES ('p',1),('q',5)\nCOMMIT WITH SNAPSHOT\nUPDATE t SET v = 11 WHERE k = 'p'\n\
-          COMMIT WITH SNAPSHOT\nCollateData('SELECT snap_id FROM SnapIds LIMIT 1','SELECT ''it''''s'', 1 - 2 * 3, -5 FROM t WHERE k = ''q''','rql_c')\n\
-          SELECT * FROM rql_c\nSELECT col3, col1 FROM rql_c\n\
-          CollateData('  SELECT   snap_id  FROM  SnapIds  where ((NOT NOT (snap_id = 2)))  ','SELECT DISTINCT k FROM t ORDER BY k DESC','rql_c')\n\
+        b"SESSION a\nCREATE TABLE person(id INT, name TEXT)\nCREATE TABLE desk(number INT, holder INT)\n\
+          INSERT INTO person VALUES (1,'Ada'),(2,'Blaise')\nINSERT INTO desk VALUES (10,1)\nCOMMIT WITH SNAPSHOT\n\
+          UPDATE desk SET holder = 2\nCOMMIT WITH SNAPSHOT\nCOMMIT WITH SNAPSHOT\n\
+          CollateDataIntoIntervals('SELECT snap_id FROM SnapIds','SELECT number, person.name FROM desk, person WHERE \
+          holder = id','rql_i')\nSELECT * FROM rql_i\n\
+          CollateData('SELECT snap_id FROM SnapIds LIMIT 1','SELECT * FROM desk, person','rql_c')\n\
           SELECT * FROM rql_c",
-        b"phase 1\nsession a\nitem 1\nok\nok 2\ncommitted as 1\nitem 2\nok 1\ncommitted as 2\nitem 3\nok 1\nitem 4\nrows 1\nit's,-5,-5\n\
-          item 5\nrows 1\n-5,it's\nitem 6\nok 2\nitem 7\nrows 2\nq\np\n\
-          journal\n1 a 1 done as 1\n1 a 2 done as 2\n1 a 3 looked all\n1 a 3 unlooked\n1 a 6 looked all\n1 a 6 unlooked\n",
+        b"phase 1\nsession a\nitem 1\nok\nok\nok 2\nok 1\ncommitted as 1\nitem 2\nok 1\ncommitted as 2\nitem 3\n\
+          committed as 3\nitem 4\nok 2\nitem 5\nrows 2\n10,Ada,1,1\n10,Blaise,2,3\nitem 6\nok 2\nitem 7\nrows 2\n\
+          10,1,1,Ada\n10,1,2,Blaise\njournal\n1 a 1 done as 1\n1 a 2 done as 2\n1 a 3 done as 3\n1 a 4 looked all\n\
+          1 a 4 unlooked\n1 a 6 looked all\n1 a 6 unlooked\n",
     ),
 ];
 

@@ -1,4 +1,5 @@
-//! The program `retro`: runs a script over tables that keep declared past states, and writes a transcript of every reply.
+//! The program `retro`: runs a script over tables that keep declared past states, and writes a transcript of every
+//! reply.
 #![tactic(auto)]
 
 #[cfg(test)]
@@ -8,6 +9,8 @@ mod calls;
 #[cfg(test)]
 mod drops;
 mod program;
+#[cfg(test)]
+mod result_tables;
 #[cfg(test)]
 mod scripts;
 #[cfg(test)]

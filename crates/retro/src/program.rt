@@ -85,11 +85,14 @@ fn say<K: Sink>(sink: &mut K, text: &[u8], status: Status) -> Status
 fn refuse<K: Sink>(alloc: Global, sink: &mut K, refusal: Refusal) -> Status
     ensures bad_words { (result ≡ Status.BadWords) ↔ (refusal ≡ Refusal.BadWords) }
     ensures source_fault { (result ≡ Status.SourceFault) ↔ (refusal ≡ Refusal.SourceFault) }
-    ensures bad_script { result ≡ Status.BadScript → (n : ℕ) × (refusal ≡ Refusal.BadScript n) × Says K.held K.faults sink.old sink.new (bad_script_text n) }
+    ensures bad_script { result ≡ Status.BadScript → (n : ℕ) × (refusal ≡ Refusal.BadScript n)
+        × Says K.held K.faults sink.old sink.new (bad_script_text n) }
     ensures never { (result ≢ Status.Done) × (result ≢ Status.SinkFault) }
     ensures bad_words_said { result ≡ Status.BadWords → Says K.held K.faults sink.old sink.new bad_words_line }
-    ensures source_fault_said { result ≡ Status.SourceFault → Says K.held K.faults sink.old sink.new source_fault_line }
-    ensures out_of_memory_said { result ≡ Status.OutOfMemory → HoldsFront K.held sink.old sink.new out_of_memory_line }
+    ensures source_fault_said { result ≡ Status.SourceFault
+        → Says K.held K.faults sink.old sink.new source_fault_line }
+    ensures out_of_memory_said { result ≡ Status.OutOfMemory
+        → HoldsFront K.held sink.old sink.new out_of_memory_line }
 {
     match refusal {
         Refusal::BadWords => say(sink, b"retro: bad words\n", Status::BadWords),
@@ -105,8 +108,10 @@ fn refuse<K: Sink>(alloc: Global, sink: &mut K, refusal: Refusal) -> Status
 // Puts the transcript into the sink, as far as it takes it.
 fn write<K: Sink>(sink: &mut K, text: &[u8]) -> Status
     ensures ends { (result ≡ Status.Done) ⊎ (result ≡ Status.SinkFault) }
-    ensures done { result ≡ Status.Done → (K.held sink.new ≡ added (K.held sink.old) text.now) × (K.faults sink.new ≡ K.faults sink.old) }
-    ensures cut { result ≡ Status.SinkFault → HoldsFront K.held sink.old sink.new text.now × Rose (K.faults sink.old) (K.faults sink.new) }
+    ensures done { result ≡ Status.Done → (K.held sink.new ≡ added (K.held sink.old) text.now)
+        × (K.faults sink.new ≡ K.faults sink.old) }
+    ensures cut { result ≡ Status.SinkFault → HoldsFront K.held sink.old sink.new text.now
+        × Rose (K.faults sink.old) (K.faults sink.new) }
 {
     match put_all(sink, text) {
         Ok(()) => Status::Done,
@@ -125,16 +130,23 @@ fn perform<S: Source, K: Sink, F: Folds>(
     ensures bad_words { (result ≡ Status.BadWords) ↔ (is_run (map (λ w. string_bytes w) words.now) ≡ false) }
     ensures source_fault { result ≡ Status.SourceFault → Rose (S.faults source.old) (S.faults source.new) }
     ensures source_steady { result ≢ Status.SourceFault → S.faults source.new ≡ S.faults source.old }
-    ensures bad_script { result ≡ Status.BadScript → (n : ℕ) × IfSome (S.left source.old) (IsTheBadLine n) × Says K.held K.faults sink.old sink.new (bad_script_text n) }
+    ensures bad_script { result ≡ Status.BadScript → (n : ℕ) × IfSome (S.left source.old) (IsTheBadLine n)
+        × Says K.held K.faults sink.old sink.new (bad_script_text n) }
     ensures sink_fault { result ≡ Status.SinkFault → Rose (K.faults sink.old) (K.faults sink.new) }
     ensures sink_steady { result ≡ Status.Done → K.faults sink.new ≡ K.faults sink.old }
     ensures bad_words_said { result ≡ Status.BadWords → Says K.held K.faults sink.old sink.new bad_words_line }
-    ensures source_fault_said { result ≡ Status.SourceFault → Says K.held K.faults sink.old sink.new source_fault_line }
-    ensures done { result ≡ Status.Done → (text : List ℕ) × IsTranscript (S.left source.old) text × ReadToEnd (S.left source.old) (S.left source.new) × (K.held sink.new ≡ added (K.held sink.old) text) }
-    ensures cut { result ≡ Status.SinkFault → (text : List ℕ) × IsTranscript (S.left source.old) text × ReadToEnd (S.left source.old) (S.left source.new) × HoldsFront K.held sink.old sink.new text }
-    ensures out_of_memory_said { result ≡ Status.OutOfMemory → HoldsFront K.held sink.old sink.new out_of_memory_line }
-    ensures bad_line { (bytes : List ℕ) (n : ℕ) → S.left source.old ≡ Some bytes → ReadsAs bytes (Err n) → (result ≢ Status.Done) × (result ≢ Status.SinkFault) }
-    ensures good_script { (bytes : List ℕ) (script : Script) → S.left source.old ≡ Some bytes → ReadsAs bytes (Ok script) → result ≢ Status.BadScript }
+    ensures source_fault_said { result ≡ Status.SourceFault
+        → Says K.held K.faults sink.old sink.new source_fault_line }
+    ensures done { result ≡ Status.Done → (text : List ℕ) × IsTranscript (S.left source.old) text
+        × ReadToEnd (S.left source.old) (S.left source.new) × (K.held sink.new ≡ added (K.held sink.old) text) }
+    ensures cut { result ≡ Status.SinkFault → (text : List ℕ) × IsTranscript (S.left source.old) text
+        × ReadToEnd (S.left source.old) (S.left source.new) × HoldsFront K.held sink.old sink.new text }
+    ensures out_of_memory_said { result ≡ Status.OutOfMemory
+        → HoldsFront K.held sink.old sink.new out_of_memory_line }
+    ensures bad_line { (bytes : List ℕ) (n : ℕ) → S.left source.old ≡ Some bytes → ReadsAs bytes (Err n)
+        → (result ≢ Status.Done) × (result ≢ Status.SinkFault) }
+    ensures good_script { (bytes : List ℕ) (script : Script) → S.left source.old ≡ Some bytes
+        → ReadsAs bytes (Ok script) → result ≢ Status.BadScript }
 {
     match transcript(alloc, words, source, folds) {
         Ok(text) => write(sink, text.as_slice()),
@@ -142,10 +154,10 @@ fn perform<S: Source, K: Sink, F: Folds>(
     }
 }
 
-/// Runs the program: reads a script from the source, runs it over a store without tables, and writes the transcript of every reply
-/// to the sink, or one line that says why there is none. Answers the exit status: 2 exactly where the words are not `run` alone;
-/// else 4 where the source failed; else 3 where the script has a bad line; else 5 where the sink failed; 8 where memory ran out;
-/// else 0. The transcript is that of one journal, which a run of the script may leave.
+/// Runs the program: reads a script from the source, runs it over a store without tables, and writes the transcript of every
+/// reply to the sink, or one line that says why there is none. Answers the exit status: 2 exactly where the words are not
+/// `run` alone; else 4 where the source failed; else 3 where the script has a bad line; else 5 where the sink failed; 8 where
+/// memory ran out; else 0. The transcript is that of one journal, which a run of the script may leave.
 pub fn retro<S: Source, K: Sink, F: Folds>(
     alloc: Global,
     words: &[String],
@@ -162,15 +174,20 @@ pub fn retro<S: Source, K: Sink, F: Folds>(
     ensures source_fault { result ≡ 4 → Rose (S.faults source.old) (S.faults source.new) }
     ensures source_steady { result ≢ 4 → S.faults source.new ≡ S.faults source.old }
     ensures source_fault_said { result ≡ 4 → Says K.held K.faults sink.old sink.new source_fault_line }
-    ensures bad_script { result ≡ 3 → (n : ℕ) × IfSome (S.left source.old) (IsTheBadLine n) × Says K.held K.faults sink.old sink.new (bad_script_text n) }
+    ensures bad_script { result ≡ 3 → (n : ℕ) × IfSome (S.left source.old) (IsTheBadLine n)
+        × Says K.held K.faults sink.old sink.new (bad_script_text n) }
     ensures sink_fault { result ≡ 5 → Rose (K.faults sink.old) (K.faults sink.new) }
     ensures sink_steady { result ≡ 0 → K.faults sink.new ≡ K.faults sink.old }
 
-    // Bytes that are bad at a line are refused, and good words, a good script and no fault end well, unless memory runs out.
-    ensures bad_line { (bytes : List ℕ) (n : ℕ) → is_run (map (λ w. string_bytes w) words.now) ≡ true → S.left source.old ≡ Some bytes → ReadsAs bytes (Err n)
-        → S.faults source.new ≡ S.faults source.old → S.faults source.old < 2 ^ 64 - 1 → (result ≡ 3) ⊎ (result ≡ 8) }
-    ensures complete { (bytes : List ℕ) (script : Script) → is_run (map (λ w. string_bytes w) words.now) ≡ true → S.left source.old ≡ Some bytes → ReadsAs bytes (Ok script)
-        → S.faults source.new ≡ S.faults source.old → S.faults source.old < 2 ^ 64 - 1 → K.faults sink.new ≡ K.faults sink.old → K.faults sink.old < 2 ^ 64 - 1 → (result ≡ 0) ⊎ (result ≡ 8) }
+    // Bytes that are bad at a line are refused, and good words, a good script and no fault end well, unless memory runs
+    // out.
+    ensures bad_line { (bytes : List ℕ) (n : ℕ) → is_run (map (λ w. string_bytes w) words.now) ≡ true
+        → S.left source.old ≡ Some bytes → ReadsAs bytes (Err n) → S.faults source.new ≡ S.faults source.old
+        → S.faults source.old < 2 ^ 64 - 1 → (result ≡ 3) ⊎ (result ≡ 8) }
+    ensures complete { (bytes : List ℕ) (script : Script) → is_run (map (λ w. string_bytes w) words.now) ≡ true
+        → S.left source.old ≡ Some bytes → ReadsAs bytes (Ok script) → S.faults source.new ≡ S.faults source.old
+        → S.faults source.old < 2 ^ 64 - 1 → K.faults sink.new ≡ K.faults sink.old → K.faults sink.old < 2 ^ 64 - 1
+        → (result ≡ 0) ⊎ (result ≡ 8) }
 {
     perform(alloc, words, source, sink, folds) as u8
 }

@@ -89,12 +89,16 @@ fn a_failing_sink_holds_a_front_of_the_text(rt: HostRuntime) -> Result<(), Fail>
 fn unknown_snapshots_are_refused_by_number(rt: HostRuntime) -> Result<(), Fail> {
     let outcome = run(
         &rt,
-        b"SESSION a\nCREATE TABLE t(a INT, b TEXT);\nINSERT INTO t VALUES (1,'x');\nCOMMIT WITH SNAPSHOT 'one';\nSELECT AS OF 0 * FROM t;\nSELECT AS OF 2 * FROM t;\nSELECT AS OF 9223372036854775807 * FROM nosuch;",
+        b"SESSION a\nCREATE TABLE t(a INT, b TEXT);\nINSERT INTO t VALUES (1,'x');\nCOMMIT WITH SNAPSHOT 'one';\n\
+          SELECT AS OF 0 * FROM t;\nSELECT AS OF 2 * FROM t;\nSELECT AS OF 9223372036854775807 * FROM nosuch;",
     )?;
     assert_eq!(rt; outcome.status, 0);
     assert_eq!(rt;
         outcome.text.as_slice(),
-        b"phase 1\nsession a\nitem 1\nok\nok 1\ncommitted as 1\nitem 2\nrefused 9 NoSuchSnapshot 0 1\nitem 3\nrefused 9 NoSuchSnapshot 2 1\nitem 4\nrefused 9 NoSuchSnapshot 9223372036854775807 1\njournal\n1 a 1 done as 1\n1 a 2 refused 9\n1 a 3 refused 9\n1 a 4 refused 9\n".as_slice()
+        b"phase 1\nsession a\nitem 1\nok\nok 1\ncommitted as 1\nitem 2\nrefused 9 NoSuchSnapshot 0 1\nitem 3\n\
+          refused 9 NoSuchSnapshot 2 1\nitem 4\nrefused 9 NoSuchSnapshot 9223372036854775807 1\njournal\n\
+          1 a 1 done as 1\n1 a 2 refused 9\n1 a 3 refused 9\n1 a 4 refused 9\n"
+            .as_slice()
     );
     Ok(())
 }
@@ -103,11 +107,14 @@ fn unknown_snapshots_are_refused_by_number(rt: HostRuntime) -> Result<(), Fail> 
 fn fields_are_quoted_where_they_need_it(rt: HostRuntime) -> Result<(), Fail> {
     let outcome = run(
         &rt,
-        b"SESSION a\nCREATE TABLE t(a TEXT)\nINSERT INTO t VALUES ('a,b')\nINSERT INTO t VALUES ('say \"hi\"')\nINSERT INTO t VALUES ('')\nINSERT INTO t VALUES ('it''s #1')\nSELECT * FROM t\nCOMMIT",
+        b"SESSION a\nCREATE TABLE t(a TEXT)\nINSERT INTO t VALUES ('a,b')\nINSERT INTO t VALUES ('say \"hi\"')\n\
+          INSERT INTO t VALUES ('')\nINSERT INTO t VALUES ('it''s #1')\nSELECT * FROM t\nCOMMIT",
     )?;
     assert_eq!(rt;
         outcome.text.as_slice(),
-        b"phase 1\nsession a\nitem 1\nok\nok 1\nok 1\nok 1\nok 1\nrows 4\n\"a,b\"\n\"say \"\"hi\"\"\"\n\"\"\nit's #1\ncommitted\njournal\n1 a 1 done\n".as_slice()
+        b"phase 1\nsession a\nitem 1\nok\nok 1\nok 1\nok 1\nok 1\nrows 4\n\"a,b\"\n\"say \"\"hi\"\"\"\n\"\"\n\
+          it's #1\ncommitted\njournal\n1 a 1 done\n"
+            .as_slice()
     );
     Ok(())
 }
@@ -169,11 +176,12 @@ fn a_row_of_nine_hundred_bytes_is_the_longest(rt: HostRuntime) -> Result<(), Fai
 
 // Fifty rows, of the values from 1 to 50.
 const FIFTY: &[u8] =
-    b"INSERT INTO t VALUES (1),(2),(3),(4),(5),(6),(7),(8),(9),(10),(11),(12),(13),(14),(15),(16),(17),(18),(19),(20),(21),\
-    (22),(23),(24),(25),(26),(27),(28),(29),(30),(31),(32),(33),(34),(35),(36),(37),(38),(39),(40),(41),(42),(43),(44),\
-    (45),(46),(47),(48),(49),(50)\n";
+    b"INSERT INTO t VALUES (1),(2),(3),(4),(5),(6),(7),(8),(9),(10),(11),(12),(13),(14),(15),(16),(17),(18),(19),\
+      (20),(21),(22),(23),(24),(25),(26),(27),(28),(29),(30),(31),(32),(33),(34),(35),(36),(37),(38),(39),(40),(41),\
+      (42),(43),(44),(45),(46),(47),(48),(49),(50)\n";
 
-// A thousand rows, the greatest twenty of them raised by 1 before each of 120 snapshots, and then two calls over all of these.
+// A thousand rows, the greatest twenty of them raised by 1 before each of 120 snapshots, and then two calls over all of
+// these.
 fn raised_script(alloc: Global) -> Result<Vec<u8>, AllocError> {
     let mut script = b"SESSION a\nCREATE TABLE t(v INT)\n".to_vec(alloc)?;
     for _ in 0..20 {
@@ -192,8 +200,8 @@ fn raised_script(alloc: Global) -> Result<Vec<u8>, AllocError> {
     Ok(script)
 }
 
-// Its transcript. The sum at snapshot n is 20 * 1275 + 20 * n, and over all 120 * 25500 + 20 * 7260; the hundred rows above 45 have
-// 20 * (46 + 47 + 48 + 49 + 50 + n), and over all 120 * 4800 + 20 * 7260.
+// Its transcript. The sum at snapshot n is 20 * 1275 + 20 * n, and over all 120 * 25500 + 20 * 7260; the hundred rows
+// above 45 have 20 * (46 + 47 + 48 + 49 + 50 + n), and over all 120 * 4800 + 20 * 7260.
 fn raised_transcript(alloc: Global) -> Result<Vec<u8>, AllocError> {
     let mut text = b"phase 1\nsession a\nitem 1\nok\n".to_vec(alloc)?;
     for _ in 0..20 {
@@ -205,7 +213,8 @@ fn raised_transcript(alloc: Global) -> Result<Vec<u8>, AllocError> {
         text.extend_from_slice(item.as_bytes())?;
     }
     text.extend_from_slice(
-        b"item 122\nok 1\nitem 123\nrows 1\n3205200\nitem 124\nok 12000\nitem 125\nrows 1\n12000,721200,46,170\njournal\n1 a 1 done\n",
+        b"item 122\nok 1\nitem 123\nrows 1\n3205200\nitem 124\nok 12000\nitem 125\nrows 1\n12000,721200,46,170\n\
+          journal\n1 a 1 done\n",
     )?;
     for number in 1..121_u32 {
         let line = format!(in alloc; "1 a {} done as {number}\n", number + 1)?;
@@ -251,12 +260,15 @@ fn an_argument_fills_its_line(rt: HostRuntime) -> Result<(), Fail> {
     assert_eq!(rt; (call.len(), outcome.status), (4_097, 0));
     assert_eq!(rt;
         outcome.text.as_slice(),
-        b"phase 1\nsession a\nitem 1\nok\nok 3\ncommitted as 1\nitem 2\nok 2\njournal\n1 a 1 done as 1\n1 a 2 looked all\n1 a 2 unlooked\n".as_slice()
+        b"phase 1\nsession a\nitem 1\nok\nok 3\ncommitted as 1\nitem 2\nok 2\njournal\n1 a 1 done as 1\n\
+          1 a 2 looked all\n1 a 2 unlooked\n"
+            .as_slice()
     );
     Ok(())
 }
 
-// Empty commits that leave two lines of a journal, a drop that is refused, and items that need more lines than are left.
+// Empty commits that leave two lines of a journal, a drop that is refused, and items that need more lines than are
+// left.
 fn crowded_script(alloc: Global) -> Result<Vec<u8>, AllocError> {
     let mut script = b"SESSION a\n".to_vec(alloc)?;
     for _ in 0..32_766 {
@@ -264,8 +276,8 @@ fn crowded_script(alloc: Global) -> Result<Vec<u8>, AllocError> {
     }
     script.extend_from_slice(
         b"DROP SNAPSHOTS BELOW 1\nCollateData('SELECT snap_id FROM SnapIds','SELECT 1 FROM t','rql_c')\n\
-          SELECT * FROM rql_c\nCOMMIT\n\
-          PHASE\nSESSION b\nSELECT * FROM rql_c\nDROP SNAPSHOTS BELOW 0\nDROP SNAPSHOTS BELOW 0\nCollateData('x','y','z')\nCOMMIT",
+          SELECT * FROM rql_c\nCOMMIT\nPHASE\nSESSION b\nSELECT * FROM rql_c\nDROP SNAPSHOTS BELOW 0\n\
+          DROP SNAPSHOTS BELOW 0\nCollateData('x','y','z')\nCOMMIT",
     )?;
     Ok(script)
 }
@@ -276,9 +288,9 @@ fn crowded_transcript(alloc: Global) -> Result<Vec<u8>, AllocError> {
         text.extend_from_slice(format!(in alloc; "item {number}\ncommitted\n")?.as_bytes())?;
     }
     text.extend_from_slice(
-        b"item 32767\nrefused 9 NoSuchSnapshot 1 0\nitem 32768\nrefused 13 JournalFull\nitem 32769\nnot run\nitem 32770\nnot run\n\
-          phase 2\nsession b\nitem 1\nrefused 20 UnknownName\nitem 2\nrefused 9 NoSuchSnapshot 0 0\nitem 3\nrefused 13 JournalFull\n\
-          item 4\nnot run\nitem 5\nnot run\njournal\n",
+        b"item 32767\nrefused 9 NoSuchSnapshot 1 0\nitem 32768\nrefused 13 JournalFull\nitem 32769\nnot run\n\
+          item 32770\nnot run\nphase 2\nsession b\nitem 1\nrefused 20 UnknownName\nitem 2\n\
+          refused 9 NoSuchSnapshot 0 0\nitem 3\nrefused 13 JournalFull\nitem 4\nnot run\nitem 5\nnot run\njournal\n",
     )?;
     for number in 1..32_767_u32 {
         text.extend_from_slice(format!(in alloc; "1 a {number} done\n")?.as_bytes())?;
