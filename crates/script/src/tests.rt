@@ -88,61 +88,70 @@ fn push_bytes(text: &mut String, bytes: &[u8]) -> Result<(), AllocError> {
     Ok(())
 }
 
+// Scripts, and what is read of them.
+const GOOD_SCRIPTS: [(&[u8], &str); 15] = [
+    (b"", ""),
+    (b"\n;\n \t;\t\n# x\n-- y\n", ""),
+    (b"phase", "phase"),
+    (
+        b"Session abcdefghijklmno1\r\n",
+        "phase; session abcdefghijklmno1",
+    ),
+    (
+        b"PHASE\nSESSION a\nCREATE TABLE t(k INT, v TEXT)\nINSERT INTO t VALUES (1, 'x');\n\
+          COMMIT WITH SNAPSHOT 'one'\nSELECT AS OF 1 * FROM t\n",
+        "phase; session a; create; insert; commit as one; as of 1",
+    ),
+    (
+        b"PHASE\r\nSESSION\ta ;\r\n\tselect * from t ; \r\n#\r\ncommit with snapshot\r\nCOMMIT",
+        "phase; session a; select; commit as ; commit",
+    ),
+    (
+        b"SESSION a\nhello\nSELECT\nSESSIONS\nPHASE x\n\x00\xff\nSELECT * FROM t;;\nCOMMIT\nSELECT AS OF x * FROM t\n",
+        "phase; session a; syntax 0; syntax 6; syntax 0; syntax 0; syntax 0; syntax 15; commit; single, syntax 13",
+    ),
+    (
+        b"SESSION a\nSELECT * FROM snapids\nSELECT * FROM RQL_a\nSELECT AS\nDROP t\nCOMMIT\n",
+        "phase; session a; select; select; syntax 9; syntax 5; commit",
+    ),
+    (
+        b"SESSION a\nROLLBACK\nSELECT * FROM t\nrollback ;\nCOMMIT",
+        "phase; session a; rollback; select; rollback; commit",
+    ),
+    (
+        b"SESSION b\nCOMMIT\nSESSION a\nPHASE\nPHASE\nSESSION a\nROLLBACK\nSESSION b\nphase\n",
+        "phase; session b; commit; session aphasephase; session a; rollback; session bphase",
+    ),
+    (
+        b"SESSION a\nDROP SNAPSHOTS BELOW 2\ndrop snapshots below\nDROP SNAPSHOTS\nDROP SNAPSHOTS BELOW 02;\n",
+        "phase; session a; drop 2; single, syntax 20; single, syntax 14; drop 2",
+    ),
+    (
+        b"SESSION a\nSELECT snap_id FROM SnapIds\nSELECT * FROM rql_c, t\nSELECT FROM SnapIds\n\
+          SELECT from rql_ FROM t !\nSELECT a FROM rql_ x",
+        "phase; session a; snapshots; results; single, syntax 7; single, syntax 24; single, syntax 19",
+    ),
+    (
+        b"SESSION a\nSELECT * FROM rql_abcdefghijklmnopqrstuvwxyzabcdefghij\nCOMMIT\n\
+          SELECT * FROM rql_abcdefghijklmnopqrstuvwxyzabc\nROLLBACK",
+        "phase; session a; single, syntax 14; commit; single, syntax 14; rollback",
+    ),
+    (
+        b"SESSION a\nSELECT * FROM arql_abcdefghijklmnopqrstuvwxyzabcdefghij\nSELECT * FROM t\n\
+          SELECT * FROM RQL_abcdefghijklmnopqrstuvwxyzabcdefghij\nCOMMIT",
+        "phase; session a; syntax 14; select; syntax 14; commit",
+    ),
+    (
+        b"SESSION a\nCollateData ( 'a' , 'it''s' , '' )\naggregatedatainvariable('a','b','c','d')\n\
+          CollateData('a','b')\nCollateData('a','b','\xff')\nAGGREGATEDATAINTABLE 'x\nCollateDataIntoIntervals !\n\
+          SELECT 'CollateData' FROM t\nCOMMIT",
+        "phase; session a; call 14 20 30; call 24 28 32 36; single, syntax 19; single, syntax 21; single, syntax 23; single, syntax 25; select; commit",
+    ),
+];
+
 #[test]
 fn good_scripts(rt: HostRuntime) -> Result<(), Fail> {
-    for (script, want) in [
-        (b"".as_slice(), ""),
-        (b"\n;\n \t;\t\n# x\n-- y\n", ""),
-        (b"phase", "phase"),
-        (
-            b"Session abcdefghijklmno1\r\n",
-            "phase; session abcdefghijklmno1",
-        ),
-        (
-            b"PHASE\nSESSION a\nCREATE TABLE t(k INT, v TEXT)\nINSERT INTO t VALUES (1, 'x');\nCOMMIT WITH SNAPSHOT 'one'\nSELECT AS OF 1 * FROM t\n",
-            "phase; session a; create; insert; commit as one; as of 1",
-        ),
-        (
-            b"PHASE\r\nSESSION\ta ;\r\n\tselect * from t ; \r\n#\r\ncommit with snapshot\r\nCOMMIT",
-            "phase; session a; select; commit as ; commit",
-        ),
-        (
-            b"SESSION a\nhello\nSELECT\nSESSIONS\nPHASE x\n\x00\xff\nSELECT * FROM t;;\nCOMMIT\nSELECT AS OF x * FROM t\n",
-            "phase; session a; syntax 0; syntax 6; syntax 0; syntax 0; syntax 0; syntax 15; commit; single, syntax 13",
-        ),
-        (
-            b"SESSION a\nSELECT * FROM snapids\nSELECT * FROM RQL_a\nSELECT AS\nDROP t\nCOMMIT\n",
-            "phase; session a; select; select; syntax 9; syntax 5; commit",
-        ),
-        (
-            b"SESSION a\nROLLBACK\nSELECT * FROM t\nrollback ;\nCOMMIT",
-            "phase; session a; rollback; select; rollback; commit",
-        ),
-        (
-            b"SESSION b\nCOMMIT\nSESSION a\nPHASE\nPHASE\nSESSION a\nROLLBACK\nSESSION b\nphase\n",
-            "phase; session b; commit; session aphasephase; session a; rollback; session bphase",
-        ),
-        (
-            b"SESSION a\nDROP SNAPSHOTS BELOW 2\ndrop snapshots below\nDROP SNAPSHOTS\nDROP SNAPSHOTS BELOW 02;\n",
-            "phase; session a; drop 2; single, syntax 20; single, syntax 14; drop 2",
-        ),
-        (
-            b"SESSION a\nSELECT snap_id FROM SnapIds\nSELECT * FROM rql_c, t\nSELECT FROM SnapIds\nSELECT from rql_ FROM t !\nSELECT a FROM rql_ x",
-            "phase; session a; snapshots; results; single, syntax 7; single, syntax 24; single, syntax 19",
-        ),
-        (
-            b"SESSION a\nSELECT * FROM rql_abcdefghijklmnopqrstuvwxyzabcdefghij\nCOMMIT\nSELECT * FROM rql_abcdefghijklmnopqrstuvwxyzabc\nROLLBACK",
-            "phase; session a; single, syntax 14; commit; single, syntax 14; rollback",
-        ),
-        (
-            b"SESSION a\nSELECT * FROM arql_abcdefghijklmnopqrstuvwxyzabcdefghij\nSELECT * FROM t\nSELECT * FROM RQL_abcdefghijklmnopqrstuvwxyzabcdefghij\nCOMMIT",
-            "phase; session a; syntax 14; select; syntax 14; commit",
-        ),
-        (
-            b"SESSION a\nCollateData ( 'a' , 'it''s' , '' )\naggregatedatainvariable('a','b','c','d')\nCollateData('a','b')\nCollateData('a','b','\xff')\nAGGREGATEDATAINTABLE 'x\nCollateDataIntoIntervals !\nSELECT 'CollateData' FROM t\nCOMMIT",
-            "phase; session a; call 14 20 30; call 24 28 32 36; single, syntax 19; single, syntax 21; single, syntax 23; single, syntax 25; select; commit",
-        ),
-    ] {
+    for &(script, want) in &GOOD_SCRIPTS {
         let got = answer(rt.alloc(), script)?;
         assert_eq!(rt; got.as_str(), want);
     }
@@ -275,7 +284,9 @@ fn the_most_items(rt: HostRuntime) -> Result<(), Fail> {
 #[test]
 fn the_most_sessions_of_a_phase(rt: HostRuntime) -> Result<(), Fail> {
     let sixteen =
-        b"SESSION 0\nSESSION 1\nSESSION 2\nSESSION 3\nSESSION 4\nSESSION 5\nSESSION 6\nSESSION 7\nSESSION 8\nSESSION 9\nSESSION a\nSESSION b\nSESSION c\nSESSION d\nSESSION e\nSESSION f\n".as_slice();
+        b"SESSION 0\nSESSION 1\nSESSION 2\nSESSION 3\nSESSION 4\nSESSION 5\nSESSION 6\nSESSION 7\nSESSION 8\n\
+          SESSION 9\nSESSION a\nSESSION b\nSESSION c\nSESSION d\nSESSION e\nSESSION f\n"
+            .as_slice();
     let mut script = sixteen.to_vec(rt.alloc())?;
     script.extend_from_slice(b"PHASE\n")?;
     script.extend_from_slice(sixteen)?;
