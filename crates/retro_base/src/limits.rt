@@ -50,5 +50,3 @@ pub const ATTEMPTS: u32 = 64;
 pub const BATCH: usize = 64;
 /// The most frames of clean pages that are kept in memory.
 pub const CLEAN_FRAMES: usize = 4096;
-/// The most bytes of a script, of this version; to become 4,194,304 when the program runs on devices.
-pub const SCRIPT_BYTES: usize = 65536;
