@@ -181,7 +181,7 @@ abbrev pub number_of : Option (List ℕ) → World Pages → Option ℕ
 number_of None before = None
 number_of (Some label) before = Some (newest before + 1)
 
--- A commit ends: just before its line each page that was read is as at Began.
+-- A commit is done: just before its line each page that was read is as at Began.
 pub record CommitEnds (old new : View) (a : Attempt) (what : What) : Type 0 where
   pub adds : Adds old new a.who what Idle
   pub agree : Agree a.read (place old new adds.moves).current (at_began old a)
@@ -191,13 +191,13 @@ pub record CommitWaits (old new : View) (a : Attempt) (label : Option (List ℕ)
   pub waits : Waits old new (Open a)
   pub is : IsCommitRefused (base_of new.opened.base new.front) new.front label a.edits why
 
--- A commit writes exactly the edits, and gives the number of the snapshot that it declares; behind a stop it commits nothing. A fault of its own write is a line too, of which the same holds as of Done.
+-- A commit writes exactly the edits, and gives the number of the snapshot that it declares; behind a stop it commits nothing. A fault, of its own write or while room was made for it, ends the attempt with its line, whatever has become of the pages that it read.
 abbrev pub CommitGives : Option (List ℕ) → View → View → Attempt → Result (Option ℕ) Refusal → Type 0
 CommitGives label old new a (Ok number) =
     (ends : CommitEnds old new a (Done label a.edits)) × (number ≡ number_of label (place old new ends.adds.moves))
     × (is_some (first_stop (lines_before old new ends.adds.moves)) ≡ true → (label ≡ None) × (a.edits ≡ []))
 CommitGives label old new a (Err (refusal.DiskFault device count)) =
-    ((a.kept ≡ Some (refusal.DiskFault device count)) × Waits old new (Open a)) ⊎ (CommitEnds old new a (Fault device count true) × IsNew new device count)
+    ((a.kept ≡ Some (refusal.DiskFault device count)) × Waits old new (Open a)) ⊎ (Adds old new a.who (Fault device count true) Idle × IsNew new device count)
 CommitGives label old new a (Err (refusal.Overlap session item)) = Waits old new (Open (record a { kept = Some (refusal.Overlap session item) })) × IsKeptOrWhy new a (refusal.Overlap session item)
 CommitGives label old new a (Err (refusal.TooManyPages needed)) = Waits old new (Open a) × (a.kept ≡ Some (refusal.TooManyPages needed))
 CommitGives label old new a (Err (refusal.Stopped device count)) =

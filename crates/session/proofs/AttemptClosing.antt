@@ -124,11 +124,10 @@ module _ (L : Language) (items : Who → Option L.Item) where
         (refusal_fits overlaps_fit view.opened a.who item end is_item is_kind view.front adds.moves.others since rest why none at is)
         (refusal_told view.opened.pages a.who item (lines_before view new adds.moves) why)
 
-    -- a commit's write failed
-    pub failed_ends : (new : View) (since rest : List Line) (device : Device) (count : ℕ) → SinceBegan a.who view.front since rest → CommitEnds view new a (Fault device count true) → IsNew new device count
+    -- a device failed in a commit
+    pub failed_ends : (new : View) (since rest : List Line) (device : Device) (count : ℕ) → SinceBegan a.who view.front since rest → Adds view new a.who (Fault device count true) Idle → IsNew new device count
         → Ends new (Fault device count true) ((L.words item).refused (refusal.DiskFault device count))
-    failed_ends new since rest device count at ended is =
-        let adds = ended.adds in
+    failed_ends new since rest device count at adds is =
         let none = none_mine a.who view.session adds.moves.others mine adds.moves.apart in
         let above : IsAbove view.opened device count = subst (λ (ground : Ground). count < 2 ^ 64 - 1 → ground.faults device < count) adds.moves.opened is in
         by_line new (Fault device count true) ((L.words item).refused (refusal.DiskFault device count)) adds

@@ -96,7 +96,7 @@ some_none k why none some = differ (sym none ∙ some)
 pub faulted : (why : Refusal) (label : Option (List ℕ)) (view mid : View) (a : Attempt) → is_fault why ≡ true → a.kept ≡ None → CommitGives label view mid a (Err why) → HasEnded view mid
 faulted (refusal.DiskFault device count) label view mid a is none gives = elim gives [
   | inl kept ↦ absurd (some_none a.kept (refusal.DiskFault device count) none kept.0)
-  | inr ended ↦ record { idle = ended.0.adds.work_is; session = ended.0.adds.moves.session }
+  | inr ended ↦ record { idle = ended.0.work_is; session = ended.0.moves.session }
 ]
 faulted why label view mid a is none gives = cc
 
