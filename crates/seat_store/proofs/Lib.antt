@@ -1,8 +1,10 @@
 pub mod Agreeing
 pub mod Coming
 pub mod Committing
+pub mod Dropping
 pub mod Edited
 pub mod Gives
+pub mod LeastPins
 pub mod Limits
 pub mod Named
 pub mod Overlaps

@@ -1,10 +1,10 @@
 //! A store with one of its seats.
 
-ghost use Rattle.std.specs.Prelude.{◌≡◌, ◌<◌, ◌⊎◌, [], None, IfSome, IsTrue, option_copied, true};
+ghost use Rattle.std.specs.Prelude.{◌≡◌, ◌<◌, [], None, IfSome, IsTrue, option_copied, true};
 ghost use Rattle.history.specs.Label.{is_label};
-ghost use Rattle.journal_law.specs.Seats.{Attempt, BeginGives, CommitGives, EditGives, Idle, Look, LookAllGives, LookGives, Looking, MayEnd, Open};
+ghost use Rattle.journal_law.specs.Seats.{Attempt, BeginGives, CommitGives, DropGives, EditGives, Idle, Look, LookAllGives, LookGives, Looking, MayEnd, Open};
 ghost use Rattle.journal_law.specs.Seats.{ReadGives, RollbackGives, UnlookGives, is_looking, is_open};
-ghost use Rattle.seat_store.specs.Seen.{IsHonest, IsSeated, RoundFails, view_of};
+ghost use Rattle.seat_store.specs.Seen.{IsHonest, IsSeated, view_of};
 ghost use Rattle.store.specs.Seats.{IsReady, IsWhole};
 ghost use Rattle.turn.specs.Seats.{mine};
 ghost use Rattle.turn.specs.Tables.{table_of};
@@ -132,8 +132,6 @@ impl<'a, R: Wait, D: Disk + Drop> Held<'a, R, D> {
             → (view_of D.state D.faults self.old.asked self.old.told.items self.old.seat).work ≡ Open a
             → CommitGives (option_copied label.entry)
             (view_of D.state D.faults self.old.asked self.old.told.items self.old.seat)
-            (view_of D.state D.faults self.new.asked self.new.told.items self.new.seat) a result
-            ⊎ RoundFails (view_of D.state D.faults self.old.asked self.old.told.items self.old.seat)
             (view_of D.state D.faults self.new.asked self.new.told.items self.new.seat) a result }
     {
         self.store.commit(self.rt, &mut self.seat, self.who, label)
@@ -195,5 +193,18 @@ impl<'a, R: Wait, D: Disk + Drop> Held<'a, R, D> {
             Ok(_) => Ok(()),
             Err(why) => Err(why),
         }
+    }
+
+    /// Drops the snapshots below a number. Where a device failed while room was made in the log, nothing is dropped, and
+    /// the line is the fault's.
+    pub fn drop_below(&mut self, who: Who, below: u64) -> Result<(), Refusal>
+        requires idle { (view_of D.state D.faults self.old.asked self.old.told.items self.old.seat).work ≡ Idle }
+        requires own { who.session ≡ self.old.seat.number }
+        ensures gives { DropGives who below
+            (view_of D.state D.faults self.old.asked self.old.told.items self.old.seat)
+            (view_of D.state D.faults self.new.asked self.new.told.items self.new.seat) result }
+    {
+        self.who = who;
+        self.store.drop_below(self.rt, &mut self.seat, who, below)
     }
 }

@@ -1,19 +1,17 @@
-use Rattle.std.proofs.Common.{Err, Ok, subst, sym}
+use Rattle.std.proofs.Common.{◌∙◌, refl, sym}
 use Rattle.turn.specs.Tables.{table_of}
-use Rattle.store.specs.Rounds.{IsRoom}
-use Rattle.store.proofs.Redropping.{at_last, at_once, is_not_room}
+use Rattle.store.proofs.Redropping.{asks_none}
+use Rattle.store.proofs.Writing.{same_on}
 use Rattle.store.proofs.shared.Store.drop_below.Goals as goal
 
-pub returns-in-Ok-clause-answers : goal.returns-in-Ok-clause-answers
-returns-in-Ok-clause-answers g c = at_once g.D.Disk.is_honest g.D.Disk.state g.D.Disk.faults (table_of c.args.self.now.turn) g.D.Disk.remembers g.D.Disk.clock c.args.who c.args.below c.args.seat.now c.requires.ready.0 (Ok tt) c.ask_drop.new.seat c.in-Ok.ensures.visits (λ x. x)
+pub returns-then-tells_drop-clause-none : goal.returns-then-tells_drop-clause-none
+returns-then-tells_drop-clause-none g c = asks_none g.D.Disk.is_honest g.D.Disk.state g.D.Disk.faults (table_of c.args.self.now.turn) g.D.Disk.remembers g.D.Disk.clock c.args.who c.args.below c.args.seat.now c.asked_drop-answer.new.seat c.requires.own c.requires.is_closed c.asked_drop-answer.result c.asked_drop-answer.ensures.asks (sym c.tells_drop.ensures ∙ c.if-tells_drop.true)
 
-pub returns-in-NoRoom-clause-answers : goal.returns-in-NoRoom-clause-answers
-returns-in-NoRoom-clause-answers g c = at_last g.D.Disk.is_honest g.D.Disk.state g.D.Disk.faults (table_of c.args.self.now.turn) g.D.Disk.remembers g.D.Disk.clock c.args.who c.args.below c.args.seat.now c.in-Err.why c.ask_drop.new.seat (subst IsRoom (sym c.in-NoRoom.is) tt) c.in-Err.ensures.visits c.drop_kept.result c.drop_kept.new.seat c.drop_kept.ensures.answers
+pub returns-then-tells_drop-clause-answers : goal.returns-then-tells_drop-clause-answers
+returns-then-tells_drop-clause-answers g c = record { asked = c.asked_drop-answer.new.seat; asks = c.asked_drop-answer.ensures.asks; told = λ t. refl; gives_up = λ f. absurd (cc (f, sym c.tells_drop.ensures ∙ c.if-tells_drop.true)) }
 
-pub returns-in_default : goal.returns-in_default
-returns-in_default g c = record {
-  ready = c.in-Err.ensures.ready;
-  is_closed = c.in-Err.ensures.is_closed;
-  same = c.in-Err.ensures.visits.visited.same;
-  answers = at_once g.D.Disk.is_honest g.D.Disk.state g.D.Disk.faults (table_of c.args.self.now.turn) g.D.Disk.remembers g.D.Disk.clock c.args.who c.args.below c.args.seat.now c.requires.ready.0 (Err c.in-Err.why) c.ask_drop.new.seat c.in-Err.ensures.visits (is_not_room g.D.Disk.is_honest g.D.Disk.state g.D.Disk.faults (table_of c.args.self.now.turn) g.D.Disk.remembers g.D.Disk.clock c.args.who c.args.below c.in-Err.why c.in_default.not-NoRoom);
-}
+pub returns-clause-same : goal.returns-clause-same
+returns-clause-same g c = same_on c.args.seat.now c.asked_drop-answer.new.seat c.give_up_drop.new.seat c.asked_drop-answer.ensures.same c.give_up_drop.ensures.gives_up.visited.same
+
+pub returns-clause-answers : goal.returns-clause-answers
+returns-clause-answers g c = record { asked = c.asked_drop-answer.new.seat; asks = c.asked_drop-answer.ensures.asks; told = λ t. absurd (cc (t, sym c.tells_drop.ensures ∙ c.if-tells_drop.false)); gives_up = λ f. c.give_up_drop.ensures.gives_up }
