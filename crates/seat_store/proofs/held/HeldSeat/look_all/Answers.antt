@@ -1,6 +1,6 @@
 use Rattle.seat_store.proofs.Coming.{idle_is}
 use Rattle.seat_store.proofs.Gives.{all_gives, all_keeps}
-use Rattle.seat_store.proofs.held.Held.look_all.Goals as goal
+use Rattle.seat_store.proofs.held.HeldSeat.look_all.Goals as goal
 
 pub invariant_of-self : goal.invariant_of-self
 invariant_of-self g c =

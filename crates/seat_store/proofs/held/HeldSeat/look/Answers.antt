@@ -1,6 +1,6 @@
 use Rattle.seat_store.proofs.Coming.{idle_is}
 use Rattle.seat_store.proofs.Gives.{look_err, look_keeps, look_ok}
-use Rattle.seat_store.proofs.held.Held.look.Goals as goal
+use Rattle.seat_store.proofs.held.HeldSeat.look.Goals as goal
 
 pub invariant_of-self : goal.invariant_of-self
 invariant_of-self g c =

@@ -1,6 +1,6 @@
 use Rattle.seat_store.proofs.Coming.{idle_is}
 use Rattle.seat_store.proofs.Gives.{begin_gives, begin_keeps}
-use Rattle.seat_store.proofs.held.Held.begin.Goals as goal
+use Rattle.seat_store.proofs.held.HeldSeat.begin.Goals as goal
 
 pub invariant_of-self : goal.invariant_of-self
 invariant_of-self g c =

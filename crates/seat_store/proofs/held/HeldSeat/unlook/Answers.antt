@@ -6,7 +6,7 @@ use Rattle.store.specs.Calls.{UnlookDoes}
 use Rattle.store.specs.Seats.{EndingIsTold, Visits}
 use Rattle.seat_store.proofs.Coming.{own_session, some_looking}
 use Rattle.seat_store.proofs.Gives.{may_end, unlooks}
-use Rattle.seat_store.proofs.held.Held.unlook.Goals as goal
+use Rattle.seat_store.proofs.held.HeldSeat.unlook.Goals as goal
 
 pub unlook-requires-clause-own : goal.unlook-requires-clause-own
 unlook-requires-clause-own g c = let h = c.args.self.now in let o = some_looking h.asked (seen h.seat) (mine h.seat).work c.requires.looking_now in own_session _ h.seat h.who h.asked h.told.items h.ready h.seated (Looking o.0) o.1

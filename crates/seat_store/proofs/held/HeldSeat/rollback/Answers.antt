@@ -6,7 +6,7 @@ use Rattle.store.specs.Calls.{RollbackDoes}
 use Rattle.store.specs.Seats.{EndingIsTold, Visits}
 use Rattle.seat_store.proofs.Coming.{own_session, some_open}
 use Rattle.seat_store.proofs.Gives.{may_end, rolls_back}
-use Rattle.seat_store.proofs.held.Held.rollback.Goals as goal
+use Rattle.seat_store.proofs.held.HeldSeat.rollback.Goals as goal
 
 pub rollback-requires-clause-own : goal.rollback-requires-clause-own
 rollback-requires-clause-own g c = let h = c.args.self.now in let o = some_open h.asked (seen h.seat) (mine h.seat).work c.requires.open_now in own_session _ h.seat h.who h.asked h.told.items h.ready h.seated (Open o.0) o.1

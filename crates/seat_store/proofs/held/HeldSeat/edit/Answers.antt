@@ -5,7 +5,7 @@ use Rattle.turn.specs.Seats.{mine, opening, seen}
 use Rattle.seat_store.specs.Seen.{view_of}
 use Rattle.seat_store.proofs.Coming.{open_is, own_session, some_open}
 use Rattle.seat_store.proofs.Reading.{page_in, edit_gives, edit_keeps}
-use Rattle.seat_store.proofs.held.Held.edit.Goals as goal
+use Rattle.seat_store.proofs.held.HeldSeat.edit.Goals as goal
 
 pub edit-requires-clause-own : goal.edit-requires-clause-own
 edit-requires-clause-own g c = let h = c.args.self.now in let o = some_open h.asked (seen h.seat) (mine h.seat).work c.requires.open_now in (own_session _ h.seat h.who h.asked h.told.items h.ready h.seated (Open o.0) o.1)
