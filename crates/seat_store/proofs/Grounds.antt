@@ -106,11 +106,11 @@ module _ {D : Type 0} (is_honest : D → Type 0) (state : D → State) (core : C
   abbrev V : Vault
   V = just.opened.vault.vault
 
-  is : IsCore is_honest state H core Plain
-  is = just.opened.core.is
+  core_is : IsCore is_honest state H core Plain
+  core_is = just.opened.core.is
 
   seen_is : Plain.history ≡ after_journal H []
-  seen_is = is.journal ∙ ap (after_journal H) just.lines
+  seen_is = core_is.journal ∙ ap (after_journal H) just.lines
 
   plain_is : Plain.history ≡ H
   plain_is = seen_is ∙ with_changes-none H
@@ -119,7 +119,7 @@ module _ {D : Type 0} (is_honest : D → Type 0) (state : D → State) (core : C
   fits = subst (λ (h : History). VaultFits h just.origin.floor V) (with_changes-none H) (just.opened.vault.fits pages)
 
   sound : IsSound (now H).base []
-  sound = subst (IsSound (now H).base) just.lines is.ledger.sound
+  sound = subst (IsSound (now H).base) just.lines core_is.ledger.sound
 
   slots_same : (bytes : List ℕ) (o : Option ℕ) → slot_or state archive bytes o ≡ in_slot V (capacity_of H) bytes o
   slots_same bytes None = refl
@@ -131,14 +131,14 @@ module _ {D : Type 0} (is_honest : D → Type 0) (state : D → State) (core : C
 
     held : Plain.acked ≤ end_of V.mappings
     held =
-        let first = is.is.first in
+        let first = core_is.is.first in
         let few = just.held in
         let end = just.opened.vault.is.mapped.shows.end in
         omega (arith, first, few, end)
 
     found_is : in_slot V (capacity_of H) (told_of Plain n page).bytes (first_in V.mappings (told_of Plain n page).start Plain.acked page) ≡ pages_as_of H n page
     found_is =
-        past_over_lines H [] [] Plain V (listing V V.mappings) n page sound seen_is is.fits
+        past_over_lines H [] [] Plain V (listing V V.mappings) n page sound seen_is core_is.fits
         (subst (λ (k : ℕ). VaultFits (after_journal H []) k V) (sym just.opened.core.floor) (just.opened.vault.fits pages))
         (inl refl) held
         (ap (λ (h : History). is_retained n (now h).base.marks) plain_is ∙ retained)
@@ -152,17 +152,17 @@ module _ {D : Type 0} (is_honest : D → Type 0) (state : D → State) (core : C
         omega (arith, a, e)
 
     start_is : Start ≡ (told_of Plain n page).start
-    start_is = ap (λ (b : Base). start_of n b.marks) is.is.base
+    start_is = ap (λ (b : Base). start_of n b.marks) core_is.is.base
 
     same_first : first_in archive.side.levels Start core.desk.queue.first page ≡ first_in V.mappings (told_of Plain n page).start Plain.acked page
     same_first =
         shows_first archive.side.levels archive.side.held V.mappings Start core.desk.queue.first page just.opened.vault.is.mapped.shows above just.held
-        ∙ (λ i. first_in V.mappings (start_is i) (is.is.first i) page)
+        ∙ (λ i. first_in V.mappings (start_is i) (core_is.is.first i) page)
 
     past_is : past_of state core archive Start page ≡ pages_as_of H n page
     past_is =
         slots_same (first_image page (pages_of_core state core page) (drop (Start - core.desk.queue.first) core.desk.queue.images)) (first_in archive.side.levels Start core.desk.queue.first page)
-        ∙ (ap (λ (bytes : List ℕ). in_slot V (capacity_of H) bytes (first_in archive.side.levels Start core.desk.queue.first page)) (told_bytes is_honest state H core Plain is pages n page)
+        ∙ (ap (λ (bytes : List ℕ). in_slot V (capacity_of H) bytes (first_in archive.side.levels Start core.desk.queue.first page)) (told_bytes is_honest state H core Plain core_is pages n page)
         ∙ (ap (in_slot V (capacity_of H) (told_of Plain n page).bytes) same_first ∙ found_is))
 
   marks_are : (ms : List MarkOf) → AllByRecursion (λ (m : MarkOf). (is_retained m.number (now H).base.marks ≡ true) × (start_of m.number core.desk.base.marks ≡ m.start)) ms
@@ -179,6 +179,6 @@ module _ {D : Type 0} (is_honest : D → Type 0) (state : D → State) (core : C
 
   pub opened_world : IsWorldOf H (world_of state core archive)
   opened_world = record {
-    current = λ page. pages_are is_honest state H core Plain is pages page ∙ ap (λ (h : History). (now h).pages page) plain_is;
+    current = λ page. pages_are is_honest state H core Plain core_is pages page ∙ ap (λ (h : History). (now h).pages page) plain_is;
     marks = subst (λ (ms : List MarkOf). AreMarksOf H ms (world_of state core archive).marks) (sym (ap (λ (b : Base). b.marks) just.opened.base)) (marks_are core.desk.base.marks all_marks);
   }

@@ -1,6 +1,6 @@
 -- What a seat sees behind calls that add no line: reads of the past, and seats that meet.
-use Rattle.std.proofs.Common.{◌≡◌, ◌<◌, ◌⊎◌, ◌++◌, ◌∙◌, ℕ, List, [], ◌∷◌, drop, map, reverse, take, true, Option, Some, None, Ok, Err, refl, sym, ap, subst, ⊎_elim, append-nil, append_assoc}
-use Rattle.std.specs.Prelude.{Contains, IfSome}
+use Rattle.std.proofs.Common.{◌≡◌, ◌<◌, ◌⊎◌, ◌++◌, ◌∙◌, ℕ, List, [], ◌∷◌, drop, map, reverse, take, true, Option, Some, None, Ok, Err, refl, sym, ap, subst, ⊎_elim, append-nil, append_assoc, arith}
+use Rattle.std.specs.Prelude.{Contains, IfErr, IfSome, Result, is_some}
 use Rattle.std.proofs.lemmas.List.{map-append, reverse-append, take-append-drop, take-append-le}
 use Rattle.atomic_table.specs.Seated.{TableId}
 use Rattle.disk_model.specs.Disk.{State}
@@ -23,20 +23,22 @@ use Rattle.journal_law.specs.Pages.{Pages, page_world}
 use Rattle.journal_law.specs.Seats as seat
 use Rattle.journal_law.specs.Seats.{Moves, PastGives, View}
 use Rattle.journal_law.specs.World.{as_of}
+use Rattle.page_table.specs.Table.{Table}
+use Rattle.race_model.specs.declared.fault.Fault.{Fault}
 use Rattle.race_model.proofs.Grows.{contains_cons}
 use Rattle.turn.specs.declared.view.Holding.{Holding}
 use Rattle.turn.specs.Faults.{fault_times}
 use Rattle.turn.specs.Seats.{mine, opening, seen}
 use Rattle.store.specs.declared.start.Start.{Start}
-use Rattle.store.specs.Past.{IsPastCause, IsPastOf, IsRetainedBy}
-use Rattle.store.specs.Seats.{IsReady, Sat, StaysIn, Waits, began_of}
+use Rattle.store.specs.Past.{IsNewFault, IsPastCause, IsPastOf, IsPinnedBy, IsRetainedBy, IsTableOf}
+use Rattle.store.specs.Seats.{IsPage, IsReady, IsSized, Sat, StaysIn, Waits, began_of}
 use Rattle.store.specs.Start.{AreJustOpened, IsAbove, opened_base}
 use Rattle.store.proofs.Calling.{told_more as told_still}
-use Rattle.store.proofs.Meeting.{work_stays}
+use Rattle.store.proofs.Meeting.{stays_same, work_stays}
 use Rattle.seat_store.specs.declared.kept.KeptTable.{KeptTable}
 use Rattle.seat_store.specs.declared.told.ToldFault.{ToldFault}
 use Rattle.seat_store.specs.Ground.{world_of}
-use Rattle.seat_store.specs.Kept.{IsTabled}
+use Rattle.seat_store.specs.Kept.{IsKept, IsTabled}
 use Rattle.seat_store.specs.Seen.{HasBegun, IsHonest, IsSeated, ground_in, pins_of_look, told_more, told_of, view_of, work_in}
 use Rattle.seat_store.proofs.Coming.{Came, moves}
 use Rattle.seat_store.proofs.Grounds.{opened_world}
@@ -54,6 +56,44 @@ told_end told fault = ap reverse (map-append (λ (f : ToldFault). let t : seat.T
 pub no_table : {D : Type 0} (is_honest : D → Type 0) (state : D → State) (s0 s1 : Sat D) (kept : Option KeptTable) → ((look : Look) → (mine s0).work ≡ Some (work.Looking look) → ⊥) → IsTabled is_honest state s0 kept → IsTabled is_honest state s1 kept
 no_table is_honest state s0 s1 None not is = tt
 no_table is_honest state s0 s1 (Some kept) not is = absurd (not is.look is.there)
+
+-- ---- what stays where a seat has seen more
+
+pub pinned_on : {D : Type 0} (s0 s1 : Sat D) (n : ℕ) → StaysIn s0 s1 → IsPinnedBy s0 n → IsPinnedBy s1 n
+pinned_on s0 s1 n stays pinned = record { look = pinned.look; there = work_stays s0 s1 stays ∙ pinned.there; pinned = pinned.pinned }
+
+pub page_on : {D : Type 0} (s0 s1 : Sat D) (page : ℕ) → opening s1 ≡ opening s0 → IsPage s0 page → IsPage s1 page
+page_on {D = D} s0 s1 page same is = subst (λ (o : Option (Start D)). IfSome o (λ (start : Start D). page < (opened_base start).page_count)) (sym same) is
+
+pub fault_on : {D T : Type 0} (faults : D → ℕ) (s0 s1 : Sat D) (result : Result T Fault) → opening s1 ≡ opening s0 → IfErr result (IsNewFault faults s1) → IfErr result (IsNewFault faults s0)
+fault_on faults s0 s1 (Ok x) same is = tt
+fault_on faults s0 s1 (Err fault) same is = λ start d c o e. is start d c (same ∙ o) e
+
+pub stays_here : {D : Type 0} (s : Sat D) → StaysIn s s
+stays_here s = stays_same s s (record { id = refl; number = refl; opening = refl }) refl (omega arith)
+
+pub waits_here : {D : Type 0} (s : Sat D) → Waits s s
+waits_here s = record { others = []; front = append-nil (seen s); apart = refl }
+
+-- a table that was kept of this snapshot
+pub kept_of : {D : Type 0} (is_honest : D → Type 0) (state : D → State) (s : Sat D) (kept : KeptTable) (other n : ℕ) (table : Table) → IsKept is_honest state s kept → kept ≡ record { snapshot = other; table = table } → other ≡ n → IsTableOf is_honest state s n table
+kept_of {D = D} is_honest state s kept other n table is same at =
+    subst (λ (k : ℕ). IsTableOf is_honest state s k table) at (subst (λ (k : KeptTable). IsTableOf is_honest state s k.snapshot k.table) same is.table_is)
+
+-- and one that is kept
+pub keeps_table : {D : Type 0} (is_honest : D → Type 0) (state : D → State) (s0 s1 : Sat D) (n : ℕ) (kept : KeptTable) → StaysIn s0 s1 → IsPinnedBy s0 n → IsTableOf is_honest state s1 kept.snapshot kept.table → IsKept is_honest state s1 kept
+keeps_table is_honest state s0 s1 n kept stays pinned is = let p = pinned_on s0 s1 n stays pinned in record { look = p.look; there = p.there; table_is = is }
+
+-- ---- how many pages there are
+
+pub sized_on : {D : Type 0} (pages : ℕ) (s0 s1 : Sat D) → opening s1 ≡ opening s0 → IsSized pages s0 → IsSized pages s1
+sized_on {D = D} pages s0 s1 same is = subst (λ (o : Option (Start D)). IfSome o (λ (start : Start D). pages ≡ (opened_base start).page_count)) (sym same) is
+
+pub pages_so : {D : Type 0} (state : D → State) (faults : D → ℕ) (z : TableId) (pages : ℕ) (s : Sat D) → IsReady z s → IsSized pages s → pages ≡ (ground_in state faults (opening s)).base.page_count
+pages_so {D = D} state faults z pages s ready is = at (opening s) ready.rests.seat.opened is where
+  at : (o : Option (Start D)) → is_some o ≡ true → IfSome o (λ (start : Start D). pages ≡ (opened_base start).page_count) → pages ≡ (ground_in state faults o).base.page_count
+  at None none same = absurd (cc none)
+  at (Some start) some same = same
 
 -- ---- a seat that has seen more
 
