@@ -1,6 +1,6 @@
 -- What a seat sees behind calls that add no line: reads of the past, and seats that meet.
 use Rattle.std.proofs.Common.{◌≡◌, ◌<◌, ◌⊎◌, ◌++◌, ◌∙◌, ℕ, List, [], ◌∷◌, drop, map, reverse, take, true, Option, Some, None, Ok, Err, refl, sym, ap, subst, ⊎_elim, append-nil, append_assoc, arith}
-use Rattle.std.specs.Prelude.{Contains, IfErr, IfSome, Result, is_some}
+use Rattle.std.specs.Prelude.{Contains, IfErr, IfSome, Result, false}
 use Rattle.std.proofs.lemmas.List.{map-append, reverse-append, take-append-drop, take-append-le}
 use Rattle.atomic_table.specs.Seated.{TableId}
 use Rattle.disk_model.specs.Disk.{State}
@@ -34,11 +34,12 @@ use Rattle.store.specs.Past.{IsNewFault, IsPastCause, IsPastOf, IsPinnedBy, IsRe
 use Rattle.store.specs.Seats.{IsPage, IsReady, IsSized, Sat, StaysIn, Waits, began_of}
 use Rattle.store.specs.Start.{AreJustOpened, IsAbove, opened_base}
 use Rattle.store.proofs.Calling.{told_more as told_still}
+use Rattle.store.proofs.Finding.{some_is}
 use Rattle.store.proofs.Meeting.{stays_same, work_stays}
 use Rattle.seat_store.specs.declared.kept.KeptTable.{KeptTable}
 use Rattle.seat_store.specs.declared.told.ToldFault.{ToldFault}
 use Rattle.seat_store.specs.Ground.{world_of}
-use Rattle.seat_store.specs.Kept.{IsKept, IsTabled}
+use Rattle.seat_store.specs.Kept.{IsTabled, looks}
 use Rattle.seat_store.specs.Seen.{HasBegun, IsHonest, IsSeated, ground_in, pins_of_look, told_more, told_of, view_of, work_in}
 use Rattle.seat_store.proofs.Coming.{Came, moves}
 use Rattle.seat_store.proofs.Grounds.{opened_world}
@@ -50,12 +51,18 @@ use Rattle.seat_store.proofs.Reading.{begun_on}
 told_end : (told : List ToldFault) (fault : ToldFault) → told_of (told ++ fault ∷ []) ≡ (let t : seat.Told = record { device = fault.device; count = fault.count } in t) ∷ told_of told
 told_end told fault = ap reverse (map-append (λ (f : ToldFault). let t : seat.Told = record { device = f.device; count = f.count } in t) told (fault ∷ [])) ∙ reverse-append (map (λ (f : ToldFault). let t : seat.Told = record { device = f.device; count = f.count } in t) told) _
 
+-- behind the room that was made for one
+pub told_on : (before room after : List ToldFault) (why : Refusal) → room ≡ before → after ≡ told_more room why → after ≡ told_more before why
+told_on before room after why same is = is ∙ ap (λ (ts : List ToldFault). told_more ts why) same
+
 -- ---- a table that is kept
 
 -- where the seat does not look there is none
-pub no_table : {D : Type 0} (is_honest : D → Type 0) (state : D → State) (s0 s1 : Sat D) (kept : Option KeptTable) → ((look : Look) → (mine s0).work ≡ Some (work.Looking look) → ⊥) → IsTabled is_honest state s0 kept → IsTabled is_honest state s1 kept
-no_table is_honest state s0 s1 None not is = tt
-no_table is_honest state s0 s1 (Some kept) not is = absurd (not is.look is.there)
+pub no_table : {D : Type 0} (is_honest : D → Type 0) (state : D → State) (s0 s1 : Sat D) (kept : Option KeptTable) → looks (mine s0).work ≡ false → IsTabled is_honest state s0 kept → IsTabled is_honest state s1 kept
+no_table is_honest state s0 s1 kept not is = record { looks = λ t e. absurd (cc (not, is.looks t e)); table_is = λ t e. absurd (cc (not, is.looks t e)) }
+
+pub none_kept : {D : Type 0} (is_honest : D → Type 0) (state : D → State) (s : Sat D) → IsTabled is_honest state s None
+none_kept is_honest state s = record { looks = λ t e. absurd (cc e); table_is = λ t e. absurd (cc e) }
 
 -- ---- what stays where a seat has seen more
 
@@ -76,24 +83,25 @@ pub waits_here : {D : Type 0} (s : Sat D) → Waits s s
 waits_here s = record { others = []; front = append-nil (seen s); apart = refl }
 
 -- a table that was kept of this snapshot
-pub kept_of : {D : Type 0} (is_honest : D → Type 0) (state : D → State) (s : Sat D) (kept : KeptTable) (other n : ℕ) (table : Table) → IsKept is_honest state s kept → kept ≡ record { snapshot = other; table = table } → other ≡ n → IsTableOf is_honest state s n table
-kept_of {D = D} is_honest state s kept other n table is same at =
-    subst (λ (k : ℕ). IsTableOf is_honest state s k table) at (subst (λ (k : KeptTable). IsTableOf is_honest state s k.snapshot k.table) same is.table_is)
+pub kept_of : {D : Type 0} (is_honest : D → Type 0) (state : D → State) (s : Sat D) (kept : Option KeptTable) (t : KeptTable) (n : ℕ) → IsTabled is_honest state s kept → kept ≡ Some t → t.snapshot ≡ n → IsTableOf is_honest state s n t.table
+kept_of is_honest state s kept t n is there same = subst (λ (k : ℕ). IsTableOf is_honest state s k t.table) same (is.table_is t there)
 
 -- and one that is kept
-pub keeps_table : {D : Type 0} (is_honest : D → Type 0) (state : D → State) (s0 s1 : Sat D) (n : ℕ) (kept : KeptTable) → StaysIn s0 s1 → IsPinnedBy s0 n → IsTableOf is_honest state s1 kept.snapshot kept.table → IsKept is_honest state s1 kept
-keeps_table is_honest state s0 s1 n kept stays pinned is = let p = pinned_on s0 s1 n stays pinned in record { look = p.look; there = p.there; table_is = is }
+pub keeps_table : {D : Type 0} (is_honest : D → Type 0) (state : D → State) (s0 s1 : Sat D) (n : ℕ) (kept : KeptTable) → StaysIn s0 s1 → IsPinnedBy s0 n → IsTableOf is_honest state s1 kept.snapshot kept.table → IsTabled is_honest state s1 (Some kept)
+keeps_table is_honest state s0 s1 n kept stays pinned is = record {
+  looks = λ t e. ap looks (pinned_on s0 s1 n stays pinned).there;
+  table_is = λ t e. subst (λ (k : KeptTable). IsTableOf is_honest state s1 k.snapshot k.table) (some_is kept t e) is;
+}
 
 -- ---- how many pages there are
 
 pub sized_on : {D : Type 0} (pages : ℕ) (s0 s1 : Sat D) → opening s1 ≡ opening s0 → IsSized pages s0 → IsSized pages s1
-sized_on {D = D} pages s0 s1 same is = subst (λ (o : Option (Start D)). IfSome o (λ (start : Start D). pages ≡ (opened_base start).page_count)) (sym same) is
+sized_on pages s0 s1 same is = λ start e. is start (sym same ∙ e)
 
 pub pages_so : {D : Type 0} (state : D → State) (faults : D → ℕ) (z : TableId) (pages : ℕ) (s : Sat D) → IsReady z s → IsSized pages s → pages ≡ (ground_in state faults (opening s)).base.page_count
-pages_so {D = D} state faults z pages s ready is = at (opening s) ready.rests.seat.opened is where
-  at : (o : Option (Start D)) → is_some o ≡ true → IfSome o (λ (start : Start D). pages ≡ (opened_base start).page_count) → pages ≡ (ground_in state faults o).base.page_count
-  at None none same = absurd (cc none)
-  at (Some start) some same = same
+pages_so {D = D} state faults z pages s ready is =
+    let found = some_there (opening s) ready.rests.seat.opened in
+    is found.0 found.1 ∙ ap (λ (o : Option (Start D)). (ground_in state faults o).base.page_count) (sym found.1)
 
 -- ---- a seat that has seen more
 

@@ -1,5 +1,5 @@
 -- The seats of a store that was just opened.
-use Rattle.std.proofs.Common.{◌≡◌, ◌∙◌, ℕ, List, [], Option, Some, None, IfSome, sym, ap, subst, slice_get, arith}
+use Rattle.std.proofs.Common.{◌≡◌, ◌∙◌, ℕ, List, [], Option, Some, None, sym, ap, subst, slice_get, arith}
 use Rattle.atomic_table.specs.Seated.{TableId}
 use Rattle.disk_model.specs.Disk.{State}
 use Rattle.history.specs.declared.journal.Line.{Line}
@@ -39,10 +39,7 @@ module _ {D : Type 0} (z : TableId) (o : Start D) (seats : List (Sat D)) (new : 
 
 -- the seats tell of as many pages as the core that the store began with
 pub sized_by : {D : Type 0} (core : Core D) (archive : Running D) (s : Sat D) (pages : ℕ) → IsStartOf core archive (opening s) → pages ≡ core.desk.base.page_count → IsSized pages s
-sized_by {D = D} core archive s pages is count = at (opening s) is where
-  at : (o : Option (Start D)) → IsStartOf core archive o → IfSome o (λ (start : Start D). pages ≡ (opened_base start).page_count)
-  at None never = tt
-  at (Some start) same = count ∙ ap (λ (c : Core D). c.desk.base.page_count) (sym same.0)
+sized_by core archive s pages is count = λ start e. count ∙ ap (λ (c : Core _). c.desk.base.page_count) (sym (subst (IsStartOf core archive) e is).0)
 
 -- ---- a store that was just opened
 

@@ -65,7 +65,7 @@ IsPage s page = IfSome (opening s) (λ start. page < (opened_base start).page_co
 
 -- the store that it sits at has so many pages
 abbrev pub IsSized : {D : Type 0} → ℕ → Sat D → Type 0
-IsSized pages s = IfSome (opening s) (λ start. pages ≡ (opened_base start).page_count)
+IsSized {D} pages s = (start : Start D) → opening s ≡ Some start → pages ≡ (opened_base start).page_count
 
 -- a fault that a transaction keeps is among those that its seat was told since its last line
 abbrev pub KeptIsTold : Option Work → List (Device × ℕ) → Type 0
