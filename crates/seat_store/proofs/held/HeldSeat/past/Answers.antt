@@ -34,7 +34,7 @@ returns-in-Ok-clause-gives g c = λ l e.
     let h = c.args.self.now in
     let o = looking_is h.asked (seen h.seat) (mine h.seat).work l e in
     subst (λ x. PastGives (IsHonest g.D.Disk.is_honest g.D.Disk.state c.recall.new.seat) c.args.snapshot c.args.page c.recall.new.out (view_of g.D.Disk.state g.D.Disk.faults h.asked h.told.items h.seat) (view_of g.D.Disk.state g.D.Disk.faults h.asked c.reserve.new.self.items c.recall.new.seat) x (Ok tt)) o.2
-    (subst (λ (ts : List ToldFault). PastGives (IsHonest g.D.Disk.is_honest g.D.Disk.state c.recall.new.seat) c.args.snapshot c.args.page c.recall.new.out (view_of g.D.Disk.state g.D.Disk.faults h.asked h.told.items h.seat) (view_of g.D.Disk.state g.D.Disk.faults h.asked ts c.recall.new.seat) _ (Ok tt)) (sym c.reserve.ensures.items)
+    (subst (λ (ts : List ToldFault). PastGives (IsHonest g.D.Disk.is_honest g.D.Disk.state c.recall.new.seat) c.args.snapshot c.args.page c.recall.new.out (view_of g.D.Disk.state g.D.Disk.faults h.asked h.told.items h.seat) (view_of g.D.Disk.state g.D.Disk.faults h.asked ts c.recall.new.seat) (record { who = o.0.who; since = take o.0.began (seen h.seat); snapshot = h.asked }) (Ok tt)) (sym c.reserve.ensures.items)
     (past_ok g.D.Disk.state g.D.Disk.faults _ h.seat c.recall.new.seat h.ready c.recall.ensures.same c.recall.ensures.waits h.who h.asked h.told.items h.seated o.0 o.1 g.D.Disk.is_honest c.args.snapshot c.args.page c.recall.new.out c.in-Ok.ensures.page c.in-Ok.ensures.retained))
 
 pub returns-in-Err-clause-gives : goal.returns-in-Err-clause-gives
@@ -42,6 +42,6 @@ returns-in-Err-clause-gives g c = λ l e.
     let h = c.args.self.now in
     let o = looking_is h.asked (seen h.seat) (mine h.seat).work l e in
     subst (λ x. PastGives (IsHonest g.D.Disk.is_honest g.D.Disk.state c.recall.new.seat) c.args.snapshot c.args.page c.recall.new.out (view_of g.D.Disk.state g.D.Disk.faults h.asked h.told.items h.seat) (view_of g.D.Disk.state g.D.Disk.faults h.asked c.tell.new.told.items c.recall.new.seat) x (Err c.in-Err.fault.why)) o.2
-    (subst (λ (ts : List ToldFault). PastGives (IsHonest g.D.Disk.is_honest g.D.Disk.state c.recall.new.seat) c.args.snapshot c.args.page c.recall.new.out (view_of g.D.Disk.state g.D.Disk.faults h.asked h.told.items h.seat) (view_of g.D.Disk.state g.D.Disk.faults h.asked ts c.recall.new.seat) _ (Err c.in-Err.fault.why))
+    (subst (λ (ts : List ToldFault). PastGives (IsHonest g.D.Disk.is_honest g.D.Disk.state c.recall.new.seat) c.args.snapshot c.args.page c.recall.new.out (view_of g.D.Disk.state g.D.Disk.faults h.asked h.told.items h.seat) (view_of g.D.Disk.state g.D.Disk.faults h.asked ts c.recall.new.seat) (record { who = o.0.who; since = take o.0.began (seen h.seat); snapshot = h.asked }) (Err c.in-Err.fault.why))
     (sym (told_on h.told.items c.reserve.new.self.items c.tell.new.told.items c.in-Err.fault.why c.reserve.ensures.items c.tell.ensures))
     (past_err g.D.Disk.state g.D.Disk.faults _ h.seat c.recall.new.seat h.ready c.recall.ensures.same c.recall.ensures.waits h.who h.asked h.told.items h.seated o.0 o.1 (IsHonest g.D.Disk.is_honest g.D.Disk.state c.recall.new.seat) c.args.snapshot c.args.page c.recall.new.out c.in-Err.fault.why c.in-Err.ensures.cause.0 c.in-Err.ensures.cause.1 c.in-Err.ensures.fault))
