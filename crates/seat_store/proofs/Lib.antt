@@ -1,12 +1,13 @@
 pub mod Agreeing
 pub mod Coming
 pub mod Committing
-pub mod Dropping
 pub mod Edited
 pub mod Gives
-pub mod LeastPins
+pub mod Grounds
 pub mod Limits
 pub mod Named
 pub mod Overlaps
+pub mod Pasts
 pub mod Reading
+pub mod Recalled
 pub mod Worlds

@@ -1,10 +1,12 @@
 -- A seat of a store, as sessions see it.
-use Rattle.std.specs.Prelude.{◌≡◌, ◌+◌, ◌<◌, ℕ, List, [], ◌∷◌, drop, map, reverse, take, Option, Some, None, IfSome, Contains}
+use Rattle.std.specs.Prelude.{◌≡◌, ◌+◌, ◌<◌, ℕ, List, [], ◌∷◌, ◌++◌, drop, map, reverse, take, Option, Some, None, IfSome, Result, Err, true, Contains}
 use Rattle.disk_model.specs.Disk.{State}
 use Rattle.retro_base.specs.declared.device.Device.{Device}
+use Rattle.retro_base.specs.declared.refusal.Refusal.{Refusal}
+use Rattle.retro_base.specs.declared.refusal.Refusal.TheVariants.{DiskFault}
 use Rattle.retro_base.specs.declared.who.Who.{Who}
 use Rattle.history.specs.declared.journal.Line.{Line}
-use Rattle.history.specs.declared.journal.What.TheVariants.{Began}
+use Rattle.history.specs.declared.journal.What.TheVariants.{Began, Fault}
 use Rattle.history.specs.Lines.{base_of, lines_of}
 use Rattle.journal_book.specs.declared.work.Look.{Look}
 use Rattle.journal_book.specs.declared.work.Transaction.{Transaction}
@@ -14,18 +16,23 @@ use Rattle.journal_book.specs.Works.{who_of}
 use Rattle.journal_law.specs.Lawful.{Ground}
 use Rattle.journal_law.specs.Own.{line}
 use Rattle.journal_law.specs.Seats as seat
-use Rattle.journal_law.specs.Seats.{View}
+use Rattle.journal_law.specs.Seats.{Adds, View}
 use Rattle.seat_store.specs.declared.told.ToldFault.{ToldFault}
 use Rattle.seat_store.specs.Ground.{ground_of, no_ground}
 use Rattle.store.specs.declared.start.Start.{Start}
 use Rattle.store.specs.Seats.{Sat}
-use Rattle.store.specs.Start.{opened_base}
+use Rattle.store.specs.Start.{AreJustOpened, opened_base}
 use Rattle.turn.specs.Faults.{fault_times}
 use Rattle.turn.specs.Seats.{mine, opening, seen}
 
 -- faults in the order in which they were told, as the last first
 abbrev pub told_of : List ToldFault → List seat.Told
 told_of faults = reverse (map (λ (fault : ToldFault). record { device = fault.device; count = fault.count }) faults)
+
+-- and with the one for which a call was refused, at the end
+abbrev pub told_more : List ToldFault → Refusal → List ToldFault
+told_more told (DiskFault device count) = told ++ record { device = device; count = count } ∷ []
+told_more told why = told
 
 -- a work as sessions see it, behind the lines that were seen; a look is at this snapshot, or at all
 abbrev pub work_in : Option ℕ → List Line → Option Work → seat.Work
@@ -54,15 +61,21 @@ module _ {D : Type 0} (state : D → State) (faults : D → ℕ) where
     told = told_of told;
   }
 
--- The store was opened with an empty journal, on devices of the pages and of the slots that tell what they hold.
-abbrev pub IsHonest : {D : Type 0} → (D → Type 0) → Sat D → Type 0
-IsHonest is_honest s = IfSome (opening s) (λ start.
-    (is_honest start.core.value.desk.pool.file.disk × is_honest start.archive.value.pagelog.disk) × (start.core.value.ledger.book.lines ≡ []))
+-- The store began as it was just opened, on devices of the pages and of the slots that tell what they hold.
+abbrev pub IsHonest : {D : Type 0} → (D → Type 0) → (D → State) → Sat D → Type 0
+IsHonest is_honest state s = IfSome (opening s) (λ start.
+    (is_honest start.core.value.desk.pool.file.disk × is_honest start.archive.value.pagelog.disk) × AreJustOpened is_honest state start.core.value start.archive.value)
 
 -- what a look pins: its one snapshot, or each that was retained when it began
 abbrev pub pins_of_look : {D : Type 0} → Option ℕ → List Line → Start D → Look → List ℕ
 pins_of_look (Some snapshot) lines start look = snapshot ∷ []
 pins_of_look None lines start look = map (λ mark. mark.number) (base_of (opened_base start) (take look.began lines)).marks
+
+-- A device failed while room was made for a commit: its line ends the attempt, whatever has become of the pages that it
+-- read.
+abbrev pub RoundFails : {T : Type 0} → View → View → seat.Attempt → Result T Refusal → Type 0
+RoundFails old new a (Err (DiskFault device count)) = Adds old new a.who (Fault device count true) seat.Idle
+RoundFails old new a _ = ⊥
 
 -- What the seat has open is of this item; no drop's line is kept for it. What it has open it has seen begin, what its look pins is what it is at, and it was told
 -- these faults since its last line, none but in a look.
