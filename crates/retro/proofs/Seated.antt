@@ -22,12 +22,18 @@ same_or_not (suc a) (suc b) = by_rest (same_or_not a b)
     by_rest (inr other) = inr (λ e. other (omega (arith, e)))
 
 -- a slot has one seat
-pub one_seat : (S : Type 0) (s t : S) → Some (Some s) ≡ Some (Some t) → s ≡ t
+one_seat : (S : Type 0) (s t : S) → Some (Some s) ≡ Some (Some t) → s ≡ t
 one_seat S s t e = cc
 
 module _ (S : Type 0) (view : S → View) where
   pub sees : (slots : List (Option S)) (number : ℕ) (s : S) → SitsAt slots number s → view_at view slots number ≡ view s
   sees slots number s sits = ap (view_in view) sits
+
+  pub seated_number : (slots : List (Option S)) (number : ℕ) (s : S) → IsSeated view slots number → SitsAt slots number s → (view s).session ≡ number
+  seated_number slots number s there sits = subst (λ (t : S). (view t).session ≡ number) (one_seat S there.seat s (sym there.sits ∙ sits)) there.number_is
+
+  pub seated_idle : (slots : List (Option S)) (number : ℕ) (s : S) → IsSeated view slots number → SitsAt slots number s → (view s).work ≡ Idle
+  seated_idle slots number s there sits = subst (λ (t : S). (view t).work ≡ Idle) (one_seat S there.seat s (sym there.sits ∙ sits)) there.idle
 
   module _ (goes : S → S → Type 0) (stays : (s : S) → goes s s) (goes_on : (s t u : S) → goes s t → goes t u → goes s u) where
     pub come_none : (slots : List (Option S)) → AreSeated view slots → AllCome view goes slots slots

@@ -173,6 +173,7 @@ fn run_phase<S: Meets, R: RunItems>(
 pub fn seats_needed(plan: &Plan) -> usize
     requires { PlanFits plan.now }
     ensures enough { HaveSeats plan.now result }
+    ensures least { (seats : ℕ) → HaveSeats plan.now seats → result ≤ seats }
     ensures few { result ≤ SESSIONS }
 {
     let mut most = 0;
