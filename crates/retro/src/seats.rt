@@ -1,6 +1,5 @@
 //! Seats of one store, which may meet.
 
-ghost use Rattle.std.specs.Prelude.{◌≡◌};
 ghost use Rattle.retro.specs.Meeting.{HaveMet};
 
 use journal_law::Seat;

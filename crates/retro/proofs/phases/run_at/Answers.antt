@@ -1,4 +1,4 @@
-use Rattle.std.proofs.Common.{◌≡◌, ◌∙◌, refl, sym, subst}
+use Rattle.std.proofs.Common.{◌∙◌, refl, sym, subst}
 use Rattle.session.specs.Run.{IsSessionOf}
 use Rattle.retro.proofs.Seated.{seated_idle, seated_number}
 use Rattle.retro.proofs.phases.run_at.Goals as goal
