@@ -1,2 +1,5 @@
 pub mod Ends
 pub mod Front
+pub mod Phased
+pub mod Seated
+pub mod Stepped

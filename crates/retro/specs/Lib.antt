@@ -1,1 +1,5 @@
+pub mod Meeting
+pub mod Phases
 pub mod Program
+pub mod Slots
+pub mod Steps

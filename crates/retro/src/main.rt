@@ -8,11 +8,14 @@ mod call_refusals;
 mod calls;
 #[cfg(test)]
 mod drops;
+mod laws;
+mod phases;
 mod program;
 #[cfg(test)]
 mod result_tables;
 #[cfg(test)]
 mod scripts;
+mod seats;
 #[cfg(test)]
 mod tests;
 
