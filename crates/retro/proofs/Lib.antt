@@ -1,2 +1,5 @@
 pub mod Ends
 pub mod Front
+pub mod Numbers
+pub mod Stores
+pub mod Table

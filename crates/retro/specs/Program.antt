@@ -1,41 +1,13 @@
--- The words of the program, what it reads and writes, and how it ends.
-use Rattle.std.specs.Prelude.{◌≡◌, ◌⊎◌, ◌≤◌, ◌++◌, ◌∷◌, ℕ, Bool, false, List, [], length, take, codes, Option, IfSome, Ok, Err}
-use Rattle.std.specs.Fmt.{decimal}
+-- The run of a script, and how it ends.
+use Rattle.std.specs.Prelude.{◌≡◌, ◌⊎◌, ℕ, List, [], Option, IfSome, Ok, Err}
 use Rattle.std.specs.Option.{option_map}
-use Rattle.std.specs.Str.{bytes_eq}
 use Rattle.feeds.specs.Feeds.{added}
-use Rattle.retro_base.specs.Cause.{Rose}
 use Rattle.script.specs.Script.{ReadsAs, IsOnlyReading}
 use Rattle.script.specs.declared.structure.Script.{Script}
 use Rattle.history.specs.declared.journal.Line.{Line}
-use Rattle.session.specs.Line.{line}
 use Rattle.session.specs.Plan.{IsPlan, Plan}
 use Rattle.session.specs.Turns.{RanPlainly}
-
--- whether these words are the good ones: `run` alone
-abbrev pub is_run : List (List ℕ) → Bool
-is_run (word ∷ []) = bytes_eq word (codes "run")
-is_run words = false
-
-abbrev pub bad_words_line : List ℕ
-bad_words_line = line (codes "retro: bad words")
-
-abbrev pub source_fault_line : List ℕ
-source_fault_line = line (codes "retro: source fault")
-
-abbrev pub out_of_memory_line : List ℕ
-out_of_memory_line = line (codes "retro: out of memory")
-
-abbrev pub bad_script_line : ℕ → List ℕ
-bad_script_line number = line (codes "retro: bad script at line " ++ decimal number)
-
--- the sink holds what it held, and a front of the text
-abbrev pub HoldsFront : {K : Type 0} → (K → Option (List ℕ)) → K → K → List ℕ → Type 0
-HoldsFront held old new text = (n : ℕ) × (n ≤ length text) × (held new ≡ added (held old) (take n text))
-
--- the sink holds what it held and the text; or a front of the text, and its count of faults rose
-abbrev pub Says : {K : Type 0} → (K → Option (List ℕ)) → (K → ℕ) → K → K → List ℕ → Type 0
-Says held faults old new text = (held new ≡ added (held old) text) ⊎ (Rose (faults old) (faults new) × HoldsFront held old new text)
+use Rattle.retro.specs.Says.{HoldsFront, out_of_memory_line}
 
 -- the bytes are this script, and nothing else
 abbrev pub IsTheScript : Script → List ℕ → Type 0
