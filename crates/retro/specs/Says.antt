@@ -1,6 +1,7 @@
 -- The one-line texts of the program, what it puts into its sink, and how a command ends.
-use Rattle.std.specs.Prelude.{◌≡◌, ◌⊎◌, ◌≤◌, ◌++◌, ◌∷◌, ℕ, List, length, take, codes, Option, Result, Ok, Err}
+use Rattle.std.specs.Prelude.{◌≡◌, ◌⊎◌, ◌≤◌, ◌++◌, ◌∷◌, ◌==◌, ℕ, IsTrue, List, [], length, take, codes, Option, Result, Ok, Err}
 use Rattle.std.specs.Fmt.{decimal}
+use Rattle.std.specs.List.{list_any}
 use Rattle.feeds.specs.Feeds.{added}
 use Rattle.retro_base.specs.Cause.{Rose}
 use Rattle.retro_base.specs.Device.{device_name}
@@ -22,6 +23,10 @@ number_of statuses.DiskFault = 6
 number_of statuses.NotAStore = 7
 number_of statuses.OutOfMemory = 8
 number_of statuses.BadSizes = 9
+
+-- the exit statuses
+abbrev pub IsStatus : ℕ → Type 0
+IsStatus number = IsTrue (list_any (λ one. one == number) (0 ∷ 2 ∷ 3 ∷ 4 ∷ 5 ∷ 6 ∷ 7 ∷ 8 ∷ 9 ∷ []))
 
 -- a run of a script over a plain store may end so
 abbrev pub IsOfRuns : Status → Type 0

@@ -1,12 +1,13 @@
 //! `run`.
 
-ghost use Rattle.std.specs.Prelude.{◌≡◌, ◌≢◌, ◌↔◌, ℕ, List, Some, Ok, Err, IfOk, IfSome, OnOk, string_bytes};
+ghost use Rattle.std.specs.Prelude.{◌≡◌, ◌≢◌, ◌⊎◌, ◌<◌, ◌-◌, ◌^◌, ◌↔◌, ◌∷◌, [], ◌==◌, ℕ, List, IsTrue, Some, Ok, Err, IfOk, IfSome, OnOk, string_bytes};
+ghost use Rattle.std.specs.List.{list_any};
 ghost use Rattle.feeds.specs.Feeds.{added};
 ghost use Rattle.retro_base.specs.Cause.{Rose};
 ghost use Rattle.script.specs.Script.{ReadsAs};
 ghost use Rattle.script.specs.declared.structure.Script.{Script};
-ghost use Rattle.retro.specs.Program.{IsTheBadLine, IsTranscript, ReadToEnd};
-ghost use Rattle.retro.specs.Says.{HoldsFront, IsOfRuns, Says, bad_script_line as bad_script_text, out_of_memory_line, source_fault_line};
+ghost use Rattle.retro.specs.Program.{IsTheBadLine, IsTranscript, ReadToEnd, WritesOneJournal};
+ghost use Rattle.retro.specs.Says.{HoldsFront, IsOfRuns, IsStatus, Says, bad_script_line as bad_script_text, out_of_memory_line, source_fault_line};
 
 use crate::saying::{Status, say, write};
 use feeds::{Sink, Source, read_front};
@@ -66,8 +67,8 @@ fn refuse<K: Sink>(alloc: Global, sink: &mut K, refusal: Refusal) -> Status
     }
 }
 
-/// Reads and runs the script and writes its transcript, or the line that stands in its place.
-pub fn run<S: Source, K: Sink, F: Folds>(
+// Reads and runs the script and writes its transcript, or the line that stands in its place.
+fn perform<S: Source, K: Sink, F: Folds>(
     alloc: Global,
     source: &mut S,
     sink: &mut K,
@@ -97,4 +98,33 @@ pub fn run<S: Source, K: Sink, F: Folds>(
         Ok(text) => write(sink, text.as_slice()),
         Err(refusal) => refuse(alloc, sink, refusal),
     }
+}
+
+/// Reads a script from the source, runs it over a store without tables, and writes the transcript of every reply to the
+/// sink, or one line that says why there is none. Answers the exit status.
+pub fn run<S: Source, K: Sink, F: Folds>(
+    alloc: Global,
+    source: &mut S,
+    sink: &mut K,
+    folds: &F,
+) -> u8
+    ensures status { IsStatus result }
+    ensures words { (result ≢ 2) × (result ≢ 9) }
+    ensures one_journal { WritesOneJournal (S.left source.old) (S.left source.new) K.held sink.old sink.new result }
+    ensures statuses { IsTrue (list_any (λ status. status == result) (0 ∷ 3 ∷ 4 ∷ 5 ∷ 8 ∷ [])) }
+    ensures source_fault { result ≡ 4 → Rose (S.faults source.old) (S.faults source.new) }
+    ensures source_steady { result ≢ 4 → S.faults source.new ≡ S.faults source.old }
+    ensures source_fault_said { result ≡ 4 → Says K.held K.faults sink.old sink.new source_fault_line }
+    ensures bad_script { result ≡ 3 → (n : ℕ) × IfSome (S.left source.old) (IsTheBadLine n)
+        × Says K.held K.faults sink.old sink.new (bad_script_text n) }
+    ensures sink_fault { result ≡ 5 → Rose (K.faults sink.old) (K.faults sink.new) }
+    ensures sink_steady { result ≡ 0 → K.faults sink.new ≡ K.faults sink.old }
+    ensures bad_line { (bytes : List ℕ) (n : ℕ) → S.left source.old ≡ Some bytes → ReadsAs bytes (Err n)
+        → S.faults source.new ≡ S.faults source.old → S.faults source.old < 2 ^ 64 - 1
+        → (result ≡ 3) ⊎ (result ≡ 8) }
+    ensures complete { (bytes : List ℕ) (script : Script) → S.left source.old ≡ Some bytes → ReadsAs bytes (Ok script)
+        → S.faults source.new ≡ S.faults source.old → S.faults source.old < 2 ^ 64 - 1
+        → K.faults sink.new ≡ K.faults sink.old → K.faults sink.old < 2 ^ 64 - 1 → (result ≡ 0) ⊎ (result ≡ 8) }
+{
+    perform(alloc, source, sink, folds) as u8
 }

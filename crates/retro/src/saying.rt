@@ -1,10 +1,10 @@
 //! The one-line texts of the program, and what it puts into its sink.
 
-ghost use Rattle.std.specs.Prelude.{◌≡◌, ◌⊎◌, ◌++◌, ◌∷◌, IfErr, IfOk, OnOk};
+ghost use Rattle.std.specs.Prelude.{◌≡◌, ◌≢◌, ◌⊎◌, ◌++◌, ◌∷◌, IfErr, IfOk, OnOk};
 ghost use Rattle.std.specs.Fmt.{decimal};
 ghost use Rattle.feeds.specs.Feeds.{added};
 ghost use Rattle.retro_base.specs.Cause.{Rose};
-ghost use Rattle.retro.specs.Says.{HoldsFront, IsOfStores, LacksMemory, Refuses, Says, Writes, device_line, number_of};
+ghost use Rattle.retro.specs.Says.{HoldsFront, IsOfStores, IsStatus, LacksMemory, Refuses, Says, Writes, device_line, number_of};
 
 use disk_model::Cabinet;
 use feeds::{Sink, put_all};
@@ -23,6 +23,17 @@ pub enum Status {
     NotAStore = 7,
     OutOfMemory = 8,
     BadSizes = 9,
+}
+
+impl Status {
+    /// The exit status.
+    pub fn number(self) -> u8
+        ensures number { result ≡ number_of self }
+        ensures status { IsStatus result }
+        ensures stores { IsOfStores self → (result ≢ 2) × (result ≢ 9) }
+    {
+        self as u8
+    }
 }
 
 /// Puts the text into the sink, as far as it takes it, and answers the status.

@@ -1,10 +1,10 @@
 //! `show DIR`.
 
-ghost use Rattle.std.specs.Prelude.{◌≡◌, ◌++◌, IfOk, OnOk};
+ghost use Rattle.std.specs.Prelude.{◌≡◌, ◌≢◌, ◌++◌, IfOk, OnOk};
 ghost use Rattle.retro.specs.Shows.{LooksIn, number_line, shown_text, Shows};
-ghost use Rattle.retro.specs.Says.{IsOfStores, number_of};
+ghost use Rattle.retro.specs.Says.{IsStatus};
 
-use crate::saying::{Status, cabinet_fault, push_number, refuse, write_made};
+use crate::saying::{cabinet_fault, push_number, refuse, write_made};
 use disk_model::Cabinet;
 use feeds::Sink;
 use history::Version;
@@ -49,22 +49,29 @@ fn lines_of(alloc: Global, shown: &Shown) -> Result<Vec<u8>, AllocError>
     let mut text = Vec::new(alloc);
     push_line(alloc, &mut text, "version", 1)?;
     push_line(alloc, &mut text, "pages", u64::from(shown.sizes.pages))?;
-    push_line(alloc, &mut text, "capacity", u64::from(shown.sizes.capacity))?;
+    push_line(
+        alloc,
+        &mut text,
+        "capacity",
+        u64::from(shown.sizes.capacity),
+    )?;
     push_line(alloc, &mut text, "oldest", u64::from(shown.oldest))?;
     push_line(alloc, &mut text, "newest", u64::from(shown.newest))?;
     push_line(alloc, &mut text, "captures", shown.captures)?;
     Ok(text)
 }
 
-/// Writes what the store in the folder shows of itself. Answers how it ended.
-pub fn show<K: Sink, C: Cabinet>(alloc: Global, sink: &mut K, cabinet: &mut C, dir: &str) -> Status
+/// Writes what the store in the folder shows of itself. Answers the exit status.
+pub fn show<K: Sink, C: Cabinet>(alloc: Global, sink: &mut K, cabinet: &mut C, dir: &str) -> u8
     ensures shows { Shows K.held K.faults C.faults C.is_out C.tells C.store C.Device.extent C.Device.faults
         C.Device.is_honest C.Device.remembers C.Device.state C.Device.clock dir.now sink.old sink.new
-        cabinet.old cabinet.new (number_of result) }
-    ensures status { IsOfStores result }
+        cabinet.old cabinet.new result }
+    ensures status { IsStatus result }
+    ensures words { (result ≢ 2) × (result ≢ 9) }
 {
-    match look(alloc, cabinet, dir) {
+    let status = match look(alloc, cabinet, dir) {
         Ok(shown) => write_made(sink, lines_of(alloc, &shown)),
         Err(refusal) => refuse(alloc, sink, refusal),
-    }
+    };
+    status.number()
 }
