@@ -1,5 +1,5 @@
 -- The table of good words.
-use Rattle.std.proofs.Common.{◌≡◌, ◌≢◌, ℕ, List, [], ◌∷◌, String, Err, true, false, length, map, string_bytes, refl, ap, ◌∙◌, if◌then◌else◌}
+use Rattle.std.proofs.Common.{◌≡◌, ◌≢◌, List, [], ◌∷◌, String, Err, true, false, length, map, string_bytes, refl, ap, ◌∙◌, if◌then◌else◌}
 use Rattle.std.specs.List.{list_all}
 use Rattle.std.proofs.lemmas.List.Folds.{list_all-map}
 use Rattle.retro.specs.declared.words.Mistake.TheVariants.{BadWords}

@@ -5,7 +5,6 @@ use Rattle.std.specs.Option.{option_map}
 use Rattle.std.specs.Char.{is_ascii_digit}
 use Rattle.std.specs.Str.{bytes_eq}
 use Rattle.std.specs.Str.Parse.{digits_value}
-use Rattle.disk_model.specs.declared.four.Sizes.{Sizes}
 use Rattle.retro_base.specs.declared.limits.TheConstants.{MAX_CAPACITY, MAX_PAGES, MIN_CAPACITY, MIN_PAGES}
 use Rattle.store_format.specs.Empty.{AreInRange}
 use Rattle.retro.specs.declared.words.Command.{Command}

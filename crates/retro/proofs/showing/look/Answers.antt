@@ -1,4 +1,4 @@
-use Rattle.std.proofs.Common.{rules, inr, Ok}
+use Rattle.std.proofs.Common.{inr}
 use Rattle.retro.proofs.Stores.{took_back}
 use Rattle.retro.proofs.showing.look.Goals as goal
 
