@@ -26,7 +26,8 @@ pub record Makes {D : Type 0} (extent faults : D → ℕ) (state : D → State) 
   pub sized : AreSized extent sizes first
   pub cause : MatchResult result (λ _. SameCounts (of_each faults first) (of_each faults last))
       (IsUnopened (λ _ _. ⊥) (of_each faults first) (of_each faults last))
-  pub empty : told → OnOk result ((devices : Four (List ℕ)) → AreImages state last devices → IsEmptyStore One sizes devices)
+  pub empty : told → OnOk result ((devices : Four (List ℕ)) → AreImages state last devices
+      → IsEmptyStore One sizes devices)
 
 -- the cabinet handed out no devices, or a store was made on those that it handed out, or was not
 abbrev pub MakesIn : {C D : Type 0} → (C → ℕ) → (C → List ℕ → Type 0) → (C → Type 0) → (C → List ℕ → Option (Four D))

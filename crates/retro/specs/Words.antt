@@ -19,7 +19,8 @@ on_folder f (Format dir sizes) = Format (f dir) sizes
 on_folder f (Show dir) = Show (f dir)
 
 -- an answer, with its folder seen by `view`, is what the table says
-abbrev pub Answers : {A : Type 0} → (A → List ℕ) → Result (Command A) Mistake → Result (Command (List ℕ)) Mistake → Type 0
+abbrev pub Answers : {A : Type 0} → (A → List ℕ) → Result (Command A) Mistake → Result (Command (List ℕ)) Mistake
+    → Type 0
 Answers view (Ok command) asked = asked ≡ Ok (on_folder view command)
 Answers view (Err mistake) asked = asked ≡ Err mistake
 
@@ -43,7 +44,8 @@ number_of word = if is_number word then Some (digits_value 10 word) else None
 -- the making of a store of that many pages and page images, where these are in their ranges
 abbrev pub format : List ℕ → Option ℕ → Option ℕ → Result (Command (List ℕ)) Mistake
 format dir (Some pages) (Some capacity) =
-    if nat_le MIN_PAGES pages && (nat_le pages MAX_PAGES && (nat_le MIN_CAPACITY capacity && nat_le capacity MAX_CAPACITY))
+    if nat_le MIN_PAGES pages && (nat_le pages MAX_PAGES
+        && (nat_le MIN_CAPACITY capacity && nat_le capacity MAX_CAPACITY))
     then Ok (Format dir (record { pages = pages; capacity = capacity }))
     else Err BadSizes
 format dir pages capacity = Err BadWords

@@ -53,8 +53,8 @@ pub fn format<K: Sink, C: Cabinet>(
     sizes: Sizes,
 ) -> u8
     requires { AreInRange sizes }
-    ensures formats { Formats K.held K.faults C.faults C.is_out C.tells C.store C.Device.extent C.Device.faults C.Device.state
-        dir.now sizes sink.old sink.new cabinet.old cabinet.new result }
+    ensures formats { Formats K.held K.faults C.faults C.is_out C.tells C.store C.Device.extent C.Device.faults
+        C.Device.state dir.now sizes sink.old sink.new cabinet.old cabinet.new result }
     ensures status { IsStatus result }
     ensures words { (result ≢ 2) × (result ≢ 9) }
 {
