@@ -4,7 +4,8 @@ use Rattle.std.proofs.lemmas.List.{take_all}
 use Rattle.feeds.specs.Feeds.{added}
 use Rattle.script.specs.Script.{ReadsAs}
 use Rattle.script.specs.declared.structure.Script.{Script}
-use Rattle.retro.specs.Program.{HoldsFront, IsTheBadLine, IsTheScript, IsTranscript, Says}
+use Rattle.retro.specs.Program.{IsTheBadLine, IsTheScript, IsTranscript}
+use Rattle.retro.specs.Says.{HoldsFront, Says}
 
 -- a text that was said, or a front of it, is a front of it
 pub says_front : {K : Type 0} (held : K → Option (List ℕ)) (faults : K → ℕ) (old new : K) (text : List ℕ) → Says held faults old new text → HoldsFront held old new text

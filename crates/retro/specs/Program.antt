@@ -1,41 +1,15 @@
--- The words of the program, what it reads and writes, and how it ends.
-use Rattle.std.specs.Prelude.{◌≡◌, ◌⊎◌, ◌≤◌, ◌++◌, ◌∷◌, ℕ, Bool, false, List, [], length, take, codes, Option, IfSome, Ok, Err}
-use Rattle.std.specs.Fmt.{decimal}
+-- The run of a script, and how it ends.
+use Rattle.std.specs.Prelude.{◌≡◌, ◌≢◌, ◌⊎◌, ◌<◌, ◌-◌, ◌^◌, ◌∷◌, ◌==◌, ℕ, IsTrue, List, [], Option, Some, IfSome, Ok, Err}
+use Rattle.std.specs.List.{list_any}
 use Rattle.std.specs.Option.{option_map}
-use Rattle.std.specs.Str.{bytes_eq}
 use Rattle.feeds.specs.Feeds.{added}
 use Rattle.retro_base.specs.Cause.{Rose}
 use Rattle.script.specs.Script.{ReadsAs, IsOnlyReading}
 use Rattle.script.specs.declared.structure.Script.{Script}
 use Rattle.history.specs.declared.journal.Line.{Line}
-use Rattle.session.specs.Line.{line}
 use Rattle.session.specs.Plan.{IsPlan, Plan}
 use Rattle.session.specs.Turns.{RanPlainly}
-
--- whether these words are the good ones: `run` alone
-abbrev pub is_run : List (List ℕ) → Bool
-is_run (word ∷ []) = bytes_eq word (codes "run")
-is_run words = false
-
-abbrev pub bad_words_line : List ℕ
-bad_words_line = line (codes "retro: bad words")
-
-abbrev pub source_fault_line : List ℕ
-source_fault_line = line (codes "retro: source fault")
-
-abbrev pub out_of_memory_line : List ℕ
-out_of_memory_line = line (codes "retro: out of memory")
-
-abbrev pub bad_script_line : ℕ → List ℕ
-bad_script_line number = line (codes "retro: bad script at line " ++ decimal number)
-
--- the sink holds what it held, and a front of the text
-abbrev pub HoldsFront : {K : Type 0} → (K → Option (List ℕ)) → K → K → List ℕ → Type 0
-HoldsFront held old new text = (n : ℕ) × (n ≤ length text) × (held new ≡ added (held old) (take n text))
-
--- the sink holds what it held and the text; or a front of the text, and its count of faults rose
-abbrev pub Says : {K : Type 0} → (K → Option (List ℕ)) → (K → ℕ) → K → K → List ℕ → Type 0
-Says held faults old new text = (held new ≡ added (held old) text) ⊎ (Rose (faults old) (faults new) × HoldsFront held old new text)
+use Rattle.retro.specs.Says.{HoldsFront, Says, bad_script_line, out_of_memory_line, source_fault_line}
 
 -- the bytes are this script, and nothing else
 abbrev pub IsTheScript : Script → List ℕ → Type 0
@@ -64,3 +38,24 @@ pub record WritesOneJournal {K : Type 0} (left_before left_now : Option (List �
   pub done : status ≡ 0 → (text : List ℕ) × IsTranscript left_before text × ReadToEnd left_before left_now × (held new ≡ added (held old) text)
   pub sink_fault : status ≡ 5 → (text : List ℕ) × IsTranscript left_before text × ReadToEnd left_before left_now × HoldsFront held old new text
   pub out_of_memory : status ≡ 8 → HoldsFront held old new out_of_memory_line ⊎ ((text : List ℕ) × IsTranscript left_before text × HoldsFront held old new text)
+
+-- `run`: each status has its cause, and the line that it writes. Bytes that are bad at a line are refused, and a good
+-- script and no fault end well, unless memory runs out.
+pub record RunsPlainly {S K : Type 0} (left : S → Option (List ℕ)) (source_faults : S → ℕ) (held : K → Option (List ℕ))
+    (sink_faults : K → ℕ) (source_old source_new : S) (sink_old sink_new : K) (status : ℕ) : Type 0 where
+  pub one_journal : WritesOneJournal (left source_old) (left source_new) held sink_old sink_new status
+  pub statuses : IsTrue (list_any (λ one. one == status) (0 ∷ 3 ∷ 4 ∷ 5 ∷ 8 ∷ []))
+  pub source_fault : status ≡ 4 → Rose (source_faults source_old) (source_faults source_new)
+  pub source_steady : status ≢ 4 → source_faults source_new ≡ source_faults source_old
+  pub source_fault_said : status ≡ 4 → Says held sink_faults sink_old sink_new source_fault_line
+  pub bad_script : status ≡ 3 → (n : ℕ) × IfSome (left source_old) (IsTheBadLine n)
+      × Says held sink_faults sink_old sink_new (bad_script_line n)
+  pub sink_fault : status ≡ 5 → Rose (sink_faults sink_old) (sink_faults sink_new)
+  pub sink_steady : status ≡ 0 → sink_faults sink_new ≡ sink_faults sink_old
+  pub bad_line : (bytes : List ℕ) (n : ℕ) → left source_old ≡ Some bytes → ReadsAs bytes (Err n)
+      → source_faults source_new ≡ source_faults source_old → source_faults source_old < 2 ^ 64 - 1
+      → (status ≡ 3) ⊎ (status ≡ 8)
+  pub complete : (bytes : List ℕ) (script : Script) → left source_old ≡ Some bytes → ReadsAs bytes (Ok script)
+      → source_faults source_new ≡ source_faults source_old → source_faults source_old < 2 ^ 64 - 1
+      → sink_faults sink_new ≡ sink_faults sink_old → sink_faults sink_old < 2 ^ 64 - 1
+      → (status ≡ 0) ⊎ (status ≡ 8)

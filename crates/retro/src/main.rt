@@ -1,5 +1,5 @@
 //! The program `retro`: runs a script over tables that keep declared past states, and writes a transcript of every
-//! reply.
+//! reply; makes stores in folders, and shows what they hold.
 #![tactic(auto)]
 
 #[cfg(test)]
@@ -8,17 +8,25 @@ mod call_refusals;
 mod calls;
 #[cfg(test)]
 mod drops;
+mod formatting;
 mod laws;
 mod phases;
 mod program;
 #[cfg(test)]
 mod result_tables;
+mod running;
+mod saying;
 #[cfg(test)]
 mod scripts;
 mod seats;
+mod showing;
+#[cfg(test)]
+mod stores;
 #[cfg(test)]
 mod tests;
+mod words;
 
+use disk_file::FileCabinet;
 use feeds::{StdSink, StdSource};
 use fold_kit::{Combiner, FoldSet, How};
 use program::retro;
@@ -27,7 +35,7 @@ use std::env::Env;
 use std::process::ExitCode;
 
 // The words behind the program's own name; none where they are not all text, or memory runs out.
-fn words(rt: &(impl Env + AllocGlobal)) -> Vec<String> {
+fn given_words(rt: &(impl Env + AllocGlobal)) -> Vec<String> {
     if let Ok(words) = env::args(rt)
         && let Ok(words) = words.skip(1).collect(rt.alloc())
     {
@@ -37,14 +45,22 @@ fn words(rt: &(impl Env + AllocGlobal)) -> Vec<String> {
 }
 
 fn main(rt: HostRuntime) -> ExitCode {
-    let words = words(&rt);
+    let words = given_words(&rt);
     let mut source = StdSource::new(rt.stdin());
     let mut sink = StdSink::new(rt.stdout());
+    let mut cabinet = FileCabinet::new(rt.alloc(), &rt);
     let folds = FoldSet::new(
         Combiner::new(How::Min, |a: i128, b: i128| a.min(b)),
         Combiner::new(How::Max, |a: i128, b: i128| a.max(b)),
         Combiner::new(How::Add, |a: i128, b: i128| a.wrapping_add(b)),
     );
-    let status = retro(rt.alloc(), words.as_slice(), &mut source, &mut sink, &folds);
+    let status = retro(
+        rt.alloc(),
+        words.as_slice(),
+        &mut source,
+        &mut sink,
+        &mut cabinet,
+        &folds,
+    );
     ExitCode::from(status)
 }

@@ -3,6 +3,7 @@
 use crate::program::retro;
 use feeds::{MemSink, MemSource};
 use fold_kit::{Combiner, FoldSet, How};
+use mem_cabinet::MemCabinet;
 use std::alloc::{AllocError, Global};
 use std::test::Fail;
 
@@ -31,7 +32,15 @@ fn run_with(
         Combiner::new(How::Max, |a: i128, b: i128| a.max(b)),
         Combiner::new(How::Add, |a: i128, b: i128| a.wrapping_add(b)),
     );
-    let status = retro(alloc, all.as_slice(), &mut source, &mut sink, &folds);
+    let mut cabinet = MemCabinet::new(alloc, Vec::new(alloc));
+    let status = retro(
+        alloc,
+        all.as_slice(),
+        &mut source,
+        &mut sink,
+        &mut cabinet,
+        &folds,
+    );
     let text = sink.bytes().to_vec(alloc)?;
     Ok(Outcome { status, text })
 }

@@ -1,6 +1,6 @@
 use Rattle.std.proofs.Common.{ap, Err}
 use Rattle.retro.proofs.Ends.{bad_or_transcript, script_or_bad}
-use Rattle.retro.proofs.program.perform.Goals as goal
+use Rattle.retro.proofs.running.perform.Goals as goal
 
 pub returns-in-Err-clause-good_script : goal.returns-in-Err-clause-good_script
 returns-in-Err-clause-good_script g c = λ bytes script e is bad.

@@ -2,7 +2,7 @@ use Rattle.std.proofs.Common.{Ok}
 use Rattle.script.specs.declared.limits.TheConstants.{SCRIPT_BYTES}
 use Rattle.script.specs.Script.{ReadsAs, IsOnlyReading}
 use Rattle.retro.proofs.Front.{bad_front, reads_front, read_to_end}
-use Rattle.retro.proofs.program.transcript.Goals as goal
+use Rattle.retro.proofs.running.transcript.Goals as goal
 
 pub returns-in_err-script-clause-bad_script : goal.returns-in_err-script-clause-bad_script
 returns-in_err-script-clause-bad_script g c = λ n e.

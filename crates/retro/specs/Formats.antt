@@ -1,0 +1,47 @@
+-- The making of a store.
+use Rattle.std.specs.Prelude.{◌⊎◌, ◌++◌, ◌∷◌, ℕ, List, Option, Result, MatchResult, OnOk, codes}
+use Rattle.std.specs.Fmt.{decimal}
+use Rattle.std.specs.Result.{IsErrAnd}
+use Rattle.disk_model.specs.Cabinet.{AreSized}
+use Rattle.disk_model.specs.Disk.{State}
+use Rattle.disk_model.specs.declared.four.Four.{Four}
+use Rattle.disk_model.specs.declared.four.Sizes.{Sizes}
+use Rattle.history.specs.declared.log.Version.TheVariants.{One}
+use Rattle.retro_base.specs.declared.refusal.Refusal.{Refusal}
+use Rattle.opening.specs.Devices.{AreImages, IsUnopened, of_each, SameCounts}
+use Rattle.session.specs.Line.{line}
+use Rattle.store_format.specs.Empty.{IsEmptyStore}
+use Rattle.retro.specs.Says.{Ends}
+use Rattle.retro.specs.Stores.{HandsOutNone, TakesBack}
+
+-- what is written of a new store
+abbrev pub formatted_line : Sizes → List ℕ
+formatted_line sizes = line (codes "formatted" ++ 32 ∷ (decimal sizes.pages ++ 32 ∷ decimal sizes.capacity))
+
+-- Devices of these sizes, so as they were handed out and so as they came back, and whether a store was made on them: it
+-- was not exactly where a call of a device failed, and for want of memory. Where they tell their bytes, every crash
+-- leaves the empty store.
+pub record Makes {D : Type 0} (extent faults : D → ℕ) (state : D → State) (told : Type 0) (sizes : Sizes)
+    (first last : Four D) (result : Result (Unit {0}) Refusal) : Type 0 where
+  pub sized : AreSized extent sizes first
+  pub cause : MatchResult result (λ _. SameCounts (of_each faults first) (of_each faults last))
+      (IsUnopened (λ _ _. ⊥) (of_each faults first) (of_each faults last))
+  pub empty : told → OnOk result ((devices : Four (List ℕ)) → AreImages state last devices
+      → IsEmptyStore One sizes devices)
+
+-- the cabinet handed out no devices, or a store was made on those that it handed out, or was not
+abbrev pub MakesIn : {C D : Type 0} → (C → ℕ) → (C → List ℕ → Type 0) → (C → Type 0) → (C → List ℕ → Option (Four D))
+    → (D → ℕ) → (D → ℕ) → (D → State) → List ℕ → Sizes → C → C → Result (Unit {0}) Refusal → Type 0
+MakesIn faults is_out tells store extent device_faults state dir sizes old new result =
+    IsErrAnd result (HandsOutNone faults is_out tells store old new)
+    ⊎ ((first last : Four _) × TakesBack faults is_out tells store dir old new last
+    × Makes extent device_faults state (tells old) sizes first last result)
+
+-- `format DIR PAGES CAPACITY`: a store was made or not, and so it ends
+pub record Formats {K C D : Type 0} (held : K → Option (List ℕ)) (sink_faults : K → ℕ) (faults : C → ℕ)
+    (is_out : C → List ℕ → Type 0) (tells : C → Type 0) (store : C → List ℕ → Option (Four D))
+    (extent device_faults : D → ℕ) (state : D → State) (dir : List ℕ) (sizes : Sizes) (sink_old sink_new : K)
+    (old new : C) (status : ℕ) : Type 0 where
+  pub made : Result (Unit {0}) Refusal
+  pub makes : MakesIn faults is_out tells store extent device_faults state dir sizes old new made
+  pub ends : Ends held sink_faults sink_old sink_new (λ _. formatted_line sizes) made status

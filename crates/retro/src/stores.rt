@@ -1,0 +1,157 @@
+//! The words that make a store and show it, over cabinets in memory: texts worked out by hand.
+
+use crate::program::retro;
+use disk_model::{Cabinet, Disk, Four};
+use feeds::{MemSink, MemSource};
+use fold_kit::{Combiner, FoldSet, How};
+use mem_cabinet::MemCabinet;
+use std::alloc::{AllocError, Global};
+use std::test::Fail;
+
+// Words, a status, and the text.
+type Row = (&'static [&'static str], u8, &'static [u8]);
+
+const BAD_WORDS: &[u8] = b"retro: bad words\n";
+
+const BAD_SIZES: &[u8] = b"retro: bad sizes\n";
+
+// On one cabinet, in order.
+const ROWS: [Row; 28] = [
+    (&["walk"], 2, BAD_WORDS),
+    (&["run", "d"], 2, BAD_WORDS),
+    (&["help"], 2, BAD_WORDS),
+    (&["-h"], 2, BAD_WORDS),
+    (&["--", "run"], 2, BAD_WORDS),
+    (&["show"], 2, BAD_WORDS),
+    (&["show", ""], 2, BAD_WORDS),
+    (&["show", "-d"], 2, BAD_WORDS),
+    (&["show", "d", "d"], 2, BAD_WORDS),
+    (&["SHOW", "d"], 2, BAD_WORDS),
+    (&["format", "d"], 2, BAD_WORDS),
+    (&["format", "d", "16"], 2, BAD_WORDS),
+    (&["format", "", "16", "64"], 2, BAD_WORDS),
+    (&["format", "d", "+16", "64"], 2, BAD_WORDS),
+    (&["format", "d", "16", "-64"], 2, BAD_WORDS),
+    (&["format", "d", "16", ""], 2, BAD_WORDS),
+    (&["format", "d", "1 6", "64"], 2, BAD_WORDS),
+    (&["format", "d", "0000000000016", "64"], 2, BAD_WORDS),
+    (&["format", "d", "16", "64", "64"], 2, BAD_WORDS),
+    (&["format", "d", "15", "64"], 9, BAD_SIZES),
+    (&["format", "d", "16", "63"], 9, BAD_SIZES),
+    (&["format", "d", "65537", "64"], 9, BAD_SIZES),
+    (&["format", "d", "16", "1048577"], 9, BAD_SIZES),
+    (&["format", "d", "9999999999", "64"], 9, BAD_SIZES),
+    (&["show", "d"], 6, b"retro: disk fault on cabinet 1\n"),
+    (
+        &["format", "d", "0000000016", "64"],
+        0,
+        b"formatted 16 64\n",
+    ),
+    (
+        &["show", "d"],
+        0,
+        b"version 1\npages 16\ncapacity 64\noldest 1\nnewest 0\ncaptures 0\n",
+    ),
+    (&["show", "e"], 6, b"retro: disk fault on cabinet 2\n"),
+];
+
+// Runs the program with these words over a cabinet, and answers whether it ends so.
+fn ends_so(alloc: Global, cabinet: &mut MemCabinet, row: &Row) -> Result<bool, AllocError> {
+    let (words, status, text) = row;
+    let mut all = Vec::new(alloc);
+    for word in *words {
+        all.push(String::from_str(alloc, word)?)?;
+    }
+    let mut source = MemSource::new(Vec::new(alloc), Vec::new(alloc));
+    let mut sink = MemSink::new(alloc, Vec::new(alloc));
+    let folds = FoldSet::new(
+        Combiner::new(How::Min, |a: i128, b: i128| a.min(b)),
+        Combiner::new(How::Max, |a: i128, b: i128| a.max(b)),
+        Combiner::new(How::Add, |a: i128, b: i128| a.wrapping_add(b)),
+    );
+    let ended = retro(
+        alloc,
+        all.as_slice(),
+        &mut source,
+        &mut sink,
+        cabinet,
+        &folds,
+    );
+    Ok(ended == *status && sink.bytes() == *text)
+}
+
+// The number of the first row that ends in another way.
+fn first_wrong(
+    alloc: Global,
+    cabinet: &mut MemCabinet,
+    rows: &[Row],
+) -> Result<Option<usize>, AllocError> {
+    for number in 0..rows.len() {
+        if !ends_so(alloc, cabinet, &rows[number])? {
+            return Ok(Some(number));
+        }
+    }
+    Ok(None)
+}
+
+#[test]
+fn stores_are_made_and_shown(rt: HostRuntime) -> Result<(), Fail> {
+    let mut cabinet = MemCabinet::new(rt.alloc(), Vec::new(rt.alloc()));
+    let wrong = first_wrong(rt.alloc(), &mut cabinet, &ROWS)?;
+    assert!(rt; wrong.is_none());
+    Ok(())
+}
+
+// Writes a byte at a place of a device, and syncs it.
+fn put_byte<D: Disk>(disk: &mut D, place: u64) {
+    if place < disk.size() {
+        let _ = disk.write_at(place, &[0]);
+        let _ = disk.sync();
+    }
+}
+
+// Closes the header gates of both regions of the log of a store.
+fn close_gates<C: Cabinet>(cabinet: &mut C, dir: &str) {
+    if let Ok(mut four) = cabinet.fetch(dir) {
+        put_byte(&mut four.log, 0);
+        put_byte(&mut four.log, 16_777_216);
+        cabinet.put_back(dir, four);
+    }
+}
+
+#[test]
+fn bytes_of_no_store_are_told(rt: HostRuntime) -> Result<(), Fail> {
+    let mut cabinet = MemCabinet::new(rt.alloc(), Vec::new(rt.alloc()));
+    let made = first_wrong(
+        rt.alloc(),
+        &mut cabinet,
+        &[(&["format", "d", "16", "64"], 0, b"formatted 16 64\n")],
+    )?;
+    close_gates(&mut cabinet, "d");
+    let told = first_wrong(
+        rt.alloc(),
+        &mut cabinet,
+        &[(&["show", "d"], 7, b"retro: not a store, log at 0\n")],
+    )?;
+    assert!(rt; made.is_none() && told.is_none());
+    Ok(())
+}
+
+#[test]
+fn a_failing_cabinet_is_named(rt: HostRuntime) -> Result<(), Fail> {
+    let mut cabinet = MemCabinet::new(rt.alloc(), vec![in rt.alloc(); 1]?);
+    let wrong = first_wrong(
+        rt.alloc(),
+        &mut cabinet,
+        &[
+            (
+                &["format", "d", "16", "64"],
+                6,
+                b"retro: disk fault on cabinet 1\n",
+            ),
+            (&["format", "d", "16", "64"], 0, b"formatted 16 64\n"),
+        ],
+    )?;
+    assert!(rt; wrong.is_none());
+    Ok(())
+}

@@ -1,0 +1,154 @@
+//! What the words of the program ask for.
+
+ghost use Rattle.std.specs.Prelude.{◌≡◌, ◌∷◌, [], Some, IfOk, string_bytes};
+ghost use Rattle.std.specs.Char.{is_ascii_digit};
+ghost use Rattle.std.specs.List.{list_all};
+ghost use Rattle.retro.specs.Words.{Answers, asked, asked_by, format, is_folder, is_number, is_plain, IsReady, number_of};
+
+use disk_model::Sizes;
+use retro_base::{MAX_CAPACITY, MAX_PAGES, MIN_CAPACITY, MIN_PAGES};
+
+/// What the words ask for.
+pub enum Command<Dir> {
+    /// To run a script, over a plain store in memory where no folder is named.
+    Run { dir: Option<Dir> },
+    /// To make a store of these sizes in a folder.
+    Format { dir: Dir, sizes: Sizes },
+    /// To tell what the store in a folder shows of itself.
+    Show { dir: Dir },
+}
+
+/// What is wrong with the words.
+#[derive(Clone, Copy, Debug, PartialEq, Eq)]
+pub enum Mistake {
+    /// They are none of the good ones.
+    BadWords,
+    /// A size is out of its range.
+    BadSizes,
+}
+
+// Whether the word does not begin with a hyphen.
+fn is_plain(word: &str) -> bool
+    ensures { result ≡ is_plain word.now }
+{
+    match word.as_bytes() {
+        [first, ..] => *first != b'-',
+        [] => true,
+    }
+}
+
+fn are_plain(words: &[String]) -> bool
+    ensures { result ≡ list_all (λ word. is_plain (string_bytes word)) words.now }
+{
+    words.iter().all(|word| is_plain(word.as_str()))
+}
+
+// Whether the word names a folder.
+fn is_folder(word: &str) -> bool
+    ensures { result ≡ is_folder word.now }
+{
+    !word.is_empty()
+}
+
+fn are_digits(word: &str) -> bool
+    ensures { result ≡ list_all is_ascii_digit word.now }
+{
+    word.as_bytes().iter().all(|byte| byte.is_ascii_digit())
+}
+
+// Whether the word is 1 to 10 decimal digits.
+fn is_number(word: &str) -> bool
+    ensures { result ≡ is_number word.now }
+{
+    !word.is_empty() && word.len() <= 10 && are_digits(word)
+}
+
+// The number of 1 to 10 decimal digits; None of any other word.
+fn number_of(word: &str) -> Option<u64>
+    ensures { result ≡ number_of word.now }
+{
+    if !is_number(word) {
+        return None;
+    }
+    word.parse().ok()
+}
+
+// The store of that many pages and page images, in a folder.
+fn making<'a>(dir: &'a str, pages: u64, capacity: u64) -> Result<Command<&'a str>, Mistake>
+    ensures given { Answers (λ d. d.now) result (format dir.now (Some pages) (Some capacity)) }
+    ensures ready { IfOk result IsReady }
+{
+    if let (Ok(pages), Ok(capacity)) = (u32::try_from(pages), u32::try_from(capacity))
+        && pages >= MIN_PAGES
+        && pages <= MAX_PAGES
+        && capacity >= MIN_CAPACITY
+        && capacity <= MAX_CAPACITY
+    {
+        return Ok(Command::Format {
+            dir,
+            sizes: Sizes { pages, capacity },
+        });
+    }
+    Err(Mistake::BadSizes)
+}
+
+fn asked_alone<'a>(verb: &'a str) -> Result<Command<&'a str>, Mistake>
+    ensures given { Answers (λ d. d.now) result (asked (verb.now ∷ [])) }
+    ensures ready { IfOk result IsReady }
+{
+    if verb == "run" {
+        return Ok(Command::Run { dir: None });
+    }
+    Err(Mistake::BadWords)
+}
+
+fn asked_of_folder<'a>(verb: &'a str, dir: &'a str) -> Result<Command<&'a str>, Mistake>
+    ensures given { Answers (λ d. d.now) result (asked (verb.now ∷ dir.now ∷ [])) }
+    ensures ready { IfOk result IsReady }
+{
+    if verb == "show" && is_folder(dir) {
+        return Ok(Command::Show { dir });
+    }
+    Err(Mistake::BadWords)
+}
+
+fn asked_with_sizes<'a>(
+    verb: &'a str,
+    dir: &'a str,
+    pages: &'a str,
+    capacity: &'a str,
+) -> Result<Command<&'a str>, Mistake>
+    ensures given { Answers (λ d. d.now) result (asked (verb.now ∷ dir.now ∷ pages.now ∷ capacity.now ∷ [])) }
+    ensures ready { IfOk result IsReady }
+{
+    if verb != "format" || !is_folder(dir) {
+        return Err(Mistake::BadWords);
+    }
+    match (number_of(pages), number_of(capacity)) {
+        (Some(pages), Some(capacity)) => making(dir, pages, capacity),
+        _ => Err(Mistake::BadWords),
+    }
+}
+
+/// What the words ask for, or what is wrong with them.
+pub fn command_of<'a>(words: &'a [String]) -> Result<Command<&'a str>, Mistake>
+    ensures given { Answers (λ d. d.now) result (asked_by words.now) }
+    ensures ready { IfOk result IsReady }
+{
+    if !are_plain(words) {
+        return Err(Mistake::BadWords);
+    }
+    match words {
+        [verb] => asked_alone(verb.as_str()),
+        [verb, dir] => asked_of_folder(verb.as_str(), dir.as_str()),
+        [verb, dir, pages, capacity] => {
+            asked_with_sizes(
+                verb.as_str(),
+                dir.as_str(),
+                pages.as_str(),
+                capacity.as_str(),
+            )
+        }
+        _ => Err(Mistake::BadWords),
+    }
+}
