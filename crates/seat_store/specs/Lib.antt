@@ -2,3 +2,4 @@ pub mod Ending
 pub mod Ground
 pub mod Seen
 pub mod Worlds
+pub mod Crashes

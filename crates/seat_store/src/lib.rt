@@ -7,5 +7,5 @@ mod laws;
 mod told;
 
 pub use held::Held;
-pub use laws::laws_of_worlds;
+pub use laws::{laws_of_crashes, laws_of_worlds};
 pub use told::ToldFault;

@@ -1,3 +1,4 @@
+use Rattle.std.proofs.Common.{◌∙◌, ap}
 use Rattle.store.proofs.Seating.{may_open, new_ready, new_seats}
 use Rattle.store.proofs.shared.Store.new.Goals as goal
 
@@ -9,3 +10,6 @@ returns-in-Ok-clause-ready g c = new_ready _ _ c.in-Ok.seats.items c.in-Ok.ensur
 
 pub returns-in-Ok-clause-new : goal.returns-in-Ok-clause-new
 returns-in-Ok-clause-new g c = λ k s there. new_seats _ _ c.in-Ok.seats.items c.in-Ok.ensures.new k s there _ _ c.of.ensures c.of-2.ensures
+
+pub returns-in-Ok-clause-begins : goal.returns-in-Ok-clause-begins
+returns-in-Ok-clause-begins g c = let e = c.in-Ok.ensures.opening in (ap (λ s. s.core.value) e ∙ c.of.ensures, ap (λ s. s.archive.value) e ∙ c.of-2.ensures)
