@@ -70,8 +70,7 @@ change_step : (h : History) (w : World Pages) (change : Change) → IsConsistent
 change_step h w (Commit label writes) right keeps is = commit_step h w label writes right is
 change_step h w (Drop below) right keeps is = drop_step h w below right keeps is
 
-pub opens_shown : OpensShown
-opens_shown history floor world lines doubt contents fits is sound follows opens = at doubt follows opens where
+module _ (history : History) (floor : ℕ) (world : World Pages) (lines : List Line) (contents : Contents) (fits : HistoryFits history floor) (is : IsWorldOf history world) (sound : IsSound (now history).base lines) where
   abbrev Here : History
   Here = after_journal history lines
 
@@ -84,11 +83,14 @@ opens_shown history floor world lines doubt contents fits is sound follows opens
   as_before : IsSameWorld (opened contents) Here → IsWorldOf (opened contents) (page_world world lines)
   as_before same = same_world_shows (opened contents) Here floor (page_world world lines) right same here
 
-  at : (doubt : Option Change) → IfSome doubt (MayFollow (now Here).base) → OpensTo contents Here doubt → ShowsOneOf contents (page_world world lines) doubt
-  at None may same = as_before same
-  at (Some change) may (inl same) = inl (as_before same)
-  at (Some change) may (inr same) = inr (same_world_shows (opened contents) (with_change Here change) floor (changed_world change (page_world world lines)) (fits_with Here floor right change may) same
+  shown_with : (doubt : Option Change) → IfSome doubt (MayFollow (now Here).base) → OpensTo contents Here doubt → ShowsOneOf contents (page_world world lines) doubt
+  shown_with None may same = as_before same
+  shown_with (Some change) may (inl same) = inl (as_before same)
+  shown_with (Some change) may (inr same) = inr (same_world_shows (opened contents) (with_change Here change) floor (changed_world change (page_world world lines)) (fits_with Here floor right change may) same
       (change_step Here (page_world world lines) change right.consistent (keeps_newest (now Here).base change may.right) here))
+
+pub opens_shown : OpensShown
+opens_shown history floor world lines doubt contents fits is sound = shown_with history floor world lines contents fits is sound doubt
 
 -- ---- the opening
 

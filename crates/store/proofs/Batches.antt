@@ -254,7 +254,7 @@ module _ {D : Type 0} (is_honest : D → Type 0) (state : D → State) (start : 
               let from_ = stands.stands o op in let b = is_batch.fits o op in let goes = goes_at going o op in
               let count = same.page_count in let blocks = ap (λ (f : File D). f.blocks) slots in
               ⊎_elim (λ fault. enters_less is_honest state _ o lines old from_ batch b.images b.pages b.bytes b.fits goes first new count blocks is_laid ((turns from_.vault from_.is goes).fails fault))
-              (λ no. ⊎_elim (λ (is : IsVault is_honest state new from_.vault). record { vault = from_.vault; is = is; captured = from_.captured; numbers = from_.numbers; fits = from_.fits; slots = blocks ∙ from_.slots; pages = count ∙ from_.pages })
+              (λ no. ⊎_elim (λ (is : IsVault is_honest state new from_.vault). record { vault = from_.vault; is = is; captured = from_.captured; numbers = from_.numbers; fits = from_.fits; slots = blocks ∙ from_.slots; pages = count ∙ from_.pages; in_version = from_.in_version })
               (λ is. trims_again is_honest state _ o lines old from_ batch b.images b.pages b.bytes b.fits goes first new count blocks is) (memory from_.vault from_.is goes no))
               (disk_or e.why))
 

@@ -101,7 +101,7 @@ each_count faults core archive Cabinet = refl
 
 -- ---- the change in doubt
 
-change_in : Doubt → Option Change
+abbrev change_in : Doubt → Option Change
 change_in Sure = None
 change_in (OneMore change) = Some change
 change_in (NewBase version) = None

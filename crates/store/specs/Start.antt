@@ -14,7 +14,7 @@ use Rattle.history.specs.Sound.{IsSound}
 use Rattle.history.proofs.Journals.{front_is_sound}
 use Rattle.race_model.specs.Desk.{Desk, Doubt, NewBase, capacity_of}
 use Rattle.race_model.specs.Fits.{HistoryFits, VaultFits}
-use Rattle.race_model.specs.Vault.{Maplog, Vault}
+use Rattle.race_model.specs.Vault.{Maplog as MaplogOf, Vault}
 use Rattle.archive.specs.Archive.{IsVault, Running}
 use Rattle.store_core.specs.declared.desk_core.Core.{Core}
 use Rattle.store_core.specs.Core.{IsCore}
@@ -41,7 +41,7 @@ IsDeskIn version desk = (desk.version ≡ version) × IsDoubtIn version desk.dou
 
 -- the Maplog is in records of the version, whichever the device has
 abbrev pub IsVaultIn : Version → Vault → Type 0
-IsVaultIn version vault = (vault.version ≡ version) × AllByRecursion (λ (other : Maplog). other.version ≡ version) vault.others
+IsVaultIn version vault = (vault.version ≡ version) × AllByRecursion (λ (other : MaplogOf). other.version ≡ version) vault.others
 
 -- a vault with these slots, each of which is settled
 abbrev pub with_slots : (ℕ → List ℕ) → Vault → Vault
