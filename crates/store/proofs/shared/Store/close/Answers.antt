@@ -3,7 +3,7 @@ use Rattle.std.specs.List.{AllByRecursion}
 use Rattle.journal_law.specs.Lawful.{IsCounted}
 use Rattle.opening.specs.Devices.{of_each}
 use Rattle.store.specs.Crashes.{CrashesOpen}
-use Rattle.store.specs.Opening.{IsHonestlyOpened, disks_of}
+use Rattle.store.specs.Opening.{IsHonestlyOpened, disks_of, four_of}
 use Rattle.store.specs.Seats.{journal}
 use Rattle.store.proofs.Crashing.{counted_lines, crashes_open, each_count}
 use Rattle.store.proofs.shared.Store.close.Goals as goal
@@ -19,7 +19,9 @@ returns g c =
     let held = c.close-side.result.1 in
     let core = c.into_parts-log.ensures.parts in
     let archive = c.into_disks-pagelog.ensures.disks in
-    let disks = λ i. record { log = (core i).0; pages = (core i).1; pagelog = (archive i).0; maplog = (archive i).1 } in
+    let parts = c.into_parts-log.result in
+    let held_disks = c.into_disks-pagelog.result in
+    let disks : four_of parts.0 parts.1 held_disks.0 held_disks.1 ≡ disks_of side.core held = λ i. record { log = (core i).0; pages = (core i).1; pagelog = (archive i).0; maplog = (archive i).1 } in
     record {
       closed = record {
         side = side;
