@@ -18,7 +18,7 @@ use Rattle.gate_log.specs.Cause.{IsDiskFault}
 use Rattle.history.specs.declared.entry.Change.TheVariants.{Commit}
 use Rattle.journal_book.specs.Works.{keeping_refusal}
 use Rattle.journal_law.specs.Lawful.{IsCommitRefused, IsOverlapBy}
-use Rattle.store.specs.Rounds.{IsRoom}
+use Rattle.store.specs.Rounds.{IsNewSince, IsRoom}
 use Rattle.store_core.specs.declared.desk_core.Core.{Core}
 use Rattle.history.specs.declared.entry.Base.{Base}
 use Rattle.history.specs.declared.journal.Line.{Line}
@@ -36,7 +36,7 @@ use Rattle.journal_book.specs.Works.{work_at}
 use Rattle.journal_law.specs.Own.{line}
 use Rattle.journal_law.specs.Pages.{Pages, page_step, page_world}
 use Rattle.journal_law.specs.Seats as seat
-use Rattle.journal_law.specs.Seats.{Adds, CommitEnds, CommitGives, CommitWaits, View, Waits, one}
+use Rattle.journal_law.specs.Seats.{Adds, CommitEnds, CommitGives, CommitWaits, IsNew, View, Waits, one}
 use Rattle.journal_law.specs.World.{Mark, World, newest, newest_behind}
 use Rattle.records.specs.Entries.{change_bytes}
 use Rattle.txn_set.specs.declared.ledger.Ledger.{Ledger}
@@ -58,7 +58,7 @@ use Rattle.store_core.specs.Calls.{failed}
 use Rattle.store_core.proofs.Cores.{base_is}
 use Rattle.seat_store.specs.declared.told.ToldFault.{ToldFault}
 use Rattle.seat_store.specs.Ground.{ground_of, world_of}
-use Rattle.seat_store.specs.Seen.{HasBegun, IsSeated, RoundFails, ground_in, told_of, view_of, work_in}
+use Rattle.seat_store.specs.Seen.{HasBegun, IsSeated, ground_in, told_of, view_of, work_in}
 use Rattle.seat_store.specs.Worlds.{AreNamed}
 use Rattle.seat_store.proofs.Agreeing.{or_none, unchanged_agrees}
 use Rattle.seat_store.proofs.Coming.{Came, came, lines_append, moves, seated_none, seated_open, there, work_so}
@@ -172,12 +172,14 @@ module _ {D : Type 0} (is_honest : D → Type 0) (state : D → State) (faults :
   core_work same = (came_core same).work_is
 
   -- a fault of a round ends it
-  pub round_fault : (d : Device) (c : ℕ) → after ≡ [] → d1.core.ledger ≡ faulted who d c true d0.core.ledger → Adds Old (New after) t.who (Fault d c true) seat.Idle × ((mine s1).work ≡ None)
-  round_fault d c quiet e =
+  pub round_fault : (d : Device) (c : ℕ) → after ≡ [] → d1.core.ledger ≡ faulted who d c true d0.core.ledger → IsNewSince is_honest state faults z d c s1
+      → (Adds Old (New after) t.who (Fault d c true) seat.Idle × IsNew (New after) d c) × ((mine s1).work ≡ None)
+  round_fault d c quiet e since =
       let closes = e ∙ faulted_closed who d0.core.ledger d c true (work.Open t) open_there in
       let came_so = came_all (one t.who (Fault d c true)) None (ap (λ (l : Ledger). l.book.lines) closes ∙ ap (λ (w : Who). journal d0 ++ line w (Fault d c true) ∷ []) (sym of))
       (there is_honest state faults z m s1 d0 d1 passes.ready v who own_there None (closed who (Fault d c true) d0.core.ledger) closes (slot_own (slots_of d0) who.session None)) in
-      (done_so (Fault d c true) quiet came_so, came_so.work_is)
+      let there = v.same.opening ∙ v.opening in
+      ((done_so (Fault d c true) quiet came_so, λ less. subst (λ g. g.faults d < c) (sym (ap (ground_in state faults) there)) (since d0.start there less)), came_so.work_is)
 
   waits_core : d1.core ≡ d0.core → Waits Old (New before) (seat.Open A)
   waits_core same =
@@ -358,7 +360,7 @@ module _ {D : Type 0} (is_honest : D → Type 0) (state : D → State) (faults :
         let log : d ≡ Log = cause.0 ∙ does.names in
         let opened_is : (New after).opened ≡ ground_of state faults d0.start = ap (ground_in state faults) (v.same.opening ∙ v.opening) in
         inr (
-          record { adds = done_so (Fault d c true) (same_told ∙ quiet) (ended_came (Fault d c true) (closed who (Fault d c true) d0.core.ledger) closes refl (slot_own (slots_of d0) who.session None)); agree = agrees (free_parts free).1 },
+          done_so (Fault d c true) (same_told ∙ quiet) (ended_came (Fault d c true) (closed who (Fault d c true) d0.core.ledger) closes refl (slot_own (slots_of d0) who.session None)),
           λ less. subst (λ (x : Device). (New after).opened.faults x < c) (sym log) (subst (λ g. g.faults Log < c) (sym opened_is)
               (above_so (faults d0.start.core.value.desk.log.disk) (faults d0.core.desk.log.disk) (faults d1.core.desk.log.disk) c (v.keeps.later Log) cause.3 cause.1 less)),
         )
@@ -447,18 +449,19 @@ module _ {D : Type 0} (is_honest : D → Type 0) (state : D → State) (faults :
             (subst (λ (n : ℕ). HasBegun (seen s1) n t) (sym p.stays.same.number) (subst (λ (l : List Line). HasBegun l s0.number t) p.waits.front (begun_on (seen s0) p.waits.others s0.number t begun p.waits.apart))) work_is,
       )
 
-  pub commit_answers : (r : Result (Option ℕ) Refusal) → AnswersAtLast is_honest state faults z remembers clock who (CommitDoes is_honest state faults remembers clock who label t) r s0 s1 → (CommitGives label Was Is Tried r ⊎ RoundFails Was Is Tried r) × IsSeated who asked after s1
+  pub commit_answers : (r : Result (Option ℕ) Refusal) → AnswersAtLast is_honest state faults z remembers clock who (CommitDoes is_honest state faults remembers clock who label t) r s0 s1 → CommitGives label Was Is Tried r × IsSeated who asked after s1
   commit_answers r (inl (reaches, none)) =
       let v = reaches.visits in
       let no : (why : Refusal) → r ≡ Err why → IsRoom why → ⊥ = λ why e room. none (subst (λ (x : Result (Option ℕ) Refusal). IsNoRoom is_honest state faults z remembers clock who x) (sym e) room) in (
-        inl (commit_gives is_honest state faults remembers clock z s0 reaches.middle s1 v.before v.after ready reaches.passes v.visited who asked before after own t is_open of begun label r v.does quiet same_told r refl no),
+        commit_gives is_honest state faults remembers clock z s0 reaches.middle s1 v.before v.after ready reaches.passes v.visited who asked before after own t is_open of begun label r v.does quiet same_told r refl no,
         commit_keeps is_honest state faults remembers clock z s0 reaches.middle s1 v.before v.after ready reaches.passes v.visited who asked before after own t is_open of begun label r v.does quiet same_told r refl no,
       )
-  commit_answers r (inr (why, e, refused)) = subst (λ (x : Result (Option ℕ) Refusal). (CommitGives label Was Is Tried x ⊎ RoundFails Was Is Tried x) × IsSeated who asked after s1) (sym e) (at why refused) where
-    at : (w : Refusal) → RoomRefused is_honest state faults z remembers clock who w s0 s1 → (CommitGives label Was Is Tried (Err w) ⊎ RoundFails {T = Option ℕ} Was Is Tried (Err w)) × IsSeated who asked after s1
-    at (refusal.DiskFault d c) reaches =
+  commit_answers r (inr (why, e, refused)) = subst (λ (x : Result (Option ℕ) Refusal). CommitGives label Was Is Tried x × IsSeated who asked after s1) (sym e) (at why refused) where
+    at : (w : Refusal) → RoomRefused is_honest state faults z remembers clock who w s0 s1 → CommitGives label Was Is Tried (Err w) × IsSeated who asked after s1
+    at (refusal.DiskFault d c) e =
+        let reaches = e.0 in
         let v = reaches.visits in
-        let f = round_fault is_honest state faults remembers clock z s0 reaches.middle s1 v.before v.after ready reaches.passes v.visited who asked before after own t is_open of begun d c (same_told ∙ quiet) v.does in
+        let f = round_fault is_honest state faults remembers clock z s0 reaches.middle s1 v.before v.after ready reaches.passes v.visited who asked before after own t is_open of begun d c (same_told ∙ quiet) v.does e.1 in
         (inr f.0, subst (λ (ts : List ToldFault). IsSeated who asked ts s1) (sym (same_told ∙ quiet)) (seated_none who asked s1 f.1))
-    at refusal.OutOfMemory p = let w = passed p in (inl (w.0, refl), w.1)
+    at refusal.OutOfMemory p = let w = passed p in ((w.0, refl), w.1)
     at _ p = absurd p

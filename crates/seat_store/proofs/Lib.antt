@@ -1,9 +1,11 @@
 pub mod Agreeing
 pub mod Coming
 pub mod Committing
+pub mod Dropping
 pub mod Edited
 pub mod Gives
 pub mod Grounds
+pub mod LeastPins
 pub mod Limits
 pub mod Named
 pub mod Overlaps

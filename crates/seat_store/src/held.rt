@@ -210,6 +210,7 @@ impl<'a, R: Wait, D: Disk + Drop> Seat for Held<'a, R, D> {
     }
 
     fn drop_below(&mut self, who: Who, below: u64) -> Result<(), Refusal> {
-        Err(Refusal::OutOfMemory)
+        self.who = who;
+        self.store.drop_below(self.rt, &mut self.seat, who, below)
     }
 }

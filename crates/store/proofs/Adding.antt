@@ -15,6 +15,7 @@ use Rattle.journal_book.specs.Works.{with_work, work_at}
 use Rattle.journal_book.proofs.Slots.{work_at_with}
 use Rattle.store.specs.Tried.{AllEndAttempts, AreTried, EndsAttempt, IsAttempt, is_trying}
 use Rattle.store.specs.Workers.{IsFreshWorker, WorkersFit}
+use Rattle.store_core.specs.Drops.{is_kept_drop, without_drop}
 use Rattle.store.proofs.Trying.{attempt_other, ends_append, which}
 use Rattle.store.proofs.Workers.{more_fits, noted_fits, same_fits}
 use Rattle.txn_set.specs.declared.ledger.Ledger.{Ledger}
@@ -213,6 +214,14 @@ module _ (who : Who) (May : What → Type 0) (l new : Ledger) where
       one_more what may (λ other ne. ap (λ (x : Ledger). work_at x.works.slots other) e ∙ (slot_other (drop_kept who l).works.slots who.session other None ne ∙ kept_works who l other ne)) is
       (more_fits l new (ap (λ (x : Ledger). x.book.workers) e ∙ kept_workers who l) (line_of who what) is) (λ t. ends)
       (none_open (l.book.lines ++ line_of who what ∷ []) (ap (λ (x : Ledger). work_at x.works.slots who.session) e ∙ slot_own (drop_kept who l).works.slots who.session None))
+
+  -- without the line of a drop
+  pub adds_without : new ≡ without_drop who.session l → AddsOwn who.session May l new
+  adds_without e = at (is_kept_drop (work_at l.works.slots who.session)) e where
+    at : (test : Bool) → new ≡ cond test (gives_up who.session l) l → AddsOwn who.session May l new
+    at false f = adds_nothing f
+    at true f = quiet (λ other ne. ap (λ (x : Ledger). work_at x.works.slots other) f ∙ slot_other l.works.slots who.session other None ne) (ap (λ (x : Ledger). x.book.lines) f)
+        (ap (λ (x : Ledger). x.book.workers) f) (λ t. none_open l.book.lines (ap (λ (x : Ledger). work_at x.works.slots who.session) f ∙ slot_own l.works.slots who.session None))
 
 -- the line of a fault closes what is open
 pub faulted_closed : (who : Who) (l : Ledger) (device : Device) (count : ℕ) (wrote : Bool) (work : Work) → work_at l.works.slots who.session ≡ Some work → faulted who device count wrote l ≡ closed who (whats.Fault device count wrote) l

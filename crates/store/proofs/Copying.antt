@@ -1,5 +1,5 @@
 -- What a copy round leaves.
-use Rattle.std.proofs.Common.{◌≡◌, ◌<◌, ℕ, Bool, true, false, Ok, Err, refl, ap, inl, inr, arith}
+use Rattle.std.proofs.Common.{◌≡◌, ◌<◌, ◌∙◌, ℕ, Bool, true, false, Ok, Err, refl, sym, ap, inl, inr, arith}
 use Rattle.atomic_table.specs.Seated.{TableId}
 use Rattle.disk_model.specs.Disk.{State}
 use Rattle.retro_base.specs.declared.device.Device.{Device}
@@ -63,8 +63,12 @@ module _ {D : Type 0} (is_honest : D → Type 0) (state : D → State) (faults :
       refused_with : (why : Refusal) (s3 : Sat D) → RoundRefused is_honest state faults z who why s0 s3 → CopiesRound is_honest state faults z who before batch (Err why) s0 s3
       refused_with why s3 ends = record { asked = true; middle = s1; asks = v; none = λ e. absurd (cc e); some = λ e. tt; ends = ends }
 
-      pub copies_fault : (device : Device) (count : ℕ) (s3 : Sat D) → Visits is_honest state faults z (NoteDoes is_honest state who device count true) s2 s3 → CopiesRound is_honest state faults z who before batch (Err (DiskFault device count)) s0 s3
-      copies_fault device count s3 notes = refused_with (DiskFault device count) s3 (record { middle = s2; passes = passes_both; visits = record { before = notes.before; after = notes.after; visited = notes.visited; does = notes.does.ledger } })
+      pub copies_fault : (device : Device) (count : ℕ) → IsVaultRefusal is_honest state faults z s2 (DiskFault device count) → (s3 : Sat D) → Visits is_honest state faults z (NoteDoes is_honest state who device count true) s2 s3
+          → CopiesRound is_honest state faults z who before batch (Err (DiskFault device count)) s0 s3
+      copies_fault device count refusal s3 notes = refused_with (DiskFault device count) s3 (
+        record { middle = s2; passes = passes_both; visits = record { before = notes.before; after = notes.after; visited = notes.visited; does = notes.does.ledger } },
+        λ start e. refusal.1 start (sym notes.visited.same.opening ∙ e),
+      )
 
       pub copies_refused : (why : Refusal) → (IsDiskFault why → ⊥) → IsVaultRefusal is_honest state faults z s2 why → CopiesRound is_honest state faults z who before batch (Err why) s0 s2
       copies_refused why none refusal = refused_with why s2 (at why none refusal) where

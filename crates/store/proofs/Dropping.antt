@@ -31,21 +31,21 @@ use Rattle.txn_set.specs.Refused.{no_snapshot, pinned_below, stopped, where_so}
 use Rattle.store_core.specs.declared.desk_core.Core.{Core}
 use Rattle.store_core.specs.Calls.{dropped_behind, failed}
 use Rattle.store_core.specs.Core.{IsCore}
-use Rattle.store_core.specs.Drops.{HasEndedDrop, IsAllowedDrop, drop_line_refused, drop_refused_by}
+use Rattle.store_core.specs.Drops.{HasEndedDrop, IsAllowedDrop, drop_line_refused, drop_refused_by, is_kept_drop, without_drop}
 use Rattle.turn.specs.Faults.{LAST, desk_faults, fault_times}
 use Rattle.store.specs.declared.desk_side.DeskSide.{DeskSide}
-use Rattle.store.specs.RoundCalls.{DropDoes}
+use Rattle.store.specs.RoundCalls.{DropDoes, GivesUpDrop}
 use Rattle.store.specs.Rounds.{IsRoom}
 use Rattle.store.specs.Seats.{CountFits, IsVisit, always, slots_of}
 use Rattle.store.specs.Sides.{DeskStands}
 use Rattle.store.specs.Start.{AreAsHonest, IsCoreFrom, Origin, desk_counts}
-use Rattle.store.proofs.Adding.{AddsOwn, adds_dropped, adds_faulted, adds_gave, adds_given, adds_kept, faulted_closed, kept_slot, slot_own}
+use Rattle.store.proofs.Adding.{AddsOwn, adds_dropped, adds_faulted, adds_gave, adds_given, adds_kept, adds_without, faulted_closed, kept_slot, slot_own}
 use Rattle.store.proofs.Answering.{same_pages}
 use Rattle.store.proofs.Asking.{room_no_fault}
 use Rattle.store.proofs.Calling.{IsClosed, closes, counts_same, counts_up, fault_is, visit}
 use Rattle.store.proofs.Committing.{more_told, on_ok}
 use Rattle.store.proofs.Finding.{some_is}
-use Rattle.store.proofs.Leaving.{IsToldIn, stands_moved, stands_stays}
+use Rattle.store.proofs.Leaving.{IsToldIn, as_honest, stands_moved, stands_stays}
 use Rattle.store.proofs.Telling.{told_log}
 
 -- ---- refusals that are told before any device is called
@@ -75,7 +75,7 @@ module _ (P : Refusal → Type 0) where
   refused_tells newest below l stops numbers pins =
       or_tells _ _ (stop_tells (first_stop l.book.lines) stops) (or_tells (no_snapshot below newest) _ (where_tells _ _ (numbers below newest)) (pin_tells below (least_pin l.works.slots) pins))
 
-  lines_tells : (book : Book) (more : ℕ) → ((a b : ℕ) → P (JournalFull a b) → ⊥) → Tells P (lines_refused book more) → ⊥
+  pub lines_tells : (book : Book) (more : ℕ) → ((a b : ℕ) → P (JournalFull a b) → ⊥) → Tells P (lines_refused book more) → ⊥
   lines_tells book more full e = where_tells _ _ (full _ _) e
 
 refused_fault : (newest below : ℕ) (l : Ledger) → Tells IsDiskFault (drop_refused_by newest below l) → ⊥
@@ -310,3 +310,28 @@ module _ {D : Type 0} (is_honest : D → Type 0) (state : D → State) (faults :
     pub drops_kept : IfErr result (λ why. IsRoom why → keeps_drop who Then ≡ true)
     drops_kept = on_err result (λ why. IsRoom why → keeps_drop who Then ≡ true)
         (λ why e is. ap (λ (l : Ledger). keeps_drop who (work_at l.works.slots who.session)) (no_room_kept why e is) ∙ kept_slot who old.core.ledger)
+
+-- ---- the line of a drop given up
+
+kept_some : (w : Option Work) → is_closed w ≡ true → is_kept_drop w ≡ false → w ≡ None
+kept_some None c e = refl
+kept_some (Some (Open t)) c e = absurd (cc c)
+kept_some (Some (Looking look)) c e = absurd (cc c)
+kept_some (Some (KeptDrop who)) c e = absurd (cc e)
+
+module _ (who : Who) (l : Ledger) (is : is_closed (work_at l.works.slots who.session) ≡ true) where
+  without_none : work_at (without_drop who.session l).works.slots who.session ≡ None
+  without_none = at (is_kept_drop (work_at l.works.slots who.session)) refl where
+    at : (test : Bool) → is_kept_drop (work_at l.works.slots who.session) ≡ test → work_at (cond test (gives_up who.session l) l).works.slots who.session ≡ None
+    at true e = slot_own l.works.slots who.session None
+    at false e = kept_some (work_at l.works.slots who.session) is e
+
+module _ {D : Type 0} (is_honest : D → Type 0) (state : D → State) (faults : D → ℕ) (who : Who) (old new : DeskSide D) (start : new.start ≡ old.start) (stands : DeskStands is_honest state old) (is : is_closed (work_at (slots_of old) who.session) ≡ true) (does : GivesUpDrop is_honest state who old.core new.core) where
+  pub none_kept : work_at (slots_of new) who.session ≡ None
+  none_kept = ap (λ (l : Ledger). work_at l.works.slots who.session) does.ledger ∙ without_none who old.core.ledger is
+
+  pub gives_up_visit : IsVisit is_honest state faults who always old new
+  gives_up_visit = visit is_honest state faults who always old new start (stands_stays is_honest state old new start does.stays (as_honest is_honest old.core new.core does.desk) stands)
+      (counts_same faults old.core new.core does.desk) (ap (λ (r : RunningDesk D). r.queue.first) does.desk)
+      (λ mine own. adds_without who (IsToldIn _) old.core.ledger new.core.ledger does.ledger)
+      (closes is_honest state faults who old new start stands always (subst IsClosed (sym none_kept) tt))

@@ -45,10 +45,10 @@ use Rattle.store.specs.Carrying.{Carries, IsBatchIn, IsCarried, IsNotCarried, Ma
 use Rattle.store.specs.Rounds.{IsBatchAt, IsCarriedAt, IsVaultRefusal, MayServe, Passes, SawVault}
 use Rattle.store.specs.Seats.{FaultFits, HasEntered, HasEnteredVault, IsReady, IsWhole, Sat, Visited, VisitedVault, Waits, journal, slots_of}
 use Rattle.store.specs.Sides.{of_vault}
-use Rattle.store.specs.Start.{opened_base, vault_counts}
+use Rattle.store.specs.Start.{IsAbove, opened_base, opened_counts, vault_counts}
 use Rattle.store.specs.Workers.{IsFreshWorker, has_fault}
 use Rattle.store.proofs.Committing.{more_told}
-use Rattle.store.proofs.Finding.{some_is, told_maplog, told_pagelog}
+use Rattle.store.proofs.Finding.{above_so, some_is, told_maplog, told_pagelog}
 use Rattle.store.proofs.Leaving.{sound_journal}
 use Rattle.store.proofs.Meeting.{whole_stays, work_stays}
 use Rattle.store.proofs.Recalling.{lines_append, stays_glance, stays_on, waits_glance, waits_on}
@@ -193,6 +193,10 @@ module _ {D : Type 0} (is_honest : D → Type 0) (state : D → State) (faults :
       subst (λ (l : List Line). IsBatchIn is_honest state start l (held s1) batch) (sym sees)
       (subst (λ (b : Batch). IsBatchIn is_honest state start (journal d0) (held s1) b) (sym is) (subst (λ (x : Start D). IsBatchIn is_honest state x (journal d0) (held s1) Next) same offered_in))
 
+-- a fault of a device that had had no fewer faults than at the opening
+pub new_fault : {D : Type 0} (faults : D → ℕ) (device : Device) (before later : ℕ) (d : Device) (c : ℕ) → IsFault device before later (DiskFault d c) → (start : Start D) → opened_counts faults start device ≤ before → IsAbove faults start d c
+new_fault faults device before later d c f start low = subst (λ (x : Device). IsAbove faults start x c) (sym f.0) (λ less. above_so (opened_counts faults start device) before later c low f.3 f.1 less)
+
 pub no_length : {X : Type 0} (xs : List X) → length xs ≡ 0 → xs ≡ []
 no_length [] e = refl
 no_length (x ∷ xs) e = absurd (omega (arith, e))
@@ -254,12 +258,16 @@ module _ {D : Type 0} (is_honest : D → Type 0) (state : D → State) (faults :
         at (Stopped d c) small r = saw (λ archive. archive.first_fault ≡ Some (d, c)) r.0 r.1
         at OutOfMemory small r = tt
         at (DiskFault d c) small r = ⊎_elim
-            (λ (f : IsFault Pagelog (faults a0.pagelog.disk) (faults a1.pagelog.disk) (DiskFault d c)).
-            told_here d c (subst (λ (x : Device × ℕ). 0 < fault_times x.0 x.1 (vault_faults (vault_counts faults a0) (vault_counts faults a1))) (λ i. (sym f.0 i, sym f.1 i))
-            (told_pagelog (vault_counts faults a0) (vault_counts faults a1) f.3 (subst (λ (n : ℕ). n ≤ LAST) f.1 (small d c refl)))))
-            (λ (f : IsFault Maplog (faults a0.side.disk) (faults a1.side.disk) (DiskFault d c)).
-            told_here d c (subst (λ (x : Device × ℕ). 0 < fault_times x.0 x.1 (vault_faults (vault_counts faults a0) (vault_counts faults a1))) (λ i. (sym f.0 i, sym f.1 i))
-            (told_maplog (vault_counts faults a0) (vault_counts faults a1) f.3 (subst (λ (n : ℕ). n ≤ LAST) f.1 (small d c refl)))))
+            (λ (f : IsFault Pagelog (faults a0.pagelog.disk) (faults a1.pagelog.disk) (DiskFault d c)). (
+              told_here d c (subst (λ (x : Device × ℕ). 0 < fault_times x.0 x.1 (vault_faults (vault_counts faults a0) (vault_counts faults a1))) (λ i. (sym f.0 i, sym f.1 i))
+                  (told_pagelog (vault_counts faults a0) (vault_counts faults a1) f.3 (subst (λ (n : ℕ). n ≤ LAST) f.1 (small d c refl)))),
+              λ start e. new_fault faults Pagelog _ _ d c f start (entered.later start (sym v.same.opening ∙ e) Pagelog),
+            ))
+            (λ (f : IsFault Maplog (faults a0.side.disk) (faults a1.side.disk) (DiskFault d c)). (
+              told_here d c (subst (λ (x : Device × ℕ). 0 < fault_times x.0 x.1 (vault_faults (vault_counts faults a0) (vault_counts faults a1))) (λ i. (sym f.0 i, sym f.1 i))
+                  (told_maplog (vault_counts faults a0) (vault_counts faults a1) f.3 (subst (λ (n : ℕ). n ≤ LAST) f.1 (small d c refl)))),
+              λ start e. new_fault faults Maplog _ _ d c f start (entered.later start (sym v.same.opening ∙ e) Maplog),
+            ))
             r
         at _ small r = ⊎_elim (λ x. absurd x) (λ x. absurd x) r
 

@@ -31,7 +31,7 @@ module _ {D : Type 0} (is_honest : D → Type 0) (state : D → State) (faults :
       let number : (mine s0).number ≡ s0.number = sym (ap (λ (h : Holding Work). h.number) v.mine) ∙ (v.ready.rests.seat.number ∙ v.same.number) in
       ap (λ (h : Holding Work). h.work) v.mine ∙ ap (work_at (slots_of d1)) (number ∙ sym own)
 
-  work_as : (l : Ledger) (w : Option Work) → d1.core.ledger ≡ l → work_at l.works.slots who.session ≡ w → (mine s2).work ≡ w
+  pub work_as : (l : Ledger) (w : Option Work) → d1.core.ledger ≡ l → work_at l.works.slots who.session ≡ w → (mine s2).work ≡ w
   work_as l w e is = work_now ∙ (ap (λ (x : Ledger). work_at x.works.slots who.session) e ∙ is)
 
   pub begun_open : (result : Result (Unit {0}) Refusal) → BeginDoes is_honest state who result d0.core d1.core → OnOk result (IsOpenIn s2 who)

@@ -26,7 +26,7 @@ use Rattle.txn_set.specs.Ledger.{faulted}
 use Rattle.store_core.specs.declared.desk_core.Core.{Core}
 use Rattle.store_core.specs.Calls.{dropped_behind, failed}
 use Rattle.store_core.specs.Core.{IsCore, StaysCore}
-use Rattle.store_core.specs.Drops.{HasDropped, IsAllowedDrop}
+use Rattle.store_core.specs.Drops.{HasDropped, IsAllowedDrop, without_drop}
 
 -- The first 64 of the captures that are pending, or all, are offered; none exactly where none is.
 pub record Offers {D : Type 0} (before batch : Batch) (some : Bool) (old new : Core D) : Type 0 where
@@ -59,6 +59,12 @@ module _ {D : Type 0} (is_honest : D → Type 0) (state : D → State) where
     pub stops : (opening : History) (plain : Desk) → IsCore is_honest state opening old plain →
         wrote ≡ true → IsCore is_honest state opening new (stopped plain)
     pub quiet : wrote ≡ false → StaysCore is_honest state old new
+
+  -- The session gives up the line that it keeps for a drop, if any.
+  pub record GivesUpDrop (who : Who) (old new : Core D) : Type 0 where
+    pub desk : new.desk ≡ old.desk
+    pub ledger : new.ledger ≡ without_drop who.session old.ledger
+    pub stays : StaysCore is_honest state old new
 
   module _ (faults : D → ℕ) (remembers : Type 0) (clock : D → Clock) where
     -- The least dirty page all of whose captures are acknowledged is written back; false exactly where there is

@@ -6,7 +6,7 @@ use Rattle.disk_model.specs.Moments.{Clock}
 use Rattle.retro_base.specs.declared.device.Device.{Device}
 use Rattle.retro_base.specs.declared.limits.TheConstants.{BATCH, LOG_REGION_BYTES}
 use Rattle.retro_base.specs.declared.refusal.Refusal.{Refusal}
-use Rattle.retro_base.specs.declared.refusal.Refusal.TheVariants.{DiskFault, NoRoom, OutOfMemory, Stopped}
+use Rattle.retro_base.specs.declared.refusal.Refusal.TheVariants.{DiskFault, NoRoom, NoSuchSnapshot, OutOfMemory, Pinned, Stopped}
 use Rattle.retro_base.specs.declared.who.Who.{Who}
 use Rattle.history.specs.declared.journal.What.TheVariants.{Fault}
 use Rattle.history.specs.Lines.{first_stop}
@@ -21,8 +21,9 @@ use Rattle.store.specs.declared.carrying.Carried.{Carried}
 use Rattle.store.specs.declared.carrying.Carried.TheVariants.{Entered, Laid, There}
 use Rattle.store.specs.declared.start.Start.{Start}
 use Rattle.store.specs.Carrying.{IsBatchIn}
-use Rattle.store.specs.RoundCalls.{AckDoes, CutsBelow, DropDoes, Offers, SettleDoes, WriteBackDoes}
+use Rattle.store.specs.RoundCalls.{AckDoes, CutsBelow, DropDoes, GivesUpDrop, Offers, SettleDoes, WriteBackDoes}
 use Rattle.store.specs.Seats.{IsReady, Sat, StaysIn, VisitedVault, Visits, Waits}
+use Rattle.store.specs.Start.{IsAbove}
 use Rattle.store.specs.Workers.{IsFreshWorker}
 
 -- A fault of the item finds its line: it closes what the seat has open, or is a worker's, which told none as yet.
@@ -34,6 +35,15 @@ pub record MayServe {D : Type 0} (s : Sat D) (who : Who) : Type 0 where
 abbrev pub IsRoom : Refusal → Type 0
 IsRoom (NoRoom needed free) = Unit {0}
 IsRoom _ = ⊥
+
+-- whether a line of its own tells what became of a drop
+abbrev pub tells_drop : Result (Unit {0}) Refusal → Bool
+tells_drop (Ok x) = true
+tells_drop (Err (DiskFault device count)) = true
+tells_drop (Err (Stopped device count)) = true
+tells_drop (Err (NoSuchSnapshot number newest)) = true
+tells_drop (Err (Pinned snapshot session)) = true
+tells_drop _ = false
 
 -- The seat made visits that left nothing of its own: it has seen more, and was told faults at most.
 pub record Passes {D : Type 0} (z : TableId) (old new : Sat D) : Type 0 where
@@ -54,6 +64,10 @@ module _ {D : Type 0} (is_honest : D → Type 0) (state : D → State) where
       pub passes : Passes z old middle
       pub visits : Visits is_honest state faults z Does middle new
 
+    -- a fault of the device with this count is new since the opening
+    abbrev pub IsNewSince : Device → ℕ → Sat D → Type 0
+    IsNewSince device count s = (start : Start D) → opening s ≡ Some start → IsAbove faults start device count
+
     -- the Fault line of the item stands, which wrote
     abbrev pub TellsFault : Who → Device → ℕ → Core D → Core D → Type 0
     TellsFault who device count old new = new.ledger ≡ faulted who device count true old.ledger
@@ -70,10 +84,10 @@ module _ {D : Type 0} (is_honest : D → Type 0) (state : D → State) where
     SawStop device count s = (first_stop (seen s) ≡ Some (record { device = device; count = count }))
         ⊎ SawVault (λ archive. archive.first_fault ≡ Some (device, count)) s
 
-    -- Why a round was refused, in whatever visit: a call of a device failed, and the Fault line of the item stands;
-    -- the desk or the vault had stopped; or memory ran out. The last two leave nothing.
+    -- Why a round was refused, in whatever visit: a call of a device failed, which is new, and the Fault line of the
+    -- item stands; the desk or the vault had stopped; or memory ran out. The last two leave nothing.
     abbrev pub RoundRefused : Who → Refusal → Sat D → Sat D → Type 0
-    RoundRefused who (DiskFault device count) old new = Reaches (TellsFault who device count) old new
+    RoundRefused who (DiskFault device count) old new = Reaches (TellsFault who device count) old new × IsNewSince device count new
     RoundRefused who (Stopped device count) old new = Passes z old new × SawStop device count new
     RoundRefused who OutOfMemory old new = Passes z old new
     RoundRefused who why old new = ⊥
@@ -83,14 +97,15 @@ module _ {D : Type 0} (is_honest : D → Type 0) (state : D → State) where
 
     -- ---- a copy round
 
-    -- what one visit to the vault did to a batch, and why it was refused; a fault of a device was told to the seat
+    -- What one visit to the vault did to a batch, and why it was refused; a fault of a device was told to the seat, and
+    -- is new.
     abbrev pub IsCarriedAt : Batch → Sat D → Carried → Type 0
     IsCarriedAt batch s There = SawVault (λ archive. batch.first < archive.side.held) s
     IsCarriedAt batch s Laid = Unit {0}
     IsCarriedAt batch s (Entered count) = (count ≡ batch_end batch) × (held s ≡ batch_end batch)
 
     abbrev pub IsVaultRefusal : Sat D → Refusal → Type 0
-    IsVaultRefusal s (DiskFault device count) = 0 < fault_times device count (mine s).faults
+    IsVaultRefusal s (DiskFault device count) = (0 < fault_times device count (mine s).faults) × IsNewSince device count s
     IsVaultRefusal s (Stopped device count) = SawVault (λ archive. archive.first_fault ≡ Some (device, count)) s
     IsVaultRefusal s OutOfMemory = Unit {0}
     IsVaultRefusal s why = ⊥
@@ -169,9 +184,17 @@ module _ {D : Type 0} (is_honest : D → Type 0) (state : D → State) where
       AnswersAtLast Does result old new = (Reaches (Does result) old new × (IsNoRoom result → ⊥))
           ⊎ ((why : Refusal) × (result ≡ Err why) × RoomRefused why old new)
 
-      -- A drop that found no room keeps its line at the first asking.
-      abbrev pub DropAnswers : ℕ → Result (Unit {0}) Refusal → Sat D → Sat D → Type 0
-      DropAnswers below result old new = AnswersAtLast (DropDoes is_honest state faults remembers clock who below) result old new
+      -- The desk was asked for a drop. Where it found no room, it kept the drop's line and was asked again.
+      abbrev pub DropAsks : ℕ → Result (Unit {0}) Refusal → Sat D → Sat D → Type 0
+      DropAsks below result old new =
+          (Visits is_honest state faults z (DropDoes is_honest state faults remembers clock who below result) old new × (IsNoRoom result → ⊥))
           ⊎ ((first : Result (Unit {0}) Refusal) × (kept : Sat D) × IsNoRoom first
           × Visits is_honest state faults z (DropDoes is_honest state faults remembers clock who below first) old kept
           × AnswersAtLast (DropDoes is_honest state faults remembers clock who below) result kept new)
+
+      -- A drop that no line tells gives up the line that it kept, if any, in one more visit.
+      pub record DropAnswers (below : ℕ) (result : Result (Unit {0}) Refusal) (old new : Sat D) : Type 0 where
+        pub asked : Sat D
+        pub asks : DropAsks below result old asked
+        pub told : tells_drop result ≡ true → new ≡ asked
+        pub gives_up : tells_drop result ≡ false → Visits is_honest state faults z (GivesUpDrop is_honest state who) asked new

@@ -1,6 +1,6 @@
 //! The calls of the core, as a seat makes them between entering the desk and leaving it.
 
-ghost use Rattle.std.specs.Prelude.{◌≡◌, ◌<◌, IsTrue, Some, IfErr, IfSome, option_copied, true};
+ghost use Rattle.std.specs.Prelude.{◌≡◌, ◌<◌, IsTrue, None, Some, IfErr, IfSome, option_copied, true};
 ghost use Rattle.history.specs.Label.{is_label};
 ghost use Rattle.journal_book.specs.Works.{work_at};
 ghost use Rattle.journal_book.specs.declared.work.Transaction.{Transaction};
@@ -8,7 +8,7 @@ ghost use Rattle.journal_book.specs.declared.work.Work.TheVariants.{Open};
 ghost use Rattle.txn_set.specs.Ledger.{IsOpenAs, is_closed, is_idle, keeps_drop};
 ghost use Rattle.store_core.specs.Calls.{IsPinned};
 ghost use Rattle.store.specs.Calls.{BeginDoes, CommitDoes, EditDoes, LookAllDoes, LookDoes, PeekDoes, ReadDoes, RollbackDoes};
-ghost use Rattle.store.specs.RoundCalls.{DropDoes};
+ghost use Rattle.store.specs.RoundCalls.{DropDoes, GivesUpDrop};
 ghost use Rattle.store.specs.Rounds.{IsRoom};
 ghost use Rattle.store.specs.Seats.{CountFits, EndingIsTold, FaultFits, IsGlance, IsVisit, always, slots_of};
 ghost use Rattle.store.specs.Sides.{DeskStands};
@@ -143,6 +143,16 @@ impl<D: Disk + Drop> DeskSide<D> {
         let answer = self.core.drop_below(alloc, who, below);
         count_fits(&answer);
         answer
+    }
+
+    pub(crate) fn give_up_drop(&mut self, who: Who)
+        requires stands { DeskStands D.is_honest D.state self.old }
+        requires is_closed { is_closed (work_at (slots_of self.old) who.session) ≡ true }
+        ensures does { GivesUpDrop D.is_honest D.state who self.old.core self.new.core }
+        ensures visit { IsVisit D.is_honest D.state D.faults who always self.old self.new }
+        ensures none { work_at (slots_of self.new) who.session ≡ None }
+    {
+        self.core.give_up_drop(who);
     }
 
     pub(crate) fn peek(

@@ -5,8 +5,8 @@ ghost use Rattle.history.specs.Label.{is_label};
 ghost use Rattle.journal_book.specs.declared.work.Transaction.{Transaction};
 ghost use Rattle.journal_book.specs.declared.work.Work.TheVariants.{Open};
 ghost use Rattle.store.specs.Calls.{CommitDoes};
-ghost use Rattle.store.specs.RoundCalls.{DropDoes};
-ghost use Rattle.store.specs.Rounds.{AnswersAtLast, DropAnswers, IsRoom, MayServe, RoundEnds};
+ghost use Rattle.store.specs.RoundCalls.{DropDoes, GivesUpDrop};
+ghost use Rattle.store.specs.Rounds.{AnswersAtLast, DropAnswers, DropAsks, IsRoom, MayServe, RoundEnds, tells_drop};
 ghost use Rattle.store.specs.Seats.{IsOpenIn, IsReady, IsWhole, Visits};
 ghost use Rattle.txn_set.specs.Ledger.{is_closed, keeps_drop};
 ghost use Rattle.turn.specs.Seats.{IsSame, mine};
@@ -17,6 +17,22 @@ use disk_model::Disk;
 use race_model::Batch;
 use retro_base::{Refusal, Who};
 use std::sync::Wait;
+
+// Whether a line of its own tells what became of a drop.
+fn tells_drop(answer: &Result<(), Refusal>) -> bool
+    ensures { result ≡ tells_drop answer.now }
+{
+    match answer {
+        Ok(())
+        | Err(
+            Refusal::DiskFault { .. }
+            | Refusal::Stopped { .. }
+            | Refusal::NoSuchSnapshot { .. }
+            | Refusal::Pinned { .. },
+        ) => true,
+        _ => false,
+    }
+}
 
 impl<D: Disk + Drop> Store<D> {
     // Makes a copy round and a write round, and cuts the log where nothing is left to copy or to write back.
@@ -146,11 +162,8 @@ impl<D: Disk + Drop> Store<D> {
         unreachable!()
     }
 
-    /// Drops the snapshots below a number, for a session that has nothing open. The refusals are those of
-    /// `Core::drop_below`, in that order, but for NoRoom: where the log has no room the drop's line is kept, the session
-    /// makes rounds under its own item, and asks again. Where a round is refused for want of memory, so is the drop, and
-    /// its line stays kept; where a device failed in it, the drop answers that, and the line is the fault's.
-    pub fn drop_below<R: Wait>(
+    // Asks for a drop, which may keep its line: once, or until the log has room.
+    fn asked_drop<R: Wait>(
         &self,
         rt: &R,
         seat: &mut Seat<D>,
@@ -163,7 +176,7 @@ impl<D: Disk + Drop> Store<D> {
         ensures ready { IsReady (table_of self.now.turn) seat.new × IsWhole seat.new }
         ensures is_closed { is_closed (mine seat.new).work ≡ true }
         ensures same { IsSame seat.old seat.new }
-        ensures answers { DropAnswers D.is_honest D.state D.faults (table_of self.now.turn) D.remembers D.clock who
+        ensures asks { DropAsks D.is_honest D.state D.faults (table_of self.now.turn) D.remembers D.clock who
             below result seat.old seat.new }
     {
         match self.ask_drop(rt, seat, who, below) {
@@ -173,5 +186,49 @@ impl<D: Disk + Drop> Store<D> {
                 _ => Err(why),
             },
         }
+    }
+
+    // Gives up the line that the session keeps for a drop, if any.
+    fn give_up_drop<R: Wait>(&self, rt: &R, seat: &mut Seat<D>, who: Who)
+        requires ready { IsReady (table_of self.now.turn) seat.old × IsWhole seat.old }
+        requires own { who.session ≡ seat.old.number }
+        requires is_closed { is_closed (mine seat.old).work ≡ true }
+        ensures ready { IsReady (table_of self.now.turn) seat.new × IsWhole seat.new }
+        ensures none { (mine seat.new).work ≡ None }
+        ensures gives_up { Visits D.is_honest D.state D.faults (table_of self.now.turn)
+            (GivesUpDrop D.is_honest D.state who) seat.old seat.new }
+    {
+        let mut side = self.enter(rt, seat);
+        side.give_up_drop(who);
+        self.leave(seat, side);
+    }
+
+    /// Drops the snapshots below a number, for a session that has nothing open. The refusals are those of
+    /// `Core::drop_below`, in that order, but for NoRoom: where the log has no room the drop's line is kept, the session
+    /// makes rounds under its own item, and asks again. Where a round is refused for want of memory, so is the drop;
+    /// where a device failed in it, the drop answers that, and the line is the fault's. Where no line tells what became
+    /// of the drop, the line that was kept for it is given up.
+    pub fn drop_below<R: Wait>(
+        &self,
+        rt: &R,
+        seat: &mut Seat<D>,
+        who: Who,
+        below: u64,
+    ) -> Result<(), Refusal>
+        requires ready { IsReady (table_of self.now.turn) seat.old × IsWhole seat.old }
+        requires own { who.session ≡ seat.old.number }
+        requires is_closed { is_closed (mine seat.old).work ≡ true }
+        ensures ready { IsReady (table_of self.now.turn) seat.new × IsWhole seat.new }
+        ensures none { (mine seat.new).work ≡ None }
+        ensures same { IsSame seat.old seat.new }
+        ensures answers { DropAnswers D.is_honest D.state D.faults (table_of self.now.turn) D.remembers D.clock who
+            below result seat.old seat.new }
+    {
+        let answer = self.asked_drop(rt, seat, who, below);
+        if tells_drop(&answer) {
+            return answer;
+        }
+        self.give_up_drop(rt, seat, who);
+        answer
     }
 }

@@ -1,12 +1,15 @@
 -- Drops of snapshots, as the desk is asked for them.
-use Rattle.std.specs.Prelude.{◌≡◌, ◌⊎◌, ℕ, Option, Some, None, Result, Err, IfErr, OnOk}
+use Rattle.std.specs.Prelude.{if◌then◌else◌, ◌≡◌, ◌⊎◌, ℕ, Bool, true, false, Option, Some, None, Result, Err, IfErr, OnOk}
 use Rattle.retro_base.specs.declared.refusal.Refusal.{Refusal}
 use Rattle.retro_base.specs.declared.refusal.Refusal.TheVariants.{OutOfMemory}
 use Rattle.retro_base.specs.declared.who.Who.{Who}
 use Rattle.history.specs.Lines.{first_stop}
 use Rattle.history.specs.declared.journal.What.TheVariants as whats
 use Rattle.history.specs.Marks.{newest}
+use Rattle.journal_book.specs.declared.work.Work.{Work}
+use Rattle.journal_book.specs.declared.work.Work.TheVariants.{KeptDrop}
 use Rattle.journal_book.specs.Book.{lines_refused}
+use Rattle.journal_book.specs.Works.{work_at}
 use Rattle.txn_set.specs.declared.ledger.Ledger.{Ledger}
 use Rattle.txn_set.specs.Ledger.{closed, drop_kept, drop_lines, given_up, gives_up}
 use Rattle.txn_set.specs.Refused.{drop_refused}
@@ -45,3 +48,12 @@ pub record HasDropped {T : Type 0} (who : Who) (below newest : ℕ) (old new : L
   pub kept : drop_line_refused who old ≡ None → drop_refused_by newest below old ≡ None →
       IfErr result (λ why. HasEndedDrop who why (drop_kept who old) new
       ⊎ ((why ≡ OutOfMemory) × (new ≡ given_up who old)))
+
+-- whether this is the line of a drop that is kept, in whatever phase
+abbrev pub is_kept_drop : Option Work → Bool
+is_kept_drop (Some (KeptDrop who)) = true
+is_kept_drop _ = false
+
+-- without the line that the session keeps for a drop, if any
+abbrev pub without_drop : ℕ → Ledger → Ledger
+without_drop session ledger = if is_kept_drop (work_at ledger.works.slots session) then gives_up session ledger else ledger

@@ -23,12 +23,13 @@ ghost use Rattle.txn_set.specs.Ledger.{IsKeptDrop, closed, is_closed};
 ghost use Rattle.txn_set.specs.WorksFit.{WorksFit};
 ghost use Rattle.store_core.specs.Calls.{dropped_behind, has_released};
 ghost use Rattle.store_core.specs.Core.{IsCore, IsWholeCore, StaysCore};
-ghost use Rattle.store_core.specs.Drops.{HasDropped, HasEndedDrop, IsAllowedDrop, drop_refused_by};
+ghost use Rattle.store_core.specs.Drops.{HasDropped, HasEndedDrop, IsAllowedDrop, drop_refused_by, is_kept_drop, without_drop};
 
 use crate::desk_core::Core;
 use desk::RunningDesk;
 use disk_model::Disk;
 use history::{Change, What};
+use journal_book::{Work, Works};
 use records::Entry;
 use retro_base::{Refusal, Who};
 use std::alloc::Global;
@@ -69,6 +70,16 @@ fn send_drop<D: Disk + Drop>(
 {
     let entry = Entry::Change(Change::Drop { below });
     desk.change(alloc, &entry)
+}
+
+// Whether a session keeps the line of a drop.
+fn keeps_drop(works: &Works, session: u16) -> bool
+    ensures { result ≡ is_kept_drop (work_at works.now.slots session) }
+{
+    match works.at(session) {
+        Some(Work::KeptDrop(_)) => true,
+        _ => false,
+    }
 }
 
 impl<D: Disk + Drop> Core<D> {
@@ -224,6 +235,18 @@ impl<D: Disk + Drop> Core<D> {
                 Err(why)
             }
             None => self.drop_allowed(alloc, who, below as u32),
+        }
+    }
+
+    /// Gives up the line that the session keeps for a drop, if any. Takes no memory and calls no device.
+    pub fn give_up_drop(&mut self, who: Who)
+        requires core { IsWholeCore D.is_honest D.state self.old }
+        ensures desk { self.new.desk ≡ self.old.desk }
+        ensures given_up { self.new.ledger ≡ without_drop who.session self.old.ledger }
+        ensures core { StaysCore D.is_honest D.state self.old self.new }
+    {
+        if keeps_drop(&self.ledger.works, who.session) {
+            self.ledger.give_up(who.session);
         }
     }
 }

@@ -1,7 +1,7 @@
 use Rattle.std.proofs.Common.{false, subst}
 use Rattle.turn.specs.Tables.{table_of}
 use Rattle.store.specs.RoundCalls.{Offers}
-use Rattle.store.specs.Rounds.{IsCopied}
+use Rattle.store.specs.Rounds.{IsCopied, IsVaultRefusal}
 use Rattle.store.specs.Seats.{Visits}
 use Rattle.store.proofs.Copying.{asks_passes, copies_entered, copies_fault, copies_none, copies_refused, copies_there, not_disk, passes_both}
 use Rattle.store.proofs.Passing.{passes_whole, serve_on}
@@ -37,7 +37,7 @@ pub returns-in-Ok-There-clause-ready : goal.returns-in-Ok-There-clause-ready
 returns-in-Ok-There-clause-ready g c = let p = passes_both g.D.Disk.is_honest g.D.Disk.state g.D.Disk.faults (table_of c.args.self.now.turn) c.args.who c.args.batch.now c.offered.new.batch c.args.seat.now c.offered.new.seat c.requires.ready.0 (subst (λ b. Visits g.D.Disk.is_honest g.D.Disk.state g.D.Disk.faults (table_of c.args.self.now.turn) (Offers c.args.batch.now c.offered.new.batch b) c.args.seat.now c.offered.new.seat) c.if-not-offered.false c.offered.ensures.asks) c.copied.new.seat c.copied.ensures.passes in (p.ready, passes_whole (table_of c.args.self.now.turn) c.args.seat.now c.copied.new.seat p c.requires.ready.1)
 
 pub returns-in-DiskFault-clause-round : goal.returns-in-DiskFault-clause-round
-returns-in-DiskFault-clause-round g c = copies_fault g.D.Disk.is_honest g.D.Disk.state g.D.Disk.faults (table_of c.args.self.now.turn) c.args.who c.args.batch.now c.offered.new.batch c.args.seat.now c.offered.new.seat c.requires.ready.0 (subst (λ b. Visits g.D.Disk.is_honest g.D.Disk.state g.D.Disk.faults (table_of c.args.self.now.turn) (Offers c.args.batch.now c.offered.new.batch b) c.args.seat.now c.offered.new.seat) c.if-not-offered.false c.offered.ensures.asks) c.copied.new.seat c.copied.ensures.passes c.in-DiskFault.device c.in-DiskFault.count c.noted.new.seat c.noted.ensures.notes
+returns-in-DiskFault-clause-round g c = copies_fault g.D.Disk.is_honest g.D.Disk.state g.D.Disk.faults (table_of c.args.self.now.turn) c.args.who c.args.batch.now c.offered.new.batch c.args.seat.now c.offered.new.seat c.requires.ready.0 (subst (λ b. Visits g.D.Disk.is_honest g.D.Disk.state g.D.Disk.faults (table_of c.args.self.now.turn) (Offers c.args.batch.now c.offered.new.batch b) c.args.seat.now c.offered.new.seat) c.if-not-offered.false c.offered.ensures.asks) c.copied.new.seat c.copied.ensures.passes c.in-DiskFault.device c.in-DiskFault.count (subst (IsVaultRefusal g.D.Disk.is_honest g.D.Disk.state g.D.Disk.faults (table_of c.args.self.now.turn) c.copied.new.seat) c.in-DiskFault.is c.in-Err.ensures.copied) c.noted.new.seat c.noted.ensures.notes
 
 pub returns-in_default-clause-round : goal.returns-in_default-clause-round
 returns-in_default-clause-round g c = copies_refused g.D.Disk.is_honest g.D.Disk.state g.D.Disk.faults (table_of c.args.self.now.turn) c.args.who c.args.batch.now c.offered.new.batch c.args.seat.now c.offered.new.seat c.requires.ready.0 (subst (λ b. Visits g.D.Disk.is_honest g.D.Disk.state g.D.Disk.faults (table_of c.args.self.now.turn) (Offers c.args.batch.now c.offered.new.batch b) c.args.seat.now c.offered.new.seat) c.if-not-offered.false c.offered.ensures.asks) c.copied.new.seat c.copied.ensures.passes c.in-Err.field-0.why (not_disk c.in-Err.field-0.why c.in_default.not-DiskFault) c.in-Err.ensures.copied
