@@ -1,6 +1,5 @@
 pub mod Ending
 pub mod Frames
 pub mod Ground
-pub mod Kept
 pub mod Seen
 pub mod Worlds

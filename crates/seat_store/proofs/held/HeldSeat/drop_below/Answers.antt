@@ -4,8 +4,7 @@ use Rattle.turn.specs.Seats.{mine}
 use Rattle.seat_store.specs.Seen.{IsSeated}
 use Rattle.seat_store.proofs.Coming.{idle_is, seated_none}
 use Rattle.seat_store.proofs.Dropping.{drop_gives}
-use Rattle.seat_store.proofs.Recalled.{no_table, sized_on}
-use Rattle.seat_store.specs.Kept.{looks}
+use Rattle.seat_store.proofs.Recalled.{sized_on}
 use Rattle.seat_store.proofs.held.HeldSeat.drop_below.Goals as goal
 
 pub drop_below-requires-clause-is_closed : goal.drop_below-requires-clause-is_closed
@@ -17,7 +16,7 @@ pub invariant_of-self : goal.invariant_of-self
 invariant_of-self g c =
     let h = c.args.self.now in
     let none = idle_is h.who h.asked h.told.items h.seat h.seated c.requires.idle in
-    record { ready = c.drop_below.ensures.ready.0; whole = c.drop_below.ensures.ready.1; seated = subst (λ ts. IsSeated c.args.who h.asked ts c.drop_below.new.seat) (sym (h.seated.quiet none)) (seated_none c.args.who h.asked c.drop_below.new.seat c.drop_below.ensures.none); sized = sized_on h.store.now.pages h.seat c.drop_below.new.seat c.drop_below.ensures.same.opening h.sized; tabled = no_table g.D.Disk.is_honest g.D.Disk.state h.seat c.drop_below.new.seat h.kept (ap looks none) h.tabled }
+    record { ready = c.drop_below.ensures.ready.0; whole = c.drop_below.ensures.ready.1; seated = subst (λ ts. IsSeated c.args.who h.asked ts c.drop_below.new.seat) (sym (h.seated.quiet none)) (seated_none c.args.who h.asked c.drop_below.new.seat c.drop_below.ensures.none); sized = sized_on h.store.now.pages h.seat c.drop_below.new.seat c.drop_below.ensures.same.opening h.sized }
 
 pub returns : goal.returns
 returns g c =
