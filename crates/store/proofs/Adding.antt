@@ -19,7 +19,7 @@ use Rattle.store_core.specs.Drops.{is_kept_drop, without_drop}
 use Rattle.store.proofs.Trying.{attempt_other, ends_append, which}
 use Rattle.store.proofs.Workers.{more_fits, noted_fits, same_fits}
 use Rattle.txn_set.specs.declared.ledger.Ledger.{Ledger}
-use Rattle.txn_set.specs.Ledger.{closed, committed, drop_kept, faulted, given_up, gives_up, is_closed, keeping_drop, keeps_drop, keeps_other_drop, line_of, opened, taken, told, with_open}
+use Rattle.txn_set.specs.Ledger.{closed, committed, drop_kept, faulted, given_up, gives_up, keeping_drop, keeps_drop, keeps_other_drop, line_of, opened, taken, told, with_open}
 
 -- lines with one more, of that session, which tells what it may
 pub record OneLine (session : ℕ) (May : What → Type 0) (old new : List Line) : Type 0 where

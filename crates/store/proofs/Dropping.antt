@@ -1,6 +1,6 @@
 -- A drop may be made in a visit to the desk.
-use Rattle.std.proofs.Common.{◌≡◌, ◌≤◌, ◌<◌, ◌⊎◌, ◌∙◌, ◌||◌, ◌&&◌, not, ℕ, Bool, true, false, cond, Option, Some, None, Result, Ok, Err, refl, sym, ap, subst, inl, inr, ⊎_elim, arith}
-use Rattle.std.specs.Prelude.{◌==◌, IfErr, MatchResult, OnErr, OnOk, is_some, length, nat_lt, option_map}
+use Rattle.std.proofs.Common.{◌≡◌, ◌≤◌, ◌<◌, ◌⊎◌, ◌∙◌, ℕ, Bool, true, false, cond, Option, Some, None, Result, Ok, Err, refl, sym, ap, subst, inl, inr, ⊎_elim, arith}
+use Rattle.std.specs.Prelude.{IfErr, MatchResult, OnOk, is_some, length, nat_lt, option_map}
 use Rattle.std.specs.Option.{option_or}
 use Rattle.block_file.specs.Blocks.{File}
 use Rattle.disk_model.specs.Disk.{State}
@@ -18,7 +18,7 @@ use Rattle.history.specs.Lines.{first_stop}
 use Rattle.history.specs.Marks.{newest, oldest}
 use Rattle.journal_book.specs.declared.work.Work.{Work}
 use Rattle.journal_book.specs.declared.work.Work.TheVariants.{Open, Looking, KeptDrop}
-use Rattle.journal_book.specs.Book.{Book, lines_needed, lines_refused}
+use Rattle.journal_book.specs.Book.{Book, lines_refused}
 use Rattle.journal_book.specs.Works.{least_pin, work_at}
 use Rattle.records.specs.Entries.{change_bytes}
 use Rattle.race_model.specs.Desk.{Desk}
@@ -28,7 +28,6 @@ use Rattle.desk.specs.declared.desk.RunningDesk.{RunningDesk}
 use Rattle.txn_set.specs.declared.ledger.Ledger.{Ledger}
 use Rattle.txn_set.specs.Ledger.{closed, drop_kept, faulted, given_up, gives_up, is_closed, keeps_drop, keeps_other_drop}
 use Rattle.txn_set.specs.Refused.{no_snapshot, pinned_below, stopped, where_so}
-use Rattle.store_core.specs.declared.desk_core.Core.{Core}
 use Rattle.store_core.specs.Calls.{dropped_behind, failed}
 use Rattle.store_core.specs.Core.{IsCore}
 use Rattle.store_core.specs.Drops.{HasEndedDrop, IsAllowedDrop, drop_line_refused, drop_refused_by, is_kept_drop, without_drop}
@@ -39,7 +38,7 @@ use Rattle.store.specs.Rounds.{IsRoom}
 use Rattle.store.specs.Seats.{CountFits, IsVisit, always, slots_of}
 use Rattle.store.specs.Sides.{DeskStands}
 use Rattle.store.specs.Start.{AreAsHonest, IsCoreFrom, Origin, desk_counts}
-use Rattle.store.proofs.Adding.{AddsOwn, adds_dropped, adds_faulted, adds_gave, adds_given, adds_kept, adds_without, faulted_closed, kept_slot, slot_own}
+use Rattle.store.proofs.Adding.{AddsOwn, adds_dropped, adds_gave, adds_given, adds_kept, adds_without, faulted_closed, kept_slot, slot_own}
 use Rattle.store.proofs.Answering.{same_pages}
 use Rattle.store.proofs.Asking.{room_no_fault}
 use Rattle.store.proofs.Calling.{IsClosed, closes, counts_same, counts_up, fault_is, visit}

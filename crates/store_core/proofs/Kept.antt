@@ -36,7 +36,7 @@ use Rattle.txn_set.proofs.LedgerSteps.{is_idle_so, one_line_needed}
 use Rattle.store_core.specs.declared.desk_core.Core.{Core}
 use Rattle.store_core.specs.Calls.{MayRecord}
 use Rattle.store_core.specs.Core.{IsCore}
-use Rattle.store_core.specs.Drops.{drop_line_refused, drop_refused_by}
+use Rattle.store_core.specs.Drops.{drop_line_refused, drop_refused_by, is_kept_drop}
 use Rattle.store_core.proofs.Cores.{core_still, holds_moved, same_edits}
 use Rattle.store_core.proofs.Drops.{drop_edits, drop_some, none_first, none_mapped}
 use Rattle.store_core.proofs.Ledgers.{ledger_gives_up, ledger_keeping}
@@ -61,6 +61,12 @@ keeps_kept who None e = absurd cc
 keeps_kept who (Some (KeptDrop other)) e = tt
 keeps_kept who (Some (Open t)) e = absurd cc
 keeps_kept who (Some (Looking look)) e = absurd cc
+
+pub is_kept : (work : Option Work) → is_kept_drop work ≡ true → IsKeptDrop work
+is_kept None e = absurd cc
+is_kept (Some (KeptDrop other)) e = tt
+is_kept (Some (Open t)) e = absurd cc
+is_kept (Some (Looking look)) e = absurd cc
 
 -- the least pin stays where a work that pins nothing takes the place of one
 least_same : (slots : List (Option Work)) (session : ℕ) (work : Option Work) → first_pin (work_at slots session) ≡ None → first_pin work ≡ None → least_pin (with_work slots session work) ≡ least_pin slots

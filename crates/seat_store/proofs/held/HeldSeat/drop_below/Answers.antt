@@ -1,6 +1,5 @@
 use Rattle.std.proofs.Common.{ap, refl, sym, subst}
 use Rattle.txn_set.specs.Ledger.{is_closed}
-use Rattle.turn.specs.Seats.{mine}
 use Rattle.seat_store.specs.Seen.{IsSeated}
 use Rattle.seat_store.proofs.Coming.{idle_is, seated_none}
 use Rattle.seat_store.proofs.Dropping.{drop_gives}
