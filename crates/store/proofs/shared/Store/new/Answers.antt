@@ -12,4 +12,4 @@ pub returns-in-Ok-clause-new : goal.returns-in-Ok-clause-new
 returns-in-Ok-clause-new g c = λ k s there. new_seats _ _ c.in-Ok.seats.items c.in-Ok.ensures.new k s there _ _ c.of.ensures c.of-2.ensures
 
 pub returns-in-Ok-clause-sized : goal.returns-in-Ok-clause-sized
-returns-in-Ok-clause-sized g c = λ k s there. sized_by _ _ _ _ (new_seats _ _ c.in-Ok.seats.items c.in-Ok.ensures.new k s there _ _ c.of.ensures c.of-2.ensures).3 (ap (λ s. s.pages) c.sizes.ensures)
+returns-in-Ok-clause-sized g c = λ k s there. sized_by _ _ _ _ (new_seats _ _ c.in-Ok.seats.items c.in-Ok.ensures.new k s there _ _ c.of.ensures c.of-2.ensures).3 (ap (λ s. s.pages) c.sizes-pages.ensures)
