@@ -1,9 +1,9 @@
 -- What a drop gives.
-use Rattle.std.proofs.Common.{◌≡◌, ◌≤◌, ◌<◌, ◌-◌, ◌⊎◌, ◌||◌, ◌++◌, ◌==◌, ◌∙◌, ℕ, zero, suc, Bool, true, false, cond, eqb, List, [], ◌∷◌, length, Option, Some, None, Result, Ok, Err, refl, sym, ap, subst, inl, inr, ⊎_elim, arith, append-nil, append_assoc}
+use Rattle.std.proofs.Common.{◌≡◌, ◌≤◌, ◌<◌, ◌-◌, ◌⊎◌, ◌||◌, ◌++◌, ◌==◌, ◌∙◌, ℕ, zero, suc, Bool, true, false, cond, List, [], ◌∷◌, length, Option, Some, None, Result, Ok, Err, refl, sym, ap, subst, inl, inr, ⊎_elim, arith, append-nil, append_assoc}
 use Rattle.std.specs.Prelude.{IfErr, MatchResult, OnOk, is_some, nat_lt, option_map}
 use Rattle.std.specs.List.{AllByRecursion}
 use Rattle.std.specs.Option.{option_or}
-use Rattle.std.proofs.lemmas.Bool.{eqb-false, eqb-true, ltb-false, ltb-true}
+use Rattle.std.proofs.lemmas.Bool.{eqb-true, ltb-false, ltb-true}
 use Rattle.atomic_table.specs.Seated.{TableId}
 use Rattle.disk_model.specs.Disk.{State}
 use Rattle.disk_model.specs.Moments.{Clock}
@@ -38,17 +38,15 @@ use Rattle.txn_set.specs.declared.ledger.Ledger.{Ledger}
 use Rattle.txn_set.specs.Ledger.{closed, drop_kept, faulted, given_up, gives_up, line_of}
 use Rattle.txn_set.specs.Refused.{no_snapshot, pinned_below, stopped, where_so}
 use Rattle.txn_set.specs.WorksFit.{PinsFit}
-use Rattle.store_core.specs.declared.desk_core.Core.{Core}
-use Rattle.store_core.specs.Calls.{failed}
 use Rattle.store_core.specs.Drops.{HasEndedDrop, drop_line_refused, drop_refused_by, is_kept_drop}
 use Rattle.store_core.proofs.Cores.{base_is}
 use Rattle.turn.specs.Seats.{IsSame, mine, opening, seen}
 use Rattle.store.specs.declared.desk_side.DeskSide.{DeskSide}
 use Rattle.store.specs.declared.start.Start.{Start}
-use Rattle.store.specs.RoundCalls.{DropDoes, GivesUpDrop}
-use Rattle.store.specs.Rounds.{AnswersAtLast, DropAnswers, DropAsks, IsNewSince, IsNoRoom, IsRoom, Passes, RoomRefused, tells_drop}
+use Rattle.store.specs.RoundCalls.{DropDoes}
+use Rattle.store.specs.Rounds.{AnswersAtLast, DropAnswers, DropAsks, IsNewSince, IsNoRoom, Passes, RoomRefused, tells_drop}
 use Rattle.store.specs.Seats.{Sat, Visited, Visits, Waits as SeatWaits, journal, slots_of}
-use Rattle.store.specs.Start.{IsAbove, opened_base, opened_counts}
+use Rattle.store.specs.Start.{opened_base}
 use Rattle.store.proofs.Adding.{given_lines, kept_lines}
 use Rattle.store.proofs.Finding.{some_is}
 use Rattle.store.proofs.Leaving.{sound_journal}
@@ -56,7 +54,7 @@ use Rattle.store.proofs.Passing.{new_fault}
 use Rattle.store.proofs.Recalling.{waits_on}
 use Rattle.store.proofs.Writing.{same_on}
 use Rattle.seat_store.specs.declared.told.ToldFault.{ToldFault}
-use Rattle.seat_store.specs.Ground.{ground_of, world_of}
+use Rattle.seat_store.specs.Ground.{ground_of}
 use Rattle.seat_store.specs.Seen.{ground_in, told_of, view_of, work_in}
 use Rattle.seat_store.specs.Worlds.{AreNamed}
 use Rattle.seat_store.proofs.Coming.{Came, lines_append, moves, work_so}

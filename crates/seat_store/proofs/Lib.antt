@@ -2,9 +2,11 @@ pub mod Agreeing
 pub mod Coming
 pub mod Committing
 pub mod Crashes
+pub mod Dropping
 pub mod Edited
 pub mod Gives
 pub mod Grounds
+pub mod LeastPins
 pub mod Limits
 pub mod Named
 pub mod Overlaps

@@ -23,7 +23,6 @@ use Rattle.journal_law.specs.Pages.{Pages, page_world}
 use Rattle.journal_law.specs.Seats as seat
 use Rattle.journal_law.specs.Seats.{Moves, PastGives, View}
 use Rattle.journal_law.specs.World.{as_of}
-use Rattle.page_table.specs.Table.{Table}
 use Rattle.race_model.specs.declared.fault.Fault.{Fault}
 use Rattle.race_model.proofs.Grows.{contains_cons}
 use Rattle.turn.specs.declared.view.Holding.{Holding}
@@ -34,12 +33,9 @@ use Rattle.store.specs.Past.{IsNewFault, IsPastCause, IsPastOf, IsPinnedBy, IsRe
 use Rattle.store.specs.Seats.{IsPage, IsReady, IsSized, Sat, StaysIn, Waits, began_of}
 use Rattle.store.specs.Start.{AreJustOpened, IsAbove, opened_base}
 use Rattle.store.proofs.Calling.{told_more as told_still}
-use Rattle.store.proofs.Finding.{some_is}
-use Rattle.store.proofs.Meeting.{stays_same, work_stays}
-use Rattle.seat_store.specs.declared.kept.KeptTable.{KeptTable}
+use Rattle.store.proofs.Meeting.{work_stays}
 use Rattle.seat_store.specs.declared.told.ToldFault.{ToldFault}
 use Rattle.seat_store.specs.Ground.{world_of}
-use Rattle.seat_store.specs.Kept.{IsTabled, looks}
 use Rattle.seat_store.specs.Seen.{HasBegun, IsHonest, IsSeated, ground_in, pins_of_look, told_more, told_of, view_of, work_in}
 use Rattle.seat_store.proofs.Coming.{Came, moves}
 use Rattle.seat_store.proofs.Grounds.{opened_world}
@@ -55,15 +51,6 @@ told_end told fault = ap reverse (map-append (λ (f : ToldFault). let t : seat.T
 pub told_on : (before room after : List ToldFault) (why : Refusal) → room ≡ before → after ≡ told_more room why → after ≡ told_more before why
 told_on before room after why same is = is ∙ ap (λ (ts : List ToldFault). told_more ts why) same
 
--- ---- a table that is kept
-
--- where the seat does not look there is none
-pub no_table : {D : Type 0} (is_honest : D → Type 0) (state : D → State) (s0 s1 : Sat D) (kept : Option KeptTable) → looks (mine s0).work ≡ false → IsTabled is_honest state s0 kept → IsTabled is_honest state s1 kept
-no_table is_honest state s0 s1 kept not is = record { looks = λ t e. absurd (cc (not, is.looks t e)); table_is = λ t e. absurd (cc (not, is.looks t e)) }
-
-pub none_kept : {D : Type 0} (is_honest : D → Type 0) (state : D → State) (s : Sat D) → IsTabled is_honest state s None
-none_kept is_honest state s = record { looks = λ t e. absurd (cc e); table_is = λ t e. absurd (cc e) }
-
 -- ---- what stays where a seat has seen more
 
 pub pinned_on : {D : Type 0} (s0 s1 : Sat D) (n : ℕ) → StaysIn s0 s1 → IsPinnedBy s0 n → IsPinnedBy s1 n
@@ -75,23 +62,6 @@ page_on {D = D} s0 s1 page same is = subst (λ (o : Option (Start D)). IfSome o 
 pub fault_on : {D T : Type 0} (faults : D → ℕ) (s0 s1 : Sat D) (result : Result T Fault) → opening s1 ≡ opening s0 → IfErr result (IsNewFault faults s1) → IfErr result (IsNewFault faults s0)
 fault_on faults s0 s1 (Ok x) same is = tt
 fault_on faults s0 s1 (Err fault) same is = λ start d c o e. is start d c (same ∙ o) e
-
-pub stays_here : {D : Type 0} (s : Sat D) → StaysIn s s
-stays_here s = stays_same s s (record { id = refl; number = refl; opening = refl }) refl (omega arith)
-
-pub waits_here : {D : Type 0} (s : Sat D) → Waits s s
-waits_here s = record { others = []; front = append-nil (seen s); apart = refl }
-
--- a table that was kept of this snapshot
-pub kept_of : {D : Type 0} (is_honest : D → Type 0) (state : D → State) (s : Sat D) (kept : Option KeptTable) (t : KeptTable) (n : ℕ) → IsTabled is_honest state s kept → kept ≡ Some t → t.snapshot ≡ n → IsTableOf is_honest state s n t.table
-kept_of is_honest state s kept t n is there same = subst (λ (k : ℕ). IsTableOf is_honest state s k t.table) same (is.table_is t there)
-
--- and one that is kept
-pub keeps_table : {D : Type 0} (is_honest : D → Type 0) (state : D → State) (s0 s1 : Sat D) (n : ℕ) (kept : KeptTable) → StaysIn s0 s1 → IsPinnedBy s0 n → IsTableOf is_honest state s1 kept.snapshot kept.table → IsTabled is_honest state s1 (Some kept)
-keeps_table is_honest state s0 s1 n kept stays pinned is = record {
-  looks = λ t e. ap looks (pinned_on s0 s1 n stays pinned).there;
-  table_is = λ t e. subst (λ (k : KeptTable). IsTableOf is_honest state s1 k.snapshot k.table) (some_is kept t e) is;
-}
 
 -- ---- how many pages there are
 

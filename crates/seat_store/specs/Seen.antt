@@ -1,12 +1,12 @@
 -- A seat of a store, as sessions see it.
-use Rattle.std.specs.Prelude.{◌≡◌, ◌+◌, ◌<◌, ℕ, List, [], ◌∷◌, ◌++◌, drop, map, reverse, take, Option, Some, None, IfSome, Result, Err, true, Contains}
+use Rattle.std.specs.Prelude.{◌≡◌, ◌+◌, ◌<◌, ℕ, List, [], ◌∷◌, ◌++◌, drop, map, reverse, take, Option, Some, None, IfSome, Contains}
 use Rattle.disk_model.specs.Disk.{State}
 use Rattle.retro_base.specs.declared.device.Device.{Device}
 use Rattle.retro_base.specs.declared.refusal.Refusal.{Refusal}
 use Rattle.retro_base.specs.declared.refusal.Refusal.TheVariants.{DiskFault}
 use Rattle.retro_base.specs.declared.who.Who.{Who}
 use Rattle.history.specs.declared.journal.Line.{Line}
-use Rattle.history.specs.declared.journal.What.TheVariants.{Began, Fault}
+use Rattle.history.specs.declared.journal.What.TheVariants.{Began}
 use Rattle.history.specs.Lines.{base_of, lines_of}
 use Rattle.journal_book.specs.declared.work.Look.{Look}
 use Rattle.journal_book.specs.declared.work.Transaction.{Transaction}
@@ -16,7 +16,7 @@ use Rattle.journal_book.specs.Works.{who_of}
 use Rattle.journal_law.specs.Lawful.{Ground}
 use Rattle.journal_law.specs.Own.{line}
 use Rattle.journal_law.specs.Seats as seat
-use Rattle.journal_law.specs.Seats.{Adds, View}
+use Rattle.journal_law.specs.Seats.{View}
 use Rattle.seat_store.specs.declared.told.ToldFault.{ToldFault}
 use Rattle.seat_store.specs.Ground.{ground_of, no_ground}
 use Rattle.store.specs.declared.start.Start.{Start}
@@ -70,12 +70,6 @@ IsHonest is_honest state s = IfSome (opening s) (λ start.
 abbrev pub pins_of_look : {D : Type 0} → Option ℕ → List Line → Start D → Look → List ℕ
 pins_of_look (Some snapshot) lines start look = snapshot ∷ []
 pins_of_look None lines start look = map (λ mark. mark.number) (base_of (opened_base start) (take look.began lines)).marks
-
--- A device failed while room was made for a commit: its line ends the attempt, whatever has become of the pages that it
--- read.
-abbrev pub RoundFails : {T : Type 0} → View → View → seat.Attempt → Result T Refusal → Type 0
-RoundFails old new a (Err (DiskFault device count)) = Adds old new a.who (Fault device count true) seat.Idle
-RoundFails old new a _ = ⊥
 
 -- What the seat has open is of this item; no drop's line is kept for it. What it has open it has seen begin, what its look pins is what it is at, and it was told
 -- these faults since its last line, none but in a look.

@@ -3,7 +3,6 @@
 ghost use Rattle.std.specs.Prelude.{◌≡◌, [], None};
 ghost use Rattle.journal_law.specs.Seats.{Idle, Waits};
 ghost use Rattle.seat_store.specs.Frames.{GoesOn};
-ghost use Rattle.seat_store.specs.Kept.{IsTabled};
 ghost use Rattle.seat_store.specs.Seen.{IsSeated, view_of};
 ghost use Rattle.store.specs.Seats.{IsReady, IsSized, IsWhole};
 ghost use Rattle.turn.specs.Seats.{mine, seen};
@@ -11,7 +10,6 @@ ghost use Rattle.turn.specs.Tables.{table_of};
 ghost use Rattle.turn.specs.Views.{longer};
 
 use crate::ending::ending_of;
-use crate::kept::KeptTable;
 use crate::recall::recall;
 use crate::told::{ToldFault, tell};
 use disk_model::Disk;
@@ -35,13 +33,10 @@ pub struct Held<'a, R: Wait, D: Disk + Drop> {
     pub(crate) asked: Option<u64>,
     /// The faults that the seat was told since its last line, the last one at the end.
     pub(crate) told: Vec<ToldFault>,
-    /// The page table of the snapshot that the open look read last.
-    pub(crate) kept: Option<KeptTable>,
     ghost ready: { IsReady (table_of store.now.turn) seat },
     ghost whole: { IsWhole seat },
     ghost sized: { IsSized store.now.pages seat },
     ghost seated: { IsSeated who asked told.items seat },
-    ghost tabled: { IsTabled D.is_honest D.state seat kept },
 }
 
 impl<'a, R: Wait, D: Disk + Drop> Held<'a, R, D> {
@@ -75,7 +70,6 @@ impl<'a, R: Wait, D: Disk + Drop> Held<'a, R, D> {
             },
             asked: None,
             told: Vec::new(alloc),
-            kept: None,
         }
     }
 
@@ -92,7 +86,6 @@ impl<'a, R: Wait, D: Disk + Drop> Held<'a, R, D> {
             who: _,
             asked: _,
             told: _,
-            kept: _,
         } = self;
         seat
     }
@@ -113,8 +106,6 @@ impl<'a, R: Wait, D: Disk + Drop> Held<'a, R, D> {
         ensures other_goes { GoesOn (table_of other.old.store.now.turn) (table_of other.new.store.now.turn)
             other.old.seat other.new.seat }
     {
-        self.kept = None;
-        other.kept = None;
         self.store.meet(&mut self.seat, &mut other.seat);
     }
 }
@@ -189,7 +180,6 @@ impl<'a, R: Wait, D: Disk + Drop> Seat for Held<'a, R, D> {
             self.rt,
             self.store,
             &mut self.seat,
-            &mut self.kept,
             snapshot,
             page,
             out,
@@ -203,13 +193,13 @@ impl<'a, R: Wait, D: Disk + Drop> Seat for Held<'a, R, D> {
     }
 
     fn unlook(&mut self, why: Ending) {
-        self.kept = None;
         self.store
             .unlook(self.rt, &mut self.seat, self.who, ending_of(why));
         self.told.clear();
     }
 
     fn drop_below(&mut self, who: Who, below: u64) -> Result<(), Refusal> {
-        Err(Refusal::OutOfMemory)
+        self.who = who;
+        self.store.drop_below(self.rt, &mut self.seat, who, below)
     }
 }

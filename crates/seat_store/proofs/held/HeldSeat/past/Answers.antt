@@ -5,7 +5,7 @@ use Rattle.seat_store.specs.declared.told.ToldFault.{ToldFault}
 use Rattle.seat_store.specs.Seen.{IsHonest, IsSeated, view_of, work_in}
 use Rattle.seat_store.proofs.Coming.{looking_is, some_looking}
 use Rattle.seat_store.proofs.Pasts.{pinned_so, some_there}
-use Rattle.seat_store.proofs.Recalled.{past_err, past_keeps, past_ok, sized_on, told_on}
+use Rattle.seat_store.proofs.Recalled.{keeps_seated, past_err, past_keeps, past_ok, sized_on, told_on}
 use Rattle.seat_store.proofs.held.HeldSeat.past.Goals as goal
 
 pub recall-requires-clause-pinned : goal.recall-requires-clause-pinned
@@ -15,6 +15,17 @@ recall-requires-clause-pinned g c =
     let found = some_there (opening h.seat) h.ready.rests.seat.opened in
     pinned_so g.D.Disk.state g.D.Disk.faults h.seat h.who h.asked h.told.items h.seated o.0 o.1 found.0 found.1 c.args.snapshot
     (c.requires.pinned (record { who = o.0.who; since = take o.0.began (seen h.seat); snapshot = h.asked }) (ap (work_in h.asked (seen h.seat)) o.1))
+
+pub invariant_of-self-in-Ok : goal.invariant_of-self-in-Ok
+invariant_of-self-in-Ok g c =
+    let h = c.args.self.now in
+    record {
+      ready = c.recall.ensures.ready.0;
+      whole = c.recall.ensures.ready.1;
+      sized = sized_on h.store.now.pages h.seat c.recall.new.seat c.recall.ensures.same.same.opening h.sized;
+      seated = subst (λ (ts : List ToldFault). IsSeated h.who h.asked ts c.recall.new.seat) (sym c.reserve.ensures.items)
+          (keeps_seated g.D.Disk.state g.D.Disk.faults _ h.seat c.recall.new.seat h.ready c.recall.ensures.same c.recall.ensures.waits h.who h.asked h.told.items h.seated);
+    }
 
 pub invariant_of-self-in-Err : goal.invariant_of-self-in-Err
 invariant_of-self-in-Err g c =
@@ -26,7 +37,6 @@ invariant_of-self-in-Err g c =
       sized = sized_on h.store.now.pages h.seat c.recall.new.seat c.recall.ensures.same.same.opening h.sized;
       seated = subst (λ (ts : List ToldFault). IsSeated h.who h.asked ts c.recall.new.seat) (sym (told_on h.told.items c.reserve.new.self.items c.tell.new.told.items c.in-Err.fault.why c.reserve.ensures.items c.tell.ensures))
           (past_keeps g.D.Disk.state g.D.Disk.faults _ h.seat c.recall.new.seat h.ready c.recall.ensures.same c.recall.ensures.waits h.who h.asked h.told.items h.seated o.0 o.1 c.in-Err.fault.why c.in-Err.ensures.cause.0 c.in-Err.ensures.cause.1);
-      tabled = c.recall.ensures.kept;
     }
 
 pub returns-in-Ok-clause-gives : goal.returns-in-Ok-clause-gives

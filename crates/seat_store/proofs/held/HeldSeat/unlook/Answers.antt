@@ -6,7 +6,7 @@ use Rattle.store.specs.Calls.{UnlookDoes}
 use Rattle.store.specs.Seats.{EndingIsTold, Visits}
 use Rattle.seat_store.proofs.Coming.{own_session, some_looking}
 use Rattle.seat_store.proofs.Gives.{may_end, still_seated, unlooks}
-use Rattle.seat_store.proofs.Recalled.{none_kept, sized_on}
+use Rattle.seat_store.proofs.Recalled.{sized_on}
 use Rattle.seat_store.proofs.held.HeldSeat.unlook.Goals as goal
 
 pub unlook-requires-clause-own : goal.unlook-requires-clause-own
@@ -25,7 +25,6 @@ invariant_of-self g c = let h = c.args.self.now in let o = some_looking h.asked 
       whole = c.unlook.ensures.ready.1;
       seated = still_seated g.D.Disk.is_honest g.D.Disk.state g.D.Disk.faults _ h.seat c.unlook.new.seat h.ready h.who (own_session _ h.seat h.who h.asked h.told.items h.ready h.seated (Looking o.0) o.1) h.asked h.told.items c.clear.new.self.items c.clear.ensures.items h.seated c.args.why c.unlook.ensures.ended;
       sized = sized_on h.store.now.pages h.seat c.unlook.new.seat c.unlook.ensures.same.opening h.sized;
-      tabled = none_kept g.D.Disk.is_honest g.D.Disk.state c.unlook.new.seat;
     }
 
 pub returns : goal.returns
