@@ -1,6 +1,0 @@
-pub mod Ending
-pub mod Frames
-pub mod Ground
-pub mod Seen
-pub mod Worlds
-pub mod Crashes

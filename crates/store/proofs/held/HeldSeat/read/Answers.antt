@@ -1,0 +1,38 @@
+use Rattle.std.proofs.Common.{ap, refl, subst}
+use Rattle.journal_book.specs.declared.work.Work.TheVariants.{Open}
+use Rattle.journal_law.specs.Seats.{ReadGives}
+use Rattle.turn.specs.Seats.{mine, opening, seen}
+use Rattle.store.specs.Seen.{IsHonest, view_of}
+use Rattle.store.proofs.Coming.{open_is, own_session, some_open}
+use Rattle.store.proofs.ReadingSeen.{page_in, read_gives, read_keeps}
+use Rattle.store.proofs.Recalled.{sized_on}
+use Rattle.store.proofs.held.HeldSeat.read.Goals as goal
+
+pub read-requires-clause-own : goal.read-requires-clause-own
+read-requires-clause-own g c = let h = c.args.self.now in let o = some_open h.asked (seen h.seat) (mine h.seat).work c.requires.open_now in (own_session _ h.seat h.who h.asked h.told.items h.ready h.seated (Open o.0) o.1)
+
+pub read-requires-clause-is_open : goal.read-requires-clause-is_open
+read-requires-clause-is_open g c = let h = c.args.self.now in let o = some_open h.asked (seen h.seat) (mine h.seat).work c.requires.open_now in record { transaction = o.0; open_there = o.1; is_of = h.seated.item (Open o.0) o.1 }
+
+pub read-requires-clause-inside : goal.read-requires-clause-inside
+read-requires-clause-inside g c = page_in g.D.Disk.state g.D.Disk.faults c.args.page (opening c.args.self.now.seat) c.requires.in_store
+
+pub invariant_of-self : goal.invariant_of-self
+invariant_of-self g c = let h = c.args.self.now in let o = some_open h.asked (seen h.seat) (mine h.seat).work c.requires.open_now in
+    let v = c.read.ensures.visits o.0 o.1 in
+    record {
+      ready = c.read.ensures.ready.0;
+      whole = c.read.ensures.ready.1;
+      seated = read_keeps g.D.Disk.is_honest g.D.Disk.state g.D.Disk.faults _ h.seat c.read.new.seat v.before v.after h.ready v.visited h.who h.asked h.told.items (own_session _ h.seat h.who h.asked h.told.items h.ready h.seated (Open o.0) o.1) o.0 o.1 (h.seated.item (Open o.0) o.1) (h.seated.begun o.0 o.1) c.args.page c.args.out.now c.read.new.out c.read.result v.does c.read.result refl h.seated;
+      sized = sized_on h.store.now.pages h.seat c.read.new.seat c.read.ensures.same.opening h.sized;
+    }
+
+pub returns : goal.returns
+returns g c = record {
+  gives = λ a e. let h = c.args.self.now in let o = some_open h.asked (seen h.seat) (mine h.seat).work c.requires.open_now in
+      let is = open_is h.asked (seen h.seat) (mine h.seat).work a e in
+      let v = c.read.ensures.visits is.0 is.1 in
+      subst (λ x. ReadGives (IsHonest g.D.Disk.is_honest g.D.Disk.state c.read.new.seat) c.args.page c.read.new.out (view_of g.D.Disk.state g.D.Disk.faults h.asked h.told.items h.seat) (view_of g.D.Disk.state g.D.Disk.faults h.asked h.told.items c.read.new.seat) x c.read.result) is.2
+      (read_gives g.D.Disk.is_honest g.D.Disk.state g.D.Disk.faults _ h.seat c.read.new.seat v.before v.after h.ready v.visited h.who h.asked h.told.items (own_session _ h.seat h.who h.asked h.told.items h.ready h.seated (Open is.0) is.1) is.0 is.1 (h.seated.item (Open is.0) is.1) (h.seated.begun is.0 is.1) c.args.page c.args.out.now c.read.new.out c.read.result v.does c.read.result refl);
+  goes = record { store = refl; same = c.read.ensures.same };
+}

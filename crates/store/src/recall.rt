@@ -1,0 +1,102 @@
+//! Pages as of the snapshots of a look.
+
+ghost use Rattle.std.specs.Prelude.{◌≡◌, ℕ, IfErr, IfSome, None, OnOk};
+ghost use Rattle.store.specs.Past.{IsNewFault, IsPastCause, IsPastOf, IsPinnedBy, IsRetainedBy, IsTableOf};
+ghost use Rattle.store.specs.Seats.{IsPage, IsReady, IsWhole, StaysIn, Waits};
+ghost use Rattle.turn.specs.Seats.{mine};
+ghost use Rattle.turn.specs.Tables.{table_of};
+
+use crate::shared::{Seat, Store};
+use disk_model::Disk;
+use page_table::SnapTable;
+use race_model::Fault;
+use retro_base::Page;
+use skippy::Steps;
+use std::alloc::Global;
+use std::marker::Brand;
+use std::sync::Wait;
+use std::sync::ledger::{Blank, Ledger};
+
+// A new table of a snapshot that an open look pins.
+fn new_table<R: Wait, D: Disk + Drop>(
+    alloc: Global,
+    rt: &R,
+    store: &Store<D>,
+    seat: &mut Seat<D>,
+    snapshot: u32,
+) -> SnapTable
+    requires ready { IsReady (table_of store.now.turn) seat.old }
+    requires pinned { IsPinnedBy seat.old snapshot }
+    ensures ready { IsReady (table_of store.now.turn) seat.new }
+    ensures same { StaysIn seat.old seat.new }
+    ensures waits { Waits seat.old seat.new }
+    ensures table { IsTableOf D.is_honest D.state seat.new snapshot result }
+{
+    let start = store.start_of(rt, seat, snapshot);
+    SnapTable::new(alloc, start)
+}
+
+// A page by the table of its snapshot; the steps are not counted.
+fn read_by<R: Wait, D: Disk + Drop, L: Ledger>(
+    blank: Blank,
+    rt: &R,
+    store: &Store<D>,
+    seat: &mut Seat<D>,
+    snapshot: u32,
+    table: &mut SnapTable,
+    page: u32,
+    out: &mut Page,
+) -> Result<(), Fault>
+    requires name { blank.name ≡ L.name }
+    requires parts { blank.parts ≡ L.parts }
+    requires one_part { blank.parts ≡ 1 }
+    requires ready { IsReady (table_of store.now.turn) seat.old × IsWhole seat.old }
+    requires pinned { IsPinnedBy seat.old snapshot }
+    requires table { IsTableOf D.is_honest D.state seat.old snapshot table.old }
+    requires inside { IsPage seat.old page }
+    ensures ready { IsReady (table_of store.now.turn) seat.new × IsWhole seat.new }
+    ensures same { StaysIn seat.old seat.new }
+    ensures waits { Waits seat.old seat.new }
+    ensures page { OnOk result (IsPastOf D.is_honest D.state seat.new snapshot page out.new) }
+    ensures retained { OnOk result (IsRetainedBy seat.new snapshot) }
+    ensures cause { IfErr result (λ fault. (covered : ℕ) × IsPastCause seat.new covered fault.why) }
+    ensures fault { IfErr result (IsNewFault D.faults seat.old) }
+{
+    let mut steps = Steps::<L>::new(blank);
+    store.past(rt, seat, snapshot, table, page, out, &mut steps)
+}
+
+/// Fills `out` with a page as of a snapshot that an open look pins, by a new table of it. Refused for want of memory, and
+/// exactly where a read of a device failed; `out` is then undefined.
+pub(crate) fn recall<R: Wait, D: Disk + Drop>(
+    alloc: Global,
+    rt: &R,
+    store: &Store<D>,
+    seat: &mut Seat<D>,
+    snapshot: u32,
+    page: u32,
+    out: &mut Page,
+) -> Result<(), Fault>
+    requires ready { IsReady (table_of store.now.turn) seat.old × IsWhole seat.old }
+    requires pinned { IsPinnedBy seat.old snapshot }
+    requires inside { IsPage seat.old page }
+    ensures ready { IsReady (table_of store.now.turn) seat.new × IsWhole seat.new }
+    ensures same { StaysIn seat.old seat.new }
+    ensures waits { Waits seat.old seat.new }
+    ensures page { OnOk result (IsPastOf D.is_honest D.state seat.new snapshot page out.new) }
+    ensures retained { OnOk result (IsRetainedBy seat.new snapshot) }
+    ensures cause { IfErr result (λ fault. (covered : ℕ) × IsPastCause seat.new covered fault.why) }
+    ensures fault { IfErr result (IsNewFault D.faults seat.old) }
+{
+    let mut table = new_table(alloc, rt, store, seat, snapshot);
+    read_by::<R, D, Brand>(
+        Blank::new(1),
+        rt,
+        store,
+        seat,
+        snapshot,
+        &mut table,
+        page,
+        out,
+    )
+}
