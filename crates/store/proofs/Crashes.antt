@@ -1,36 +1,32 @@
 -- What readers see of a store that was just opened, and of what a crash leaves of one that is closed.
-use Rattle.std.proofs.Common.{◌≡◌, ◌≤◌, ◌<◌, ◌+◌, ◌-◌, ◌%◌, ◌==◌, ◌∙◌, ◌⊎◌, inl, inr, ℕ, Bool, true, false, cond, eqb, max, take, drop, length, List, [], ◌∷◌, Option, Some, None, map, refl, ap, sym, subst, arith, eq-eqb, ne_eqb, length-drop}
+use Rattle.std.proofs.Common.{◌≡◌, ◌≤◌, ◌+◌, ◌-◌, ◌%◌, ◌∙◌, inl, inr, ℕ, Bool, true, cond, eqb, max, drop, length, List, [], ◌∷◌, Option, Some, None, map, refl, ap, sym, subst, arith, eq-eqb, ne_eqb, length-drop}
 use Rattle.std.specs.Prelude.{IfSome, is_some}
 use Rattle.std.specs.List.{AllByRecursion}
 use Rattle.std.proofs.lemmas.List.{drop-drop, take_all}
 use Rattle.block_file.specs.Blocks.{block_at}
-use Rattle.disk_model.specs.declared.four.Four.{Four}
 use Rattle.disk_model.specs.Disk.{State}
-use Rattle.retro_base.specs.FirstMet.{first_met}
 use Rattle.history.specs.declared.entry.Base.{Base}
 use Rattle.history.specs.declared.entry.Change.{Change}
 use Rattle.history.specs.declared.entry.Change.TheVariants.{Commit, Drop}
 use Rattle.history.specs.declared.entry.Mark.{Mark as MarkOf}
 use Rattle.history.specs.declared.journal.Line.{Line}
 use Rattle.history.specs.declared.writes.PageImage.{PageImage}
-use Rattle.history.specs.History.{History, bytes_at, captures, now, pages_as_of, with_change}
+use Rattle.history.specs.History.{History, captures, now, pages_as_of, with_change}
 use Rattle.history.specs.Journal.{after_journal}
 use Rattle.history.specs.Laws.{IsConsistent, KeepsNewest}
 use Rattle.history.specs.Lines.{first_stop}
 use Rattle.history.specs.Marks.{MarksRise, is_retained, oldest_start, start_of}
 use Rattle.history.specs.Right.{MayFollow}
 use Rattle.history.specs.Sound.{IsSound}
-use Rattle.history.specs.Writes.{pages_of}
 use Rattle.history.proofs.AsOf.{over}
 use Rattle.history.proofs.Captures.{with_changes-none}
 use Rattle.history.proofs.MarkLaws.{retained-above}
 use Rattle.journal_law.specs.Pages.{Pages, page_world}
 use Rattle.journal_law.specs.World.{Mark, World}
-use Rattle.opening.specs.Devices.{AreImages}
 use Rattle.race_model.specs.Desk.{Desk, capacity_of}
 use Rattle.race_model.specs.Fits.{HistoryFits, VaultFits}
 use Rattle.race_model.specs.Images.{IsSameWorld}
-use Rattle.race_model.specs.Reading.{found, in_slot, told_of}
+use Rattle.race_model.specs.Reading.{in_slot, told_of}
 use Rattle.race_model.specs.Vault.{Vault, listing}
 use Rattle.race_model.proofs.Apart.{history_outlives_lines, vault_finds}
 use Rattle.race_model.proofs.Histories.{fits_with, keeps_newest}
@@ -40,16 +36,12 @@ use Rattle.skippy.specs.Mappings.{end_of, first_in}
 use Rattle.archive.specs.Archive.{Running}
 use Rattle.archive.proofs.Finding.{shows_first}
 use Rattle.store_core.specs.declared.desk_core.Core.{Core}
-use Rattle.store.specs.declared.closing.Closed.{Closed}
 use Rattle.store.specs.declared.start.Start.{Start}
-use Rattle.store.specs.Closing.{Closes}
 use Rattle.store.specs.Crashes.{OpensTo}
-use Rattle.store.specs.Opening.{IsHonestlyOpened}
-use Rattle.store.specs.Seats.{Sat}
 use Rattle.store.specs.Start.{AreJustOpened}
 use Rattle.store.proofs.Leaving.{sound_journal}
-use Rattle.store.specs.CrashesSeen.{ClosedShows, CrashesShow, OpeningShows, OpensShown, ShowsOneOf, changed_world}
-use Rattle.store.specs.Ground.{first_image, ground_of, pages_of_core, past_of, slot_or, world_of}
+use Rattle.store.specs.CrashesSeen.{ClosedShows, OpeningShows, OpensShown, ShowsOneOf, changed_world}
+use Rattle.store.specs.Ground.{first_image, pages_of_core, past_of, slot_or, world_of}
 use Rattle.store.specs.Worlds.{AreMarksOf, IsWorldOf}
 use Rattle.store.proofs.ReadingSeen.{pages_are}
 use Rattle.store.proofs.Worlds.{all_both, all_more, commit_step, drop_step, marks_same, self_retained, world_is}

@@ -1,5 +1,5 @@
 -- What a crash leaves of the devices of a store that is closed.
-use Rattle.std.proofs.Common.{◌≡◌, ◌∙◌, ◌⊎◌, inl, inr, ◌+◌, ◌*◌, ◌<◌, ◌≤◌, ℕ, Bool, true, false, cond, eqb, List, [], ◌∷◌, length, Option, Some, None, refl, sym, ap, subst, arith, eq-eqb}
+use Rattle.std.proofs.Common.{◌≡◌, ◌∙◌, ◌⊎◌, inl, inr, ◌*◌, ◌<◌, ◌≤◌, ℕ, Bool, true, cond, eqb, List, [], ◌∷◌, length, Option, Some, None, refl, sym, ap, subst, arith, eq-eqb}
 use Rattle.std.specs.Prelude.{IfSome, is_some}
 use Rattle.std.specs.List.{AllByRecursion}
 use Rattle.block_file.proofs.Blocks.{image_settled}
@@ -20,11 +20,11 @@ use Rattle.history.specs.declared.log.Log as declared
 use Rattle.history.specs.declared.log.Version.{Version}
 use Rattle.history.specs.History.{History, State as Place, now, run}
 use Rattle.history.specs.Journal.{after_journal}
-use Rattle.history.specs.Lines.{first_stop, same_device}
+use Rattle.history.specs.Lines.{same_device}
 use Rattle.history.specs.Right.{MayFollow}
 use Rattle.journal_law.specs.Lawful.{CountedBy, IsCounted}
 use Rattle.opening.specs.Devices.{AreHonest, AreImages, of_each}
-use Rattle.opening.specs.Opening.{AreSized, Hold, page_at}
+use Rattle.opening.specs.Opening.{AreSized, page_at}
 use Rattle.race_model.specs.Desk.{ArePagesOf, Desk, Doubt, IsInDoubt, NewBase, OneMore, Sure}
 use Rattle.race_model.specs.Fits.{DoubtFits, VaultFits}
 use Rattle.race_model.specs.Images.{OpenInDoubt}
@@ -35,10 +35,9 @@ use Rattle.race_model.proofs.Keeps.{apart_open}
 use Rattle.records.specs.Log.{IsLog}
 use Rattle.records.specs.Maplog.{IsMaplog}
 use Rattle.redo_log.specs.Redo.{ListsOneOf}
-use Rattle.replay.specs.Joined.{AreJoined}
 use Rattle.replay.specs.Laws.{AreRightContents}
 use Rattle.replay.specs.Opened.{Contents}
-use Rattle.skippy.specs.Mappings.{Mappings, end_of}
+use Rattle.skippy.specs.Mappings.{end_of}
 use Rattle.archive.specs.Archive.{Running}
 use Rattle.archive.specs.Side.{ListsMaplogOf}
 use Rattle.desk.specs.Desk.{log_of, other_log}
@@ -50,7 +49,7 @@ use Rattle.store.specs.Crashes.{CrashesOpen, HoldWorld, OpensTo}
 use Rattle.store.specs.Opening.{AreOpenedFrom, AreReadBy, IsHonestlyOpened, disks_of}
 use Rattle.store.specs.Seats.{journal}
 use Rattle.store.specs.Sides.{DeskStands, VaultStands}
-use Rattle.store.specs.Start.{AreOpenedTo, IsCoreFrom, IsDoubtIn, IsOpenedTo, IsStartOf, IsVaultFrom, IsVaultIn, Origin, desk_counts, vault_counts}
+use Rattle.store.specs.Start.{AreOpenedTo, IsCoreFrom, IsDoubtIn, IsStartOf, IsVaultFrom, IsVaultIn, Origin, desk_counts, vault_counts}
 use Rattle.store.proofs.Looked.{page_count_stays}
 
 -- ---- the opening
