@@ -39,7 +39,7 @@ use Rattle.store.proofs.Finding.{some_is}
 use Rattle.store.proofs.Reading.{above_low}
 use Rattle.store.specs.Ground.{first_image, pages_of_core, past_of, slot_or, world_of}
 use Rattle.store.specs.Worlds.{AreMarksOf, IsWorldOf}
-use Rattle.store.proofs.ReadingSeen.{pages_are}
+use Rattle.store.proofs.ReadGiven.{pages_are}
 use Rattle.store.proofs.Worlds.{all_both, all_more, self_retained}
 
 -- ---- the first image of a page

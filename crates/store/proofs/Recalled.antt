@@ -40,7 +40,7 @@ use Rattle.store.specs.Seen.{HasBegun, IsHonest, IsSeated, ground_in, pins_of_lo
 use Rattle.store.proofs.Coming.{Came, moves}
 use Rattle.store.proofs.Grounds.{opened_world}
 use Rattle.store.proofs.Pasts.{past_stays, some_there}
-use Rattle.store.proofs.ReadingSeen.{begun_on}
+use Rattle.store.proofs.ReadGiven.{begun_on}
 
 -- ---- told faults
 

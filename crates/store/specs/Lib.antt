@@ -2,12 +2,12 @@ pub mod Calls
 pub mod Carrying
 pub mod Closing
 pub mod Crashes
-pub mod CrashesSeen
 pub mod Ending
 pub mod Frames
 pub mod Ground
 pub mod Opening
 pub mod Past
+pub mod Recovery
 pub mod RoundCalls
 pub mod Rounds
 pub mod Seats

@@ -1,6 +1,6 @@
 //! Of the pages now and at each retained snapshot.
 
-ghost use Rattle.store.specs.CrashesSeen.{ClosedShows, OpeningShows, OpensShown};
+ghost use Rattle.store.specs.Recovery.{ClosedShows, OpeningShows, OpensShown};
 ghost use Rattle.store.specs.Worlds.{NamesAreSame, NamesStay, OthersAreRefused, PinsAreSame, RetainedAreHeld, WorldIsOfHistory};
 
 use disk_model::Disk;

@@ -1,4 +1,4 @@
-use Rattle.store.proofs.Crashes.{closed_shows, opening_shows, opens_shown}
+use Rattle.store.proofs.Recovery.{closed_shows, opening_shows, opens_shown}
 use Rattle.store.proofs.laws.laws_of_crashes.Goals as goal
 
 pub returns-clause-opening : goal.returns-clause-opening

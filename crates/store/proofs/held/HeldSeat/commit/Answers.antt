@@ -4,7 +4,7 @@ use Rattle.journal_law.specs.Seats.{CommitGives}
 use Rattle.turn.specs.Seats.{mine, seen}
 use Rattle.store.specs.Seen.{view_of}
 use Rattle.store.proofs.Coming.{open_is, own_session, some_open}
-use Rattle.store.proofs.CommittingSeen.{commit_answers}
+use Rattle.store.proofs.CommitGiven.{commit_answers}
 use Rattle.store.proofs.Recalled.{sized_on}
 use Rattle.store.proofs.held.HeldSeat.commit.Goals as goal
 

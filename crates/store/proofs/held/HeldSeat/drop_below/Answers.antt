@@ -2,7 +2,7 @@ use Rattle.std.proofs.Common.{ap, refl, sym, subst}
 use Rattle.txn_set.specs.Ledger.{is_closed}
 use Rattle.store.specs.Seen.{IsSeated}
 use Rattle.store.proofs.Coming.{idle_is, seated_none}
-use Rattle.store.proofs.DroppingSeen.{drop_gives}
+use Rattle.store.proofs.DropGiven.{drop_gives}
 use Rattle.store.proofs.Recalled.{sized_on}
 use Rattle.store.proofs.held.HeldSeat.drop_below.Goals as goal
 

@@ -4,7 +4,7 @@ use Rattle.journal_law.specs.Seats.{EditGives}
 use Rattle.turn.specs.Seats.{mine, opening, seen}
 use Rattle.store.specs.Seen.{view_of}
 use Rattle.store.proofs.Coming.{open_is, own_session, some_open}
-use Rattle.store.proofs.ReadingSeen.{page_in, edit_gives, edit_keeps}
+use Rattle.store.proofs.ReadGiven.{page_in, edit_gives, edit_keeps}
 use Rattle.store.proofs.Recalled.{sized_on}
 use Rattle.store.proofs.held.HeldSeat.edit.Goals as goal
 

@@ -4,7 +4,7 @@ use Rattle.journal_law.specs.Seats.{ReadGives}
 use Rattle.turn.specs.Seats.{mine, opening, seen}
 use Rattle.store.specs.Seen.{IsHonest, view_of}
 use Rattle.store.proofs.Coming.{open_is, own_session, some_open}
-use Rattle.store.proofs.ReadingSeen.{page_in, read_gives, read_keeps}
+use Rattle.store.proofs.ReadGiven.{page_in, read_gives, read_keeps}
 use Rattle.store.proofs.Recalled.{sized_on}
 use Rattle.store.proofs.held.HeldSeat.read.Goals as goal
 

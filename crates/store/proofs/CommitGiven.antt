@@ -66,7 +66,7 @@ use Rattle.store.proofs.Gives.{own_names}
 use Rattle.store.proofs.Limits.{IsLimit, archive_limit, images_limit, snapshots_limit}
 use Rattle.store.proofs.Named.{names_same, names_stay}
 use Rattle.store.proofs.Overlaps.{changed_overlaps}
-use Rattle.store.proofs.ReadingSeen.{begun_few, begun_on, kept_began}
+use Rattle.store.proofs.ReadGiven.{begun_few, begun_on, kept_began}
 
 newest_last : (n : ℕ) (ms : List (Mark Pages)) (m : Mark Pages) → newest_behind n (ms ++ m ∷ []) ≡ m.number
 newest_last n [] m = refl

@@ -40,10 +40,10 @@ use Rattle.store.specs.declared.start.Start.{Start}
 use Rattle.store.specs.Crashes.{OpensTo}
 use Rattle.store.specs.Start.{AreJustOpened}
 use Rattle.store.proofs.Leaving.{sound_journal}
-use Rattle.store.specs.CrashesSeen.{ClosedShows, OpeningShows, OpensShown, ShowsOneOf, changed_world}
+use Rattle.store.specs.Recovery.{ClosedShows, OpeningShows, OpensShown, ShowsOneOf, changed_world}
 use Rattle.store.specs.Ground.{first_image, pages_of_core, past_of, slot_or, world_of}
 use Rattle.store.specs.Worlds.{AreMarksOf, IsWorldOf}
-use Rattle.store.proofs.ReadingSeen.{pages_are}
+use Rattle.store.proofs.ReadGiven.{pages_are}
 use Rattle.store.proofs.Worlds.{all_both, all_more, commit_step, drop_step, marks_same, self_retained, world_is}
 
 -- ---- what opens to a history
