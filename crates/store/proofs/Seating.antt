@@ -2,12 +2,17 @@
 use Rattle.std.proofs.Common.{◌≡◌, ◌∙◌, ℕ, List, [], Option, Some, None, sym, ap, subst, slice_get, arith}
 use Rattle.atomic_table.specs.Seated.{TableId}
 use Rattle.disk_model.specs.Disk.{State}
+use Rattle.history.specs.declared.entry.Base.{Base}
 use Rattle.history.specs.declared.journal.Line.{Line}
-use Rattle.history.specs.Lines.{lines_of}
+use Rattle.history.specs.History.{History, now}
+use Rattle.history.specs.Lines.{horizon_of, lines_of}
+use Rattle.history.specs.Marks.{newest}
 use Rattle.journal_book.specs.declared.work.Work.{Work}
 use Rattle.journal_book.specs.Works.{work_at}
 use Rattle.archive.specs.Archive.{Running}
+use Rattle.race_model.specs.Desk.{Desk}
 use Rattle.store_core.specs.declared.desk_core.Core.{Core}
+use Rattle.store_core.specs.Core.{IsCore}
 use Rattle.turn.specs.declared.view.Holding.{Holding}
 use Rattle.turn.specs.Faults.{count_of}
 use Rattle.turn.specs.Seats.{AreNew, MayOpen, mine, opening, seen}
@@ -40,6 +45,14 @@ module _ {D : Type 0} (z : TableId) (o : Start D) (seats : List (Sat D)) (new : 
 -- the seats tell of as many pages as the core that the store began with
 pub sized_by : {D : Type 0} (core : Core D) (archive : Running D) (s : Sat D) (pages : ℕ) → IsStartOf core archive (opening s) → pages ≡ core.desk.base.page_count → IsSized pages s
 sized_by core archive s pages is count = λ start e. count ∙ ap (λ (c : Core _). c.desk.base.page_count) (sym (subst (IsStartOf core archive) e is).0)
+
+-- the newest snapshot that a core tells of, which was just opened
+pub newest_told : {D : Type 0} (is_honest : D → Type 0) (state : D → State) (core : Core D) (archive : Running D) → AreJustOpened is_honest state core archive → (horizon : ℕ × ℕ)
+    → ((opening : History) (plain : Desk) → IsCore is_honest state opening core plain → horizon ≡ horizon_of (now opening).base core.ledger.book.lines) → horizon.1 ≡ newest core.desk.base.marks
+newest_told is_honest state core archive just horizon told =
+    let history : History = just.origin.history in
+    let at : horizon ≡ horizon_of (now history).base [] = told history just.opened.core.plain just.opened.core.is ∙ ap (λ (lines : List Line). horizon_of (now history).base lines) just.lines in
+    ap (λ (h : ℕ × ℕ). h.1) at ∙ ap (λ (b : Base). newest b.marks) just.opened.base
 
 -- ---- a store that was just opened
 

@@ -1,5 +1,5 @@
 use Rattle.std.proofs.Common.{◌∙◌, ap}
-use Rattle.store.proofs.Seating.{may_open, new_ready, new_seats, sized_by}
+use Rattle.store.proofs.Seating.{may_open, new_ready, new_seats, newest_told, sized_by}
 use Rattle.store.proofs.shared.Store.new.Goals as goal
 
 pub new-requires-clause-open : goal.new-requires-clause-open
@@ -16,3 +16,6 @@ returns-in-Ok-clause-sized g c = λ k s there. sized_by c.args.core c.args.archi
 
 pub returns-in-Ok-clause-begins : goal.returns-in-Ok-clause-begins
 returns-in-Ok-clause-begins g c = let e = c.in-Ok.ensures.opening in (ap (λ s. s.core.value) e ∙ c.of.ensures, ap (λ s. s.archive.value) e ∙ c.of-2.ensures)
+
+pub returns-in-Ok-clause-newest : goal.returns-in-Ok-clause-newest
+returns-in-Ok-clause-newest g c = newest_told g.D.Disk.is_honest g.D.Disk.state c.args.core c.args.archive c.requires.opened c.horizon-newest.result c.horizon-newest.ensures
