@@ -1,6 +1,10 @@
-pub mod Words
-pub mod Says
-pub mod Stores
 pub mod Formats
-pub mod Shows
+pub mod Meeting
+pub mod Phases
 pub mod Program
+pub mod Says
+pub mod Shows
+pub mod Slots
+pub mod Steps
+pub mod Stores
+pub mod Words

@@ -9,6 +9,8 @@ mod calls;
 #[cfg(test)]
 mod drops;
 mod formatting;
+mod laws;
+mod phases;
 mod program;
 #[cfg(test)]
 mod result_tables;
@@ -19,6 +21,7 @@ mod scripts;
 mod showing;
 #[cfg(test)]
 mod stores;
+mod seats;
 #[cfg(test)]
 mod tests;
 mod words;
