@@ -3,8 +3,11 @@ pub mod Coming
 pub mod Committing
 pub mod Edited
 pub mod Gives
+pub mod Grounds
 pub mod Limits
 pub mod Named
 pub mod Overlaps
+pub mod Pasts
 pub mod Reading
+pub mod Recalled
 pub mod Worlds

@@ -48,7 +48,7 @@ use Rattle.store.specs.declared.desk_side.DeskSide.{DeskSide}
 use Rattle.store.specs.declared.start.Start.{Start}
 use Rattle.store.specs.Calls.{EditDoes, ReadDoes}
 use Rattle.store.specs.Seats.{IsReady, Sat, Visited, journal, slots_of}
-use Rattle.store.specs.Start.{IsOpenedTo, Origin, opened_base, opened_counts}
+use Rattle.store.specs.Start.{AreJustOpened, IsOpenedTo, Origin, opened_base, opened_counts}
 use Rattle.store.proofs.Adding.{slot_own}
 use Rattle.store.proofs.Finding.{above_so, some_is}
 use Rattle.store.proofs.Trying.{kept_who}
@@ -273,9 +273,9 @@ module _ {D : Type 0} (is_honest : D → Type 0) (state : D → State) (faults :
 
   module _ (page : ℕ) (bytes_before after : List ℕ) (r : Result (Unit {0}) Refusal) (does : ReadDoes is_honest state faults who page bytes_before after t r d0.core d1.core) where
     abbrev pub Gives : Result (Unit {0}) Refusal → Type 0
-    Gives x = ReadGives (IsHonest is_honest s1) page after Old New A x
+    Gives x = ReadGives (IsHonest is_honest state s1) page after Old New A x
 
-    shown : r ≡ Ok tt → read_refused (journal d0) t page ≡ None → IsHonest is_honest s1 → after ≡ written (seat.at_began Old A) t.edits page
+    shown : r ≡ Ok tt → read_refused (journal d0) t page ≡ None → IsHonest is_honest state s1 → after ≡ written (seat.at_began Old A) t.edits page
     shown e free honest = at (own_edit page t.edits) refl where
       none : changed_since t.who page t.began (journal d0) ≡ None
       none = at_none (changed_since t.who page t.began (journal d0)) (or_none t.kept (option_map overlap (changed_since t.who page t.began (journal d0))) free).1 where
@@ -283,15 +283,15 @@ module _ {D : Type 0} (is_honest : D → Type 0) (state : D → State) (faults :
         at_none None f = refl
         at_none (Some x) f = absurd (cc f)
 
-      here : (is_honest d0.start.core.value.desk.pool.file.disk × is_honest d0.start.archive.value.pagelog.disk) × (d0.start.core.value.ledger.book.lines ≡ [])
-      here = subst (λ (o : Option (Start D)). IfSome o (λ x. (is_honest x.core.value.desk.pool.file.disk × is_honest x.archive.value.pagelog.disk) × (x.core.value.ledger.book.lines ≡ []))) (v.same.opening ∙ v.opening) honest
+      here : (is_honest d0.start.core.value.desk.pool.file.disk × is_honest d0.start.archive.value.pagelog.disk) × AreJustOpened is_honest state d0.start.core.value d0.start.archive.value
+      here = subst (λ (o : Option (Start D)). IfSome o (λ x. (is_honest x.core.value.desk.pool.file.disk × is_honest x.archive.value.pagelog.disk) × AreJustOpened is_honest state x.core.value x.archive.value)) (v.same.opening ∙ v.opening) honest
 
       at : (edit : Option (List ℕ)) → own_edit page t.edits ≡ edit → after ≡ written (seat.at_began Old A) t.edits page
       at (Some bytes) f = subst (λ (x : Result (Unit {0}) Refusal). OnOk x (after ≡ bytes)) e (does.own bytes f) ∙ edit_found t.edits page (seat.at_began Old A) bytes fits.edits_rise (sym f)
       at None f =
           let from_ = v.stands.stands v.stands.origin v.stands.opened in
           subst (λ (x : Result (Unit {0}) Refusal). OnOk x (after ≡ (now from_.plain.history).pages page)) e (does.current v.stands.origin.history from_.plain from_.is (v.stands.honest.pages.0 here.0.0) f)
-          ∙ (shown_there v.stands.origin from_.plain v.stands.opened from_.is here.1 here.0.0 page ∙ (pages_then page none ∙ edit_missing t.edits page (seat.at_began Old A) fits.edits_rise (sym f)))
+          ∙ (shown_there v.stands.origin from_.plain v.stands.opened from_.is here.1.lines here.0.0 page ∙ (pages_then page none ∙ edit_missing t.edits page (seat.at_began Old A) fits.edits_rise (sym f)))
 
     pub read_ok : r ≡ Ok tt → Gives (Ok tt)
     read_ok e =
@@ -312,7 +312,7 @@ module _ {D : Type 0} (is_honest : D → Type 0) (state : D → State) (faults :
         by_kept None k None f s = absurd (cc s)
 
     pub read_refuses : (why : Refusal) → r ≡ Err why → Gives (Err why)
-    read_refuses why e = read_err (IsHonest is_honest s1) page after why (subst (λ (x : Result (Unit {0}) Refusal). IfErr x (λ w. d1.core.ledger ≡ with_open who (kept_behind w t) d0.core.ledger)) e does.answered.kept) (read_reason why e)
+    read_refuses why e = read_err (IsHonest is_honest state s1) page after why (subst (λ (x : Result (Unit {0}) Refusal). IfErr x (λ w. d1.core.ledger ≡ with_open who (kept_behind w t) d0.core.ledger)) e does.answered.kept) (read_reason why e)
 
     pub read_gives : (x : Result (Unit {0}) Refusal) → r ≡ x → Gives x
     read_gives (Ok y) e = read_ok e

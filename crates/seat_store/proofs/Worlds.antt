@@ -34,16 +34,16 @@ written_same (w ∷ writes) one other same page = written_same writes (with_writ
   by_test true p = refl
   by_test false p = same p
 
-all_more : {X : Type 0} (P Q : X → Type 0) (xs : List X) → ((x : X) → P x → Q x) → AllByRecursion P xs → AllByRecursion Q xs
+pub all_more : {X : Type 0} (P Q : X → Type 0) (xs : List X) → ((x : X) → P x → Q x) → AllByRecursion P xs → AllByRecursion Q xs
 all_more P Q [] f all = tt
 all_more P Q (x ∷ xs) f all = (f x all.0, all_more P Q xs f all.1)
 
-all_both : {X : Type 0} (P Q : X → Type 0) (xs : List X) → AllByRecursion P xs → AllByRecursion Q xs → AllByRecursion (λ (x : X). P x × Q x) xs
+pub all_both : {X : Type 0} (P Q : X → Type 0) (xs : List X) → AllByRecursion P xs → AllByRecursion Q xs → AllByRecursion (λ (x : X). P x × Q x) xs
 all_both P Q [] p q = tt
 all_both P Q (x ∷ xs) p q = ((p.0, q.0), all_both P Q xs p.1 q.1)
 
 -- each mark's snapshot is retained
-self_retained : (ms : List MarkOf) → AllByRecursion (λ (m : MarkOf). is_retained m.number ms ≡ true) ms
+pub self_retained : (ms : List MarkOf) → AllByRecursion (λ (m : MarkOf). is_retained m.number ms ≡ true) ms
 self_retained [] = tt
 self_retained (m ∷ ms) = (first, all_more _ _ ms (λ x e. later x e) (self_retained ms)) where
   first : is_retained m.number (m ∷ ms) ≡ true

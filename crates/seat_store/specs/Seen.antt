@@ -1,5 +1,5 @@
 -- A seat of a store, as sessions see it.
-use Rattle.std.specs.Prelude.{◌≡◌, ◌+◌, ◌<◌, ℕ, List, [], ◌∷◌, drop, map, reverse, take, Option, Some, None, IfSome, Result, Err, true, Contains}
+use Rattle.std.specs.Prelude.{◌≡◌, ◌+◌, ◌<◌, ℕ, List, [], ◌∷◌, ◌++◌, drop, map, reverse, take, Option, Some, None, IfSome, Result, Err, true, Contains}
 use Rattle.disk_model.specs.Disk.{State}
 use Rattle.retro_base.specs.declared.device.Device.{Device}
 use Rattle.retro_base.specs.declared.refusal.Refusal.{Refusal}
@@ -21,13 +21,18 @@ use Rattle.seat_store.specs.declared.told.ToldFault.{ToldFault}
 use Rattle.seat_store.specs.Ground.{ground_of, no_ground}
 use Rattle.store.specs.declared.start.Start.{Start}
 use Rattle.store.specs.Seats.{Sat}
-use Rattle.store.specs.Start.{opened_base}
+use Rattle.store.specs.Start.{AreJustOpened, opened_base}
 use Rattle.turn.specs.Faults.{fault_times}
 use Rattle.turn.specs.Seats.{mine, opening, seen}
 
 -- faults in the order in which they were told, as the last first
 abbrev pub told_of : List ToldFault → List seat.Told
 told_of faults = reverse (map (λ (fault : ToldFault). record { device = fault.device; count = fault.count }) faults)
+
+-- and with the one for which a call was refused, at the end
+abbrev pub told_more : List ToldFault → Refusal → List ToldFault
+told_more told (DiskFault device count) = told ++ record { device = device; count = count } ∷ []
+told_more told why = told
 
 -- a work as sessions see it, behind the lines that were seen; a look is at this snapshot, or at all
 abbrev pub work_in : Option ℕ → List Line → Option Work → seat.Work
@@ -56,10 +61,10 @@ module _ {D : Type 0} (state : D → State) (faults : D → ℕ) where
     told = told_of told;
   }
 
--- The store was opened with an empty journal, on devices of the pages and of the slots that tell what they hold.
-abbrev pub IsHonest : {D : Type 0} → (D → Type 0) → Sat D → Type 0
-IsHonest is_honest s = IfSome (opening s) (λ start.
-    (is_honest start.core.value.desk.pool.file.disk × is_honest start.archive.value.pagelog.disk) × (start.core.value.ledger.book.lines ≡ []))
+-- The store began as it was just opened, on devices of the pages and of the slots that tell what they hold.
+abbrev pub IsHonest : {D : Type 0} → (D → Type 0) → (D → State) → Sat D → Type 0
+IsHonest is_honest state s = IfSome (opening s) (λ start.
+    (is_honest start.core.value.desk.pool.file.disk × is_honest start.archive.value.pagelog.disk) × AreJustOpened is_honest state start.core.value start.archive.value)
 
 -- what a look pins: its one snapshot, or each that was retained when it began
 abbrev pub pins_of_look : {D : Type 0} → Option ℕ → List Line → Start D → Look → List ℕ

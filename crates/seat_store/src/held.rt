@@ -1,19 +1,22 @@
 //! A store with one of its seats.
 
-ghost use Rattle.std.specs.Prelude.{◌≡◌, ◌<◌, ◌⊎◌, [], None, IfSome, IsTrue, option_copied, true};
-ghost use Rattle.history.specs.Label.{is_label};
-ghost use Rattle.journal_law.specs.Seats.{Attempt, BeginGives, CommitGives, EditGives, Idle, Look, LookAllGives, LookGives, Looking, MayEnd, Open};
-ghost use Rattle.journal_law.specs.Seats.{ReadGives, RollbackGives, UnlookGives, is_looking, is_open};
-ghost use Rattle.seat_store.specs.Seen.{IsHonest, IsSeated, RoundFails, view_of};
-ghost use Rattle.store.specs.Seats.{IsReady, IsWhole};
-ghost use Rattle.turn.specs.Seats.{mine};
+ghost use Rattle.std.specs.Prelude.{◌≡◌, [], None};
+ghost use Rattle.journal_law.specs.Seats.{Idle, Waits};
+ghost use Rattle.seat_store.specs.Frames.{GoesOn};
+ghost use Rattle.seat_store.specs.Kept.{IsTabled};
+ghost use Rattle.seat_store.specs.Seen.{IsSeated, view_of};
+ghost use Rattle.store.specs.Seats.{IsReady, IsSized, IsWhole};
+ghost use Rattle.turn.specs.Seats.{mine, seen};
 ghost use Rattle.turn.specs.Tables.{table_of};
+ghost use Rattle.turn.specs.Views.{longer};
 
 use crate::ending::ending_of;
-use crate::told::ToldFault;
+use crate::kept::KeptTable;
+use crate::recall::recall;
+use crate::told::{ToldFault, tell};
 use disk_model::Disk;
 use history::Mark;
-use journal_law::Ending;
+use journal_law::{Ending, Seat};
 use retro_base::{Page, Refusal, Who};
 use std::alloc::Global;
 use std::sync::Wait;
@@ -22,6 +25,7 @@ use values::Seq;
 
 /// A store as one of its seats sees it.
 pub struct Held<'a, R: Wait, D: Disk + Drop> {
+    pub(crate) alloc: Global,
     pub(crate) rt: &'a R,
     pub(crate) store: &'a Store<D>,
     pub(crate) seat: store::Seat<D>,
@@ -31,9 +35,13 @@ pub struct Held<'a, R: Wait, D: Disk + Drop> {
     pub(crate) asked: Option<u64>,
     /// The faults that the seat was told since its last line, the last one at the end.
     pub(crate) told: Vec<ToldFault>,
+    /// The page table of the snapshot that the open look read last.
+    pub(crate) kept: Option<KeptTable>,
     ghost ready: { IsReady (table_of store.now.turn) seat },
     ghost whole: { IsWhole seat },
+    ghost sized: { IsSized store.now.pages seat },
     ghost seated: { IsSeated who asked told.items seat },
+    ghost tabled: { IsTabled D.is_honest D.state seat kept },
 }
 
 impl<'a, R: Wait, D: Disk + Drop> Held<'a, R, D> {
@@ -45,11 +53,18 @@ impl<'a, R: Wait, D: Disk + Drop> Held<'a, R, D> {
         seat: store::Seat<D>,
     ) -> Held<'a, R, D>
         requires ready { IsReady (table_of store.now.turn) seat × IsWhole seat }
+        requires sized { IsSized store.now.pages seat }
         requires idle { (mine seat).work ≡ None }
         ensures seat { result.seat ≡ seat }
+        ensures store { table_of result.store.now.turn ≡ table_of store.now.turn }
         ensures told { result.told.items ≡ [] }
+        // What it has seen is what the seat has seen: no line, where the store was just opened.
+        ensures front { (view_of D.state D.faults result.asked result.told.items result.seat).front ≡ seen seat }
+        ensures session { (view_of D.state D.faults result.asked result.told.items result.seat).session ≡ seat.number }
+        ensures idle { (view_of D.state D.faults result.asked result.told.items result.seat).work ≡ Idle }
     {
         Held {
+            alloc,
             rt,
             store,
             seat,
@@ -60,6 +75,7 @@ impl<'a, R: Wait, D: Disk + Drop> Held<'a, R, D> {
             },
             asked: None,
             told: Vec::new(alloc),
+            kept: None,
         }
     }
 
@@ -69,131 +85,131 @@ impl<'a, R: Wait, D: Disk + Drop> Held<'a, R, D> {
         ensures seat { result ≡ self.entry.seat }
     {
         let Held {
+            alloc: _,
             rt: _,
             store: _,
             seat,
             who: _,
             asked: _,
             told: _,
+            kept: _,
         } = self;
         seat
     }
 
-    /// Begins an attempt at a transaction.
-    pub fn begin(&mut self, who: Who) -> Result<(), Refusal>
-        requires idle { (view_of D.state D.faults self.old.asked self.old.told.items self.old.seat).work ≡ Idle }
-        requires own { who.session ≡ self.old.seat.number }
-        ensures gives { BeginGives who (view_of D.state D.faults self.old.asked self.old.told.items self.old.seat)
-            (view_of D.state D.faults self.new.asked self.new.told.items self.new.seat) result }
+    /// Both have then seen the longer of what the two had seen. It waits for nobody.
+    pub fn meet(&mut self, other: &mut Held<'a, R, D>)
+        requires store { table_of other.old.store.now.turn ≡ table_of self.old.store.now.turn }
+        ensures waits { Waits (view_of D.state D.faults self.old.asked self.old.told.items self.old.seat)
+            (view_of D.state D.faults self.new.asked self.new.told.items self.new.seat)
+            (view_of D.state D.faults self.old.asked self.old.told.items self.old.seat).work }
+        ensures others { Waits (view_of D.state D.faults other.old.asked other.old.told.items other.old.seat)
+            (view_of D.state D.faults other.new.asked other.new.told.items other.new.seat)
+            (view_of D.state D.faults other.old.asked other.old.told.items other.old.seat).work }
+        ensures seen { (seen self.new.seat ≡ longer (seen self.old.seat) (seen other.old.seat))
+            × (seen other.new.seat ≡ seen self.new.seat) }
+        ensures goes { GoesOn (table_of self.old.store.now.turn) (table_of self.new.store.now.turn)
+            self.old.seat self.new.seat }
+        ensures other_goes { GoesOn (table_of other.old.store.now.turn) (table_of other.new.store.now.turn)
+            other.old.seat other.new.seat }
     {
+        self.kept = None;
+        other.kept = None;
+        self.store.meet(&mut self.seat, &mut other.seat);
+    }
+}
+
+impl<'a, R: Wait, D: Disk + Drop> Seat for Held<'a, R, D> {
+    ghost use Rattle.seat_store.specs.Frames.{GoesOn, goes_on, honest_stays, stays};
+    ghost use Rattle.seat_store.specs.Seen.{IsHonest, view_of};
+    ghost use Rattle.turn.specs.Tables.{table_of};
+
+    ghost view = { λ h. view_of D.state D.faults h.asked h.told.items h.seat };
+
+    ghost is_honest = { λ h. IsHonest D.is_honest D.state h.seat };
+
+    ghost goes = { λ h k. GoesOn (table_of h.store.now.turn) (table_of k.store.now.turn) h.seat k.seat };
+
+    ghost stays = { λ h. stays (table_of h.store.now.turn) h.seat };
+
+    ghost goes_on = { λ h k l one two. goes_on (table_of h.store.now.turn) (table_of k.store.now.turn)
+        (table_of l.store.now.turn) h.seat k.seat l.seat one two };
+
+    ghost honest_stays = { λ h k goes. honest_stays D.is_honest D.state (table_of h.store.now.turn)
+        (table_of k.store.now.turn) h.seat k.seat goes };
+
+    fn pages(&self) -> u32 {
+        self.store.pages()
+    }
+
+    fn begin(&mut self, who: Who) -> Result<(), Refusal> {
         self.who = who;
         self.store.begin(self.rt, &mut self.seat, who)
     }
 
-    /// Reads a page as at the attempt's beginning, with its own edits.
-    pub fn read(&mut self, page: u32, out: &mut Page) -> Result<(), Refusal>
-        requires open_now { is_open (view_of D.state D.faults self.old.asked self.old.told.items self.old.seat).work
-            ≡ true }
-        requires in_store { page
-            < (view_of D.state D.faults self.old.asked self.old.told.items self.old.seat).opened.base.page_count }
-        ensures gives { (a : Attempt)
-            → (view_of D.state D.faults self.old.asked self.old.told.items self.old.seat).work ≡ Open a
-            → ReadGives (IsHonest D.is_honest self.new.seat) page out.new
-            (view_of D.state D.faults self.old.asked self.old.told.items self.old.seat)
-            (view_of D.state D.faults self.new.asked self.new.told.items self.new.seat) a result }
-    {
+    fn read(&mut self, page: u32, out: &mut Page) -> Result<(), Refusal> {
         self.store
             .read(self.rt, &mut self.seat, self.who, page, out)
     }
 
-    /// Edits a page.
-    pub fn edit(&mut self, page: u32, bytes: &Page) -> Result<(), Refusal>
-        requires open_now { is_open (view_of D.state D.faults self.old.asked self.old.told.items self.old.seat).work
-            ≡ true }
-        requires in_store { page
-            < (view_of D.state D.faults self.old.asked self.old.told.items self.old.seat).opened.base.page_count }
-        ensures gives { (a : Attempt)
-            → (view_of D.state D.faults self.old.asked self.old.told.items self.old.seat).work ≡ Open a
-            → EditGives page bytes.now
-            (view_of D.state D.faults self.old.asked self.old.told.items self.old.seat)
-            (view_of D.state D.faults self.new.asked self.new.told.items self.new.seat) a result }
-    {
+    fn edit(&mut self, page: u32, bytes: &Page) -> Result<(), Refusal> {
         self.store
             .edit(self.rt, &mut self.seat, self.who, page, bytes)
     }
 
-    /// Commits the edits, with a label as a snapshot, and gives the snapshot's number. Where a device failed while room
-    /// was made in the log, the attempt has ended with the line of the fault, and the edits are not committed.
-    pub fn commit(&mut self, label: Option<&[u8]>) -> Result<Option<u32>, Refusal>
-        requires open_now { is_open (view_of D.state D.faults self.old.asked self.old.told.items self.old.seat).work
-            ≡ true }
-        requires label { IfSome label (λ bytes. IsTrue (is_label bytes.now)) }
-        ensures gives { (a : Attempt)
-            → (view_of D.state D.faults self.old.asked self.old.told.items self.old.seat).work ≡ Open a
-            → CommitGives (option_copied label.entry)
-            (view_of D.state D.faults self.old.asked self.old.told.items self.old.seat)
-            (view_of D.state D.faults self.new.asked self.new.told.items self.new.seat) a result
-            ⊎ RoundFails (view_of D.state D.faults self.old.asked self.old.told.items self.old.seat)
-            (view_of D.state D.faults self.new.asked self.new.told.items self.new.seat) a result }
-    {
+    fn commit(&mut self, label: Option<&[u8]>) -> Result<Option<u32>, Refusal> {
         self.store.commit(self.rt, &mut self.seat, self.who, label)
     }
 
-    /// Ends the attempt without its edits.
-    pub fn rollback(&mut self, why: Ending)
-        requires open_now { is_open (view_of D.state D.faults self.old.asked self.old.told.items self.old.seat).work
-            ≡ true }
-        requires may_end { MayEnd (view_of D.state D.faults self.old.asked self.old.told.items self.old.seat) why }
-        ensures gives { (a : Attempt)
-            → (view_of D.state D.faults self.old.asked self.old.told.items self.old.seat).work ≡ Open a
-            → RollbackGives why (view_of D.state D.faults self.old.asked self.old.told.items self.old.seat)
-            (view_of D.state D.faults self.new.asked self.new.told.items self.new.seat) a }
-    {
+    fn rollback(&mut self, why: Ending) {
         self.store
             .rollback(self.rt, &mut self.seat, self.who, ending_of(why));
         self.told.clear();
     }
 
-    /// Ends the look.
-    pub fn unlook(&mut self, why: Ending)
-        requires looking_now { is_looking
-            (view_of D.state D.faults self.old.asked self.old.told.items self.old.seat).work ≡ true }
-        requires may_end { MayEnd (view_of D.state D.faults self.old.asked self.old.told.items self.old.seat) why }
-        ensures gives { (l : Look)
-            → (view_of D.state D.faults self.old.asked self.old.told.items self.old.seat).work ≡ Looking l
-            → UnlookGives why (view_of D.state D.faults self.old.asked self.old.told.items self.old.seat)
-            (view_of D.state D.faults self.new.asked self.new.told.items self.new.seat) l }
-    {
-        self.store
-            .unlook(self.rt, &mut self.seat, self.who, ending_of(why));
-        self.told.clear();
-    }
-
-    /// Begins a look at all retained snapshots, and gives them in rising number.
-    pub fn look_all(&mut self, who: Who) -> Result<Seq<Mark>, Refusal>
-        requires idle { (view_of D.state D.faults self.old.asked self.old.told.items self.old.seat).work ≡ Idle }
-        requires own { who.session ≡ self.old.seat.number }
-        ensures gives { LookAllGives who (view_of D.state D.faults self.old.asked self.old.told.items self.old.seat)
-            (view_of D.state D.faults self.new.asked self.new.told.items self.new.seat) result }
-    {
-        self.who = who;
-        self.asked = None;
-        self.store.look_all(self.rt, &mut self.seat, who)
-    }
-
-    /// Begins a look at a snapshot.
-    pub fn look(&mut self, who: Who, snapshot: u64) -> Result<(), Refusal>
-        requires idle { (view_of D.state D.faults self.old.asked self.old.told.items self.old.seat).work ≡ Idle }
-        requires own { who.session ≡ self.old.seat.number }
-        ensures gives { LookGives who snapshot
-            (view_of D.state D.faults self.old.asked self.old.told.items self.old.seat)
-            (view_of D.state D.faults self.new.asked self.new.told.items self.new.seat) result }
-    {
+    fn look(&mut self, who: Who, snapshot: u64) -> Result<(), Refusal> {
         self.who = who;
         self.asked = Some(snapshot);
         match self.store.look(self.rt, &mut self.seat, who, snapshot) {
             Ok(_) => Ok(()),
             Err(why) => Err(why),
         }
+    }
+
+    fn look_all(&mut self, who: Who) -> Result<Seq<Mark>, Refusal> {
+        self.who = who;
+        self.asked = None;
+        self.store.look_all(self.rt, &mut self.seat, who)
+    }
+
+    fn past(&mut self, snapshot: u32, page: u32, out: &mut Page) -> Result<(), Refusal> {
+        self.told.reserve(1)?;
+        match recall(
+            self.alloc,
+            self.rt,
+            self.store,
+            &mut self.seat,
+            &mut self.kept,
+            snapshot,
+            page,
+            out,
+        ) {
+            Ok(()) => Ok(()),
+            Err(fault) => {
+                tell(&mut self.told, fault.why);
+                Err(fault.why)
+            }
+        }
+    }
+
+    fn unlook(&mut self, why: Ending) {
+        self.kept = None;
+        self.store
+            .unlook(self.rt, &mut self.seat, self.who, ending_of(why));
+        self.told.clear();
+    }
+
+    fn drop_below(&mut self, who: Who, below: u64) -> Result<(), Refusal> {
+        Err(Refusal::OutOfMemory)
     }
 }

@@ -13,9 +13,9 @@ use Rattle.turn.specs.Faults.{count_of}
 use Rattle.turn.specs.Seats.{AreNew, MayOpen, mine, opening, seen}
 use Rattle.store.specs.declared.start.Start.{Start}
 use Rattle.store.specs.declared.desk_side.DeskSide.{DeskSide}
-use Rattle.store.specs.Seats.{IsReady, IsWhole, Sat, journal}
+use Rattle.store.specs.Seats.{IsReady, IsSized, IsWhole, Sat, journal}
 use Rattle.store.specs.Sides.{DeskStands, VaultStands, of_desk, of_vault}
-use Rattle.store.specs.Start.{AreAsHonest, AreJustOpened, AreOpenedTo, IsAsHonest, IsLaterArchive, IsLaterCore, IsOpenedTo, IsStartOf, IsVaultFrom, Origin, desk_counts, of_start, vault_counts}
+use Rattle.store.specs.Start.{AreAsHonest, AreJustOpened, AreOpenedTo, IsAsHonest, IsLaterArchive, IsLaterCore, IsOpenedTo, IsStartOf, IsVaultFrom, Origin, desk_counts, of_start, opened_base, vault_counts}
 use Rattle.store.specs.Tried.{AllEndAttempts, AreTried, IsAttempt}
 use Rattle.store.proofs.Leaving.{sound_journal}
 
@@ -36,6 +36,10 @@ module _ {D : Type 0} (z : TableId) (o : Start D) (seats : List (Sat D)) (new : 
 
   pub new_seats : (core : Core D) (archive : Running D) → o.core.value ≡ core → o.archive.value ≡ archive → (s.number ≡ k) × ((mine s).work ≡ None) × (seen s ≡ []) × IsStartOf core archive (opening s)
   new_seats core archive first second = let is = new k s there in (is.1, no_work, is.3, subst (IsStartOf core archive) (sym is.4) (first, second))
+
+-- the seats tell of as many pages as the core that the store began with
+pub sized_by : {D : Type 0} (core : Core D) (archive : Running D) (s : Sat D) (pages : ℕ) → IsStartOf core archive (opening s) → pages ≡ core.desk.base.page_count → IsSized pages s
+sized_by core archive s pages is count = λ start e. count ∙ ap (λ (c : Core _). c.desk.base.page_count) (sym (subst (IsStartOf core archive) e is).0)
 
 -- ---- a store that was just opened
 

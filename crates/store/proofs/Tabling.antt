@@ -36,6 +36,22 @@ none_mapped m from =
 table_in : (history : History) (start : ℕ) → IsTableIn history (new_table start)
 table_in history start = record { met = record { above = omega arith; entries = none_mapped (all_mapped history) start }; within = omega arith }
 
+module _ {D : Type 0} (is_honest : D → Type 0) (state : D → State) (faults : D → ℕ) (z : TableId) (s0 s2 : Sat D) (d0 d1 : DeskSide D) (v : Visited is_honest state faults z s0 s2 d0 d1) where
+  -- a new table of a snapshot whose start was asked
+  pub glanced_table : (n start : ℕ) → d1.core.ledger ≡ d0.core.ledger → start ≡ start_of n d0.core.desk.base.marks → IsTableOf is_honest state s2 n (new_table start)
+  glanced_table n start quiet is =
+      let found = v.stands.stands v.stands.origin v.stands.opened in
+      let lines : seen s2 ≡ journal d0 = v.seen ∙ ap (λ (l : Ledger). l.book.lines) quiet in
+      let base : d0.core.desk.base ≡ base_of (opened_base d0.start) (seen s2) =
+      base_is is_honest state v.stands.origin.history d0.core found.plain found.is ∙ (ap (λ (b : Base). base_of b (journal d0)) v.stands.opened.base ∙ ap (base_of (opened_base d0.start)) (sym lines)) in
+      record {
+        start = λ x e.
+            subst (λ (y : Start D). start ≡ start_of n (base_of (opened_base y) (seen s2)).marks) (some_is d0.start x (sym v.opening ∙ (sym v.same.opening ∙ e)))
+            (is ∙ ap (λ (b : Base). start_of n b.marks) base);
+        held = omega arith;
+        among = λ x o e op. table_in (after_journal o.history (seen s2)) start;
+      }
+
 module _ {D : Type 0} (is_honest : D → Type 0) (state : D → State) (faults : D → ℕ) (z : TableId) (s0 s2 : Sat D) (d0 d1 : DeskSide D) (v : Visited is_honest state faults z s0 s2 d0 d1) (who : Who) where
   pub looked_table : (n : ℕ) (result : Result ℕ Refusal) → LookDoes is_honest state who n result d0.core d1.core → IfOk result (λ start. IsTableOf is_honest state s2 n (new_table start))
   looked_table n (Err why) does = tt

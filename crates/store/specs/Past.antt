@@ -32,6 +32,12 @@ pub record IsPinnedBy {D : Type 0} (s : Sat D) (snapshot : ℕ) : Type 0 where
   pub there : (mine s).work ≡ Some (Looking look)
   pub pinned : is_among snapshot look.pins ≡ true
 
+-- The journal that the seat has seen is sound, and the snapshot is retained behind it.
+pub record IsRetainedBy {D : Type 0} (s : Sat D) (snapshot : ℕ) : Type 0 where
+  pub sound : (start : Start D) → opening s ≡ Some start → IsSound (opened_base start) (seen s)
+  pub retained : (start : Start D) → opening s ≡ Some start →
+      is_retained snapshot (base_of (opened_base start) (seen s)).marks ≡ true
+
 -- all captures of a history, as mappings
 abbrev pub all_mapped : History → Mappings
 all_mapped history = record { low = 0; pages = pages_of (captures history) }

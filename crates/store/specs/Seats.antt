@@ -63,6 +63,10 @@ pub record IsReady {D : Type 0} (z : TableId) (s : Sat D) : Type 0 where
 abbrev pub IsPage : {D : Type 0} → Sat D → ℕ → Type 0
 IsPage s page = IfSome (opening s) (λ start. page < (opened_base start).page_count)
 
+-- the store that it sits at has so many pages
+abbrev pub IsSized : {D : Type 0} → ℕ → Sat D → Type 0
+IsSized {D} pages s = (start : Start D) → opening s ≡ Some start → pages ≡ (opened_base start).page_count
+
 -- a fault that a transaction keeps is among those that its seat was told since its last line
 abbrev pub KeptIsTold : Option Work → List (Device × ℕ) → Type 0
 KeptIsTold work faults = (t : Transaction) (d : Device) (c : ℕ) → work ≡ Some (Open t) →

@@ -23,7 +23,11 @@ impl<D: Disk + Drop> Store<D> {
         requires ready { AreReady (table_of self.turn) seats.items }
         ensures closed { Closes D.is_honest D.state self.turn.table.shared.key.seats seats.items result }
     {
-        let Store { turn, alloc: _ } = self;
+        let Store {
+            turn,
+            alloc: _,
+            pages: _,
+        } = self;
         let (side, archive) = turn.close(seats);
         let DeskSide { core, start: _ } = side;
         let (log, pages, journal) = core.into_parts();

@@ -2,7 +2,8 @@
 
 ghost use Rattle.std.specs.Prelude.{◌≡◌, ◌≤◌, IfErr, IfOk, MatchResult, OnOk};
 ghost use Rattle.store.specs.Calls.{PeekDoes};
-ghost use Rattle.store.specs.Past.{FindsIn, IsNewFault, IsPastOf, IsPastRefusal, IsPinnedBy, IsSeeking, IsTableOf};
+ghost use Rattle.store.specs.Past.{FindsIn, IsNewFault, IsPastOf, IsPastRefusal, IsPinnedBy, IsRetainedBy, IsSeeking};
+ghost use Rattle.store.specs.Past.{IsTableOf, new_table};
 ghost use Rattle.store.specs.Seats.{CountFits, IsPage, IsReady, IsWhole, StaysIn, Visits, Waits};
 ghost use Rattle.turn.specs.Seats.{held, mine};
 ghost use Rattle.turn.specs.Tables.{table_of};
@@ -39,6 +40,24 @@ impl<D: Disk + Drop> Store<D> {
         let answer = side.peek(page, snapshot, out);
         self.leave(seat, side);
         answer
+    }
+
+    /// The start of a snapshot that an open look of this seat pins, or of the seat that it helps: the page table of the
+    /// snapshot begins there. It takes no memory.
+    pub fn start_of<R: Wait>(&self, rt: &R, seat: &mut Seat<D>, snapshot: u32) -> u64
+        requires ready { IsReady (table_of self.now.turn) seat.old }
+        requires pinned { IsPinnedBy seat.old snapshot }
+        ensures ready { IsReady (table_of self.now.turn) seat.new }
+        ensures same { StaysIn seat.old seat.new }
+        ensures whole { IsWhole seat.old → IsWhole seat.new }
+        ensures work { (mine seat.new).work ≡ (mine seat.old).work }
+        ensures waits { Waits seat.old seat.new }
+        ensures first_met { IsTableOf D.is_honest D.state seat.new snapshot (new_table result) }
+    {
+        let side = self.enter(rt, seat);
+        let start = side.core.start_of(snapshot);
+        self.leave(seat, side);
+        start
     }
 
     // What the vault finds of the page below a number that it holds.
@@ -96,6 +115,7 @@ impl<D: Disk + Drop> Store<D> {
         ensures waits { Waits seat.old seat.new }
         ensures first_met { IsTableOf D.is_honest D.state seat.new snapshot table.new }
         ensures page { OnOk result (IsPastOf D.is_honest D.state seat.new snapshot page out.new) }
+        ensures retained { OnOk result (IsRetainedBy seat.new snapshot) }
         ensures cause { IfErr result (IsPastRefusal seat.new table.old) }
         ensures fault { IfErr result (IsNewFault D.faults seat.old) }
     {

@@ -2,8 +2,8 @@
 
 ghost use Rattle.std.specs.Prelude.{◌≡◌, ◌≤◌, ℕ, [], None, Some, length, slice_get, IfErr, IfOk};
 ghost use Rattle.archive.specs.Archive.{Running};
-ghost use Rattle.store.specs.Seats.{HasEntered, HasEnteredVault, IsReady, IsWhole, MayGiveBack, MayGiveBackVault};
-ghost use Rattle.store.specs.Seats.{Sat, Visited, VisitedVault};
+ghost use Rattle.store.specs.Seats.{HasEntered, HasEnteredVault, IsReady, IsSized, IsWhole, MayGiveBack};
+ghost use Rattle.store.specs.Seats.{MayGiveBackVault, Sat, Visited, VisitedVault};
 ghost use Rattle.store.specs.Start.{AreJustOpened, IsStartOf};
 ghost use Rattle.turn.specs.Seats.{mine, opening, seen};
 ghost use Rattle.turn.specs.Tables.{table_of};
@@ -27,6 +27,7 @@ pub type Seat<D: Disk + Drop> = SeatOver<Start<D>, Work, DeskSide<D>, Archive<D>
 pub struct Store<D: Disk + Drop> {
     pub(crate) turn: Turn<DeskSide<D>, Archive<D>>,
     pub(crate) alloc: Global,
+    pub(crate) pages: u32,
 }
 
 impl<D: Disk + Drop> Store<D> {
@@ -45,19 +46,28 @@ impl<D: Disk + Drop> Store<D> {
             → IsReady (table_of r.0.turn) s × IsWhole s) }
         ensures new { IfOk result (λ r. (k : ℕ) (s : Sat D) → slice_get r.1.items k ≡ Some s
             → (s.number ≡ k) × ((mine s).work ≡ None) × (seen s ≡ []) × IsStartOf core archive (opening s)) }
+        ensures sized { IfOk result (λ r. (k : ℕ) (s : Sat D) → slice_get r.1.items k ≡ Some s → IsSized r.0.pages s) }
         ensures back { IfErr result (λ r. (r.0 ≡ core) × (r.1 ≡ archive)) }
     {
+        let pages = core.sizes().pages;
         let start = Start {
             core: Snapshot::of(&core),
             archive: Snapshot::of(&archive),
         };
         match Turn::new(alloc, DeskSide { core, start }, archive, seats) {
-            Ok((turn, seats)) => Ok((Store { turn, alloc }, seats)),
+            Ok((turn, seats)) => Ok((Store { turn, alloc, pages }, seats)),
             Err((side, archive)) => {
                 let DeskSide { core, start: _ } = side;
                 Err((core, archive))
             }
         }
+    }
+
+    /// How many pages the store has.
+    pub fn pages(&self) -> u32
+        ensures { result ≡ self.now.pages }
+    {
+        self.pages
     }
 
     pub(crate) fn enter<R: Wait>(&self, rt: &R, seat: &mut Seat<D>) -> DeskSide<D>

@@ -5,7 +5,7 @@ ghost use Rattle.history.specs.declared.journal.What.TheVariants.{LookedAll};
 ghost use Rattle.history.specs.Marks.{newest, oldest, start_of};
 ghost use Rattle.journal_book.specs.Works.{work_at};
 ghost use Rattle.txn_set.specs.Ledger.{IsLookingAs, closed, ended, is_idle, looking};
-ghost use Rattle.store_core.specs.Calls.{HasLooked, HasOpened};
+ghost use Rattle.store_core.specs.Calls.{HasLooked, HasOpened, IsPinned};
 ghost use Rattle.store_core.specs.Core.{IsWholeCore, StaysCore};
 
 use crate::desk_core::Core;
@@ -57,5 +57,14 @@ impl<D: Disk + Drop> Core<D> {
         ensures core { StaysCore D.is_honest D.state self.old self.new }
     {
         self.ledger.look_all(alloc, who, self.desk.base().marks())
+    }
+
+    /// The start of a snapshot that an open look pins.
+    pub fn start_of(&self, snapshot: u32) -> u64
+        requires core { IsWholeCore D.is_honest D.state self.now }
+        requires pinned { IsPinned self.now.ledger snapshot }
+        ensures { result ≡ start_of snapshot self.now.desk.base.marks }
+    {
+        self.desk.start(snapshot)
     }
 }

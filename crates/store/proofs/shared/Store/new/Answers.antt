@@ -1,4 +1,5 @@
-use Rattle.store.proofs.Seating.{may_open, new_ready, new_seats}
+use Rattle.std.proofs.Common.{◌∙◌, ap}
+use Rattle.store.proofs.Seating.{may_open, new_ready, new_seats, sized_by}
 use Rattle.store.proofs.shared.Store.new.Goals as goal
 
 pub new-requires-clause-open : goal.new-requires-clause-open
@@ -9,3 +10,6 @@ returns-in-Ok-clause-ready g c = new_ready _ _ c.in-Ok.seats.items c.in-Ok.ensur
 
 pub returns-in-Ok-clause-new : goal.returns-in-Ok-clause-new
 returns-in-Ok-clause-new g c = λ k s there. new_seats _ _ c.in-Ok.seats.items c.in-Ok.ensures.new k s there _ _ c.of.ensures c.of-2.ensures
+
+pub returns-in-Ok-clause-sized : goal.returns-in-Ok-clause-sized
+returns-in-Ok-clause-sized g c = λ k s there. sized_by _ _ _ _ (new_seats _ _ c.in-Ok.seats.items c.in-Ok.ensures.new k s there _ _ c.of.ensures c.of-2.ensures).3 (ap (λ s. s.pages) c.sizes.ensures)

@@ -1,4 +1,4 @@
-use Rattle.std.proofs.Common.{◌∙◌, false, refl}
+use Rattle.std.proofs.Common.{◌∙◌, false, refl, sym}
 use Rattle.store.proofs.Recalling.{cause_so, fault_so, past_so, seeks_so, stays_on, stays_so, table_so, waits_on, waits_so}
 use Rattle.store.proofs.Meeting.{whole_stays, work_stays}
 use Rattle.store.proofs.shared.Store.past.Goals as goal
@@ -55,3 +55,11 @@ returns-in-Err-clause-fault g c = fault_so g.D.Disk.is_honest g.D.Disk.state g.D
 
 pub returns-in-Err-sought-clause-fault : goal.returns-in-Err-sought-clause-fault
 returns-in-Err-sought-clause-fault g c = λ start d k e w. c.in-Err-sought.ensures.fault start d k (c.told.ensures.visits.visited.same.opening ∙ e) w
+
+pub returns-in-Ok-sought-clause-retained : goal.returns-in-Ok-sought-clause-retained
+returns-in-Ok-sought-clause-retained g c =
+    let same = c.sought.ensures.same.same.opening in
+    record {
+      sound = λ start e. c.sought.ensures.finds.sound start (sym same ∙ e);
+      retained = λ start e. c.sought.ensures.finds.retained start (sym same ∙ e);
+    }

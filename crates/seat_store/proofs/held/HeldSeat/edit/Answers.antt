@@ -1,11 +1,13 @@
-use Rattle.std.proofs.Common.{refl, subst}
+use Rattle.std.proofs.Common.{ap, refl, subst}
 use Rattle.journal_book.specs.declared.work.Work.TheVariants.{Open}
 use Rattle.journal_law.specs.Seats.{EditGives}
 use Rattle.turn.specs.Seats.{mine, opening, seen}
 use Rattle.seat_store.specs.Seen.{view_of}
 use Rattle.seat_store.proofs.Coming.{open_is, own_session, some_open}
 use Rattle.seat_store.proofs.Reading.{page_in, edit_gives, edit_keeps}
-use Rattle.seat_store.proofs.held.Held.edit.Goals as goal
+use Rattle.seat_store.proofs.Recalled.{no_table, sized_on}
+use Rattle.seat_store.specs.Kept.{looks}
+use Rattle.seat_store.proofs.held.HeldSeat.edit.Goals as goal
 
 pub edit-requires-clause-own : goal.edit-requires-clause-own
 edit-requires-clause-own g c = let h = c.args.self.now in let o = some_open h.asked (seen h.seat) (mine h.seat).work c.requires.open_now in (own_session _ h.seat h.who h.asked h.told.items h.ready h.seated (Open o.0) o.1)
@@ -23,6 +25,8 @@ invariant_of-self g c = let h = c.args.self.now in let o = some_open h.asked (se
       ready = c.edit.ensures.ready.0;
       whole = c.edit.ensures.ready.1;
       seated = edit_keeps g.D.Disk.is_honest g.D.Disk.state g.D.Disk.faults _ h.seat c.edit.new.seat v.before v.after h.ready v.visited h.who h.asked h.told.items (own_session _ h.seat h.who h.asked h.told.items h.ready h.seated (Open o.0) o.1) o.0 o.1 (h.seated.item (Open o.0) o.1) (h.seated.begun o.0 o.1) c.args.page c.args.bytes.now c.edit.result v.does c.edit.result refl h.seated;
+      sized = sized_on h.store.now.pages h.seat c.edit.new.seat c.edit.ensures.same.opening h.sized;
+      tabled = no_table g.D.Disk.is_honest g.D.Disk.state h.seat c.edit.new.seat h.kept (ap looks o.1) h.tabled;
     }
 
 pub returns : goal.returns
@@ -32,4 +36,5 @@ returns g c = record {
       let v = c.edit.ensures.visits is.0 is.1 in
       subst (λ x. EditGives c.args.page c.args.bytes.now (view_of g.D.Disk.state g.D.Disk.faults h.asked h.told.items h.seat) (view_of g.D.Disk.state g.D.Disk.faults h.asked h.told.items c.edit.new.seat) x c.edit.result) is.2
       (edit_gives g.D.Disk.is_honest g.D.Disk.state g.D.Disk.faults _ h.seat c.edit.new.seat v.before v.after h.ready v.visited h.who h.asked h.told.items (own_session _ h.seat h.who h.asked h.told.items h.ready h.seated (Open is.0) is.1) is.0 is.1 (h.seated.item (Open is.0) is.1) (h.seated.begun is.0 is.1) c.args.page c.args.bytes.now c.edit.result v.does c.edit.result refl);
+  goes = record { store = refl; same = c.edit.ensures.same };
 }

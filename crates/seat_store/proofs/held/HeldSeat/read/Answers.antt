@@ -1,11 +1,13 @@
-use Rattle.std.proofs.Common.{refl, subst}
+use Rattle.std.proofs.Common.{ap, refl, subst}
 use Rattle.journal_book.specs.declared.work.Work.TheVariants.{Open}
 use Rattle.journal_law.specs.Seats.{ReadGives}
 use Rattle.turn.specs.Seats.{mine, opening, seen}
 use Rattle.seat_store.specs.Seen.{IsHonest, view_of}
 use Rattle.seat_store.proofs.Coming.{open_is, own_session, some_open}
 use Rattle.seat_store.proofs.Reading.{page_in, read_gives, read_keeps}
-use Rattle.seat_store.proofs.held.Held.read.Goals as goal
+use Rattle.seat_store.proofs.Recalled.{no_table, sized_on}
+use Rattle.seat_store.specs.Kept.{looks}
+use Rattle.seat_store.proofs.held.HeldSeat.read.Goals as goal
 
 pub read-requires-clause-own : goal.read-requires-clause-own
 read-requires-clause-own g c = let h = c.args.self.now in let o = some_open h.asked (seen h.seat) (mine h.seat).work c.requires.open_now in (own_session _ h.seat h.who h.asked h.told.items h.ready h.seated (Open o.0) o.1)
@@ -23,6 +25,8 @@ invariant_of-self g c = let h = c.args.self.now in let o = some_open h.asked (se
       ready = c.read.ensures.ready.0;
       whole = c.read.ensures.ready.1;
       seated = read_keeps g.D.Disk.is_honest g.D.Disk.state g.D.Disk.faults _ h.seat c.read.new.seat v.before v.after h.ready v.visited h.who h.asked h.told.items (own_session _ h.seat h.who h.asked h.told.items h.ready h.seated (Open o.0) o.1) o.0 o.1 (h.seated.item (Open o.0) o.1) (h.seated.begun o.0 o.1) c.args.page c.args.out.now c.read.new.out c.read.result v.does c.read.result refl h.seated;
+      sized = sized_on h.store.now.pages h.seat c.read.new.seat c.read.ensures.same.opening h.sized;
+      tabled = no_table g.D.Disk.is_honest g.D.Disk.state h.seat c.read.new.seat h.kept (ap looks o.1) h.tabled;
     }
 
 pub returns : goal.returns
@@ -30,6 +34,7 @@ returns g c = record {
   gives = λ a e. let h = c.args.self.now in let o = some_open h.asked (seen h.seat) (mine h.seat).work c.requires.open_now in
       let is = open_is h.asked (seen h.seat) (mine h.seat).work a e in
       let v = c.read.ensures.visits is.0 is.1 in
-      subst (λ x. ReadGives (IsHonest g.D.Disk.is_honest c.read.new.seat) c.args.page c.read.new.out (view_of g.D.Disk.state g.D.Disk.faults h.asked h.told.items h.seat) (view_of g.D.Disk.state g.D.Disk.faults h.asked h.told.items c.read.new.seat) x c.read.result) is.2
+      subst (λ x. ReadGives (IsHonest g.D.Disk.is_honest g.D.Disk.state c.read.new.seat) c.args.page c.read.new.out (view_of g.D.Disk.state g.D.Disk.faults h.asked h.told.items h.seat) (view_of g.D.Disk.state g.D.Disk.faults h.asked h.told.items c.read.new.seat) x c.read.result) is.2
       (read_gives g.D.Disk.is_honest g.D.Disk.state g.D.Disk.faults _ h.seat c.read.new.seat v.before v.after h.ready v.visited h.who h.asked h.told.items (own_session _ h.seat h.who h.asked h.told.items h.ready h.seated (Open is.0) is.1) is.0 is.1 (h.seated.item (Open is.0) is.1) (h.seated.begun is.0 is.1) c.args.page c.args.out.now c.read.new.out c.read.result v.does c.read.result refl);
+  goes = record { store = refl; same = c.read.ensures.same };
 }

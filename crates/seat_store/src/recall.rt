@@ -1,0 +1,142 @@
+//! Pages as of the snapshots of a look, by a table that is kept from one to the next.
+
+ghost use Rattle.std.specs.Prelude.{◌≡◌, ℕ, IfErr, IfSome, None, OnOk};
+ghost use Rattle.store.specs.Past.{IsNewFault, IsPastCause, IsPastOf, IsPinnedBy, IsRetainedBy, IsTableOf};
+ghost use Rattle.store.specs.Seats.{IsPage, IsReady, IsWhole, StaysIn, Waits};
+ghost use Rattle.seat_store.specs.Kept.{IsTabled};
+ghost use Rattle.turn.specs.Seats.{mine};
+ghost use Rattle.turn.specs.Tables.{table_of};
+
+use crate::kept::KeptTable;
+use disk_model::Disk;
+use page_table::SnapTable;
+use race_model::Fault;
+use retro_base::Page;
+use skippy::Steps;
+use std::alloc::Global;
+use std::marker::Brand;
+use std::sync::Wait;
+use std::sync::ledger::{Blank, Ledger};
+use store::{Seat, Store};
+
+// A new table of a snapshot that an open look pins.
+fn new_table<R: Wait, D: Disk + Drop>(
+    alloc: Global,
+    rt: &R,
+    store: &Store<D>,
+    seat: &mut Seat<D>,
+    snapshot: u32,
+) -> SnapTable
+    requires ready { IsReady (table_of store.now.turn) seat.old }
+    requires pinned { IsPinnedBy seat.old snapshot }
+    ensures ready { IsReady (table_of store.now.turn) seat.new }
+    ensures same { StaysIn seat.old seat.new }
+    ensures waits { Waits seat.old seat.new }
+    ensures table { IsTableOf D.is_honest D.state seat.new snapshot result }
+{
+    let start = store.start_of(rt, seat, snapshot);
+    SnapTable::new(alloc, start)
+}
+
+// The kept table where it is of this snapshot, or else a new one.
+fn table_for<R: Wait, D: Disk + Drop>(
+    alloc: Global,
+    rt: &R,
+    store: &Store<D>,
+    seat: &mut Seat<D>,
+    kept: Option<KeptTable>,
+    snapshot: u32,
+) -> SnapTable
+    requires ready { IsReady (table_of store.now.turn) seat.old }
+    requires pinned { IsPinnedBy seat.old snapshot }
+    requires kept { IsTabled D.is_honest D.state seat.old kept }
+    ensures ready { IsReady (table_of store.now.turn) seat.new }
+    ensures same { StaysIn seat.old seat.new }
+    ensures waits { Waits seat.old seat.new }
+    ensures table { IsTableOf D.is_honest D.state seat.new snapshot result }
+{
+    let Some(
+        KeptTable {
+            snapshot: other,
+            table,
+        },
+    ) = kept
+    else {
+        return new_table(alloc, rt, store, seat, snapshot);
+    };
+    if other == snapshot {
+        return table;
+    }
+    new_table(alloc, rt, store, seat, snapshot)
+}
+
+// A page by the table of its snapshot; the steps are not counted.
+fn read_by<R: Wait, D: Disk + Drop, L: Ledger>(
+    blank: Blank,
+    rt: &R,
+    store: &Store<D>,
+    seat: &mut Seat<D>,
+    kept: &mut KeptTable,
+    page: u32,
+    out: &mut Page,
+) -> Result<(), Fault>
+    requires name { blank.name ≡ L.name }
+    requires parts { blank.parts ≡ L.parts }
+    requires one_part { blank.parts ≡ 1 }
+    requires ready { IsReady (table_of store.now.turn) seat.old × IsWhole seat.old }
+    requires pinned { IsPinnedBy seat.old kept.old.snapshot }
+    requires table { IsTableOf D.is_honest D.state seat.old kept.old.snapshot kept.old.table }
+    requires inside { IsPage seat.old page }
+    ensures ready { IsReady (table_of store.now.turn) seat.new × IsWhole seat.new }
+    ensures same { StaysIn seat.old seat.new }
+    ensures waits { Waits seat.old seat.new }
+    ensures snapshot { kept.new.snapshot ≡ kept.old.snapshot }
+    ensures table { IsTableOf D.is_honest D.state seat.new kept.new.snapshot kept.new.table }
+    ensures page { OnOk result (IsPastOf D.is_honest D.state seat.new kept.old.snapshot page out.new) }
+    ensures retained { OnOk result (IsRetainedBy seat.new kept.old.snapshot) }
+    ensures cause { IfErr result (λ fault. (covered : ℕ) × IsPastCause seat.new covered fault.why) }
+    ensures fault { IfErr result (IsNewFault D.faults seat.old) }
+{
+    let mut steps = Steps::<L>::new(blank);
+    store.past(
+        rt,
+        seat,
+        kept.snapshot,
+        &mut kept.table,
+        page,
+        out,
+        &mut steps,
+    )
+}
+
+/// Fills `out` with a page as of a snapshot that an open look pins, and keeps the snapshot's table. Refused for want of
+/// memory, and exactly where a read of a device failed; `out` is then undefined.
+pub(crate) fn recall<R: Wait, D: Disk + Drop>(
+    alloc: Global,
+    rt: &R,
+    store: &Store<D>,
+    seat: &mut Seat<D>,
+    tables: &mut Option<KeptTable>,
+    snapshot: u32,
+    page: u32,
+    out: &mut Page,
+) -> Result<(), Fault>
+    requires ready { IsReady (table_of store.now.turn) seat.old × IsWhole seat.old }
+    requires pinned { IsPinnedBy seat.old snapshot }
+    requires kept { IsTabled D.is_honest D.state seat.old tables.old }
+    requires inside { IsPage seat.old page }
+    ensures ready { IsReady (table_of store.now.turn) seat.new × IsWhole seat.new }
+    ensures same { StaysIn seat.old seat.new }
+    ensures waits { Waits seat.old seat.new }
+    ensures kept { IsTabled D.is_honest D.state seat.new tables.new }
+    ensures page { OnOk result (IsPastOf D.is_honest D.state seat.new snapshot page out.new) }
+    ensures retained { OnOk result (IsRetainedBy seat.new snapshot) }
+    ensures cause { IfErr result (λ fault. (covered : ℕ) × IsPastCause seat.new covered fault.why) }
+    ensures fault { IfErr result (IsNewFault D.faults seat.old) }
+{
+    let table = table_for(alloc, rt, store, seat, tables.take(), snapshot);
+    let mut kept = KeptTable { snapshot, table };
+    let read = read_by::<R, D, Brand>(Blank::new(1), rt, store, seat, &mut kept, page, out);
+    *tables = Some(kept);
+    read
+}
