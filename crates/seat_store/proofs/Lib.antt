@@ -1,6 +1,7 @@
 pub mod Agreeing
 pub mod Coming
 pub mod Committing
+pub mod Crashes
 pub mod Edited
 pub mod Gives
 pub mod Grounds

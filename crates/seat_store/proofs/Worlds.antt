@@ -71,7 +71,7 @@ still_retained n ms more e =
     ap (is_among n) (map-append (λ (m : MarkOf). m.number) ms more) ∙ among-append n (map (λ (m : MarkOf). m.number) ms) (map (λ (m : MarkOf). m.number) more) ∙ rw e refl
 
 -- the pages as of these marks are the same in both histories
-marks_same : (h later : History) (ms : List MarkOf) (ps : List (Mark Pages)) → AllByRecursion (λ (m : MarkOf). (page : ℕ) → pages_as_of later m.number page ≡ pages_as_of h m.number page) ms → AreMarksOf h ms ps → AreMarksOf later ms ps
+pub marks_same : (h later : History) (ms : List MarkOf) (ps : List (Mark Pages)) → AllByRecursion (λ (m : MarkOf). (page : ℕ) → pages_as_of later m.number page ≡ pages_as_of h m.number page) ms → AreMarksOf h ms ps → AreMarksOf later ms ps
 marks_same h later [] [] same are = tt
 marks_same h later [] (p ∷ ps) same are = absurd are
 marks_same h later (m ∷ ms) [] same are = absurd are
@@ -109,7 +109,7 @@ as_of_old : (h : History) (c : Change) → IsConsistent h → KeepsNewest (now h
 as_of_old h c right keeps ms low there =
     all_more _ _ ms (λ m x. as_of_stays h (c ∷ []) m.number right (keeps, tt) x.0 x.1) (all_both (λ (m : MarkOf). m.number ≤ marks.newest (now h).base.marks) (λ (m : MarkOf). is_retained m.number (now (with_change h c)).base.marks ≡ true) ms low there)
 
-commit_step : (h : History) (w : World Pages) (label : Option (List ℕ)) (writes : List PageImage) → IsConsistent h → IsWorldOf h w → IsWorldOf (with_change h (Commit label writes)) (declared label (record w { current = written w.current writes }))
+pub commit_step : (h : History) (w : World Pages) (label : Option (List ℕ)) (writes : List PageImage) → IsConsistent h → IsWorldOf h w → IsWorldOf (with_change h (Commit label writes)) (declared label (record w { current = written w.current writes }))
 commit_step h w None writes right is =
     let c : Change = Commit None writes in
     let new = with_change h c in
@@ -156,7 +156,7 @@ all_kept below P (m ∷ ms) all = by_test (all_kept below P ms all.1) (nat_le be
   by_test rest true = all
   by_test rest false = rest
 
-drop_step : (h : History) (w : World Pages) (below : ℕ) → IsConsistent h → below ≤ marks.newest (now h).base.marks → IsWorldOf h w → IsWorldOf (with_change h (Drop below)) (record w { marks = kept below w.marks })
+pub drop_step : (h : History) (w : World Pages) (below : ℕ) → IsConsistent h → below ≤ marks.newest (now h).base.marks → IsWorldOf h w → IsWorldOf (with_change h (Drop below)) (record w { marks = kept below w.marks })
 drop_step h w below right keeps is =
     let c : Change = Drop below in
     let new = with_change h c in

@@ -4,3 +4,4 @@ pub mod Ground
 pub mod Kept
 pub mod Seen
 pub mod Worlds
+pub mod Crashes

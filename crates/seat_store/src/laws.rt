@@ -1,6 +1,9 @@
 //! Of the pages now and at each retained snapshot.
 
+ghost use Rattle.seat_store.specs.Crashes.{ClosedShows, OpeningShows, OpensShown};
 ghost use Rattle.seat_store.specs.Worlds.{NamesAreSame, NamesStay, OthersAreRefused, PinsAreSame, RetainedAreHeld, WorldIsOfHistory};
+
+use disk_model::Disk;
 
 /// The pages that a journal leaves, as the log and the history tell them.
 pub fn laws_of_worlds()
@@ -15,4 +18,14 @@ pub fn laws_of_worlds()
     ensures others { OthersAreRefused }
     // Behind a sound journal the pages are those of the history behind it.
     ensures world { WorldIsOfHistory }
+{}
+
+/// The pages that readers see of a store that was just opened, and of what a crash leaves of one that is closed.
+pub fn laws_of_crashes<D: Disk + Drop>()
+    // Of the history that a store was just opened to readers see the pages that its devices and memory tell.
+    ensures opening { OpeningShows D.is_honest D.state }
+    // Of what opens to a history behind a journal they see the world behind it, or that behind the change in doubt.
+    ensures opens { OpensShown }
+    // So they see of whatever a crash leaves of a store that is closed.
+    ensures closed { ClosedShows D.is_honest D.state D.faults }
 {}

@@ -10,5 +10,5 @@ mod told;
 
 pub use held::Held;
 pub use kept::KeptTable;
-pub use laws::laws_of_worlds;
+pub use laws::{laws_of_crashes, laws_of_worlds};
 pub use told::ToldFault;

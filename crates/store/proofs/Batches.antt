@@ -35,7 +35,7 @@ use Rattle.replay.specs.Opened.{forgotten}
 use Rattle.store.specs.declared.start.Start.{Start}
 use Rattle.store.specs.Carrying.{IsBatchIn, IsNotCarried}
 use Rattle.store.specs.Sides.{VaultStands}
-use Rattle.store.specs.Start.{IsAsHonest, IsOpenedTo, IsVaultFrom, Origin, opened_base, with_slots}
+use Rattle.store.specs.Start.{IsAsHonest, IsOpenedTo, IsVaultFrom, IsVaultIn, Origin, opened_base, with_slots}
 use Rattle.store.proofs.Finding.{base_behind, right_behind}
 use Rattle.store.proofs.Leaving.{both}
 
@@ -113,8 +113,8 @@ module _ {D : Type 0} (is_honest : D → Type 0) (state : D → State) (IsHonest
     shown_lay = record { first = first ∙ sym from_.is.mapped.shows.end }
 
     -- it is a vault of the history again
-    again : (vault : Vault) (captured : ℕ → List ℕ) → IsVault is_honest state new vault → VaultFits Here origin.floor (with_slots captured vault) → (IsHonest → VaultFits Here origin.floor vault) → IsVaultFrom is_honest state IsHonest origin lines new
-    again vault captured is numbers fit = record { vault = vault; is = is; captured = captured; numbers = numbers; fits = fit; slots = blocks ∙ from_.slots; pages = count ∙ from_.pages }
+    again : (vault : Vault) (captured : ℕ → List ℕ) → IsVaultIn origin.maplog vault → IsVault is_honest state new vault → VaultFits Here origin.floor (with_slots captured vault) → (IsHonest → VaultFits Here origin.floor vault) → IsVaultFrom is_honest state IsHonest origin lines new
+    again vault captured in_version is numbers fit = record { vault = vault; is = is; captured = captured; numbers = numbers; fits = fit; slots = blocks ∙ from_.slots; pages = count ∙ from_.pages; in_version = in_version }
 
     few : length images ≤ capacity_of Here
     few = let r = fits.room in let a = fits.above in omega (arith, r, a)
@@ -128,7 +128,7 @@ module _ {D : Type 0} (is_honest : D → Type 0) (state : D → State) (IsHonest
           sure = λ slot not sure. refl;
         } in
         let holds : HoldsBatch (capacity_of Here) Numbered over none = record { bytes = λ place less. over_at (capacity_of Here) batch.first images from_.captured place few less; settled = λ slot. refl } in
-        again (laid from_.vault batch t.slots t.loose) over t.is
+        again (laid from_.vault batch t.slots t.loose) over from_.in_version t.is
         (subst (λ (n : ℕ). VaultFits Here origin.floor (record Shown { slots = over; loose = none; laid = max from_.vault.laid (batch.first + n) })) same_length
         (lay_keeps Here origin.floor Shown from_.numbers Numbered fits over none goes shown_lay others holds))
         (λ honest. lay_keeps Here origin.floor from_.vault (from_.fits honest) batch (whole_fits honest) t.slots t.loose goes may_lay
@@ -136,7 +136,7 @@ module _ {D : Type 0} (is_honest : D → Type 0) (state : D → State) (IsHonest
 
     pub lays_less : SomeFailedLaying old.pagelog.blocks from_.vault batch (IsVault is_honest state new) → IsVaultFrom is_honest state IsHonest origin lines new
     lays_less t =
-        again (lay_failed from_.vault t.slots t.loose) from_.captured t.is
+        again (lay_failed from_.vault t.slots t.loose) from_.captured from_.in_version t.is
         (lay_failed_keeps Here origin.floor Shown from_.numbers Numbered fits from_.captured (λ slot. false) goes shown_lay (record { same = λ slot not. refl; sure = λ slot not sure. refl }))
         (λ honest. lay_failed_keeps Here origin.floor from_.vault (from_.fits honest) batch (whole_fits honest) t.slots t.loose goes may_lay (subst (λ (n : ℕ). LeavesOthers n from_.vault batch t.slots t.loose) from_.slots t.others))
 
@@ -149,13 +149,13 @@ module _ {D : Type 0} (is_honest : D → Type 0) (state : D → State) (IsHonest
 
       pub enters_again : IsVault is_honest state new (entered from_.vault batch) → IsVaultFrom is_honest state IsHonest origin lines new
       enters_again is =
-          again (entered from_.vault batch) from_.captured is
+          again (entered from_.vault batch) from_.captured from_.in_version is
           (subst (λ (ps : List ℕ). VaultFits Here origin.floor (record Shown { mappings = push (trim_to from_.vault.mappings batch.low) ps })) pages (enter_keeps Here origin.floor Shown from_.numbers Numbered fits goes shown_enter))
           (λ honest. enter_keeps Here origin.floor from_.vault (from_.fits honest) batch (whole_fits honest) goes may_enter)
 
       pub enters_less : IsVault is_honest state new (enter_failed from_.vault batch) → IsVaultFrom is_honest state IsHonest origin lines new
       enters_less is =
-          again (enter_failed from_.vault batch) from_.captured is
+          again (enter_failed from_.vault batch) from_.captured (let v = from_.in_version.0 in (v, (v, (v, tt)))) is
           (subst (λ (ps : List ℕ). VaultFits Here origin.floor (record Shown { others = listing from_.vault (trim_to from_.vault.mappings batch.low) ∷ listing from_.vault (push (trim_to from_.vault.mappings batch.low) ps) ∷ []; stopped = true })) pages
           (enter_failed_keeps Here origin.floor Shown from_.numbers Numbered fits shown_enter))
           (λ honest. enter_failed_keeps Here origin.floor from_.vault (from_.fits honest) batch (whole_fits honest) may_enter)
@@ -165,7 +165,7 @@ module _ {D : Type 0} (is_honest : D → Type 0) (state : D → State) (IsHonest
 
     pub trims_again : IsVault is_honest state new (trimmed from_.vault batch.low) → IsVaultFrom is_honest state IsHonest origin lines new
     trims_again is =
-        again (trimmed from_.vault batch.low) from_.captured is
+        again (trimmed from_.vault batch.low) from_.captured from_.in_version is
         (trim_keeps Here origin.floor Shown from_.numbers batch.low goes (record { held = may_trim.held; needed = fits.low }))
         (λ honest. trim_keeps Here origin.floor from_.vault (from_.fits honest) batch.low goes may_trim)
 
@@ -254,7 +254,7 @@ module _ {D : Type 0} (is_honest : D → Type 0) (state : D → State) (start : 
               let from_ = stands.stands o op in let b = is_batch.fits o op in let goes = goes_at going o op in
               let count = same.page_count in let blocks = ap (λ (f : File D). f.blocks) slots in
               ⊎_elim (λ fault. enters_less is_honest state _ o lines old from_ batch b.images b.pages b.bytes b.fits goes first new count blocks is_laid ((turns from_.vault from_.is goes).fails fault))
-              (λ no. ⊎_elim (λ (is : IsVault is_honest state new from_.vault). record { vault = from_.vault; is = is; captured = from_.captured; numbers = from_.numbers; fits = from_.fits; slots = blocks ∙ from_.slots; pages = count ∙ from_.pages })
+              (λ no. ⊎_elim (λ (is : IsVault is_honest state new from_.vault). record { vault = from_.vault; is = is; captured = from_.captured; numbers = from_.numbers; fits = from_.fits; slots = blocks ∙ from_.slots; pages = count ∙ from_.pages; in_version = from_.in_version })
               (λ is. trims_again is_honest state _ o lines old from_ batch b.images b.pages b.bytes b.fits goes first new count blocks is) (memory from_.vault from_.is goes no))
               (disk_or e.why))
 

@@ -14,6 +14,7 @@ use Rattle.gate_log.specs.Cause.{IsDiskFault}
 use Rattle.history.specs.declared.entry.Change.TheVariants.{Commit}
 use Rattle.history.specs.declared.journal.Line.{Line}
 use Rattle.history.specs.declared.journal.What.TheVariants as whats
+use Rattle.history.specs.declared.log.Version.{Version}
 use Rattle.history.specs.declared.stop.Stop.{Stop}
 use Rattle.history.specs.Lines.{first_stop}
 use Rattle.history.specs.declared.writes.PageImage.{PageImage}
@@ -39,7 +40,7 @@ use Rattle.store.specs.declared.desk_side.DeskSide.{DeskSide}
 use Rattle.store.specs.Calls.{CommitDoes, CommitMakes, refused_so}
 use Rattle.store.specs.Seats.{CountFits, IsVisit, always, journal, slots_of}
 use Rattle.store.specs.Sides.{DeskStands}
-use Rattle.store.specs.Start.{AreAsHonest, IsCoreFrom, Origin, desk_counts}
+use Rattle.store.specs.Start.{AreAsHonest, IsCoreFrom, IsDeskIn, Origin, desk_counts}
 use Rattle.store.specs.Tried.{is_trying}
 use Rattle.store.proofs.Adding.{adds_committed, adds_faulted, adds_nothing, adds_open, faulted_closed, slot_own}
 use Rattle.store.proofs.Answering.{TellsNoFault, kept_first, kept_from, none_first, overlap_tells, same_pages, where_tells}
@@ -96,6 +97,12 @@ module _ {D : Type 0} (is_honest : D → Type 0) (state : D → State) (faults :
     at true = (refl, refl)
     at false = (refl, refl)
 
+  version_behind : (plain : Desk) (label : Option (List ℕ)) (writes : List PageImage) (version : Version) → IsDeskIn version plain → IsDeskIn version (desk_behind plain label writes)
+  version_behind plain label writes version is = at (leaves_record label writes) where
+    at : (test : Bool) → IsDeskIn version (cond test (changed plain (Commit label writes)) plain)
+    at true = is
+    at false = is
+
   pub commits : (label : Option (List ℕ)) (t : Transaction) (result : Result (Option ℕ) Refusal) → work_at (slots_of old) who.session ≡ Some (Open t) → t.who ≡ who → CountFits result
       → CommitDoes is_honest state faults remembers clock who label t result old.core new.core → IsVisit is_honest state faults who always old new
   commits label t result there is_of few does = pick (refused_so is_honest state faults old.core t label) refl where
@@ -113,7 +120,7 @@ module _ {D : Type 0} (is_honest : D → Type 0) (state : D → State) (faults :
         let first = stands.stands stands.origin stands.opened in
         let log = subst (λ (r : Result (Option ℕ) Refusal). OnOk r (faults new.core.desk.log.disk ≡ faults old.core.desk.log.disk)) e (on_ok result _ _ m.cause) in
         visit is_honest state faults who always old new start
-        (stands_moved is_honest state old new start (λ origin from_. record { plain = desk_behind from_.plain label t.edits; is = done origin from_; floor = (floor_behind from_.plain label t.edits).0 ∙ from_.floor }) honest stands)
+        (stands_moved is_honest state old new start (λ origin from_. record { plain = desk_behind from_.plain label t.edits; is = done origin from_; floor = (floor_behind from_.plain label t.edits).0 ∙ from_.floor; in_version = version_behind from_.plain label t.edits origin.log from_.in_version }) honest stands)
         (counts_up faults old.core new.core (omega (arith, log)) pages_up)
         (acked_by first.plain (desk_behind first.plain label t.edits) (floor_behind first.plain label t.edits).1 stands.origin first.is (done stands.origin first))
         (λ mine own. adds_committed who (IsToldIn _) old.core.ledger new.core.ledger label t.edits (λ d c p. absurd (omega (arith, p)))
@@ -144,7 +151,7 @@ module _ {D : Type 0} (is_honest : D → Type 0) (state : D → State) (faults :
           (told_log (desk_counts faults old.core) (desk_counts faults new.core) fault.3 (subst (λ (n : ℕ). n ≤ LAST) fault.1 (few d c is_err))) in
           let closes_so : new.core.ledger ≡ closed who (whats.Fault d c true) old.core.ledger = ledger ∙ faulted_closed who old.core.ledger d c true (Open t) there in
           visit is_honest state faults who always old new start
-          (stands_moved is_honest state old new start (λ origin from_. record { plain = change_failed from_.plain (Commit label t.edits); is = failing origin from_; floor = from_.floor }) honest stands)
+          (stands_moved is_honest state old new start (λ origin from_. record { plain = change_failed from_.plain (Commit label t.edits); is = failing origin from_; floor = from_.floor; in_version = (from_.in_version.0, tt) }) honest stands)
           (counts_up faults old.core new.core fault.2 pages_up)
           (acked_by first.plain (change_failed first.plain (Commit label t.edits)) refl stands.origin first.is (failing stands.origin first))
           (λ mine own. adds_faulted who (IsToldIn _) old.core.ledger new.core.ledger d c true (λ none. absurd (cc (sym none ∙ ap is_some there))) (λ e n p. more_told mine.faults _ e n (fault_is _ d c told e n p)) ledger)

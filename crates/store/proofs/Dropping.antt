@@ -13,6 +13,7 @@ use Rattle.retro_base.specs.declared.who.Who.{Who}
 use Rattle.gate_log.specs.Cause.{IsDiskFault}
 use Rattle.history.specs.declared.entry.Change.TheVariants.{Drop}
 use Rattle.history.specs.declared.journal.What.TheVariants as whats
+use Rattle.history.specs.declared.log.Version.{Version}
 use Rattle.history.specs.declared.stop.Stop.{Stop}
 use Rattle.history.specs.Lines.{first_stop}
 use Rattle.history.specs.Marks.{newest, oldest}
@@ -38,7 +39,7 @@ use Rattle.store.specs.RoundCalls.{DropDoes}
 use Rattle.store.specs.Rounds.{IsRoom}
 use Rattle.store.specs.Seats.{CountFits, IsVisit, always, slots_of}
 use Rattle.store.specs.Sides.{DeskStands}
-use Rattle.store.specs.Start.{AreAsHonest, IsCoreFrom, Origin, desk_counts}
+use Rattle.store.specs.Start.{AreAsHonest, IsCoreFrom, IsDeskIn, Origin, desk_counts}
 use Rattle.store.proofs.Adding.{AddsOwn, adds_dropped, adds_faulted, adds_gave, adds_given, adds_kept, faulted_closed, kept_slot, slot_own}
 use Rattle.store.proofs.Answering.{same_pages}
 use Rattle.store.proofs.Asking.{room_no_fault}
@@ -150,6 +151,12 @@ module _ {D : Type 0} (is_honest : D → Type 0) (state : D → State) (faults :
     at true = (refl, refl)
     at false = (refl, refl)
 
+  version_behind : (below : ℕ) (plain : Desk) (version : Version) → IsDeskIn version plain → IsDeskIn version (dropped_behind (oldest old.core.desk.base.marks) below plain)
+  version_behind below plain version is = at (nat_lt (oldest old.core.desk.base.marks) below) where
+    at : (test : Bool) → IsDeskIn version (cond test (changed plain (Drop below)) plain)
+    at true = is
+    at false = is
+
   acked_by : (plain other : Desk) → other.acked ≡ plain.acked → (origin : Origin) → IsCore is_honest state origin.history old.core plain → IsCore is_honest state origin.history new.core other → new.core.desk.queue.first ≡ old.core.desk.queue.first
   acked_by plain other same origin before after = after.is.first ∙ (same ∙ sym before.is.first)
 
@@ -184,7 +191,7 @@ module _ {D : Type 0} (is_honest : D → Type 0) (state : D → State) (faults :
         let ledger = (subst (λ (r : Result (Unit {0}) Refusal). OnOk r ((drop_refused_by (newest old.core.desk.base.marks) below old.core.ledger ≡ None) × (new.core.ledger ≡ closed who (whats.Dropped below) (drop_kept who old.core.ledger)))) e does.dropped.done).1 in
         let log = subst (λ (r : Result (Unit {0}) Refusal). OnOk r (faults new.core.desk.log.disk ≡ faults old.core.desk.log.disk)) e (on_ok result _ _ (does.cause allowed)) in
         visit is_honest state faults who always old new start
-        (stands_moved is_honest state old new start (λ origin from_. record { plain = dropped_behind (oldest old.core.desk.base.marks) below from_.plain; is = done origin from_; floor = (floor_behind below from_.plain).0 ∙ from_.floor }) honest stands)
+        (stands_moved is_honest state old new start (λ origin from_. record { plain = dropped_behind (oldest old.core.desk.base.marks) below from_.plain; is = done origin from_; floor = (floor_behind below from_.plain).0 ∙ from_.floor; in_version = version_behind below from_.plain origin.log from_.in_version }) honest stands)
         (counts_up faults old.core new.core (omega (arith, log)) pages_up)
         (acked_by first.plain (dropped_behind (oldest old.core.desk.base.marks) below first.plain) (floor_behind below first.plain).1 stands.origin first.is (done stands.origin first))
         (λ mine own. adds_dropped who (IsToldIn _) old.core.ledger new.core.ledger (whats.Dropped below) (λ d c p. absurd (omega (arith, p))) tt ledger)
@@ -213,7 +220,7 @@ module _ {D : Type 0} (is_honest : D → Type 0) (state : D → State) (faults :
           subst (λ (x : Device × ℕ). 0 < fault_times x.0 x.1 (desk_faults (desk_counts faults old.core) (desk_counts faults new.core))) (λ i. (sym is_log i, sym fault.1 i))
           (told_log (desk_counts faults old.core) (desk_counts faults new.core) fault.3 (subst (λ (n : ℕ). n ≤ LAST) fault.1 (few d c is_err))) in
           visit is_honest state faults who always old new start
-          (stands_moved is_honest state old new start (λ origin from_. record { plain = change_failed from_.plain (Drop below); is = failing origin from_; floor = from_.floor }) honest stands)
+          (stands_moved is_honest state old new start (λ origin from_. record { plain = change_failed from_.plain (Drop below); is = failing origin from_; floor = from_.floor; in_version = (from_.in_version.0, tt) }) honest stands)
           (counts_up faults old.core new.core fault.2 pages_up)
           (acked_by first.plain (change_failed first.plain (Drop below)) refl stands.origin first.is (failing stands.origin first))
           (λ mine own. adds_dropped who (IsToldIn _) old.core.ledger new.core.ledger (whats.Fault d c true) (λ x n p. more_told _ _ x n (fault_is _ d c told x n p)) tt closes_so)

@@ -274,6 +274,7 @@ module _ {D : Type 0} (is_honest : D → Type 0) (state : D → State) (faults :
                 fits = from_.fits;
                 slots = file.blocks ∙ from_.slots;
                 pages = ap (λ (a : Running D). a.side.log.page_count) same ∙ from_.pages;
+                in_version = from_.in_version;
               };
         }
 

@@ -54,7 +54,7 @@ module _ {D : Type 0} (is_honest : D → Type 0) (state : D → State) where
     }
 
     pub stands_stays : StaysCore is_honest state old.core new.core → AreAsHonest is_honest old.core new.core → DeskStands is_honest state old → DeskStands is_honest state new
-    stands_stays stays = stands_moved (λ origin from_. record { plain = from_.plain; is = stays origin.history from_.plain from_.is; floor = from_.floor })
+    stands_stays stays = stands_moved (λ origin from_. record { plain = from_.plain; is = stays origin.history from_.plain from_.is; floor = from_.floor; in_version = from_.in_version })
 
     -- faults are not fewer than at the opening
     later_on : (faults : D → ℕ) → IsLaterCore faults old.start.core.value old.core → ((d : Device) → desk_counts faults old.core d ≤ desk_counts faults new.core d) → IsLaterCore faults new.start.core.value new.core

@@ -2,6 +2,7 @@ pub mod Adding
 pub mod Answering
 pub mod Asking
 pub mod Calling
+pub mod Crashing
 pub mod Batches
 pub mod Committing
 pub mod Copying

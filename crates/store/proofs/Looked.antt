@@ -46,7 +46,7 @@ one_log : (version : Version) (bytes : List ℕ) (log other : declared.Log) → 
 one_log version bytes log other this that =
     (log_one_way version).one_value that.bodies log other (subst (λ (bs : List (List ℕ)). IsLog version bs log) (device_one_way.one_list LOG_REGION_BYTES bytes this.bodies that.bodies this.lists that.lists) this.stands) that.stands
 
-page_count_stays : (place : Place) (changes : List Change) → (run place changes).base.page_count ≡ place.base.page_count
+pub page_count_stays : (place : Place) (changes : List Change) → (run place changes).base.page_count ≡ place.base.page_count
 page_count_stays place [] = refl
 page_count_stays place (change ∷ changes) = page_count_stays (after place change) changes ∙ page_count_after place.base change
 
@@ -295,7 +295,7 @@ module _ {D : Type 0} (extent faults : D → ℕ) (is_honest : D → Type 0) (re
           joined = fetched.joined (block_at (state archive.pagelog.disk).seen);
         };
         opened = record {
-          origin = record { history = opened (contents_of fetched.list (state pages).seen mappings (block_at (state archive.pagelog.disk).seen)); floor = mappings.low };
+          origin = record { history = opened (contents_of fetched.list (state pages).seen mappings (block_at (state archive.pagelog.disk).seen)); floor = mappings.low; log = fetched.list.version; maplog = version };
           opened = opened_to is_honest state version log pages maps mappings core archive sizes fetched same looked.opened capacity page_count;
           lines = ap (λ (l : Ledger). l.book.lines) empty;
           works = ap (λ (l : Ledger). l.works.slots) empty;

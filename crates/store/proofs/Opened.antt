@@ -61,7 +61,7 @@ vault_fits version contents fits few =
 -- They were opened to the history of the log over the pages' bytes, with these mappings and the slots as their device has them.
 pub opened_to : {D : Type 0} (is_honest : D → Type 0) (state : D → State) (version : Version) (log pages maplog : D) (mappings : Mappings) (core : Core D) (archive : Running D) (sizes : Sizes) (fetched : FetchesCore is_honest state version log pages mappings core)
     → mappings ≡ archive.side.levels → IsOpened is_honest state version sizes.pages sizes.capacity maplog archive → core.desk.base.capacity ≡ sizes.capacity → core.desk.base.page_count ≡ sizes.pages
-    → let contents : Contents = contents_of fetched.list (state pages).seen mappings (block_at (state archive.pagelog.disk).seen) in AreOpenedTo is_honest state core archive (record { history = opened contents; floor = mappings.low })
+    → let contents : Contents = contents_of fetched.list (state pages).seen mappings (block_at (state archive.pagelog.disk).seen) in AreOpenedTo is_honest state core archive (record { history = opened contents; floor = mappings.low; log = fetched.list.version; maplog = version })
 opened_to is_honest state version log pages maplog mappings core archive sizes fetched same fresh capacity page_count =
     let slots : ℕ → List ℕ = block_at (state archive.pagelog.disk).seen in
     let contents : Contents = contents_of fetched.list (state pages).seen mappings slots in
@@ -72,7 +72,7 @@ opened_to is_honest state version log pages maplog mappings core archive sizes f
     record {
       base = sym is.is.base;
       fits = is.fits.history;
-      core = record { plain = opened_desk contents; is = is; floor = refl };
+      core = record { plain = opened_desk contents; is = is; floor = refl; in_version = (refl, tt) };
       vault = record {
         vault = opened_vault version contents;
         is = fresh.vault contents same (λ honest slot. refl);
@@ -81,5 +81,6 @@ opened_to is_honest state version log pages maplog mappings core archive sizes f
         fits = λ honest. subst (λ (h : History). VaultFits h mappings.low (opened_vault version contents)) (sym (with_changes-none (opened contents))) vault;
         slots = fresh.slots ∙ (sym capacity ∙ size);
         pages = fresh.log.pages ∙ (sym page_count ∙ ap (λ (b : Base). b.page_count) is.is.base);
+        in_version = (refl, tt);
       };
     }

@@ -113,7 +113,7 @@ module _ {D : Type 0} (is_honest : D → Type 0) (state : D → State) (faults :
     served (Err why) fresh ledger told = same_visit always ledger
 
   moved_same : new.core ≡ old.core → Moved
-  moved_same same origin from_ = (record { plain = from_.plain; is = subst (λ (c : Core D). IsCore is_honest state origin.history c from_.plain) (sym same) from_.is; floor = from_.floor }, refl)
+  moved_same same origin from_ = (record { plain = from_.plain; is = subst (λ (c : Core D). IsCore is_honest state origin.history c from_.plain) (sym same) from_.is; floor = from_.floor; in_version = from_.in_version }, refl)
 
   -- where the refusal is no fault
   quiet_moved : (why : Refusal) → (IsDiskFault why → ⊥) → new.core.ledger ≡ failed who why old.core.ledger → ((IsDiskFault why → ⊥) → new.core.desk ≡ old.core.desk) → Moved
@@ -155,7 +155,7 @@ module _ {D : Type 0} (is_honest : D → Type 0) (state : D → State) (faults :
 
   pub notes : (device : Device) (count : ℕ) → Fresh → NoteDoes is_honest state who device count true old.core new.core → IsVisit is_honest state faults who (λ fs. 0 < fault_times device count fs) old new
   notes device count fresh does =
-      fault_visit (λ origin from_. (record { plain = stopped from_.plain; is = does.stops origin.history from_.plain from_.is refl; floor = from_.floor }, refl))
+      fault_visit (λ origin from_. (record { plain = stopped from_.plain; is = does.stops origin.history from_.plain from_.is refl; floor = from_.floor; in_version = from_.in_version }, refl))
       (record { log = log_honest does.log; pages = same_pages is_honest old.core new.core does.file })
       (counts_up faults old.core new.core (let e = ap (λ l. faults l.disk) does.log in omega (arith, e)) (let e = ap (λ (f : File D). faults f.disk) does.file in omega (arith, e)))
       (λ fs. 0 < fault_times device count fs) device count true fresh does.ledger (λ mine own. told_more mine.faults _ device count own.told)
@@ -164,11 +164,11 @@ module _ {D : Type 0} (is_honest : D → Type 0) (state : D → State) (faults :
     writes_moved : (result : Result Bool Refusal) → WriteBackDoes is_honest state faults remembers clock who result old.core new.core → Moved
     writes_moved (Ok true) does origin from_ =
         let d = does.done origin.history from_.plain from_.is refl in
-        (record { plain = written from_.plain d.0 from_.plain.acked; is = d.3 from_.plain.acked d.2; floor = from_.floor }, refl)
+        (record { plain = written from_.plain d.0 from_.plain.acked; is = d.3 from_.plain.acked d.2; floor = from_.floor; in_version = from_.in_version }, refl)
     writes_moved (Ok false) does origin from_ = moved_same (does.none origin.history from_.plain from_.is refl).0 origin from_
     writes_moved (Err (DiskFault d c)) does origin from_ =
         let f = does.failed origin.history from_.plain from_.plain.acked from_.is tt in
-        (record { plain = write_failed from_.plain f.0 from_.plain.acked f.1; is = f.4 f.3; floor = from_.floor }, refl)
+        (record { plain = write_failed from_.plain f.0 from_.plain.acked f.1; is = f.4 f.3; floor = from_.floor; in_version = from_.in_version }, refl)
     writes_moved (Err why) does origin from_ = quiet_moved why (λ x. x) does.ledger does.untouched origin from_
 
     pub writes_back : (result : Result Bool Refusal) → Fresh → CountFits result → WriteBackDoes is_honest state faults remembers clock who result old.core new.core → IsVisit is_honest state faults who always old new
@@ -179,8 +179,8 @@ module _ {D : Type 0} (is_honest : D → Type 0) (state : D → State) (faults :
         (IsWriteRefusal old.core.desk.stop (IsFault Pages (faults old.core.desk.pool.file.disk) (faults new.core.desk.pool.file.disk)))) e does.cause).1)
 
     settles_moved : (result : Result (Unit {0}) Refusal) → SettleDoes is_honest state faults remembers clock who result old.core new.core → Moved
-    settles_moved (Ok x) does origin from_ = (record { plain = settled from_.plain; is = does.done origin.history from_.plain from_.is; floor = from_.floor }, refl)
-    settles_moved (Err (DiskFault d c)) does origin from_ = (record { plain = stopped from_.plain; is = does.failed origin.history from_.plain from_.is tt; floor = from_.floor }, refl)
+    settles_moved (Ok x) does origin from_ = (record { plain = settled from_.plain; is = does.done origin.history from_.plain from_.is; floor = from_.floor; in_version = from_.in_version }, refl)
+    settles_moved (Err (DiskFault d c)) does origin from_ = (record { plain = stopped from_.plain; is = does.failed origin.history from_.plain from_.is tt; floor = from_.floor; in_version = from_.in_version }, refl)
     settles_moved (Err why) does origin from_ = quiet_moved why (λ x. x) does.ledger does.untouched origin from_
 
     pub settles : (result : Result (Unit {0}) Refusal) → Fresh → CountFits result → SettleDoes is_honest state faults remembers clock who result old.core new.core → IsVisit is_honest state faults who always old new
@@ -191,9 +191,9 @@ module _ {D : Type 0} (is_honest : D → Type 0) (state : D → State) (faults :
         (IsWriteRefusal old.core.desk.stop (IsFault Pages (faults old.core.desk.pool.file.disk) (faults new.core.desk.pool.file.disk)))) e does.cause).1)
 
     cuts_moved : (result : Result Bool Refusal) → CutDoes is_honest state faults remembers clock who result old.core new.core → Moved
-    cuts_moved (Ok true) does origin from_ = (record { plain = cut from_.plain; is = (does.done origin.history from_.plain from_.is refl).1; floor = from_.floor }, refl)
+    cuts_moved (Ok true) does origin from_ = (record { plain = cut from_.plain; is = (does.done origin.history from_.plain from_.is refl).1; floor = from_.floor; in_version = from_.in_version }, refl)
     cuts_moved (Ok false) does origin from_ = moved_same (does.none origin.history from_.plain from_.is refl).0 origin from_
-    cuts_moved (Err (DiskFault d c)) does origin from_ = (record { plain = cut_failed from_.plain; is = (does.failed origin.history from_.plain from_.is tt).1; floor = from_.floor }, refl)
+    cuts_moved (Err (DiskFault d c)) does origin from_ = (record { plain = cut_failed from_.plain; is = (does.failed origin.history from_.plain from_.is tt).1; floor = from_.floor; in_version = (from_.in_version.0, from_.in_version.0) }, refl)
     cuts_moved (Err why) does origin from_ = quiet_moved why (λ x. x) does.ledger does.untouched origin from_
 
     pub cuts : (result : Result Bool Refusal) → Fresh → CountFits result → CutDoes is_honest state faults remembers clock who result old.core new.core → IsVisit is_honest state faults who always old new
@@ -209,7 +209,7 @@ module _ {D : Type 0} (is_honest : D → Type 0) (state : D → State) (faults :
       → MayLeave (of_desk is_honest state faults) (of_start faults) most mine old new
   acks receipt does most mine keeps le few =
       may_leave_quiet is_honest state old new start faults most mine
-      (stands_moved is_honest state old new start (λ origin from_. record { plain = acked_to from_.plain receipt; is = does.done origin.history from_.plain from_.is; floor = from_.floor })
+      (stands_moved is_honest state old new start (λ origin from_. record { plain = acked_to from_.plain receipt; is = does.done origin.history from_.plain from_.is; floor = from_.floor; in_version = from_.in_version })
       (subst (λ (r : RunningDesk D). AreAsHonest is_honest old.core (record { desk = r; ledger = new.core.ledger })) (sym does.queue) (record { log = ((λ a. a), (λ a. a)); pages = ((λ a. a), (λ a. a)) })) stands)
       keeps (counts_up faults old.core new.core (let e = ap (λ (r : RunningDesk D). faults r.log.disk) does.queue in omega (arith, e)) (let e = ap (λ (r : RunningDesk D). faults r.pool.file.disk) does.queue in omega (arith, e)))
       does.ledger (let e = ap (λ (r : RunningDesk D). r.queue.first) does.queue in omega (arith, e, le, few))

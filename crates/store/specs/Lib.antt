@@ -9,4 +9,5 @@ pub mod Carrying
 pub mod RoundCalls
 pub mod Rounds
 pub mod Opening
+pub mod Crashes
 pub mod Closing

@@ -20,8 +20,9 @@ use Rattle.opening.specs.Opening.{DevicesBreak, Hold}
 use Rattle.store_core.specs.Core.{AreSizesOf}
 use Rattle.store_core.specs.declared.desk_core.Core.{Core}
 use Rattle.store.specs.declared.fetching.Shown.{Shown}
+use Rattle.store.specs.declared.start.Start.{Start}
 use Rattle.store.specs.Seats.{Sat}
-use Rattle.store.specs.Start.{AreJustOpened, IsStartOf, Origin}
+use Rattle.store.specs.Start.{AreJustOpened, IsOpenedTo, IsStartOf, Origin}
 use Rattle.turn.specs.Seats as seats_of_turn
 
 -- the four devices of a core and an archive
@@ -50,9 +51,9 @@ pub record AreRefused {D : Type 0} (extent : D → ℕ) (is_honest : D → Type 
   pub sizes : SizesTell (of_each extent disks) device broken
   pub breaks : AreHonest is_honest disks → DevicesBreak version (seen_of state disks) device broken
 
--- the history that contents open to, kept from their lowest mapping on
-abbrev pub origin_of : Contents → Origin
-origin_of contents = record { history = opened contents; floor = contents.mappings.low }
+-- the history that contents open to, kept from their lowest mapping on, with a Maplog in records of that version
+abbrev pub origin_of : Version → Contents → Origin
+origin_of version contents = record { history = opened contents; floor = contents.mappings.low; log = contents.log.version; maplog = version }
 
 -- four devices
 abbrev pub four_of : {D : Type 0} → D → D → D → D → Four D
@@ -86,18 +87,27 @@ pub record AreOpenedFrom {D : Type 0} (is_honest : D → Type 0) (state : D → 
   pub contents : Contents
   pub are : AreContentsOf is_honest state version disks contents
   pub opened : AreJustOpened is_honest state core archive
-  pub origin : opened.origin ≡ origin_of contents
+  pub origin : opened.origin ≡ origin_of version contents
+
+-- a store was opened to this history, from devices that told what they held, with log and Maplog in records of one version
+pub record IsHonestlyOpened {D : Type 0} (is_honest : D → Type 0) (state : D → State) (start : Start D) (origin : Origin) : Type 0 where
+  pub opened : IsOpenedTo is_honest state start origin
+  pub honest : AreHonest is_honest (disks_of start.core.value start.archive.value)
+  pub in_version : origin.maplog ≡ origin.log
 
 -- The core and the archive with which a store of these seats began: each seat tells them as its opening. They were opened
--- from the four devices, of which nothing was written and no call failed.
+-- from the four devices, of which nothing was written and no call failed. Where the devices tell what they hold, the store
+-- was opened to the history of their contents.
 pub record BeginsWith {D : Type 0} (extent faults : D → ℕ) (is_honest : D → Type 0) (remembers : Type 0)
-    (state : D → State) (clock : D → Clock) (version : Version) (disks : Four D) (seats : List (Sat D)) : Type 0 where
+    (state : D → State) (clock : D → Clock) (version : Version) (disks : Four D) (start : Start D) (seats : List (Sat D)) : Type 0 where
   pub core : Core D
   pub archive : Running D
   pub opened : AreOpenedFrom is_honest state version disks core archive
   pub read : AreReadBy extent is_honest remembers state clock disks core archive
   pub counts : SameCounts (of_each faults disks) (of_each faults (disks_of core archive))
+  pub begins : IsStartOf core archive (Some start)
   pub each : (k : ℕ) (s : Sat D) → slice_get seats k ≡ Some s → IsStartOf core archive (seats_of_turn.opening s)
+  pub honestly : AreHonest is_honest disks → IsHonestlyOpened is_honest state start opened.opened.origin
 
 -- what is shown of the four devices' contents: their sizes, the oldest and the newest snapshot, and how many captures
 pub record IsShownOf {D : Type 0} (is_honest : D → Type 0) (state : D → State) (version : Version) (disks : Four D) (shown : Shown) : Type 0 where

@@ -21,6 +21,7 @@ use Rattle.store_core.specs.declared.desk_core.Core.{Core}
 use Rattle.txn_set.specs.declared.ending.Ending.{Ending}
 use Rattle.txn_set.specs.declared.ending.Ending.TheVariants as ending
 use Rattle.turn.specs.declared.seat.SeatOver.{SeatOver}
+use Rattle.turn.specs.declared.turn.Turn.{Turn}
 use Rattle.turn.specs.declared.view.Holding.{Holding}
 use Rattle.turn.specs.Faults.{LAST, fault_times}
 use Rattle.turn.specs.Seats.{IsInDesk, IsInVault, IsSame, MayLeave, MayLeaveVault, Rests, held, mine, opening, seen}
@@ -34,6 +35,10 @@ use Rattle.store.specs.Workers.{WorkersFit}
 
 abbrev pub Sat : Type 0 → Type 0
 Sat D = SeatOver (Start D) Work (DeskSide D) (Running D)
+
+-- what a store was opened with
+abbrev pub start_of : {D : Type 0} → Turn (DeskSide D) (Running D) (Start D) Work → Start D
+start_of turn = turn.table.shared.key.first.value.start
 
 -- the journal that a desk keeps, and what each session has open
 abbrev pub journal : {D : Type 0} → DeskSide D → List Line

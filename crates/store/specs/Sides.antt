@@ -78,5 +78,6 @@ module _ {D : Type 0} (is_honest : D → Type 0) (state : D → State) where
           fits = λ honest. outlives found.vault (found.fits honest);
           slots = found.slots;
           pages = found.pages;
+          in_version = found.in_version;
         };
   }

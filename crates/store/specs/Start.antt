@@ -1,18 +1,20 @@
 -- What a store was opened with, and what it may have been opened to.
 use Rattle.std.specs.Prelude.{◌≡◌, ◌≤◌, ◌<◌, ◌++◌, ◌↔◌, ℕ, false, List, [], Option, Some, None}
+use Rattle.std.specs.List.{AllByRecursion}
 use Rattle.disk_model.specs.Disk.{State}
 use Rattle.retro_base.specs.declared.device.Device.{Device}
 use Rattle.retro_base.specs.declared.device.Device.TheVariants.{Log, Pages, Pagelog, Maplog}
 use Rattle.retro_base.specs.declared.limits.TheConstants.{WORKER_LINES}
 use Rattle.history.specs.declared.entry.Base.{Base}
 use Rattle.history.specs.declared.journal.Line.{Line}
+use Rattle.history.specs.declared.log.Version.{Version}
 use Rattle.history.specs.History.{History, now}
 use Rattle.history.specs.Journal.{after_journal}
 use Rattle.history.specs.Sound.{IsSound}
 use Rattle.history.proofs.Journals.{front_is_sound}
-use Rattle.race_model.specs.Desk.{Desk, capacity_of}
+use Rattle.race_model.specs.Desk.{Desk, Doubt, NewBase, capacity_of}
 use Rattle.race_model.specs.Fits.{HistoryFits, VaultFits}
-use Rattle.race_model.specs.Vault.{Vault}
+use Rattle.race_model.specs.Vault.{Maplog as MaplogOf, Vault}
 use Rattle.archive.specs.Archive.{IsVault, Running}
 use Rattle.store_core.specs.declared.desk_core.Core.{Core}
 use Rattle.store_core.specs.Core.{IsCore}
@@ -20,10 +22,26 @@ use Rattle.turn.specs.Faults.{LAST, count_of}
 use Rattle.turn.specs.Meanings.{OpeningMeaning}
 use Rattle.store.specs.declared.start.Start.{Start}
 
--- a history at the opening, whose archive is kept from a floor on
+-- a history at the opening, whose archive is kept from a floor on, with the versions of the records of its log and of its
+-- Maplog
 pub record Origin : Type 0 where
   pub history : History
   pub floor : ℕ
+  pub log : Version
+  pub maplog : Version
+
+-- a new base that is in doubt is in records of the version
+abbrev pub IsDoubtIn : Version → Doubt → Type 0
+IsDoubtIn version (NewBase other) = other ≡ version
+IsDoubtIn version doubt = Unit {0}
+
+-- the log is in records of the version, and stays so
+abbrev pub IsDeskIn : Version → Desk → Type 0
+IsDeskIn version desk = (desk.version ≡ version) × IsDoubtIn version desk.doubt
+
+-- the Maplog is in records of the version, whichever the device has
+abbrev pub IsVaultIn : Version → Vault → Type 0
+IsVaultIn version vault = (vault.version ≡ version) × AllByRecursion (λ (other : MaplogOf). other.version ≡ version) vault.others
 
 -- a vault with these slots, each of which is settled
 abbrev pub with_slots : (ℕ → List ℕ) → Vault → Vault
@@ -35,6 +53,7 @@ module _ {D : Type 0} (is_honest : D → Type 0) (state : D → State) where
     pub plain : Desk
     pub is : IsCore is_honest state origin.history core plain
     pub floor : plain.floor ≡ origin.floor
+    pub in_version : IsDeskIn origin.log plain
 
   -- The archive is a vault that fits the history behind these lines, and has its sizes. Its numbers fit on any
   -- devices; its slots where the pages' device is honest, whose bytes they are.
@@ -46,6 +65,7 @@ module _ {D : Type 0} (is_honest : D → Type 0) (state : D → State) where
     pub fits : IsHonest → VaultFits (after_journal origin.history lines) origin.floor vault
     pub slots : archive.pagelog.blocks ≡ capacity_of origin.history
     pub pages : archive.side.log.page_count ≡ (now origin.history).base.page_count
+    pub in_version : IsVaultIn origin.maplog vault
 
   -- a core and an archive were opened to this history
   pub record AreOpenedTo (running : Core D) (archive : Running D) (origin : Origin) : Type 0 where

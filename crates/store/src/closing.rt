@@ -2,6 +2,7 @@
 
 ghost use Rattle.std.specs.Prelude.{◌≡◌, ℕ, Some, length, slice_get};
 ghost use Rattle.store.specs.Closing.{AreReady, Closes};
+ghost use Rattle.store.specs.Seats.{start_of};
 ghost use Rattle.turn.specs.Tables.{table_of};
 
 use crate::desk_side::DeskSide;
@@ -21,7 +22,8 @@ impl<D: Disk + Drop> Store<D> {
     pub fn close(self, seats: Vec<Seat<D>>) -> Closed<D>
         requires all { length seats.items ≡ self.turn.table.shared.key.seats }
         requires ready { AreReady (table_of self.turn) seats.items }
-        ensures closed { Closes D.is_honest D.state self.turn.table.shared.key.seats seats.items result }
+        ensures closed { Closes D.is_honest D.state D.faults (start_of self.turn) self.turn.table.shared.key.seats
+            seats.items result }
     {
         let Store {
             turn,

@@ -3,7 +3,7 @@
 ghost use Rattle.std.specs.Prelude.{◌≡◌, ◌≤◌, ℕ, None, [], length, slice_get, Some, IfErr, IfOk, MatchResult};
 ghost use Rattle.opening.specs.Devices.{AreUnwritten, IsUnopened, of_each, SameCounts};
 ghost use Rattle.store.specs.Opening.{AreLooked, AreOpenedFrom, AreReadBy, AreRefused, BeginsWith, disks_of, four_of, IsShownOf};
-ghost use Rattle.store.specs.Seats.{IsReady, IsSized, IsWhole, Sat};
+ghost use Rattle.store.specs.Seats.{IsReady, IsSized, IsWhole, Sat, start_of};
 ghost use Rattle.turn.specs.Seats.{mine, seen};
 ghost use Rattle.turn.specs.Tables.{table_of};
 
@@ -155,7 +155,7 @@ impl<D: Disk + Drop> Store<D> {
             → (s.number ≡ k) × ((mine s).work ≡ None) × (seen s ≡ [])) }
         ensures sized { IfOk result (λ r. (k : ℕ) (s : Sat D) → slice_get r.1.items k ≡ Some s → IsSized r.0.pages s) }
         ensures begins { IfOk result (λ r. BeginsWith D.extent D.faults D.is_honest D.remembers D.state D.clock
-            version disks r.1.items) }
+            version disks (start_of r.0.turn) r.1.items) }
         ensures back { IfErr result (λ e. AreUnwritten D.extent D.is_honest D.remembers D.state D.clock disks e.0) }
         ensures cause { IfErr result (λ e. IsUnopened (AreRefused D.extent D.is_honest D.state version disks)
             (of_each D.faults disks) (of_each D.faults e.0) e.1) }

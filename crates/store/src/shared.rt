@@ -3,7 +3,7 @@
 ghost use Rattle.std.specs.Prelude.{◌≡◌, ◌≤◌, ℕ, [], None, Some, length, slice_get, IfErr, IfOk};
 ghost use Rattle.archive.specs.Archive.{Running};
 ghost use Rattle.store.specs.Seats.{HasEntered, HasEnteredVault, IsReady, IsSized, IsWhole, MayGiveBack};
-ghost use Rattle.store.specs.Seats.{MayGiveBackVault, Sat, Visited, VisitedVault};
+ghost use Rattle.store.specs.Seats.{MayGiveBackVault, Sat, Visited, VisitedVault, start_of};
 ghost use Rattle.store.specs.Start.{AreJustOpened, IsStartOf};
 ghost use Rattle.turn.specs.Seats.{mine, opening, seen};
 ghost use Rattle.turn.specs.Tables.{table_of};
@@ -47,6 +47,7 @@ impl<D: Disk + Drop> Store<D> {
         ensures new { IfOk result (λ r. (k : ℕ) (s : Sat D) → slice_get r.1.items k ≡ Some s
             → (s.number ≡ k) × ((mine s).work ≡ None) × (seen s ≡ []) × IsStartOf core archive (opening s)) }
         ensures sized { IfOk result (λ r. (k : ℕ) (s : Sat D) → slice_get r.1.items k ≡ Some s → IsSized r.0.pages s) }
+        ensures begins { IfOk result (λ r. IsStartOf core archive (Some (start_of r.0.turn))) }
         ensures back { IfErr result (λ r. (r.0 ≡ core) × (r.1 ≡ archive)) }
     {
         let pages = core.sizes().pages;

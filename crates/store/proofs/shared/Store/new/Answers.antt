@@ -13,3 +13,6 @@ returns-in-Ok-clause-new g c = λ k s there. new_seats _ _ c.in-Ok.seats.items c
 
 pub returns-in-Ok-clause-sized : goal.returns-in-Ok-clause-sized
 returns-in-Ok-clause-sized g c = λ k s there. sized_by _ _ _ _ (new_seats _ _ c.in-Ok.seats.items c.in-Ok.ensures.new k s there _ _ c.of.ensures c.of-2.ensures).3 (ap (λ s. s.pages) c.sizes.ensures)
+
+pub returns-in-Ok-clause-begins : goal.returns-in-Ok-clause-begins
+returns-in-Ok-clause-begins g c = let e = c.in-Ok.ensures.opening in (ap (λ s. s.core.value) e ∙ c.of.ensures, ap (λ s. s.archive.value) e ∙ c.of-2.ensures)
