@@ -14,6 +14,7 @@ ghost use Rattle.retro.specs.Shows.{Shows};
 ghost use Rattle.retro.specs.Words.{asked_by, AskToRun};
 
 use crate::formatting::format;
+use crate::keeping::keep;
 use crate::running::run;
 use crate::saying::{Status, say};
 use crate::showing::show;
@@ -22,6 +23,7 @@ use disk_model::Cabinet;
 use feeds::{Sink, Source};
 use fold_kit::Folds;
 use std::alloc::Global;
+use std::sync::Wait;
 
 // Says what is wrong with the words.
 fn refuse<K: Sink>(sink: &mut K, mistake: Mistake) -> Status
@@ -37,7 +39,8 @@ fn refuse<K: Sink>(sink: &mut K, mistake: Mistake) -> Status
 }
 
 // Does what the words ask for.
-fn perform<S: Source, K: Sink, C: Cabinet, F: Folds>(
+fn perform<R: Wait, S: Source, K: Sink, C: Cabinet, F: Folds>(
+    rt: &R,
     alloc: Global,
     words: &[String],
     source: &mut S,
@@ -86,7 +89,7 @@ fn perform<S: Source, K: Sink, C: Cabinet, F: Folds>(
 {
     match command_of(words) {
         Ok(Command::Run { dir: None }) => run(alloc, source, sink, folds),
-        Ok(Command::Run { dir: Some(_) }) => unreachable!(),
+        Ok(Command::Run { dir: Some(dir) }) => keep(alloc, rt, source, sink, cabinet, dir, folds),
         Ok(Command::Format { dir, sizes }) => format(alloc, sink, cabinet, dir, sizes),
         Ok(Command::Show { dir }) => show(alloc, sink, cabinet, dir),
         Err(mistake) => refuse(sink, mistake),
@@ -105,7 +108,8 @@ fn perform<S: Source, K: Sink, C: Cabinet, F: Folds>(
 ///
 /// The last two end with 6 where a call of the cabinet or of a device failed; `show` with 7 where the bytes are no
 /// store's; with 5 where the sink failed; with 8 where memory ran out; else with 0. The devices are back in the cabinet.
-pub fn retro<S: Source, K: Sink, C: Cabinet, F: Folds>(
+pub fn retro<R: Wait, S: Source, K: Sink, C: Cabinet, F: Folds>(
+    rt: &R,
     alloc: Global,
     words: &[String],
     source: &mut S,
@@ -155,5 +159,5 @@ pub fn retro<S: Source, K: Sink, C: Cabinet, F: Folds>(
         → S.faults source.old < 2 ^ 64 - 1 → K.faults sink.new ≡ K.faults sink.old → K.faults sink.old < 2 ^ 64 - 1
         → (result ≡ 0) ⊎ (result ≡ 8) }
 {
-    perform(alloc, words, source, sink, cabinet, folds) as u8
+    perform(rt, alloc, words, source, sink, cabinet, folds) as u8
 }

@@ -29,6 +29,7 @@ impl<D: Disk + Drop> Store<D> {
             turn,
             alloc: _,
             pages: _,
+            newest: _,
         } = self;
         let (side, archive) = turn.close(seats);
         let DeskSide { core, start: _ } = side;

@@ -1,9 +1,11 @@
 //! A store opened from its four devices.
 
 ghost use Rattle.std.specs.Prelude.{◌≡◌, ◌≤◌, ℕ, None, [], length, slice_get, Some, IfErr, IfOk, MatchResult};
+ghost use Rattle.history.specs.Marks.{newest};
 ghost use Rattle.opening.specs.Devices.{AreUnwritten, IsUnopened, of_each, SameCounts};
 ghost use Rattle.store.specs.Opening.{AreLooked, AreOpenedFrom, AreReadBy, AreRefused, BeginsWith, disks_of, four_of, IsShownOf};
 ghost use Rattle.store.specs.Seats.{IsReady, IsSized, IsWhole, Sat, start_of};
+ghost use Rattle.store.specs.Start.{opened_base};
 ghost use Rattle.turn.specs.Seats.{mine, seen};
 ghost use Rattle.turn.specs.Tables.{table_of};
 
@@ -154,6 +156,7 @@ impl<D: Disk + Drop> Store<D> {
         ensures new { IfOk result (λ r. (k : ℕ) (s : Sat D) → slice_get r.1.items k ≡ Some s
             → (s.number ≡ k) × ((mine s).work ≡ None) × (seen s ≡ [])) }
         ensures sized { IfOk result (λ r. (k : ℕ) (s : Sat D) → slice_get r.1.items k ≡ Some s → IsSized r.0.pages s) }
+        ensures newest { IfOk result (λ r. r.0.newest ≡ newest (opened_base (start_of r.0.turn)).marks) }
         ensures begins { IfOk result (λ r. BeginsWith D.extent D.faults D.is_honest D.remembers D.state D.clock
             version disks (start_of r.0.turn) r.1.items) }
         ensures back { IfErr result (λ e. AreUnwritten D.extent D.is_honest D.remembers D.state D.clock disks e.0) }

@@ -2,6 +2,7 @@
 
 ghost use Rattle.std.specs.Prelude.{◌≡◌, ◌≤◌, ℕ, [], None, Some, length, slice_get, IfErr, IfOk};
 ghost use Rattle.archive.specs.Archive.{Running};
+ghost use Rattle.history.specs.Marks.{newest};
 ghost use Rattle.store.specs.Seats.{HasEntered, HasEnteredVault, IsReady, IsSized, IsWhole, MayGiveBack};
 ghost use Rattle.store.specs.Seats.{MayGiveBackVault, Sat, Visited, VisitedVault, start_of};
 ghost use Rattle.store.specs.Start.{AreJustOpened, IsStartOf};
@@ -28,6 +29,7 @@ pub struct Store<D: Disk + Drop> {
     pub(crate) turn: Turn<DeskSide<D>, Archive<D>>,
     pub(crate) alloc: Global,
     pub(crate) pages: u32,
+    pub(crate) newest: u32,
 }
 
 impl<D: Disk + Drop> Store<D> {
@@ -48,15 +50,17 @@ impl<D: Disk + Drop> Store<D> {
             → (s.number ≡ k) × ((mine s).work ≡ None) × (seen s ≡ []) × IsStartOf core archive (opening s)) }
         ensures sized { IfOk result (λ r. (k : ℕ) (s : Sat D) → slice_get r.1.items k ≡ Some s → IsSized r.0.pages s) }
         ensures begins { IfOk result (λ r. IsStartOf core archive (Some (start_of r.0.turn))) }
+        ensures newest { IfOk result (λ r. r.0.newest ≡ newest core.desk.base.marks) }
         ensures back { IfErr result (λ r. (r.0 ≡ core) × (r.1 ≡ archive)) }
     {
         let pages = core.sizes().pages;
+        let (_, newest) = core.horizon();
         let start = Start {
             core: Snapshot::of(&core),
             archive: Snapshot::of(&archive),
         };
         match Turn::new(alloc, DeskSide { core, start }, archive, seats) {
-            Ok((turn, seats)) => Ok((Store { turn, alloc, pages }, seats)),
+            Ok((turn, seats)) => Ok((Store { turn, alloc, pages, newest }, seats)),
             Err((side, archive)) => {
                 let DeskSide { core, start: _ } = side;
                 Err((core, archive))
@@ -69,6 +73,13 @@ impl<D: Disk + Drop> Store<D> {
         ensures { result ≡ self.now.pages }
     {
         self.pages
+    }
+
+    /// The newest snapshot when the store was opened; 0 where none was declared.
+    pub fn newest(&self) -> u32
+        ensures { result ≡ self.now.newest }
+    {
+        self.newest
     }
 
     pub(crate) fn enter<R: Wait>(&self, rt: &R, seat: &mut Seat<D>) -> DeskSide<D>
