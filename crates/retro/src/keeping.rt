@@ -1,5 +1,10 @@
 //! `run DIR`.
 
+ghost use Rattle.std.specs.Prelude.{◌≡◌, Ok};
+ghost use Rattle.session.specs.Plan.{PlanFits};
+ghost use Rattle.retro.specs.Keeping.{EndsRun, has_fault, is_fault, RunsIn, RunsOnStore};
+ghost use Rattle.retro.specs.Says.{IsOfKept, IsOfStores, number_of};
+
 use crate::running::{plan_from, refuse as refuse_script};
 use crate::saying::{Status, cabinet_fault, refuse, write_made};
 use crate::storing::{Ended, run_on};
@@ -20,7 +25,11 @@ fn run_in<R: Wait, C: Cabinet, F: Folds>(
     dir: &str,
     folds: &F,
     plan: &Plan,
-) -> Result<Ended, Refusal> {
+) -> Result<Ended, Refusal>
+    requires { PlanFits plan.now }
+    ensures { RunsOnStore C.faults C.is_out C.tells C.store C.Device.extent C.Device.faults C.Device.is_honest
+        C.Device.remembers C.Device.state C.Device.clock dir.now plan.now cabinet.old cabinet.new result }
+{
     let Ok(disks) = cabinet.fetch(dir) else {
         return Err(cabinet_fault(cabinet));
     };
@@ -30,26 +39,30 @@ fn run_in<R: Wait, C: Cabinet, F: Folds>(
     ended
 }
 
-// Whether a device failed in the line.
-fn is_fault(line: &Line) -> bool {
-    match line.what {
-        What::Fault { .. } => true,
-        _ => false,
-    }
+// Whether the line tells a fault of a device.
+fn is_fault(line: &Line) -> bool
+    ensures { result ≡ is_fault line.now.what }
+{
+    matches!(line.what, What::Fault { .. })
 }
 
-// Whether a device failed.
-fn has_fault(journal: &[Line]) -> bool {
+fn has_fault(journal: &[Line]) -> bool
+    ensures { result ≡ has_fault journal.now }
+{
     journal.iter().any(|line| is_fault(line))
 }
 
 // Writes the transcript of a run, if there was memory for it.
-fn tell<K: Sink>(sink: &mut K, ended: Ended) -> Status {
+fn tell<K: Sink>(sink: &mut K, ended: Ended) -> Status
+    ensures ends { EndsRun K.held K.faults sink.old sink.new (Ok ended) (number_of result) }
+    ensures status { IsOfStores result }
+{
     let Ended { journal, text } = ended;
-    match write_made(sink, text) {
-        Status::Done if has_fault(journal.as_slice()) => Status::DiskFault,
-        status => status,
+    let status = write_made(sink, text);
+    if status == Status::Done && has_fault(journal.as_slice()) {
+        return Status::DiskFault;
     }
+    status
 }
 
 /// Reads a script, runs it over the store in the folder, and writes the transcript. Answers how it ended.
@@ -61,7 +74,12 @@ pub fn keep<R: Wait, S: Source, K: Sink, C: Cabinet, F: Folds>(
     cabinet: &mut C,
     dir: &str,
     folds: &F,
-) -> Status {
+) -> Status
+    ensures runs { RunsIn (S.left source.old) (S.left source.new) (S.faults source.old) (S.faults source.new) K.held K.faults
+        C.faults C.is_out C.tells C.store C.Device.extent C.Device.faults C.Device.is_honest C.Device.remembers
+        C.Device.state C.Device.clock dir.now sink.old sink.new cabinet.old cabinet.new (number_of result) }
+    ensures status { IsOfKept result }
+{
     let plan = match plan_from(alloc, source) {
         Ok(plan) => plan,
         Err(refusal) => return refuse_script(alloc, sink, refusal),

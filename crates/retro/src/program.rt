@@ -1,6 +1,6 @@
 //! The top call.
 
-ghost use Rattle.std.specs.Prelude.{◌≡◌, ◌≢◌, ◌⊎◌, ◌<◌, ◌-◌, ◌^◌, ◌↔◌, ◌∷◌, [], ◌==◌, ℕ, List, IsErr, IsTrue, Some, Ok, Err, IfSome};
+ghost use Rattle.std.specs.Prelude.{◌≡◌, ◌≢◌, ◌⊎◌, ◌<◌, ◌-◌, ◌^◌, ◌↔◌, ◌∷◌, [], ◌==◌, ℕ, List, Option, IsErr, IsTrue, Some, Ok, Err, IfSome};
 ghost use Rattle.std.specs.List.{list_any};
 ghost use Rattle.disk_model.specs.declared.four.Sizes.{Sizes as SizesOf};
 ghost use Rattle.feeds.specs.Feeds.{added};
@@ -8,6 +8,7 @@ ghost use Rattle.retro_base.specs.Cause.{Rose};
 ghost use Rattle.script.specs.Script.{ReadsAs};
 ghost use Rattle.script.specs.declared.structure.Script.{Script};
 ghost use Rattle.retro.specs.Formats.{Formats};
+ghost use Rattle.retro.specs.Keeping.{RunsIn};
 ghost use Rattle.retro.specs.Program.{IsTheBadLine, IsTranscript, ReadToEnd, WritesOneJournal};
 ghost use Rattle.retro.specs.Says.{HoldsFront, IsOfRuns, Says, bad_script_line, bad_sizes_line, bad_words_line, number_of, out_of_memory_line, source_fault_line};
 ghost use Rattle.retro.specs.Shows.{Shows};
@@ -52,7 +53,7 @@ fn perform<R: Wait, S: Source, K: Sink, C: Cabinet, F: Folds>(
     ensures bad_sizes { (result ≡ Status.BadSizes) ↔ (asked_by words.now ≡ Err Mistake.BadSizes) }
     ensures bad_words_said { result ≡ Status.BadWords → Says K.held K.faults sink.old sink.new bad_words_line }
     ensures bad_sizes_said { result ≡ Status.BadSizes → Says K.held K.faults sink.old sink.new bad_sizes_line }
-    ensures unread { (AskToRun words.now → ⊥) → source.new ≡ source.old }
+    ensures unread { ((dir : Option (List ℕ)) → asked_by words.now ≢ Ok (Command.Run dir)) → source.new ≡ source.old }
     ensures kept { AskToRun words.now ⊎ IsErr (asked_by words.now) → cabinet.new ≡ cabinet.old }
     ensures formats { (dir : List ℕ) (sizes : SizesOf) → asked_by words.now ≡ Ok (Command.Format dir sizes)
         → Formats K.held K.faults C.faults C.is_out C.tells C.store C.Device.extent C.Device.faults C.Device.state
@@ -61,6 +62,10 @@ fn perform<R: Wait, S: Source, K: Sink, C: Cabinet, F: Folds>(
         → Shows K.held K.faults C.faults C.is_out C.tells C.store C.Device.extent C.Device.faults C.Device.is_honest
         C.Device.remembers C.Device.state C.Device.clock dir sink.old sink.new cabinet.old cabinet.new
         (number_of result) }
+    ensures runs_in { (dir : List ℕ) → asked_by words.now ≡ Ok (Command.Run (Some dir))
+        → RunsIn (S.left source.old) (S.left source.new) (S.faults source.old) (S.faults source.new) K.held K.faults
+        C.faults C.is_out C.tells C.store C.Device.extent C.Device.faults C.Device.is_honest C.Device.remembers
+        C.Device.state C.Device.clock dir sink.old sink.new cabinet.old cabinet.new (number_of result) }
     ensures status { AskToRun words.now → IsOfRuns result }
     ensures source_fault { AskToRun words.now → result ≡ Status.SourceFault
         → Rose (S.faults source.old) (S.faults source.new) }
@@ -105,9 +110,13 @@ fn perform<R: Wait, S: Source, K: Sink, C: Cabinet, F: Folds>(
 ///   journal, which a run of the script may leave.
 /// - `format DIR PAGES CAPACITY`: makes a store in the cabinet, in the place of one that stood there.
 /// - `show DIR`: writes what the store in the cabinet shows of itself, and writes nothing on it.
+/// - `run DIR`: reads a script first, as `run` does, and runs it over the store in the cabinet, at which each session has
+///   a seat of its own. The transcript is written whole also where its journal tells a fault of a device; the status is
+///   then 6 in place of 0.
 ///
-/// The last two end with 6 where a call of the cabinet or of a device failed; `show` with 7 where the bytes are no
-/// store's; with 5 where the sink failed; with 8 where memory ran out; else with 0. The devices are back in the cabinet.
+/// The last three end with 6 where a call of the cabinet or of a device failed; `show` and `run` with 7 where the bytes
+/// are no store's;
+/// with 5 where the sink failed; with 8 where memory ran out; else with 0. The devices are back in the cabinet.
 pub fn retro<R: Wait, S: Source, K: Sink, C: Cabinet, F: Folds>(
     rt: &R,
     alloc: Global,
@@ -125,7 +134,7 @@ pub fn retro<R: Wait, S: Source, K: Sink, C: Cabinet, F: Folds>(
     ensures bad_sizes { (result ≡ 9) ↔ (asked_by words.now ≡ Err Mistake.BadSizes) }
     ensures bad_words_said { result ≡ 2 → Says K.held K.faults sink.old sink.new bad_words_line }
     ensures bad_sizes_said { result ≡ 9 → Says K.held K.faults sink.old sink.new bad_sizes_line }
-    ensures unread { (AskToRun words.now → ⊥) → source.new ≡ source.old }
+    ensures unread { ((dir : Option (List ℕ)) → asked_by words.now ≢ Ok (Command.Run dir)) → source.new ≡ source.old }
     ensures kept { AskToRun words.now ⊎ IsErr (asked_by words.now) → cabinet.new ≡ cabinet.old }
 
     // `format` and `show`.
@@ -135,6 +144,12 @@ pub fn retro<R: Wait, S: Source, K: Sink, C: Cabinet, F: Folds>(
     ensures shows { (dir : List ℕ) → asked_by words.now ≡ Ok (Command.Show dir)
         → Shows K.held K.faults C.faults C.is_out C.tells C.store C.Device.extent C.Device.faults C.Device.is_honest
         C.Device.remembers C.Device.state C.Device.clock dir sink.old sink.new cabinet.old cabinet.new result }
+
+    // `run DIR`.
+    ensures runs_in { (dir : List ℕ) → asked_by words.now ≡ Ok (Command.Run (Some dir))
+        → RunsIn (S.left source.old) (S.left source.new) (S.faults source.old) (S.faults source.new) K.held K.faults
+        C.faults C.is_out C.tells C.store C.Device.extent C.Device.faults C.Device.is_honest C.Device.remembers
+        C.Device.state C.Device.clock dir sink.old sink.new cabinet.old cabinet.new result }
 
     // `run`: each status has its cause, and the line that it writes.
     ensures one_journal { AskToRun words.now

@@ -7,7 +7,8 @@ ghost use Rattle.script.specs.Script.{ReadsAs};
 ghost use Rattle.script.specs.declared.structure.Script.{Script};
 ghost use Rattle.session.specs.Plan.{PlanFits};
 ghost use Rattle.retro.specs.Program.{AsksFor, IsTheBadLine, IsTranscript, ReadToEnd};
-ghost use Rattle.retro.specs.Says.{HoldsFront, IsOfRuns, Says, bad_script_line as bad_script_text, out_of_memory_line, source_fault_line};
+ghost use Rattle.retro.specs.Keeping.{RefusesScript};
+ghost use Rattle.retro.specs.Says.{HoldsFront, IsOfRuns, number_of, Says, bad_script_line as bad_script_text, out_of_memory_line, source_fault_line};
 
 use crate::saying::{Status, say, write};
 use feeds::{Sink, Source, read_front};
@@ -63,6 +64,7 @@ pub fn refuse<K: Sink>(alloc: Global, sink: &mut K, refusal: Refusal) -> Status
     ensures source_fault { (result ≡ Status.SourceFault) ↔ (refusal ≡ Refusal.SourceFault) }
     ensures bad_script { result ≡ Status.BadScript → (n : ℕ) × (refusal ≡ Refusal.BadScript n)
         × Says K.held K.faults sink.old sink.new (bad_script_text n) }
+    ensures refused { RefusesScript K.held K.faults sink.old sink.new refusal (number_of result) }
     ensures never { (result ≢ Status.Done) × (result ≢ Status.SinkFault) }
     ensures status { IsOfRuns result }
     ensures source_fault_said { result ≡ Status.SourceFault

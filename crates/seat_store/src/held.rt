@@ -24,7 +24,6 @@ use store::Store;
 use values::Seq;
 
 /// A store as one of its seats sees it.
-#[derive(Drop)]
 pub struct Held<'a, R: Wait, D: Disk + Drop> {
     pub(crate) alloc: Global,
     pub(crate) rt: &'a R,

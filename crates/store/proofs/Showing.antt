@@ -18,7 +18,7 @@ use Rattle.archive.specs.Archive.{Running}
 use Rattle.store_core.specs.Core.{IsCore}
 use Rattle.store_core.specs.declared.desk_core.Core.{Core}
 use Rattle.store.specs.Opening.{AreOpenedFrom, IsShownOf}
-use Rattle.store.specs.Start.{Origin}
+use Rattle.store.specs.Start.{AreJustOpened, Origin}
 
 -- what was pending and what is acknowledged are all captures
 all_captures : {D : Type 0} (is_honest : D → Type 0) (state : D → State) (opening : History) (core : Core D) (plain : Desk) → IsCore is_honest state opening core plain → core.desk.queue.first + length core.desk.queue.images ≡ core.desk.base.captures
@@ -49,3 +49,10 @@ shown_so is_honest state version disks core archive sizes horizon acked pending 
       newest = ap (λ (h : ℕ × ℕ). h.1) at ∙ ap (λ (x : Origin). newest (now x.history).base.marks) from.origin;
       captures = let all = all_captures is_honest state origin.history core from.opened.opened.core.plain is in let there = ap (λ (b : Base). b.captures) base in omega (arith, all, there, first, more);
     }
+
+-- the newest snapshot that a core tells which was just opened
+pub newest_shown : {D : Type 0} (is_honest : D → Type 0) (state : D → State) (core : Core D) (archive : Running D) (horizon : ℕ × ℕ) → AreJustOpened is_honest state core archive
+    → ((opening : History) (plain : Desk) → IsCore is_honest state opening core plain → horizon ≡ horizon_of (now opening).base core.ledger.book.lines) → horizon.1 ≡ newest core.desk.base.marks
+newest_shown is_honest state core archive horizon just told =
+    ap (λ (h : ℕ × ℕ). h.1) (told just.origin.history just.opened.core.plain just.opened.core.is ∙ ap (λ (lines : List Line). horizon_of (now just.origin.history).base lines) just.lines)
+    ∙ ap (λ (b : Base). newest b.marks) just.opened.base

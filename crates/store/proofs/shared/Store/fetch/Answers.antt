@@ -1,5 +1,7 @@
-use Rattle.std.proofs.Common.{◌≡◌, sym, subst}
+use Rattle.std.proofs.Common.{◌≡◌, ◌∙◌, ap, sym, subst}
 use Rattle.opening.specs.Devices.{AreUnwritten}
+use Rattle.history.specs.Marks.{newest}
+use Rattle.store_core.specs.declared.desk_core.Core.{Core}
 use Rattle.store.specs.Opening.{disks_of}
 use Rattle.store.proofs.Crashing.{opened_honestly}
 use Rattle.store.proofs.Looked.{gathered_so, taken_apart, whole_so}
@@ -19,6 +21,9 @@ returns-in-Ok-new-clause-begins g c = record {
   each = λ k s there. (c.in-Ok-new.ensures.new k s there).3;
   honestly = opened_honestly g.D.Disk.extent g.D.Disk.is_honest g.D.Disk.remembers g.D.Disk.state g.D.Disk.clock c.args.version c.args.disks c.in-Ok.core c.in-Ok.archive _ c.in-Ok.ensures.opened.0 c.in-Ok.ensures.opened.1 c.in-Ok-new.ensures.begins;
 }
+
+pub returns-in-Ok-new-clause-newest : goal.returns-in-Ok-new-clause-newest
+returns-in-Ok-new-clause-newest g c = c.in-Ok-new.ensures.newest ∙ ap (λ (core : Core _). newest core.desk.base.marks) (sym c.in-Ok-new.ensures.begins.0)
 
 pub returns-in-Err-new-clause-back : goal.returns-in-Err-new-clause-back
 returns-in-Err-new-clause-back g c =

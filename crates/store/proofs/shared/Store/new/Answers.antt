@@ -1,4 +1,5 @@
 use Rattle.std.proofs.Common.{◌∙◌, ap}
+use Rattle.store.proofs.Showing.{newest_shown}
 use Rattle.store.proofs.Seating.{may_open, new_ready, new_seats, sized_by}
 use Rattle.store.proofs.shared.Store.new.Goals as goal
 
@@ -16,3 +17,6 @@ returns-in-Ok-clause-sized g c = λ k s there. sized_by _ _ _ _ (new_seats _ _ c
 
 pub returns-in-Ok-clause-begins : goal.returns-in-Ok-clause-begins
 returns-in-Ok-clause-begins g c = let e = c.in-Ok.ensures.opening in (ap (λ s. s.core.value) e ∙ c.of.ensures, ap (λ s. s.archive.value) e ∙ c.of-2.ensures)
+
+pub returns-in-Ok-clause-newest : goal.returns-in-Ok-clause-newest
+returns-in-Ok-clause-newest g c = newest_shown g.D.Disk.is_honest g.D.Disk.state c.args.core c.args.archive c.horizon-newest.result c.requires.opened c.horizon-newest.ensures
