@@ -1,8 +1,10 @@
 pub mod Ends
+pub mod Faulted
 pub mod Front
 pub mod Numbers
 pub mod Phased
 pub mod Seated
 pub mod Stepped
+pub mod Stored
 pub mod Stores
 pub mod Table

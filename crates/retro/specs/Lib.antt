@@ -1,4 +1,5 @@
 pub mod Formats
+pub mod Keeping
 pub mod Meeting
 pub mod Phases
 pub mod Program
@@ -7,4 +8,5 @@ pub mod Shows
 pub mod Slots
 pub mod Steps
 pub mod Stores
+pub mod Storing
 pub mod Words

@@ -19,6 +19,12 @@ IsTheScript script bytes = ReadsAs bytes (Ok script) × IsOnlyReading bytes (Ok 
 abbrev pub IsTheBadLine : ℕ → List ℕ → Type 0
 IsTheBadLine number bytes = ReadsAs bytes (Err number) × IsOnlyReading bytes (Err number)
 
+-- the script that was left in the source asks for this plan
+pub record AsksFor (left : Option (List ℕ)) (plan : Plan) : Type 0 where
+  pub script : Script
+  pub read : IfSome left (IsTheScript script)
+  pub asks : IsPlan script plan
+
 -- The text is the transcript of one journal, which a run of the script that was left in the source may leave, from a store without tables on.
 pub record IsTranscript (left : Option (List ℕ)) (text : List ℕ) : Type 0 where
   pub script : Script

@@ -44,6 +44,12 @@ IsOfStores statuses.SourceFault = ⊥
 IsOfStores statuses.BadSizes = ⊥
 IsOfStores status = Unit {0}
 
+-- a run over a store may end so
+abbrev pub IsOfKept : Status → Type 0
+IsOfKept statuses.BadWords = ⊥
+IsOfKept statuses.BadSizes = ⊥
+IsOfKept status = Unit {0}
+
 abbrev pub bad_words_line : List ℕ
 bad_words_line = line (codes "retro: bad words")
 

@@ -50,16 +50,22 @@ format dir (Some pages) (Some capacity) =
     else Err BadSizes
 format dir pages capacity = Err BadWords
 
--- a store is made of sizes in their ranges alone, and a script runs over no store yet
+-- what a word asks for of the store in a folder
+abbrev pub of_folder : List ℕ → List ℕ → Result (Command (List ℕ)) Mistake
+of_folder verb dir =
+    if bytes_eq verb (codes "show") then Ok (Show dir)
+    else if bytes_eq verb (codes "run") then Ok (Run (Some dir))
+    else Err BadWords
+
+-- a store is made of sizes in their ranges alone
 abbrev pub IsReady : {A : Type 0} → Command A → Type 0
-IsReady (Run (Some dir)) = ⊥
 IsReady (Format dir sizes) = AreInRange sizes
 IsReady command = Unit {0}
 
 -- the table of good words
 abbrev pub asked : List (List ℕ) → Result (Command (List ℕ)) Mistake
 asked (verb ∷ []) = if bytes_eq verb (codes "run") then Ok (Run None) else Err BadWords
-asked (verb ∷ dir ∷ []) = if bytes_eq verb (codes "show") && is_folder dir then Ok (Show dir) else Err BadWords
+asked (verb ∷ dir ∷ []) = if is_folder dir then of_folder verb dir else Err BadWords
 asked (verb ∷ dir ∷ pages ∷ capacity ∷ []) =
     if bytes_eq verb (codes "format") && is_folder dir then format dir (number_of pages) (number_of capacity)
     else Err BadWords

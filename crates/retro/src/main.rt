@@ -9,6 +9,7 @@ mod calls;
 #[cfg(test)]
 mod drops;
 mod formatting;
+mod keeping;
 mod laws;
 mod phases;
 mod program;
@@ -22,6 +23,7 @@ mod seats;
 mod showing;
 #[cfg(test)]
 mod stores;
+mod storing;
 #[cfg(test)]
 mod tests;
 mod words;
@@ -55,6 +57,7 @@ fn main(rt: HostRuntime) -> ExitCode {
         Combiner::new(How::Add, |a: i128, b: i128| a.wrapping_add(b)),
     );
     let status = retro(
+        &rt,
         rt.alloc(),
         words.as_slice(),
         &mut source,

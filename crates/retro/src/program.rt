@@ -1,14 +1,16 @@
 //! The top call.
 
-ghost use Rattle.std.specs.Prelude.{◌≡◌, ◌⊎◌, ◌↔◌, ℕ, List, IsErr, Ok, Err};
+ghost use Rattle.std.specs.Prelude.{◌≡◌, ◌≢◌, ◌⊎◌, ◌↔◌, ℕ, List, Option, IsErr, Ok, Err, Some};
 ghost use Rattle.disk_model.specs.declared.four.Sizes.{Sizes as SizesOf};
 ghost use Rattle.retro.specs.Formats.{Formats};
+ghost use Rattle.retro.specs.Keeping.{RunsIn};
 ghost use Rattle.retro.specs.Program.{RunsPlainly};
 ghost use Rattle.retro.specs.Says.{IsStatus, Says, bad_sizes_line, bad_words_line};
 ghost use Rattle.retro.specs.Shows.{Shows};
 ghost use Rattle.retro.specs.Words.{asked_by, AskToRun};
 
 use crate::formatting::format;
+use crate::keeping::keep;
 use crate::running::run;
 use crate::saying::{Status, say};
 use crate::showing::show;
@@ -17,6 +19,7 @@ use disk_model::Cabinet;
 use feeds::{Sink, Source};
 use fold_kit::Folds;
 use std::alloc::Global;
+use std::sync::Wait;
 
 // Says what is wrong with the words.
 fn refuse<K: Sink>(sink: &mut K, mistake: Mistake) -> u8
@@ -41,10 +44,15 @@ fn refuse<K: Sink>(sink: &mut K, mistake: Mistake) -> u8
 ///   journal, which a run of the script may leave.
 /// - `format DIR PAGES CAPACITY`: makes a store in the cabinet, in the place of one that stood there.
 /// - `show DIR`: writes what the store in the cabinet shows of itself, and writes nothing on it.
+/// - `run DIR`: reads a script first, as `run` does, and runs it over the store in the cabinet, at which each session has
+///   a seat of its own. The transcript is written whole also where its journal tells a fault of a device; the status is
+///   then 6 in place of 0.
 ///
-/// The last two end with 6 where a call of the cabinet or of a device failed; `show` with 7 where the bytes are no
-/// store's; with 5 where the sink failed; with 8 where memory ran out; else with 0. The devices are back in the cabinet.
-pub fn retro<S: Source, K: Sink, C: Cabinet, F: Folds>(
+/// The last three end with 6 where a call of the cabinet or of a device failed; `show` and `run` with 7 where the bytes
+/// are no store's;
+/// with 5 where the sink failed; with 8 where memory ran out; else with 0. The devices are back in the cabinet.
+pub fn retro<R: Wait, S: Source, K: Sink, C: Cabinet, F: Folds>(
+    rt: &R,
     alloc: Global,
     words: &[String],
     source: &mut S,
@@ -59,7 +67,7 @@ pub fn retro<S: Source, K: Sink, C: Cabinet, F: Folds>(
     ensures bad_sizes { (result ≡ 9) ↔ (asked_by words.now ≡ Err Mistake.BadSizes) }
     ensures bad_words_said { result ≡ 2 → Says K.held K.faults sink.old sink.new bad_words_line }
     ensures bad_sizes_said { result ≡ 9 → Says K.held K.faults sink.old sink.new bad_sizes_line }
-    ensures unread { (AskToRun words.now → ⊥) → source.new ≡ source.old }
+    ensures unread { ((dir : Option (List ℕ)) → asked_by words.now ≢ Ok (Command.Run dir)) → source.new ≡ source.old }
     ensures kept { AskToRun words.now ⊎ IsErr (asked_by words.now) → cabinet.new ≡ cabinet.old }
 
     // What each command does.
@@ -70,12 +78,16 @@ pub fn retro<S: Source, K: Sink, C: Cabinet, F: Folds>(
         → Shows K.held K.faults C.faults C.is_out C.tells C.store C.Device.extent C.Device.faults C.Device.is_honest
         C.Device.remembers C.Device.state C.Device.clock dir sink.old sink.new cabinet.old cabinet.new result }
 
+    ensures runs_in { (dir : List ℕ) → asked_by words.now ≡ Ok (Command.Run (Some dir))
+        → RunsIn (S.left source.old) (S.left source.new) (S.faults source.old) (S.faults source.new) K.held K.faults
+        C.faults C.is_out C.tells C.store C.Device.extent C.Device.faults C.Device.is_honest C.Device.remembers
+        C.Device.state C.Device.clock dir sink.old sink.new cabinet.old cabinet.new result }
     ensures runs { AskToRun words.now → RunsPlainly S.left S.faults K.held K.faults source.old source.new
         sink.old sink.new result }
 {
     match command_of(words) {
         Ok(Command::Run { dir: None }) => run(alloc, source, sink, folds),
-        Ok(Command::Run { dir: Some(_) }) => unreachable!(),
+        Ok(Command::Run { dir: Some(dir) }) => keep(alloc, rt, source, sink, cabinet, dir, folds),
         Ok(Command::Format { dir, sizes }) => format(alloc, sink, cabinet, dir, sizes),
         Ok(Command::Show { dir }) => show(alloc, sink, cabinet, dir),
         Err(mistake) => refuse(sink, mistake),

@@ -6,16 +6,35 @@ ghost use Rattle.feeds.specs.Feeds.{added};
 ghost use Rattle.retro_base.specs.Cause.{Rose};
 ghost use Rattle.script.specs.Script.{ReadsAs};
 ghost use Rattle.script.specs.declared.structure.Script.{Script};
-ghost use Rattle.retro.specs.Program.{IsTheBadLine, IsTranscript, ReadToEnd, WritesOneJournal};
-ghost use Rattle.retro.specs.Says.{HoldsFront, IsOfRuns, IsStatus, Says, bad_script_line as bad_script_text, out_of_memory_line, source_fault_line};
+ghost use Rattle.session.specs.Plan.{PlanFits};
+ghost use Rattle.retro.specs.Program.{AsksFor, IsTheBadLine, IsTranscript, ReadToEnd, WritesOneJournal};
+ghost use Rattle.retro.specs.Keeping.{RefusesScript};
+ghost use Rattle.retro.specs.Says.{HoldsFront, IsOfRuns, IsStatus, number_of, Says, bad_script_line as bad_script_text, out_of_memory_line, source_fault_line};
 
 use crate::saying::{Status, say, write};
 use feeds::{Sink, Source, read_front};
 use fold_kit::Folds;
 use retro_base::Refusal;
 use script::{SCRIPT_BYTES, front_law};
-use session::{Items, NoGate, plan_of, run_plan};
+use session::{Items, NoGate, Plan, plan_of, run_plan};
 use std::alloc::{AllocError, Global};
+
+/// What the script that the source gives asks for, or why it asks for nothing.
+pub fn plan_from<S: Source>(alloc: Global, source: &mut S) -> Result<Plan, Refusal>
+    ensures source_fault { result ≡ Err Refusal.SourceFault → Rose (S.faults source.old) (S.faults source.new) }
+    ensures steady { result ≢ Err Refusal.SourceFault → S.faults source.new ≡ S.faults source.old }
+    ensures planned { IfOk result (AsksFor (S.left source.old)) }
+    ensures fits { IfOk result (λ plan. PlanFits plan) }
+    ensures read { OnOk result (ReadToEnd (S.left source.old) (S.left source.new)) }
+    ensures bad_script { (n : ℕ) → result ≡ Err (Refusal.BadScript n) → IfSome (S.left source.old) (IsTheBadLine n) }
+{
+    let bytes = read_front(alloc, source, SCRIPT_BYTES + 1)?;
+    // A law for the proof: what stands behind these bytes changes nothing.
+    front_law();
+    let script = script::read(alloc, bytes.as_slice())?;
+    let plan = plan_of(alloc, script)?;
+    Ok(plan)
+}
 
 // The transcript of the script that the source gives, or why there is none.
 fn transcript<S: Source, F: Folds>(
@@ -29,11 +48,7 @@ fn transcript<S: Source, F: Folds>(
     ensures read { OnOk result (ReadToEnd (S.left source.old) (S.left source.new)) }
     ensures bad_script { (n : ℕ) → result ≡ Err (Refusal.BadScript n) → IfSome (S.left source.old) (IsTheBadLine n) }
 {
-    let bytes = read_front(alloc, source, SCRIPT_BYTES + 1)?;
-    // A law for the proof: what stands behind these bytes changes nothing.
-    front_law();
-    let script = script::read(alloc, bytes.as_slice())?;
-    let plan = plan_of(alloc, script)?;
+    let plan = plan_from(alloc, source)?;
     let gate = &NoGate;
     let finished = run_plan(alloc, &Items { gate, folds }, &plan)?;
     Ok(finished.transcript)
@@ -45,11 +60,12 @@ fn bad_script_line(alloc: Global, line: u64) -> Result<String, AllocError>
     format!(in alloc; "retro: bad script at line {line}\n")
 }
 
-// Writes the one line that stands in place of a transcript.
-fn refuse<K: Sink>(alloc: Global, sink: &mut K, refusal: Refusal) -> Status
+/// Writes the one line that stands in place of a transcript.
+pub fn refuse<K: Sink>(alloc: Global, sink: &mut K, refusal: Refusal) -> Status
     ensures source_fault { (result ≡ Status.SourceFault) ↔ (refusal ≡ Refusal.SourceFault) }
     ensures bad_script { result ≡ Status.BadScript → (n : ℕ) × (refusal ≡ Refusal.BadScript n)
         × Says K.held K.faults sink.old sink.new (bad_script_text n) }
+    ensures refused { RefusesScript K.held K.faults sink.old sink.new refusal (number_of result) }
     ensures never { (result ≢ Status.Done) × (result ≢ Status.SinkFault) }
     ensures status { IsOfRuns result }
     ensures source_fault_said { result ≡ Status.SourceFault

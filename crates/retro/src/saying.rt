@@ -4,7 +4,7 @@ ghost use Rattle.std.specs.Prelude.{◌≡◌, ◌≢◌, ◌⊎◌, ◌++◌, �
 ghost use Rattle.std.specs.Fmt.{decimal};
 ghost use Rattle.feeds.specs.Feeds.{added};
 ghost use Rattle.retro_base.specs.Cause.{Rose};
-ghost use Rattle.retro.specs.Says.{HoldsFront, IsOfStores, IsStatus, LacksMemory, Refuses, Says, Writes, device_line, number_of};
+ghost use Rattle.retro.specs.Says.{HoldsFront, IsOfKept, IsOfStores, IsStatus, LacksMemory, Refuses, Says, Writes, device_line, number_of};
 
 use disk_model::Cabinet;
 use feeds::{Sink, put_all};
@@ -31,6 +31,7 @@ impl Status {
         ensures number { result ≡ number_of self }
         ensures status { IsStatus result }
         ensures stores { IsOfStores self → (result ≢ 2) × (result ≢ 9) }
+        ensures kept { IsOfKept self → (result ≢ 2) × (result ≢ 9) }
     {
         self as u8
     }

@@ -5,6 +5,7 @@ use feeds::{MemSink, MemSource};
 use fold_kit::{Combiner, FoldSet, How};
 use mem_cabinet::MemCabinet;
 use std::alloc::{AllocError, Global};
+use std::sync::Wait;
 use std::test::Fail;
 
 #[derive(Drop)]
@@ -14,7 +15,7 @@ pub struct Outcome {
 }
 
 fn run_with(
-    rt: &(impl AllocGlobal),
+    rt: &(impl AllocGlobal + Wait),
     words: &[&str],
     script: &[u8],
     failing_reads: &[u64],
@@ -34,6 +35,7 @@ fn run_with(
     );
     let mut cabinet = MemCabinet::new(alloc, Vec::new(alloc));
     let status = retro(
+        rt,
         alloc,
         all.as_slice(),
         &mut source,
@@ -45,7 +47,7 @@ fn run_with(
     Ok(Outcome { status, text })
 }
 
-pub fn run(rt: &(impl AllocGlobal), script: &[u8]) -> Result<Outcome, Fail> {
+pub fn run(rt: &(impl AllocGlobal + Wait), script: &[u8]) -> Result<Outcome, Fail> {
     run_with(rt, &["run"], script, &[], &[])
 }
 
@@ -62,7 +64,7 @@ fn other_words_are_bad_words(rt: HostRuntime) -> Result<(), Fail> {
     for words in [
         ["walk"].as_slice(),
         &[],
-        &["run", "d"],
+        &["run", ""],
         &["--help"],
         &["RUN"],
     ] {

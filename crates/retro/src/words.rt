@@ -106,8 +106,14 @@ fn asked_of_folder<'a>(verb: &'a str, dir: &'a str) -> Result<Command<&'a str>, 
     ensures given { Answers (λ d. d.now) result (asked (verb.now ∷ dir.now ∷ [])) }
     ensures ready { IfOk result IsReady }
 {
-    if verb == "show" && is_folder(dir) {
+    if !is_folder(dir) {
+        return Err(Mistake::BadWords);
+    }
+    if verb == "show" {
         return Ok(Command::Show { dir });
+    }
+    if verb == "run" {
+        return Ok(Command::Run { dir: Some(dir) });
     }
     Err(Mistake::BadWords)
 }

@@ -1,0 +1,121 @@
+-- The run of a plan over the four devices of a store, at which each session has a seat of its own.
+use Rattle.std.specs.Prelude.{◌≡◌, ◌<◌, ℕ, List, [], ◌∷◌, slice_get, Option, Some, None, Result, IfErr, IfOk}
+use Rattle.std.specs.List.{AllByRecursion}
+use Rattle.atomic_table.specs.Seated.{TableId}
+use Rattle.disk_model.specs.Disk.{State}
+use Rattle.disk_model.specs.Moments.{Clock}
+use Rattle.disk_model.specs.declared.four.Four.{Four}
+use Rattle.retro_base.specs.declared.device.Device.{Device}
+use Rattle.retro_base.specs.declared.refusal.Refusal.{Refusal}
+use Rattle.history.specs.declared.log.Version.TheVariants.{One}
+use Rattle.history.specs.History.{now}
+use Rattle.opening.specs.Devices.{AreHonest, AreUnwritten, IsUnopened, of_each, SameCounts, seen_of}
+use Rattle.opening.specs.Opening.{Hold}
+use Rattle.replay.specs.Joined.{AreJoined}
+use Rattle.replay.specs.Opened.{Contents, opened}
+use Rattle.journal_law.specs.Lawful.{Ground, Opening}
+use Rattle.journal_law.specs.Pages.{page_world}
+use Rattle.journal_law.specs.Seats.{Idle, View}
+use Rattle.journal_law.specs.Shows.{Shows}
+use Rattle.journal_law.specs.World.{World}
+use Rattle.tables.specs.Tables.{Tables}
+use Rattle.session.specs.Plan.{Plan}
+use Rattle.session.specs.Sql.{sql}
+use Rattle.session.specs.declared.kept.Kept.{Kept}
+use Rattle.turn.specs.Seats.{mine, seen}
+use Rattle.turn.specs.Tables.{table_of}
+use Rattle.store.specs.Opening.{AreRefused}
+use Rattle.store.specs.Seats.{IsSized, Sat}
+use Rattle.store.specs.Recovery.{CrashesShow}
+use Rattle.store.specs.Seen.{view_of}
+use Rattle.store.specs.Worlds.{IsWorldOf}
+use Rattle.store.specs.declared.held.Held.{Held}
+use Rattle.retro.specs.Phases.{LeftLawful, RanOver}
+use Rattle.retro.specs.Slots.{SitsAt}
+use Rattle.retro.specs.Steps.{RunsPhases}
+use Rattle.retro.specs.declared.storing.Ended.{Ended}
+
+-- ---- what a run leaves
+
+-- The devices hold contents that belong together, and what the store was opened with is what readers see of them.
+pub record OpenAs (devices : Four (List ℕ)) (ground : Ground) : Type 0 where
+  pub contents : Contents
+  pub hold : Hold One devices contents
+  pub joined : AreJoined contents
+  pub base : (now (opened contents)).base ≡ ground.base
+  pub shown : IsWorldOf (opened contents) ground.pages
+
+-- with these tables on the pages
+abbrev pub opening_with : (ground : Ground) → World Tables → Opening (sql ground.base.page_count)
+opening_with ground tables = record { opened = ground; tables = tables }
+
+-- From whatever tables its pages held, the run left this journal, which is lawful, and the text is its transcript.
+pub record HasRunOver (plan : Plan) (ground : Ground) (ending : Device → ℕ) (ended : Ended) : Type 0 where
+  pub lawful : (tables : World Tables) → Shows (sql ground.base.page_count) ground.pages tables →
+      LeftLawful ground.base.page_count plan (opening_with ground tables) ending ended.journal
+  pub transcript : (tables : World Tables) → Shows (sql ground.base.page_count) ground.pages tables →
+      IfOk ended.text (λ text. RanOver ground.base.page_count plan (opening_with ground tables) ending ended.journal text.items)
+
+-- What a run over a store leaves, from the devices so as they were to those that came back. Where they tell what they hold, the store
+-- was opened with what they held, and whatever a crash leaves of them shows the pages behind the journal, or behind the one change in doubt.
+pub record Leaves {D : Type 0} (faults : D → ℕ) (is_honest : D → Type 0) (state : D → State) (plan : Plan) (first last : Four D) (ended : Ended) : Type 0 where
+  pub ground : Ground
+  pub counts : SameCounts (of_each faults first) ground.faults
+  pub opens : AreHonest is_honest first → OpenAs (seen_of state first) ground
+  pub ran : AreHonest is_honest first → HasRunOver plan ground (of_each faults last) ended
+  pub crashes : AreHonest is_honest first → CrashesShow state One (page_world ground.pages ended.journal) ended.journal last
+
+-- The devices did not open, and nothing was written on them; or a plan was run over their store.
+pub record RunsOn {D : Type 0} (extent faults : D → ℕ) (is_honest : D → Type 0) (remembers : Type 0) (state : D → State)
+    (clock : D → Clock) (plan : Plan) (first last : Four D) (result : Result Ended Refusal) : Type 0 where
+  pub unwritten : IfErr result (λ why. AreUnwritten extent is_honest remembers state clock first last)
+  pub unopened : IfErr result (λ why. IsUnopened (AreRefused extent is_honest state One first) (of_each faults first) (of_each faults last) why)
+  pub leaves : IfOk result (Leaves faults is_honest state plan first last)
+
+-- ---- seats in their slots
+
+abbrev pub store_of : {R D : Type 0} → Held R D → TableId
+store_of held = table_of held.store.now.turn
+
+abbrev pub view_held : {R D : Type 0} → (D → State) → (D → ℕ) → Held R D → View
+view_held state faults held = view_of state faults held.asked held.told.items held.seat
+
+-- They are the seats of a store of so many pages that was just opened, each at the place of its number.
+abbrev pub AreFresh : {D : Type 0} → ℕ → List (Sat D) → Type 0
+AreFresh {D} pages seats = (k : ℕ) (s : Sat D) → slice_get seats k ≡ Some s → IsSized pages s × (s.number ≡ k) × ((mine s).work ≡ None) × (seen s ≡ [])
+
+-- a store is held with this seat, and nothing is open
+pub record IsHeld {R D : Type 0} (state : D → State) (faults : D → ℕ) (z : TableId) (seat : Sat D) (held : Held R D) : Type 0 where
+  pub seat_is : held.seat ≡ seat
+  pub store_is : store_of held ≡ z
+  pub number_is : (view_held state faults held).session ≡ seat.number
+  pub front_is : (view_held state faults held).front ≡ seen seat
+  pub idle : (view_held state faults held).work ≡ Idle
+
+-- each of these seats, in its slot
+abbrev pub AreHeld : {R D : Type 0} → (D → State) → (D → ℕ) → TableId → List (Sat D) → List (Option (Held R D)) → Type 0
+AreHeld state faults z [] [] = Unit {0}
+AreHeld state faults z (seat ∷ seats) (Some held ∷ slots) = IsHeld state faults z seat held × AreHeld state faults z seats slots
+AreHeld state faults z seats slots = ⊥
+
+-- No slot is free, and each seat is one of this store's.
+abbrev pub AreIn : {R D : Type 0} → TableId → List (Option (Held R D)) → Type 0
+AreIn z slots = AllByRecursion (λ slot. (held : _) × (slot ≡ Some held) × (store_of held ≡ z)) slots
+
+-- the seat in the slot of this number is among these
+abbrev pub IsAmong : {R D : Type 0} → List (Option (Held R D)) → List (Sat D) → ℕ → Type 0
+IsAmong {R} {D} slots seats number = (held : Held R D) → SitsAt slots number held → (k : ℕ) × (slice_get seats k ≡ Some held.seat)
+
+-- the seat of this number is among these, and has seen these lines
+pub record HasStood {D : Type 0} (seats : List (Sat D)) (number : ℕ) (view : View) : Type 0 where
+  pub seat : Sat D
+  pub place : ℕ
+  pub there : slice_get seats place ≡ Some seat
+  pub number_is : seat.number ≡ number
+  pub front_is : view.front ≡ seen seat
+
+-- The seats of a store come from a run over this ground, of which this was kept.
+pub record ComeFrom {D E : Type 0} (plan : Plan) (ground : Ground) (count : ℕ) (seats : List (Sat D)) (kept : Result (List (List (List Kept))) E) : Type 0 where
+  pub views : ℕ → View
+  pub each : (number : ℕ) → number < count → HasStood seats number (views number)
+  pub runs : RunsPhases plan ground count views kept

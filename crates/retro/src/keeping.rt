@@ -1,0 +1,93 @@
+//! `run DIR`.
+
+ghost use Rattle.std.specs.Prelude.{◌≡◌, ◌≢◌, Ok};
+ghost use Rattle.session.specs.Plan.{PlanFits};
+ghost use Rattle.retro.specs.Keeping.{EndsRun, has_fault, is_fault, RunsIn, RunsOnStore};
+ghost use Rattle.retro.specs.Says.{IsOfKept, IsOfStores, IsStatus, number_of};
+
+use crate::running::{plan_from, refuse as refuse_script};
+use crate::saying::{Status, cabinet_fault, refuse, write_made};
+use crate::storing::{Ended, run_on};
+use disk_model::Cabinet;
+use feeds::{Sink, Source};
+use fold_kit::Folds;
+use history::{Line, What};
+use retro_base::Refusal;
+use session::{Items, NoGate, Plan};
+use std::alloc::Global;
+use std::sync::Wait;
+
+// Runs a plan over the store in the folder.
+fn run_in<R: Wait, C: Cabinet, F: Folds>(
+    alloc: Global,
+    rt: &R,
+    cabinet: &mut C,
+    dir: &str,
+    folds: &F,
+    plan: &Plan,
+) -> Result<Ended, Refusal>
+    requires { PlanFits plan.now }
+    ensures { RunsOnStore C.faults C.is_out C.tells C.store C.Device.extent C.Device.faults C.Device.is_honest
+        C.Device.remembers C.Device.state C.Device.clock dir.now plan.now cabinet.old cabinet.new result }
+{
+    let Ok(disks) = cabinet.fetch(dir) else {
+        return Err(cabinet_fault(cabinet));
+    };
+    let gate = &NoGate;
+    let (disks, ended) = run_on(alloc, rt, disks, &Items { gate, folds }, plan);
+    cabinet.put_back(dir, disks);
+    ended
+}
+
+// Whether the line tells a fault of a device.
+fn is_fault(line: &Line) -> bool
+    ensures { result ≡ is_fault line.now.what }
+{
+    matches!(line.what, What::Fault { .. })
+}
+
+fn has_fault(journal: &[Line]) -> bool
+    ensures { result ≡ has_fault journal.now }
+{
+    journal.iter().any(|line| is_fault(line))
+}
+
+// Writes the transcript of a run, if there was memory for it.
+fn tell<K: Sink>(sink: &mut K, ended: Ended) -> Status
+    ensures ends { EndsRun K.held K.faults sink.old sink.new (Ok ended) (number_of result) }
+    ensures status { IsOfStores result }
+{
+    let Ended { journal, text } = ended;
+    let status = write_made(sink, text);
+    if status == Status::Done && has_fault(journal.as_slice()) {
+        return Status::DiskFault;
+    }
+    status
+}
+
+/// Reads a script, runs it over the store in the folder, and writes the transcript. Answers the exit status.
+pub fn keep<R: Wait, S: Source, K: Sink, C: Cabinet, F: Folds>(
+    alloc: Global,
+    rt: &R,
+    source: &mut S,
+    sink: &mut K,
+    cabinet: &mut C,
+    dir: &str,
+    folds: &F,
+) -> u8
+    ensures runs { RunsIn (S.left source.old) (S.left source.new) (S.faults source.old) (S.faults source.new) K.held K.faults
+        C.faults C.is_out C.tells C.store C.Device.extent C.Device.faults C.Device.is_honest C.Device.remembers
+        C.Device.state C.Device.clock dir.now sink.old sink.new cabinet.old cabinet.new result }
+    ensures status { IsStatus result }
+    ensures words { (result ≢ 2) × (result ≢ 9) }
+{
+    let plan = match plan_from(alloc, source) {
+        Ok(plan) => plan,
+        Err(refusal) => return refuse_script(alloc, sink, refusal).number(),
+    };
+    let status = match run_in(alloc, rt, cabinet, dir, folds, &plan) {
+        Ok(ended) => tell(sink, ended),
+        Err(refusal) => refuse(alloc, sink, refusal),
+    };
+    status.number()
+}

@@ -1,0 +1,165 @@
+//! Runs a plan over the four devices of a store, at which each session has a seat of its own.
+
+ghost use Rattle.std.specs.Prelude.{◌≡◌, ◌≤◌, ℕ, List, [], Some, Ok, IfOk, length, slice_get, vec_capacity};
+ghost use Rattle.std.proofs.Common.{◌∙◌, sym};
+ghost use Rattle.journal_law.specs.Lawful.{Ground};
+ghost use Rattle.store.specs.Seen.{IsHonest, ground_in};
+ghost use Rattle.session.specs.Plan.{PlanFits};
+ghost use Rattle.session.specs.Replies.{kept_by_place, printed};
+ghost use Rattle.session.specs.declared.kept.Kept.{Kept as KeptOf};
+ghost use Rattle.store.specs.Closing.{AreReady};
+ghost use Rattle.store.specs.Seats.{Sat};
+ghost use Rattle.turn.specs.Seats.{opening};
+ghost use Rattle.turn.specs.Tables.{table_of};
+ghost use Rattle.retro.specs.Phases.{HaveSeats};
+ghost use Rattle.retro.specs.Storing.{AreFresh, AreHeld, AreIn, ComeFrom, IsAmong, RunsOn};
+
+use crate::phases::run_phases;
+use crate::seats::Meets;
+use disk_model::{Disk, Four};
+use history::{Journal, Version};
+use retro_base::{Refusal, SESSIONS};
+use session::{Kept, Plan, RunItems, print};
+use std::alloc::{AllocError, Global};
+use std::sync::Wait;
+use store::{Closed, Held, Seat, Store, laws_of_crashes};
+use values::Seq;
+
+/// What a run over a store leaves beside its devices: the journal, and its transcript unless memory was wanting for it.
+#[derive(Drop)]
+pub struct Ended {
+    pub journal: Journal,
+    pub text: Result<Vec<u8>, AllocError>,
+}
+
+impl<'a, R: Wait, D: Disk + Drop> Meets for Held<'a, R, D> {
+    ghost use Rattle.turn.specs.Tables.{table_of};
+
+    ghost together = { λ h k. table_of k.store.now.turn ≡ table_of h.store.now.turn };
+
+    ghost one_goes = { λ s t u went met. met ∙ sym went.store };
+
+    ghost other_goes = { λ s t u went met. went.store ∙ met };
+
+    fn meet(&mut self, other: &mut Self) {
+        Held::meet(self, other);
+    }
+}
+
+// The seats of a store in their slots, which have the room for them.
+fn sit_down<'a, R: Wait, D: Disk + Drop>(
+    alloc: Global,
+    rt: &'a R,
+    store: &'a Store<D>,
+    seats: Vec<Seat<D>>,
+    slots: Vec<Option<Held<'a, R, D>>>,
+) -> Vec<Option<Held<'a, R, D>>>
+    requires ready { AreReady (table_of store.now.turn) seats.items }
+    requires fresh { AreFresh store.now.pages seats.items }
+    requires none { slots.items ≡ [] }
+    requires room { length seats.items ≤ vec_capacity slots }
+    ensures { AreHeld D.state D.faults (table_of store.now.turn) seats.items result.items }
+{
+    let mut slots = slots;
+    for seat in seats {
+        slots.push_reserved(Some(Held::new(alloc, rt, store, seat)));
+    }
+    slots
+}
+
+// The seats out of their slots.
+fn stand_up<'a, R: Wait, D: Disk + Drop>(
+    store: &'a Store<D>,
+    slots: Vec<Option<Held<'a, R, D>>>,
+    seats: Vec<Seat<D>>,
+) -> Vec<Seat<D>>
+    requires held { AreIn (table_of store.now.turn) slots.items }
+    requires none { seats.items ≡ [] }
+    requires room { length slots.items ≤ vec_capacity seats }
+    ensures count { length result.items ≡ length slots.entry.items }
+    ensures ready { AreReady (table_of store.now.turn) result.items }
+    ensures among { (number : ℕ) → IsAmong slots.entry.items result.items number }
+{
+    let mut slots = slots;
+    let mut seats = seats;
+    while !slots.is_empty() {
+        match slots.take_last() {
+            Some(held) => seats.push_reserved(held.into_seat()),
+            None => unreachable!(),
+        }
+    }
+    slots.destroy_empty();
+    seats
+}
+
+// Runs a plan at the seats of a store that was just opened, and gives them back, and what is kept of it.
+fn run_seated<R: Wait, D: Disk + Drop, I: RunItems>(
+    alloc: Global,
+    rt: &R,
+    store: &Store<D>,
+    seats: Vec<Seat<D>>,
+    runner: &I,
+    plan: &Plan,
+) -> (Vec<Seat<D>>, Result<Seq<Seq<Seq<Kept>>>, AllocError>)
+    requires ready { AreReady (table_of store.now.turn) seats.items }
+    requires fresh { AreFresh store.now.pages seats.items }
+    requires fits { PlanFits plan.now }
+    requires enough { HaveSeats plan.now (length seats.items) }
+    ensures count { length result.0.items ≡ length seats.items }
+    ensures ready { AreReady (table_of store.now.turn) result.0.items }
+    ensures ran { (opened : Ground)
+        → ((k : ℕ) (s : Sat D) → slice_get seats.items k ≡ Some s
+        → IsHonest D.is_honest D.state s × (ground_in D.state D.faults (opening s) ≡ opened))
+        → ComeFrom plan.now opened (length seats.items) result.0.items result.1 }
+{
+    let Ok(back) = Vec::with_capacity(alloc, seats.len()) else {
+        return (seats, Err(AllocError));
+    };
+    let Ok(slots) = Vec::with_capacity(alloc, seats.len()) else {
+        return (seats, Err(AllocError));
+    };
+    let mut slots = sit_down(alloc, rt, store, seats, slots);
+    let kept = run_phases(alloc, slots.as_mut_slice(), runner, plan);
+    (stand_up(store, slots, back), kept)
+}
+
+// The transcript of a journal by what is kept of the run.
+fn text_of(
+    alloc: Global,
+    plan: &Plan,
+    kept: Result<Seq<Seq<Seq<Kept>>>, AllocError>,
+    newest: u32,
+    journal: &Journal,
+) -> Result<Vec<u8>, AllocError>
+    ensures { IfOk result (λ text. (all : List (List (List KeptOf))) × (kept ≡ Ok all)
+        × (text.items ≡ printed plan.now (kept_by_place all) newest journal.now)) }
+{
+    let kept = kept?;
+    print(alloc, plan, kept.as_slice(), newest, journal.as_slice())
+}
+
+/// Runs a plan over the store on four devices, which are opened as `Store::fetch` opens them, and refused so. They come
+/// back: each session has had a seat of its own, and the store is closed behind the run.
+pub fn run_on<R: Wait, D: Disk + Drop, I: RunItems>(
+    alloc: Global,
+    rt: &R,
+    disks: Four<D>,
+    runner: &I,
+    plan: &Plan,
+) -> (Four<D>, Result<Ended, Refusal>)
+    requires { PlanFits plan.now }
+    ensures { RunsOn D.extent D.faults D.is_honest D.remembers D.state D.clock plan.now disks result.0 result.1 }
+{
+    // A law for the proof: what readers see of the pages that a store opens with, and that it leaves.
+    laws_of_crashes::<D>();
+    match Store::fetch(alloc, Version::One, disks, SESSIONS as u32) {
+        Err((disks, why)) => (disks, Err(why)),
+        Ok((store, seats)) => {
+            let newest = store.newest();
+            let (seats, kept) = run_seated(alloc, rt, &store, seats, runner, plan);
+            let Closed { disks, journal } = store.close(seats);
+            let text = text_of(alloc, plan, kept, newest, &journal);
+            (disks, Ok(Ended { journal, text }))
+        }
+    }
+}
