@@ -1,5 +1,5 @@
 -- The pages that a store was opened with, now and at each retained snapshot, are those of the history that it was opened to.
-use Rattle.std.proofs.Common.{◌≡◌, ◌<◌, ◌≤◌, ◌%◌, ◌-◌, ◌==◌, ◌∙◌, ℕ, Bool, true, false, cond, eqb, List, [], ◌∷◌, drop, get_or, length, map, take, Option, Some, None, refl, sym, ap, subst, inl, arith}
+use Rattle.std.proofs.Common.{◌≡◌, ◌<◌, ◌≤◌, ◌%◌, ◌-◌, ◌==◌, ◌∙◌, ℕ, Bool, true, false, cond, eqb, List, [], ◌∷◌, drop, get_or, length, map, Option, Some, None, refl, sym, ap, subst, inl, arith}
 use Rattle.std.specs.Prelude.{unwrap_or}
 use Rattle.std.specs.List.{AllByRecursion}
 use Rattle.std.specs.Option.{option_map}
@@ -7,7 +7,6 @@ use Rattle.std.proofs.lemmas.Bool.Decides.{nat_tests}
 use Rattle.std.proofs.lemmas.List.{take_rest}
 use Rattle.std.proofs.lemmas.Option.{slice_get-get_or}
 use Rattle.retro_base.specs.FirstMet.{first_met}
-use Rattle.block_file.specs.Blocks.{block_at}
 use Rattle.disk_model.specs.Disk.{State}
 use Rattle.history.specs.declared.entry.Base.{Base}
 use Rattle.history.specs.declared.entry.Mark.{Mark as MarkOf}

@@ -1,9 +1,8 @@
 -- Pages as of a snapshot that a look pins.
-use Rattle.std.proofs.Common.{◌≡◌, ◌≤◌, ◌⊎◌, ◌++◌, ◌==◌, ◌||◌, ◌∙◌, ℕ, Bool, true, false, cond, eqb, List, [], ◌∷◌, take, Option, Some, None, Result, Ok, Err, refl, sym, ap, subst, inl, inr, eq-eqb}
+use Rattle.std.proofs.Common.{◌≡◌, ◌⊎◌, ◌++◌, ◌==◌, ◌||◌, ◌∙◌, ℕ, Bool, true, false, cond, eqb, List, [], ◌∷◌, take, Option, Some, None, Ok, Err, refl, sym, ap, subst, inl, inr, eq-eqb}
 use Rattle.std.specs.Prelude.{is_some, nat_lt}
 use Rattle.std.proofs.lemmas.Bool.{eqb-true}
 use Rattle.disk_model.specs.Disk.{State}
-use Rattle.retro_base.specs.declared.refusal.Refusal.{Refusal}
 use Rattle.retro_base.specs.declared.refusal.Refusal.TheVariants.{NoSuchSnapshot}
 use Rattle.retro_base.specs.declared.who.Who.{Who}
 use Rattle.history.specs.declared.entry.Base.{Base}
@@ -33,7 +32,7 @@ use Rattle.store.specs.Seats.{Sat}
 use Rattle.store.specs.Start.{opened_base}
 use Rattle.store.proofs.Finding.{some_is}
 use Rattle.store.specs.declared.told.ToldFault.{ToldFault}
-use Rattle.store.specs.Ground.{ground_of, world_of}
+use Rattle.store.specs.Ground.{world_of}
 use Rattle.store.specs.Seen.{IsSeated, ground_in, pins_of_look, view_of}
 use Rattle.store.specs.Worlds.{AreMarksOf, AreNamed, IsWorldOf}
 use Rattle.store.proofs.Gives.{own_names}

@@ -1,5 +1,5 @@
 -- What a seat sees behind calls that add no line: reads of the past, and seats that meet.
-use Rattle.std.proofs.Common.{◌≡◌, ◌<◌, ◌⊎◌, ◌++◌, ◌∙◌, ℕ, List, [], ◌∷◌, drop, map, reverse, take, true, Option, Some, None, Ok, Err, refl, sym, ap, subst, ⊎_elim, append-nil, append_assoc, arith}
+use Rattle.std.proofs.Common.{◌≡◌, ◌<◌, ◌++◌, ◌∙◌, ℕ, List, [], ◌∷◌, drop, map, reverse, take, true, Option, Some, None, Ok, Err, refl, sym, ap, subst, ⊎_elim, append-nil, append_assoc}
 use Rattle.std.specs.Prelude.{Contains, IfErr, IfSome, Result, false}
 use Rattle.std.proofs.lemmas.List.{map-append, reverse-append, take-append-drop, take-append-le}
 use Rattle.atomic_table.specs.Seated.{TableId}
@@ -29,7 +29,8 @@ use Rattle.turn.specs.declared.view.Holding.{Holding}
 use Rattle.turn.specs.Faults.{fault_times}
 use Rattle.turn.specs.Seats.{mine, opening, seen}
 use Rattle.store.specs.declared.start.Start.{Start}
-use Rattle.store.specs.Past.{IsNewFault, IsPastCause, IsPastOf, IsPinnedBy, IsRetainedBy, IsTableOf}
+use Rattle.store.specs.Kept.{IsTabled, Tabled, looks}
+use Rattle.store.specs.Past.{IsNewFault, IsPastCause, IsPastOf, IsPinnedBy, IsRetainedBy}
 use Rattle.store.specs.Seats.{IsPage, IsReady, IsSized, Sat, StaysIn, Waits, began_of}
 use Rattle.store.specs.Start.{AreJustOpened, IsAbove, opened_base}
 use Rattle.store.proofs.Calling.{told_more as told_still}
@@ -50,6 +51,13 @@ told_end told fault = ap reverse (map-append (λ (f : ToldFault). let t : seat.T
 -- behind the room that was made for one
 pub told_on : (before room after : List ToldFault) (why : Refusal) → room ≡ before → after ≡ told_more room why → after ≡ told_more before why
 told_on before room after why same is = is ∙ ap (λ (ts : List ToldFault). told_more ts why) same
+
+-- ---- a table that is kept
+
+-- where the seat does not look there is none
+pub no_table : {D : Type 0} (s0 s1 : Sat D) (kept : Option (Tabled D)) → looks (mine s0).work ≡ false → IsTabled s0 kept → IsTabled s1 kept
+no_table s0 s1 None not is = tt
+no_table s0 s1 (Some t) not is = absurd (cc (not, is.0))
 
 -- ---- what stays where a seat has seen more
 

@@ -20,7 +20,7 @@ use Rattle.store.specs.declared.start.Start.{Start}
 use Rattle.store.specs.declared.desk_side.DeskSide.{DeskSide}
 use Rattle.store.specs.Seats.{IsReady, IsSized, IsWhole, Sat, journal}
 use Rattle.store.specs.Sides.{DeskStands, VaultStands, of_desk, of_vault}
-use Rattle.store.specs.Start.{AreAsHonest, AreJustOpened, AreOpenedTo, IsAsHonest, IsLaterArchive, IsLaterCore, IsOpenedTo, IsStartOf, IsVaultFrom, Origin, desk_counts, of_start, opened_base, vault_counts}
+use Rattle.store.specs.Start.{AreAsHonest, AreJustOpened, AreOpenedTo, IsAsHonest, IsLaterArchive, IsLaterCore, IsOpenedTo, IsStartOf, IsVaultFrom, Origin, desk_counts, of_start, vault_counts}
 use Rattle.store.specs.Tried.{AllEndAttempts, AreTried, IsAttempt}
 use Rattle.store.proofs.Leaving.{sound_journal}
 

@@ -5,7 +5,6 @@ use Rattle.retro_base.specs.declared.refusal.Refusal.{Refusal}
 use Rattle.retro_base.specs.declared.refusal.Refusal.TheVariants as refusals
 use Rattle.retro_base.specs.declared.who.Who.{Who}
 use Rattle.history.specs.declared.journal.Line.{Line}
-use Rattle.history.specs.declared.journal.What.{What}
 use Rattle.history.specs.declared.journal.What.TheVariants.{Began}
 use Rattle.history.specs.Sound.{same_item}
 use Rattle.history.proofs.Items.{apart_items, same_self}

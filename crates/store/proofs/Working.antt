@@ -1,5 +1,5 @@
 -- What a seat has open behind its calls.
-use Rattle.std.proofs.Common.{◌≡◌, ◌∙◌, ◌||◌, ℕ, Bool, true, false, cond, List, Option, Some, None, Result, Ok, Err, refl, sym, ap, eq-eqb}
+use Rattle.std.proofs.Common.{◌≡◌, ◌∙◌, ◌||◌, ℕ, Bool, true, false, List, Option, Some, None, Result, Ok, Err, refl, sym, ap, eq-eqb}
 use Rattle.std.specs.Prelude.{IfErr, OnOk, OnErr}
 use Rattle.atomic_table.specs.Seated.{TableId}
 use Rattle.disk_model.specs.Disk.{State}
@@ -10,9 +10,9 @@ use Rattle.history.specs.declared.entry.Mark.{Mark}
 use Rattle.history.specs.declared.journal.What.{What}
 use Rattle.journal_book.specs.declared.work.Transaction.{Transaction}
 use Rattle.journal_book.specs.declared.work.Work.{Work}
-use Rattle.journal_book.specs.Works.{keeping_refusal, work_at}
+use Rattle.journal_book.specs.Works.{work_at}
 use Rattle.txn_set.specs.declared.ledger.Ledger.{Ledger}
-use Rattle.txn_set.specs.Ledger.{closed, given_up, is_idle, is_kept, keeps_drop, kept_behind}
+use Rattle.txn_set.specs.Ledger.{closed, given_up, is_idle, keeps_drop, kept_behind}
 use Rattle.txn_set.proofs.FitSteps.{idle_none}
 use Rattle.store_core.specs.Calls.{HasAnswered}
 use Rattle.turn.specs.declared.view.Holding.{Holding}

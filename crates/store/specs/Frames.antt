@@ -3,7 +3,7 @@ use Rattle.std.proofs.Common.{◌≡◌, ◌∙◌, Option, IfSome, refl, subst,
 use Rattle.std.specs.Prelude.{◌↔◌}
 use Rattle.atomic_table.specs.Seated.{TableId}
 use Rattle.disk_model.specs.Disk.{State}
-use Rattle.turn.specs.Seats.{IsSame, opening}
+use Rattle.turn.specs.Seats.{IsSame}
 use Rattle.store.specs.declared.start.Start.{Start}
 use Rattle.store.specs.Seats.{Sat}
 use Rattle.store.specs.Start.{AreJustOpened}

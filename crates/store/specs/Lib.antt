@@ -5,6 +5,7 @@ pub mod Crashes
 pub mod Ending
 pub mod Frames
 pub mod Ground
+pub mod Kept
 pub mod Opening
 pub mod Past
 pub mod Recovery

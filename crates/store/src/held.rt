@@ -3,6 +3,7 @@
 ghost use Rattle.std.specs.Prelude.{◌≡◌, [], None};
 ghost use Rattle.journal_law.specs.Seats.{Idle, Waits};
 ghost use Rattle.store.specs.Frames.{GoesOn};
+ghost use Rattle.store.specs.Kept.{IsTabled, IsTabled-prop};
 ghost use Rattle.store.specs.Seen.{IsSeated, view_of};
 ghost use Rattle.store.specs.Seats.{IsReady, IsSized, IsWhole};
 ghost use Rattle.turn.specs.Seats.{mine, seen};
@@ -10,6 +11,7 @@ ghost use Rattle.turn.specs.Tables.{table_of};
 ghost use Rattle.turn.specs.Views.{longer};
 
 use crate::ending::ending_of;
+use crate::kept::KeptTable;
 use crate::recall::recall;
 use crate::shared::Store;
 use crate::told::{ToldFault, tell};
@@ -33,10 +35,13 @@ pub struct Held<'a, R: Wait, D: Disk + Drop> {
     pub(crate) asked: Option<u64>,
     /// The faults that the seat was told since its last line, the last one at the end.
     pub(crate) told: Vec<ToldFault>,
+    /// The page table of the snapshot that the open look read last.
+    pub(crate) kept: Option<KeptTable<D>>,
     ghost ready: { IsReady (table_of store.now.turn) seat },
     ghost whole: { IsWhole seat },
     ghost sized: { IsSized store.now.pages seat },
     ghost seated: { IsSeated who asked told.items seat },
+    ghost tabled: { IsTabled seat kept } by { IsTabled-prop seat-code seat kept },
 }
 
 impl<'a, R: Wait, D: Disk + Drop> Held<'a, R, D> {
@@ -70,6 +75,7 @@ impl<'a, R: Wait, D: Disk + Drop> Held<'a, R, D> {
             },
             asked: None,
             told: Vec::new(alloc),
+            kept: None,
         }
     }
 
@@ -86,6 +92,7 @@ impl<'a, R: Wait, D: Disk + Drop> Held<'a, R, D> {
             who: _,
             asked: _,
             told: _,
+            kept: _,
         } = self;
         seat
     }
@@ -106,6 +113,8 @@ impl<'a, R: Wait, D: Disk + Drop> Held<'a, R, D> {
         ensures other_goes { GoesOn (table_of other.old.store.now.turn) (table_of other.new.store.now.turn)
             other.old.seat other.new.seat }
     {
+        self.kept = None;
+        other.kept = None;
         self.store.meet(&mut self.seat, &mut other.seat);
     }
 }
@@ -180,6 +189,7 @@ impl<'a, R: Wait, D: Disk + Drop> Seat for Held<'a, R, D> {
             self.rt,
             self.store,
             &mut self.seat,
+            &mut self.kept,
             snapshot,
             page,
             out,
@@ -193,6 +203,7 @@ impl<'a, R: Wait, D: Disk + Drop> Seat for Held<'a, R, D> {
     }
 
     fn unlook(&mut self, why: Ending) {
+        self.kept = None;
         self.store
             .unlook(self.rt, &mut self.seat, self.who, ending_of(why));
         self.told.clear();

@@ -8,6 +8,7 @@ mod desk_side;
 mod ending;
 mod fetching;
 mod held;
+mod kept;
 mod laws;
 mod past;
 mod recall;

@@ -1,11 +1,13 @@
-//! Pages as of the snapshots of a look.
+//! Pages as of the snapshots of a look, by a table that is kept from one to the next.
 
 ghost use Rattle.std.specs.Prelude.{◌≡◌, ℕ, IfErr, IfSome, None, OnOk};
+ghost use Rattle.store.specs.Kept.{IsTabled};
 ghost use Rattle.store.specs.Past.{IsNewFault, IsPastCause, IsPastOf, IsPinnedBy, IsRetainedBy, IsTableOf};
 ghost use Rattle.store.specs.Seats.{IsPage, IsReady, IsWhole, StaysIn, Waits};
 ghost use Rattle.turn.specs.Seats.{mine};
 ghost use Rattle.turn.specs.Tables.{table_of};
 
+use crate::kept::KeptTable;
 use crate::shared::{Seat, Store};
 use disk_model::Disk;
 use page_table::SnapTable;
@@ -36,6 +38,32 @@ fn new_table<R: Wait, D: Disk + Drop>(
     SnapTable::new(alloc, start)
 }
 
+// The kept table where it is of this snapshot, or else a new one.
+fn table_for<R: Wait, D: Disk + Drop>(
+    alloc: Global,
+    rt: &R,
+    store: &Store<D>,
+    seat: &mut Seat<D>,
+    kept: Option<KeptTable<D>>,
+    snapshot: u32,
+) -> SnapTable
+    requires ready { IsReady (table_of store.now.turn) seat.old }
+    requires pinned { IsPinnedBy seat.old snapshot }
+    requires kept { IsTabled seat.old kept }
+    ensures ready { IsReady (table_of store.now.turn) seat.new }
+    ensures same { StaysIn seat.old seat.new }
+    ensures waits { Waits seat.old seat.new }
+    ensures table { IsTableOf D.is_honest D.state seat.new snapshot result }
+{
+    let Some(kept) = kept else {
+        return new_table(alloc, rt, store, seat, snapshot);
+    };
+    match kept.of(snapshot) {
+        Some(table) => table,
+        None => new_table(alloc, rt, store, seat, snapshot),
+    }
+}
+
 // A page by the table of its snapshot; the steps are not counted.
 fn read_by<R: Wait, D: Disk + Drop, L: Ledger>(
     blank: Blank,
@@ -57,6 +85,7 @@ fn read_by<R: Wait, D: Disk + Drop, L: Ledger>(
     ensures ready { IsReady (table_of store.now.turn) seat.new × IsWhole seat.new }
     ensures same { StaysIn seat.old seat.new }
     ensures waits { Waits seat.old seat.new }
+    ensures table { IsTableOf D.is_honest D.state seat.new snapshot table.new }
     ensures page { OnOk result (IsPastOf D.is_honest D.state seat.new snapshot page out.new) }
     ensures retained { OnOk result (IsRetainedBy seat.new snapshot) }
     ensures cause { IfErr result (λ fault. (covered : ℕ) × IsPastCause seat.new covered fault.why) }
@@ -66,30 +95,33 @@ fn read_by<R: Wait, D: Disk + Drop, L: Ledger>(
     store.past(rt, seat, snapshot, table, page, out, &mut steps)
 }
 
-/// Fills `out` with a page as of a snapshot that an open look pins, by a new table of it. Refused for want of memory, and
-/// exactly where a read of a device failed; `out` is then undefined.
+/// Fills `out` with a page as of a snapshot that an open look pins, and keeps the snapshot's table. Refused for want of
+/// memory, and exactly where a read of a device failed; `out` is then undefined.
 pub(crate) fn recall<R: Wait, D: Disk + Drop>(
     alloc: Global,
     rt: &R,
     store: &Store<D>,
     seat: &mut Seat<D>,
+    kept: &mut Option<KeptTable<D>>,
     snapshot: u32,
     page: u32,
     out: &mut Page,
 ) -> Result<(), Fault>
     requires ready { IsReady (table_of store.now.turn) seat.old × IsWhole seat.old }
     requires pinned { IsPinnedBy seat.old snapshot }
+    requires kept { IsTabled seat.old kept.old }
     requires inside { IsPage seat.old page }
     ensures ready { IsReady (table_of store.now.turn) seat.new × IsWhole seat.new }
     ensures same { StaysIn seat.old seat.new }
     ensures waits { Waits seat.old seat.new }
+    ensures kept { IsTabled seat.new kept.new }
     ensures page { OnOk result (IsPastOf D.is_honest D.state seat.new snapshot page out.new) }
     ensures retained { OnOk result (IsRetainedBy seat.new snapshot) }
     ensures cause { IfErr result (λ fault. (covered : ℕ) × IsPastCause seat.new covered fault.why) }
     ensures fault { IfErr result (IsNewFault D.faults seat.old) }
 {
-    let mut table = new_table(alloc, rt, store, seat, snapshot);
-    read_by::<R, D, Brand>(
+    let mut table = table_for(alloc, rt, store, seat, kept.take(), snapshot);
+    let read = read_by::<R, D, Brand>(
         Blank::new(1),
         rt,
         store,
@@ -98,5 +130,7 @@ pub(crate) fn recall<R: Wait, D: Disk + Drop>(
         &mut table,
         page,
         out,
-    )
+    );
+    *kept = Some(KeptTable::new(seat, snapshot, table));
+    read
 }

@@ -11,6 +11,7 @@ invariant_of-self g c =
       ready = e.ready.0;
       whole = e.whole.0 h.whole;
       sized = sized_on h.store.now.pages h.seat c.meet.new.one e.same.0.same.opening h.sized;
+      tabled = tt;
       seated = keeps_seated g.D.Disk.state g.D.Disk.faults _ h.seat c.meet.new.one h.ready e.same.0 e.waits.0 h.who h.asked h.told.items h.seated;
     }
 
@@ -22,6 +23,7 @@ invariant_of-other g c =
       ready = subst (λ z. IsReady z c.meet.new.other) (sym c.requires.store) e.ready.1;
       whole = e.whole.1 k.whole;
       sized = sized_on k.store.now.pages k.seat c.meet.new.other e.same.1.same.opening k.sized;
+      tabled = tt;
       seated = keeps_seated g.D.Disk.state g.D.Disk.faults _ k.seat c.meet.new.other k.ready e.same.1 e.waits.1 k.who k.asked k.told.items k.seated;
     }
 

@@ -3,9 +3,10 @@ use Rattle.journal_book.specs.declared.work.Work.TheVariants.{Open}
 use Rattle.journal_law.specs.Seats.{EditGives}
 use Rattle.turn.specs.Seats.{mine, opening, seen}
 use Rattle.store.specs.Seen.{view_of}
+use Rattle.store.specs.Kept.{looks}
 use Rattle.store.proofs.Coming.{open_is, own_session, some_open}
 use Rattle.store.proofs.ReadGiven.{page_in, edit_gives, edit_keeps}
-use Rattle.store.proofs.Recalled.{sized_on}
+use Rattle.store.proofs.Recalled.{no_table, sized_on}
 use Rattle.store.proofs.held.HeldSeat.edit.Goals as goal
 
 pub edit-requires-clause-own : goal.edit-requires-clause-own
@@ -25,6 +26,7 @@ invariant_of-self g c = let h = c.args.self.now in let o = some_open h.asked (se
       whole = c.edit.ensures.ready.1;
       seated = edit_keeps g.D.Disk.is_honest g.D.Disk.state g.D.Disk.faults _ h.seat c.edit.new.seat v.before v.after h.ready v.visited h.who h.asked h.told.items (own_session _ h.seat h.who h.asked h.told.items h.ready h.seated (Open o.0) o.1) o.0 o.1 (h.seated.item (Open o.0) o.1) (h.seated.begun o.0 o.1) c.args.page c.args.bytes.now c.edit.result v.does c.edit.result refl h.seated;
       sized = sized_on h.store.now.pages h.seat c.edit.new.seat c.edit.ensures.same.opening h.sized;
+      tabled = no_table h.seat c.edit.new.seat h.kept (ap looks o.1) h.tabled;
     }
 
 pub returns : goal.returns

@@ -1,7 +1,8 @@
 use Rattle.std.proofs.Common.{ap, refl}
+use Rattle.store.specs.Kept.{looks}
 use Rattle.store.proofs.Coming.{idle_is}
 use Rattle.store.proofs.Gives.{all_gives, all_keeps}
-use Rattle.store.proofs.Recalled.{sized_on}
+use Rattle.store.proofs.Recalled.{no_table, sized_on}
 use Rattle.store.proofs.held.HeldSeat.look_all.Goals as goal
 
 pub invariant_of-self : goal.invariant_of-self
@@ -9,7 +10,7 @@ invariant_of-self g c =
     let h = c.args.self.now in
     let v = c.look_all.ensures.visits in
     let none = idle_is h.who h.asked h.told.items h.seat h.seated c.requires.idle in
-    record { ready = c.look_all.ensures.ready.0; whole = c.look_all.ensures.ready.1; seated = all_keeps g.D.Disk.is_honest g.D.Disk.state g.D.Disk.faults _ h.seat c.look_all.new.seat v.before v.after h.ready v.visited c.args.who h.asked h.told.items c.requires.own none (h.seated.quiet none) c.look_all.result v.does; sized = sized_on h.store.now.pages h.seat c.look_all.new.seat c.look_all.ensures.same.opening h.sized }
+    record { ready = c.look_all.ensures.ready.0; whole = c.look_all.ensures.ready.1; seated = all_keeps g.D.Disk.is_honest g.D.Disk.state g.D.Disk.faults _ h.seat c.look_all.new.seat v.before v.after h.ready v.visited c.args.who h.asked h.told.items c.requires.own none (h.seated.quiet none) c.look_all.result v.does; sized = sized_on h.store.now.pages h.seat c.look_all.new.seat c.look_all.ensures.same.opening h.sized; tabled = no_table h.seat c.look_all.new.seat h.kept (ap looks none) h.tabled }
 
 pub returns : goal.returns
 returns g c =

@@ -1,4 +1,4 @@
-use Rattle.std.proofs.Common.{◌∙◌, List, Err, Ok, ap, subst, sym, take}
+use Rattle.std.proofs.Common.{List, Err, Ok, ap, subst, sym, take}
 use Rattle.journal_law.specs.Seats.{PastGives}
 use Rattle.turn.specs.Seats.{mine, opening, seen}
 use Rattle.store.specs.declared.told.ToldFault.{ToldFault}
@@ -23,6 +23,7 @@ invariant_of-self-in-Ok g c =
       ready = c.recall.ensures.ready.0;
       whole = c.recall.ensures.ready.1;
       sized = sized_on h.store.now.pages h.seat c.recall.new.seat c.recall.ensures.same.same.opening h.sized;
+      tabled = c.recall.ensures.kept;
       seated = subst (λ (ts : List ToldFault). IsSeated h.who h.asked ts c.recall.new.seat) (sym c.reserve.ensures.items)
           (keeps_seated g.D.Disk.state g.D.Disk.faults _ h.seat c.recall.new.seat h.ready c.recall.ensures.same c.recall.ensures.waits h.who h.asked h.told.items h.seated);
     }
@@ -35,6 +36,7 @@ invariant_of-self-in-Err g c =
       ready = c.recall.ensures.ready.0;
       whole = c.recall.ensures.ready.1;
       sized = sized_on h.store.now.pages h.seat c.recall.new.seat c.recall.ensures.same.same.opening h.sized;
+      tabled = c.recall.ensures.kept;
       seated = subst (λ (ts : List ToldFault). IsSeated h.who h.asked ts c.recall.new.seat) (sym (told_on h.told.items c.reserve.new.self.items c.tell.new.told.items c.in-Err.fault.why c.reserve.ensures.items c.tell.ensures))
           (past_keeps g.D.Disk.state g.D.Disk.faults _ h.seat c.recall.new.seat h.ready c.recall.ensures.same c.recall.ensures.waits h.who h.asked h.told.items h.seated o.0 o.1 c.in-Err.fault.why c.in-Err.ensures.cause.0 c.in-Err.ensures.cause.1);
     }

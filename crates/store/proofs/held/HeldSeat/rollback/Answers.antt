@@ -4,9 +4,10 @@ use Rattle.turn.specs.Seats.{mine, seen}
 use Rattle.turn.specs.Tables.{table_of}
 use Rattle.store.specs.Calls.{RollbackDoes}
 use Rattle.store.specs.Seats.{EndingIsTold, Visits}
+use Rattle.store.specs.Kept.{looks}
 use Rattle.store.proofs.Coming.{own_session, some_open}
 use Rattle.store.proofs.Gives.{may_end, rolls_back, still_seated}
-use Rattle.store.proofs.Recalled.{sized_on}
+use Rattle.store.proofs.Recalled.{no_table, sized_on}
 use Rattle.store.proofs.held.HeldSeat.rollback.Goals as goal
 
 pub rollback-requires-clause-own : goal.rollback-requires-clause-own
@@ -25,6 +26,7 @@ invariant_of-self g c = let h = c.args.self.now in let o = some_open h.asked (se
       whole = c.rollback.ensures.ready.1;
       seated = still_seated g.D.Disk.is_honest g.D.Disk.state g.D.Disk.faults _ h.seat c.rollback.new.seat h.ready h.who (own_session _ h.seat h.who h.asked h.told.items h.ready h.seated (Open o.0) o.1) h.asked h.told.items c.clear.new.self.items c.clear.ensures.items h.seated c.args.why c.rollback.ensures.ended;
       sized = sized_on h.store.now.pages h.seat c.rollback.new.seat c.rollback.ensures.same.opening h.sized;
+      tabled = no_table h.seat c.rollback.new.seat h.kept (ap looks o.1) h.tabled;
     }
 
 pub returns : goal.returns

@@ -25,6 +25,7 @@ invariant_of-self g c = let h = c.args.self.now in let o = some_looking h.asked 
       whole = c.unlook.ensures.ready.1;
       seated = still_seated g.D.Disk.is_honest g.D.Disk.state g.D.Disk.faults _ h.seat c.unlook.new.seat h.ready h.who (own_session _ h.seat h.who h.asked h.told.items h.ready h.seated (Looking o.0) o.1) h.asked h.told.items c.clear.new.self.items c.clear.ensures.items h.seated c.args.why c.unlook.ensures.ended;
       sized = sized_on h.store.now.pages h.seat c.unlook.new.seat c.unlook.ensures.same.opening h.sized;
+      tabled = tt;
     }
 
 pub returns : goal.returns
