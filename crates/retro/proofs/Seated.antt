@@ -22,7 +22,7 @@ same_or_not (suc a) (suc b) = by_rest (same_or_not a b)
     by_rest (inr other) = inr (λ e. other (omega (arith, e)))
 
 -- a slot has one seat
-one_seat : (S : Type 0) (s t : S) → Some (Some s) ≡ Some (Some t) → s ≡ t
+pub one_seat : (S : Type 0) (s t : S) → Some (Some s) ≡ Some (Some t) → s ≡ t
 one_seat S s t e = cc
 
 module _ (S : Type 0) (view : S → View) where
