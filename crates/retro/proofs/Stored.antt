@@ -285,7 +285,8 @@ module _ {R D : Type 0} (z : TableId) where
   all_risen slots [] gone seats so_far none = (
     so_far.count ∙ ap length (sym so_far.split),
     so_far.ready,
-    λ number. subst (λ (xs : List (Option (Held R D))). IsAmong xs seats number) (sym so_far.split) (so_far.among number))
+    λ number. subst (λ (xs : List (Option (Held R D))). IsAmong xs seats number) (sym so_far.split) (so_far.among number),
+  )
   all_risen slots (x ∷ left) gone seats so_far none = absurd (omega (arith, none))
 
   -- the last slot that is left has a seat of the store
@@ -351,7 +352,8 @@ module _ {D : Type 0} (extent faults : D → ℕ) (is_honest : D → Type 0) (re
       by_option : (o : Option (Start D)) → IsStartOf begun.core begun.archive o → IfSome o (λ start. (is_honest start.core.value.desk.pool.file.disk × is_honest start.archive.value.pagelog.disk) × AreJustOpened is_honest state start.core.value start.archive.value)
       by_option (Some t) is = (
         (subst (λ (c : Core D). is_honest c.desk.pool.file.disk) (sym is.0) (begun.read.honest.0 honest.pages), subst (λ (a : Running D). is_honest a.pagelog.disk) (sym is.1) (begun.read.pagelog.same.honest.0 honest.pagelog)),
-        just_from t is.0 is.1)
+        just_from t is.0 is.1,
+      )
       by_option None is = absurd is
 
       ground_by : (o : Option (Start D)) → IsStartOf begun.core begun.archive o → ground_in state faults o ≡ Opened

@@ -7,7 +7,7 @@ use Rattle.retro.specs.Stores.{TakesBack}
 pub none_more : (dir : List ℕ) (old out new : List ℕ → Type 0) → OneMoreOut dir old out → OneLessOut dir out new → (name : List ℕ) → new name → old name
 none_more dir old out new more less name is =
     let was = (less name).0 is in
-    elim ((more name).0 was.0) [ | inl before ↦ before | inr here ↦ absurd (was.1 here) ]
+    elim ((more name).0 was.0) [ inl before ↦ before | inr here ↦ absurd (was.1 here) ]
 
 -- they stand there, and elsewhere what stood
 pub stand_again : {Store : Type 0} (dir : List ℕ) (back : Store) (old out new : List ℕ → Option Store) → Stands dir None old out → Stands dir (Some back) out new → Stands dir (Some back) old new

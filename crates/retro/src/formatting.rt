@@ -13,12 +13,7 @@ use retro_base::Refusal;
 use std::alloc::{AllocError, Global};
 
 // Makes a store in the folder, in the place of one that stood there.
-fn make<C: Cabinet>(
-    alloc: Global,
-    cabinet: &mut C,
-    dir: &str,
-    sizes: Sizes,
-) -> Result<(), Refusal>
+fn make<C: Cabinet>(alloc: Global, cabinet: &mut C, dir: &str, sizes: Sizes) -> Result<(), Refusal>
     requires { AreInRange sizes }
     ensures { MakesIn C.faults C.is_out C.tells C.store C.Device.extent C.Device.faults C.Device.state dir.now sizes
         cabinet.old cabinet.new result }

@@ -19,10 +19,10 @@ mod running;
 mod saying;
 #[cfg(test)]
 mod scripts;
+mod seats;
 mod showing;
 #[cfg(test)]
 mod stores;
-mod seats;
 mod storing;
 #[cfg(test)]
 mod tests;

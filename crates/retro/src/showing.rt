@@ -49,7 +49,12 @@ fn lines_of(alloc: Global, shown: &Shown) -> Result<Vec<u8>, AllocError>
     let mut text = Vec::new(alloc);
     push_line(alloc, &mut text, "version", 1)?;
     push_line(alloc, &mut text, "pages", u64::from(shown.sizes.pages))?;
-    push_line(alloc, &mut text, "capacity", u64::from(shown.sizes.capacity))?;
+    push_line(
+        alloc,
+        &mut text,
+        "capacity",
+        u64::from(shown.sizes.capacity),
+    )?;
     push_line(alloc, &mut text, "oldest", u64::from(shown.oldest))?;
     push_line(alloc, &mut text, "newest", u64::from(shown.newest))?;
     push_line(alloc, &mut text, "captures", shown.captures)?;

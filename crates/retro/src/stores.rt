@@ -10,12 +10,7 @@ use std::sync::Wait;
 use std::test::Fail;
 
 // Words, the script, a status, and the text.
-type Row = (
-    &'static [&'static str],
-    &'static [u8],
-    u8,
-    &'static [u8],
-);
+type Row = (&'static [&'static str], &'static [u8], u8, &'static [u8]);
 
 const BAD_WORDS: &[u8] = b"retro: bad words\n";
 
@@ -49,7 +44,12 @@ const ROWS: [Row; 34] = [
     (&["format", "d", "16", "1048577"], b"", 9, BAD_SIZES),
     (&["format", "d", "9999999999", "64"], b"", 9, BAD_SIZES),
     (&["show", "d"], b"", 6, b"retro: disk fault on cabinet 1\n"),
-    (&["run", "nosuch"], b"", 6, b"retro: disk fault on cabinet 2\n"),
+    (
+        &["run", "nosuch"],
+        b"",
+        6,
+        b"retro: disk fault on cabinet 2\n",
+    ),
     (&["format", "d", "16", "64"], b"", 0, b"formatted 16 64\n"),
     (
         &["show", "d"],
@@ -58,7 +58,12 @@ const ROWS: [Row; 34] = [
         b"version 1\npages 16\ncapacity 64\noldest 1\nnewest 0\ncaptures 0\n",
     ),
     (&["show", "e"], b"", 6, b"retro: disk fault on cabinet 3\n"),
-    (&["format", "e", "0000000020", "100"], b"", 0, b"formatted 20 100\n"),
+    (
+        &["format", "e", "0000000020", "100"],
+        b"",
+        0,
+        b"formatted 20 100\n",
+    ),
     (
         &["show", "e"],
         b"",
@@ -93,7 +98,15 @@ fn ends_so<R: Wait>(
         Combiner::new(How::Max, |a: i128, b: i128| a.max(b)),
         Combiner::new(How::Add, |a: i128, b: i128| a.wrapping_add(b)),
     );
-    let ended = retro(rt, alloc, all.as_slice(), &mut source, &mut sink, cabinet, &folds);
+    let ended = retro(
+        rt,
+        alloc,
+        all.as_slice(),
+        &mut source,
+        &mut sink,
+        cabinet,
+        &folds,
+    );
     Ok(ended == *status && sink.bytes() == *text)
 }
 
@@ -197,8 +210,18 @@ const RUNS: [Row; 7] = [
         b"phase 1\nsession a\nitem 1\nrows 2\n1\n2\nok 1\ncommitted as 3\nitem 2\nrows 1\n1\nitem 3\nrows 3\n1\n2\n3\n\
           journal\n1 a 1 done as 3\n1 a 2 looked 1\n1 a 2 unlooked\n1 a 3 looked 3\n1 a 3 unlooked\n",
     ),
-    (&["run", "d"], b"SELECT\n", 3, b"retro: bad script at line 1\n"),
-    (&["run", "e"], b"SESSION a\n", 6, b"retro: disk fault on cabinet 1\n"),
+    (
+        &["run", "d"],
+        b"SELECT\n",
+        3,
+        b"retro: bad script at line 1\n",
+    ),
+    (
+        &["run", "e"],
+        b"SESSION a\n",
+        6,
+        b"retro: disk fault on cabinet 1\n",
+    ),
     (&["run", "d"], b"", 0, b"journal\n"),
     (
         &["show", "d"],

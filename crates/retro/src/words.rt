@@ -79,9 +79,15 @@ fn making<'a>(dir: &'a str, pages: u64, capacity: u64) -> Result<Command<&'a str
     ensures ready { IfOk result IsReady }
 {
     if let (Ok(pages), Ok(capacity)) = (u32::try_from(pages), u32::try_from(capacity))
-        && pages >= MIN_PAGES && pages <= MAX_PAGES && capacity >= MIN_CAPACITY && capacity <= MAX_CAPACITY
+        && pages >= MIN_PAGES
+        && pages <= MAX_PAGES
+        && capacity >= MIN_CAPACITY
+        && capacity <= MAX_CAPACITY
     {
-        return Ok(Command::Format { dir, sizes: Sizes { pages, capacity } });
+        return Ok(Command::Format {
+            dir,
+            sizes: Sizes { pages, capacity },
+        });
     }
     Err(Mistake::BadSizes)
 }
@@ -142,7 +148,12 @@ pub fn command_of<'a>(words: &'a [String]) -> Result<Command<&'a str>, Mistake>
         [verb] => asked_alone(verb.as_str()),
         [verb, dir] => asked_of_folder(verb.as_str(), dir.as_str()),
         [verb, dir, pages, capacity] => {
-            asked_with_sizes(verb.as_str(), dir.as_str(), pages.as_str(), capacity.as_str())
+            asked_with_sizes(
+                verb.as_str(),
+                dir.as_str(),
+                pages.as_str(),
+                capacity.as_str(),
+            )
         }
         _ => Err(Mistake::BadWords),
     }

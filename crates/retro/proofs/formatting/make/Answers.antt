@@ -7,25 +7,31 @@ returns-in-Ok-format g c =
     let k = g.C.Cabinet in
     let made = c.in-Ok.ensures in
     let put = c.put_back.ensures in
-    inr (c.in-Ok.disks, c.in-Ok-format.disks,
-    took_back k.faults k.is_out k.tells k.store c.args.dir.now c.args.cabinet.now c.create.new.self c.put_back.new.self c.in-Ok-format.disks
-        made.cause.steady made.told made.out.ok (λ t. (made.stands t).ok) put.faults put.told put.out put.stands,
-    record {
-      sized = made.sized;
-      cause = c.in-Ok-format.ensures.cause;
-      empty = λ t. c.in-Ok-format.ensures.empty (made.blank t);
-    })
+    inr (
+      c.in-Ok.disks,
+      c.in-Ok-format.disks,
+      took_back k.faults k.is_out k.tells k.store c.args.dir.now c.args.cabinet.now c.create.new.self c.put_back.new.self c.in-Ok-format.disks
+          made.cause.steady made.told made.out.ok (λ t. (made.stands t).ok) put.faults put.told put.out put.stands,
+      record {
+        sized = made.sized;
+        cause = c.in-Ok-format.ensures.cause;
+        empty = λ t. c.in-Ok-format.ensures.empty (made.blank t);
+      },
+    )
 
 pub returns-in-Err : goal.returns-in-Err
 returns-in-Err g c =
     let k = g.C.Cabinet in
     let made = c.in-Ok.ensures in
     let put = c.put_back-in-Err.ensures in
-    inr (c.in-Ok.disks, c.in-Err.disks,
-    took_back k.faults k.is_out k.tells k.store c.args.dir.now c.args.cabinet.now c.create.new.self c.put_back-in-Err.new.self c.in-Err.disks
-        made.cause.steady made.told made.out.ok (λ t. (made.stands t).ok) put.faults put.told put.out put.stands,
-    record {
-      sized = made.sized;
-      cause = c.in-Err.ensures.cause;
-      empty = λ t. tt;
-    })
+    inr (
+      c.in-Ok.disks,
+      c.in-Err.disks,
+      took_back k.faults k.is_out k.tells k.store c.args.dir.now c.args.cabinet.now c.create.new.self c.put_back-in-Err.new.self c.in-Err.disks
+          made.cause.steady made.told made.out.ok (λ t. (made.stands t).ok) put.faults put.told put.out put.stands,
+      record {
+        sized = made.sized;
+        cause = c.in-Err.ensures.cause;
+        empty = λ t. tt;
+      },
+    )

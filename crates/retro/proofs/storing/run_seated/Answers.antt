@@ -68,8 +68,8 @@ returns-clause-ran g c = λ opened each.
     let honest = all_honest g.D.Disk.state g.D.Disk.faults z c.args.store.now.pages c.args.seats.items c.sit_down-slots.result.items c.sit_down-slots.ensures c.requires.fresh g.D.Disk.is_honest (λ k s there. (each k s there).0) in
     let begin = all_begin g.D.Disk.state g.D.Disk.faults z c.args.store.now.pages c.args.seats.items c.sit_down-slots.result.items c.sit_down-slots.ensures c.requires.fresh c.args.plan.now opened (λ k s there. (each k s there).1) in
     let ran = subst (λ (xs : List (Option (Held g.row.R.Denot g.row.D.Denot))). AreHonest (λ (h : Held g.row.R.Denot g.row.D.Denot). IsHonest g.D.Disk.is_honest g.D.Disk.state h.seat) xs
-        → StandTogether opened.base.page_count c.args.plan.now opened (length xs) 1 [] (view_at (view_held g.D.Disk.state g.D.Disk.faults) xs)
-        → RunsPhases c.args.plan.now opened (length xs) (view_at (view_held g.D.Disk.state g.D.Disk.faults) c.run_phases-kept.new.slots) c.run_phases-kept.result) value
-        (λ all stand. c.run_phases-kept.ensures.ran all opened [] stand) in
+    → StandTogether opened.base.page_count c.args.plan.now opened (length xs) 1 [] (view_at (view_held g.D.Disk.state g.D.Disk.faults) xs)
+    → RunsPhases c.args.plan.now opened (length xs) (view_at (view_held g.D.Disk.state g.D.Disk.faults) c.run_phases-kept.new.slots) c.run_phases-kept.result) value
+    (λ all stand. c.run_phases-kept.ensures.ran all opened [] stand) in
     all_stood g.D.Disk.state g.D.Disk.faults z c.args.store.now.pages c.args.seats.items c.sit_down-slots.result.items c.sit_down-slots.ensures c.requires.fresh c.args.plan.now opened c.run_phases-kept.new.slots c.stand_up.result.items
     c.run_phases-kept.result come (λ number. subst (λ (xs : List (Option (Held g.row.R.Denot g.row.D.Denot))). IsAmong xs c.stand_up.result.items number) back (c.stand_up.ensures.among number)) (ran honest begin)

@@ -25,10 +25,12 @@ loop-slots-preserved g c =
     let found = last_in z c.args.slots.items c.loop-slots.slots.items c.take_last.new.self.items before.risen.0 c.take_last.result c.loop-slots.seats.items before.risen.1 c.take_last.ensures.items c.requires.held in
     let store = subst (λ (h : Held g.row.R.Denot g.row.D.Denot). table_of h.store.now.turn ≡ z) (some_one (Held g.row.R.Denot g.row.D.Denot) found.0 c.in-Some.held (sym found.1 ∙ c.in-Some.is)) found.2 in
     record {
-      risen = (Some c.in-Some.held ∷ before.risen.0,
+      risen = (
+        Some c.in-Some.held ∷ before.risen.0,
         subst (λ (ss : List (Sat _)). HaveRisen z c.args.slots.items c.take_last.new.self.items (Some c.in-Some.held ∷ before.risen.0) ss) (sym c.push_reserved.ensures.items)
-        (seat_risen z c.args.slots.items c.loop-slots.slots.items c.take_last.new.self.items before.risen.0 c.in-Some.held c.loop-slots.seats.items c.into_seat.result before.risen.1
-        (c.take_last.ensures.items ∙ ap (λ (x : Option (Held g.row.R.Denot g.row.D.Denot)). c.take_last.new.self.items ++ x ∷ []) c.in-Some.is) store c.into_seat.ensures.ready c.into_seat.ensures.seat));
+            (seat_risen z c.args.slots.items c.loop-slots.slots.items c.take_last.new.self.items before.risen.0 c.in-Some.held c.loop-slots.seats.items c.into_seat.result before.risen.1
+            (c.take_last.ensures.items ∙ ap (λ (x : Option (Held g.row.R.Denot g.row.D.Denot)). c.take_last.new.self.items ++ x ∷ []) c.in-Some.is) store c.into_seat.ensures.ready c.into_seat.ensures.seat),
+      );
       room = subst (λ n. length c.args.slots.items ≤ n) (sym c.push_reserved.ensures.capacity) before.room;
     }
 

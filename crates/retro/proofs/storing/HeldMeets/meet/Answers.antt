@@ -11,7 +11,7 @@ returns g c =
         one_waits = e.waits;
         other_waits = e.others;
         same = e.seen.1;
-        seen = elim (longer_is (seen c.args.self.now.seat) (seen c.args.other.now.seat)) [ | inl first ↦ inl (e.seen.0 ∙ first) | inr second ↦ inr (e.seen.0 ∙ second) ];
+        seen = elim (longer_is (seen c.args.self.now.seat) (seen c.args.other.now.seat)) [ inl first ↦ inl (e.seen.0 ∙ first) | inr second ↦ inr (e.seen.0 ∙ second) ];
       };
       goes = (e.goes, e.other_goes);
     }
