@@ -46,10 +46,14 @@ is_fault what = false
 abbrev pub has_fault : List Line → Bool
 has_fault journal = list_any (λ (line : Line). is_fault line.what) journal
 
+-- 6 in place of 0
+abbrev pub faulty : ℕ → ℕ
+faulty zero = 6
+faulty (suc status) = suc status
+
 -- the status of a run that ends so: 6 in place of 0 where its journal tells a fault
 abbrev pub with_faults : List Line → ℕ → ℕ
-with_faults journal zero = if has_fault journal then 6 else 0
-with_faults journal (suc status) = suc status
+with_faults journal status = if has_fault journal then faulty status else status
 
 -- the transcript was written, as far as the sink took it; or there was none for want of memory
 abbrev pub WritesText : {K V E : Type 0} → (K → Option (List ℕ)) → (K → ℕ) → K → K → (V → List ℕ) → Result V E → ℕ → Type 0

@@ -2,7 +2,7 @@
 
 ghost use Rattle.std.specs.Prelude.{◌≡◌, ◌≢◌, Ok};
 ghost use Rattle.session.specs.Plan.{PlanFits};
-ghost use Rattle.retro.specs.Keeping.{EndsRun, has_fault, is_fault, RunsIn, RunsOnStore};
+ghost use Rattle.retro.specs.Keeping.{EndsRun, faulty, has_fault, is_fault, RunsIn, RunsOnStore};
 ghost use Rattle.retro.specs.Says.{IsOfKept, IsOfStores, IsStatus, number_of};
 
 use crate::running::{plan_from, refuse as refuse_script};
@@ -52,6 +52,17 @@ fn has_fault(journal: &[Line]) -> bool
     journal.iter().any(|line| is_fault(line))
 }
 
+// The status of a run in which a device failed.
+fn faulty(status: Status) -> Status
+    ensures number { number_of result ≡ faulty (number_of status) }
+    ensures status { IsOfStores status → IsOfStores result }
+{
+    match status {
+        Status::Done => Status::DiskFault,
+        _ => status,
+    }
+}
+
 // Writes the transcript of a run, if there was memory for it.
 fn tell<K: Sink>(sink: &mut K, ended: Ended) -> Status
     ensures ends { EndsRun K.held K.faults sink.old sink.new (Ok ended) (number_of result) }
@@ -59,8 +70,8 @@ fn tell<K: Sink>(sink: &mut K, ended: Ended) -> Status
 {
     let Ended { journal, text } = ended;
     let status = write_made(sink, text);
-    if status == Status::Done && has_fault(journal.as_slice()) {
-        return Status::DiskFault;
+    if has_fault(journal.as_slice()) {
+        return faulty(status);
     }
     status
 }

@@ -1,6 +1,17 @@
-use Rattle.std.proofs.Common.{◌≡◌, ◌∙◌, ℕ, length, refl, sym, subst}
-use Rattle.retro.proofs.Stored.{have_seats, leaves_so}
+use Rattle.std.proofs.Common.{◌∙◌, refl}
+use Rattle.store.specs.Seats.{start_of}
+use Rattle.retro.proofs.Stored.{leaves_so}
 use Rattle.retro.proofs.storing.run_on.Goals as goal
 
 pub returns-in-Ok : goal.returns-in-Ok
-returns-in-Ok g c = ?
+returns-in-Ok g c =
+    let disk = g.D.Disk in
+    let laws = c.laws_of_crashes.ensures in
+    let opened = c.in-Ok.ensures in
+    record {
+      unwritten = tt;
+      unopened = tt;
+      leaves = leaves_so disk.extent disk.faults disk.is_honest disk.remembers disk.state disk.clock c.args.disks (start_of c.in-Ok.store.turn) c.in-Ok.seats.items opened.begins c.in-Ok.store.turn.table.shared.key.seats opened.seats.0
+          c.run_seated-seats.result.0.items c.close-disks.result c.close-disks.ensures.closed laws.opening laws.closed c.args.plan.now c.requires opened.seats.1 c.run_seated-seats.result.1 c.run_seated-seats.ensures.ran c.newest-newest.result
+          (c.newest-newest.ensures ∙ opened.newest) (record { journal = c.close-disks.result.journal; text = c.text_of-text.result }) refl c.text_of-text.ensures;
+    }

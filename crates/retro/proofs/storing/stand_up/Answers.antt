@@ -41,3 +41,11 @@ returns g c =
     let none : vec_len c.loop-slots.slots ≡ 0 = grind (arith, nat_tests, sym c.is_empty.ensures ∙ c.loop-slots-test.false) in
     let all = all_risen (table_of c.args.store.now.turn) c.args.slots.items c.loop-slots.slots.items before.risen.0 c.loop-slots.seats.items before.risen.1 (sym len ∙ none) in
     record { count = all.0; ready = all.1; among = all.2 }
+
+pub unreachable-requires : goal.unreachable-requires
+unreachable-requires g c =
+    let before = c.loop-slots.invariant in
+    let found = last_in (table_of c.args.store.now.turn) c.args.slots.items c.loop-slots.slots.items c.take_last.new.self.items before.risen.0 c.take_last.result c.loop-slots.seats.items before.risen.1 c.take_last.ensures.items c.requires.held in
+    let full = found.1 in
+    let none = c.in-None.is in
+    absurd (cc (full, none))
