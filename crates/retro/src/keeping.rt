@@ -76,6 +76,31 @@ fn tell<K: Sink>(sink: &mut K, ended: Ended) -> Status
     status
 }
 
+// Reads a script, runs it over the store in the folder, and writes the transcript. Answers how it ended.
+fn kept<R: Wait, S: Source, K: Sink, C: Cabinet, F: Folds>(
+    alloc: Global,
+    rt: &R,
+    source: &mut S,
+    sink: &mut K,
+    cabinet: &mut C,
+    dir: &str,
+    folds: &F,
+) -> Status
+    ensures runs { RunsIn (S.left source.old) (S.left source.new) (S.faults source.old) (S.faults source.new) K.held K.faults
+        C.faults C.is_out C.tells C.store C.Device.extent C.Device.faults C.Device.is_honest C.Device.remembers
+        C.Device.state C.Device.clock dir.now sink.old sink.new cabinet.old cabinet.new (number_of result) }
+    ensures status { IsOfKept result }
+{
+    let plan = match plan_from(alloc, source) {
+        Ok(plan) => plan,
+        Err(refusal) => return refuse_script(alloc, sink, refusal),
+    };
+    match run_in(alloc, rt, cabinet, dir, folds, &plan) {
+        Ok(ended) => tell(sink, ended),
+        Err(refusal) => refuse(alloc, sink, refusal),
+    }
+}
+
 /// Reads a script, runs it over the store in the folder, and writes the transcript. Answers the exit status.
 pub fn keep<R: Wait, S: Source, K: Sink, C: Cabinet, F: Folds>(
     alloc: Global,
@@ -92,13 +117,5 @@ pub fn keep<R: Wait, S: Source, K: Sink, C: Cabinet, F: Folds>(
     ensures status { IsStatus result }
     ensures words { (result ≢ 2) × (result ≢ 9) }
 {
-    let plan = match plan_from(alloc, source) {
-        Ok(plan) => plan,
-        Err(refusal) => return refuse_script(alloc, sink, refusal).number(),
-    };
-    let status = match run_in(alloc, rt, cabinet, dir, folds, &plan) {
-        Ok(ended) => tell(sink, ended),
-        Err(refusal) => refuse(alloc, sink, refusal),
-    };
-    status.number()
+    kept(alloc, rt, source, sink, cabinet, dir, folds).number()
 }
