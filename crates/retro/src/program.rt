@@ -49,8 +49,8 @@ fn refuse<K: Sink>(sink: &mut K, mistake: Mistake) -> u8
 ///   then 6 in place of 0.
 ///
 /// The last three end with 6 where a call of the cabinet or of a device failed; `show` and `run` with 7 where the bytes
-/// are no store's;
-/// with 5 where the sink failed; with 8 where memory ran out; else with 0. The devices are back in the cabinet.
+/// are no store's; with 5 where the sink failed; with 8 where memory ran out; else with 0. The devices are back in the
+/// cabinet.
 pub fn retro<R: Wait, S: Source, K: Sink, C: Cabinet, F: Folds>(
     rt: &R,
     alloc: Global,
