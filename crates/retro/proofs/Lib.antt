@@ -6,5 +6,5 @@ pub mod Phased
 pub mod Seated
 pub mod Stepped
 pub mod Stored
-pub mod Stores
 pub mod Table
+pub mod TakenBack

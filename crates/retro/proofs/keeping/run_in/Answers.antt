@@ -1,5 +1,5 @@
 use Rattle.std.proofs.Common.{inr}
-use Rattle.retro.proofs.Stores.{took_back}
+use Rattle.retro.proofs.TakenBack.{took_back}
 use Rattle.retro.proofs.keeping.run_in.Goals as goal
 
 pub returns : goal.returns

@@ -1,5 +1,5 @@
 use Rattle.std.proofs.Common.{inr}
-use Rattle.retro.proofs.Stores.{took_back}
+use Rattle.retro.proofs.TakenBack.{took_back}
 use Rattle.retro.proofs.showing.look.Goals as goal
 
 pub returns-in-Ok-show_devices : goal.returns-in-Ok-show_devices
