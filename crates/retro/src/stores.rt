@@ -190,3 +190,51 @@ fn a_failing_cabinet_is_named(rt: HostRuntime) -> Result<(), Fail> {
     assert!(rt; wrong.is_none());
     Ok(())
 }
+
+// Over one store: two runs, a drop, and a script with a bad line.
+const RUNS: [Row; 7] = [
+    (&["format", "d", "64", "64"], b"", 0, b"formatted 64 64\n"),
+    (
+        &["run", "d"],
+        b"SESSION a\nCREATE TABLE t(a INT)\nINSERT INTO t VALUES (1)\nCOMMIT WITH SNAPSHOT 'one'\n\
+          INSERT INTO t VALUES (2)\nCOMMIT WITH SNAPSHOT 'two'\nSELECT AS OF 1 * FROM t\n",
+        0,
+        b"phase 1\nsession a\nitem 1\nok\nok 1\ncommitted as 1\nitem 2\nok 1\ncommitted as 2\nitem 3\nrows 1\n1\n\
+          journal\n1 a 1 done as 1\n1 a 2 done as 2\n1 a 3 looked 1\n1 a 3 unlooked\n",
+    ),
+    (
+        &["run", "d"],
+        b"SESSION a\nSELECT * FROM t\nINSERT INTO t VALUES (3)\nCOMMIT WITH SNAPSHOT 'three'\n\
+          SELECT AS OF 1 * FROM t\nSELECT AS OF 3 * FROM t\n",
+        0,
+        b"phase 1\nsession a\nitem 1\nrows 2\n1\n2\nok 1\ncommitted as 3\nitem 2\nrows 1\n1\nitem 3\nrows 3\n1\n2\n3\n\
+          journal\n1 a 1 done as 3\n1 a 2 looked 1\n1 a 2 unlooked\n1 a 3 looked 3\n1 a 3 unlooked\n",
+    ),
+    (
+        &["run", "d"],
+        b"SELECT\n",
+        3,
+        b"retro: bad script at line 1\n",
+    ),
+    (
+        &["run", "e"],
+        b"SESSION a\n",
+        6,
+        b"retro: disk fault on cabinet 1\n",
+    ),
+    (&["run", "d"], b"", 0, b"journal\n"),
+    (
+        &["show", "d"],
+        b"",
+        0,
+        b"version 1\npages 64\ncapacity 64\noldest 1\nnewest 3\ncaptures 2\n",
+    ),
+];
+
+#[test]
+fn a_store_is_run_again(rt: HostRuntime) -> Result<(), Fail> {
+    let mut cabinet = MemCabinet::new(rt.alloc(), Vec::new(rt.alloc()));
+    let wrong = first_wrong(&rt, rt.alloc(), &mut cabinet, &RUNS)?;
+    assert!(rt; wrong.is_none());
+    Ok(())
+}
