@@ -192,7 +192,7 @@ fn a_failing_cabinet_is_named(rt: HostRuntime) -> Result<(), Fail> {
 }
 
 // Over one store: two runs, a drop, and a script with a bad line.
-const RUNS: [Row; 7] = [
+const RUNS: [Row; 8] = [
     (&["format", "d", "64", "64"], b"", 0, b"formatted 64 64\n"),
     (
         &["run", "d"],
@@ -212,6 +212,13 @@ const RUNS: [Row; 7] = [
     ),
     (
         &["run", "d"],
+        b"SESSION a\nDROP SNAPSHOTS BELOW 3\nSELECT AS OF 2 * FROM t\nSELECT AS OF 3 * FROM t\n",
+        0,
+        b"phase 1\nsession a\nitem 1\ndropped below 3\nitem 2\nrefused 10 Dropped 2 3\nitem 3\nrows 3\n1\n2\n3\n\
+          journal\n1 a 1 dropped below 3\n1 a 2 refused 10\n1 a 3 looked 3\n1 a 3 unlooked\n",
+    ),
+    (
+        &["run", "d"],
         b"SELECT\n",
         3,
         b"retro: bad script at line 1\n",
@@ -227,7 +234,7 @@ const RUNS: [Row; 7] = [
         &["show", "d"],
         b"",
         0,
-        b"version 1\npages 64\ncapacity 64\noldest 1\nnewest 3\ncaptures 2\n",
+        b"version 1\npages 64\ncapacity 64\noldest 3\nnewest 3\ncaptures 2\n",
     ),
 ];
 
