@@ -7,7 +7,6 @@ ghost use Rattle.journal_law.specs.Lawful.{Ground};
 ghost use Rattle.retro.specs.Phases.{HaveSeats, StandTogether};
 ghost use Rattle.retro.specs.Slots.{AllCome, AreHonest, AreSeated, AreTogether, IsSetAt, SitsAt, view_at};
 ghost use Rattle.retro.specs.Steps.{HasMetEach, MetAll, PairMet, PhaseRuns, RanAt, RanThrough, RunsPhases};
-ghost use Rattle.retro_base.specs.declared.limits.TheConstants.{SESSIONS};
 ghost use Rattle.session.specs.Plan.{Plan as PlanOf, PlanFits, SessionFits, SessionsFit};
 ghost use Rattle.session.specs.Turns.{IsPhaseOf};
 
@@ -17,13 +16,6 @@ use script::SessionName;
 use session::{Kept, Plan, RunItems, SessionPlan, names_of, run_session};
 use std::alloc::{AllocError, Global};
 use values::Seq;
-
-fn larger(one: usize, other: usize) -> usize
-    ensures both { (one ≤ result) × (other ≤ result) }
-    ensures one_of { (limit : ℕ) → one ≤ limit → other ≤ limit → result ≤ limit }
-{
-    if one < other { other } else { one }
-}
 
 // Takes the seat of a number out of its slot.
 fn take<S>(slots: &mut [Option<S>], number: usize) -> S
@@ -167,20 +159,6 @@ fn run_phase<S: Meets, R: RunItems>(
     let kept = run_sessions(alloc, slots, runner, phase, sessions);
     meet_all(slots);
     kept
-}
-
-/// How many seats a plan needs: as many as the most sessions of one phase.
-pub fn seats_needed(plan: &Plan) -> usize
-    requires { PlanFits plan.now }
-    ensures enough { HaveSeats plan.now result }
-    ensures least { (seats : ℕ) → HaveSeats plan.now seats → result ≤ seats }
-    ensures few { result ≤ SESSIONS }
-{
-    let mut most = 0;
-    for sessions in plan.as_slice() {
-        most = larger(most, sessions.len());
-    }
-    most
 }
 
 /// Runs what a script asks for over one store, at which each session has the seat in the slot of its number. All seats
