@@ -92,7 +92,7 @@ no_images LookedAll never = refl
 no_images Unlooked never = refl
 no_images (Dropped below) never = refl
 no_images (Refused why) never = refl
-no_images (Fault device count wrote) never = refl
+no_images (Fault device count call) never = refl
 
 pub others_hold_no_images : OthersHoldNoImages
 others_hold_no_images lines line never = omega (arith, images_in_one_more lines line, no_images line.what never)
@@ -121,7 +121,7 @@ page_stays pages who other page LookedAll none own = refl
 page_stays pages who other page Unlooked none own = refl
 page_stays pages who other page (Dropped below) none own = refl
 page_stays pages who other page (Refused why) none own = refl
-page_stays pages who other page (Fault device count wrote) none own = refl
+page_stays pages who other page (Fault device count call) none own = refl
 
 pub unchanged_stays : UnchangedStays
 unchanged_stays pages who page [] none own = refl

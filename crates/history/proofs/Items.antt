@@ -5,13 +5,16 @@ use Rattle.std.proofs.lemmas.Bool.{eq-eqb, false_from_ne_true}
 use Rattle.retro_base.specs.declared.device.Device.{Device}
 use Rattle.retro_base.specs.declared.who.Who.{Who}
 use Rattle.history.specs.declared.entry.Base.{Base}
+use Rattle.history.specs.declared.entry.Change.{Change}
 use Rattle.history.specs.declared.entry.Mark.{Mark}
+use Rattle.history.specs.declared.journal.FailedCall.{FailedCall}
+use Rattle.history.specs.declared.journal.FailedCall.TheVariants.{Append, Read, Write}
 use Rattle.history.specs.declared.journal.Line.{Line}
 use Rattle.history.specs.declared.journal.What.{What}
 use Rattle.history.specs.declared.journal.What.TheVariants.{Began, Done, Overlapped, RolledBack, Looked, LookedAll, Unlooked, Dropped, Refused, Fault}
-use Rattle.history.specs.LineLaws.{ends_look, IsBeginning, NoLineOf, NoStop, EndedPinsNothing, OthersPinsStay, LooksPin, OpenWhereLastBegins, OpenByALine, NoneStops, FirstStops}
+use Rattle.history.specs.LineLaws.{ends_look, IsBeginning, NoLineOf, NoStop, EndedPinsNothing, OthersPinsStay, LooksPin, OpenWhereLastBegins, OpenByALine, NoneStops, FirstStops, OnlyStopsLeaveDoubt}
 use Rattle.history.specs.declared.stop.Stop.{Stop}
-use Rattle.history.specs.Lines.{base_of, pinned_by, begins, open_behind, open_from, open_in, is_open, stop_of, first_stop}
+use Rattle.history.specs.Lines.{base_of, pinned_by, begins, open_behind, open_from, open_in, is_open, is_write, stop_of, first_stop, doubt_in, doubt_of}
 use Rattle.history.specs.Sound.{Pin, same_item, unpinned, pins_behind, pins_of}
 use Rattle.history.proofs.Lines.{pins_of_one_more, open-append}
 use Rattle.history.proofs.SoundLaws.{items_are}
@@ -78,7 +81,7 @@ ended_behind base pins who LookedAll is = absurd cc
 ended_behind base pins who Unlooked is = ended_none who pins
 ended_behind base pins who (Dropped below) is = absurd cc
 ended_behind base pins who (Refused why) is = ended_none who pins
-ended_behind base pins who (Fault device count wrote) is = ended_none who pins
+ended_behind base pins who (Fault device count call) is = ended_none who pins
 
 pub ended_pins_nothing : EndedPinsNothing
 ended_pins_nothing base lines line is = ap (pinned_by line.who) (pins_of_one_more base lines line) ∙ ended_behind (base_of base lines) (pins_of base [] lines) line.who line.what is
@@ -94,7 +97,7 @@ others_behind base pins who other LookedAll apart = others_look who other base.m
 others_behind base pins who other Unlooked apart = others_unpinned who other pins apart
 others_behind base pins who other (Dropped below) apart = refl
 others_behind base pins who other (Refused why) apart = others_unpinned who other pins apart
-others_behind base pins who other (Fault device count wrote) apart = others_unpinned who other pins apart
+others_behind base pins who other (Fault device count call) apart = others_unpinned who other pins apart
 
 pub others_pins_stay : OthersPinsStay
 others_pins_stay base lines line who apart = ap (pinned_by who) (pins_of_one_more base lines line) ∙ others_behind (base_of base lines) (pins_of base [] lines) who line.who line.what apart
@@ -157,7 +160,7 @@ beginning LookedAll is = inr (inr refl)
 beginning Unlooked is = absurd cc
 beginning (Dropped below) is = absurd cc
 beginning (Refused why) is = absurd cc
-beginning (Fault device count wrote) is = absurd cc
+beginning (Fault device count call) is = absurd cc
 
 it_begins : (what : What) → IsBeginning what → begins what ≡ true
 it_begins what (inl is) = ap begins is
@@ -183,10 +186,12 @@ or-parts (Some x) b is = absurd cc
 some_stop : (stop : Stop) → Some stop ≡ None → ⊥
 some_stop stop is = absurd cc
 
-tells_none : (what : What) → stop_of what ≡ None → (device : Device) (count : ℕ) → what ≡ Fault device count true → ⊥
-tells_none what none device count is = some_stop (record { device = device; count = count }) (sym (ap stop_of is) ∙ none)
+tells_none : (what : What) → stop_of what ≡ None → (device : Device) (count : ℕ) (call : FailedCall) → what ≡ Fault device count call → is_write call ≡ true → ⊥
+tells_none what none device count call is writes =
+    let stop : Stop = record { device = device; count = count } in
+    some_stop stop (sym (ap stop_of is ∙ ap (λ (b : Bool). cond b (Some stop) None) writes) ∙ none)
 
-none_told : (what : What) → ((device : Device) (count : ℕ) → what ≡ Fault device count true → ⊥) → stop_of what ≡ None
+none_told : (what : What) → ((device : Device) (count : ℕ) (call : FailedCall) → what ≡ Fault device count call → is_write call ≡ true → ⊥) → stop_of what ≡ None
 none_told Began never = refl
 none_told (Done label writes) never = refl
 none_told (Overlapped session item) never = refl
@@ -196,8 +201,9 @@ none_told LookedAll never = refl
 none_told Unlooked never = refl
 none_told (Dropped below) never = refl
 none_told (Refused why) never = refl
-none_told (Fault device count true) never = absurd (never device count refl)
-none_told (Fault device count false) never = refl
+none_told (Fault device count Read) never = refl
+none_told (Fault device count Write) never = absurd (never device count Write refl refl)
+none_told (Fault device count (Append change)) never = absurd (never device count (Append change) refl refl)
 
 no_stop : (lines : List Line) → first_stop lines ≡ None → NoStop lines
 no_stop [] none = tt
@@ -213,8 +219,31 @@ none_stop : (lines : List Line) → NoStop lines → first_stop lines ≡ None
 none_stop [] none = refl
 none_stop (line ∷ lines) none = ap (λ (o : Option Stop). option_or o (first_stop lines)) (none_told line.what none.0) ∙ none_stop lines none.1
 
+-- what tells no stop tells no doubt
+undoubted-line : (what : What) → stop_of what ≡ None → doubt_of what ≡ None
+undoubted-line Began none = refl
+undoubted-line (Done label writes) none = refl
+undoubted-line (Overlapped session item) none = refl
+undoubted-line RolledBack none = refl
+undoubted-line (Looked snapshot) none = refl
+undoubted-line LookedAll none = refl
+undoubted-line Unlooked none = refl
+undoubted-line (Dropped below) none = refl
+undoubted-line (Refused why) none = refl
+undoubted-line (Fault device count Read) none = refl
+undoubted-line (Fault device count Write) none = refl
+undoubted-line (Fault device count (Append change)) none = absurd cc
+
+pub only_stops_leave_doubt : OnlyStopsLeaveDoubt
+only_stops_leave_doubt [] none = refl
+only_stops_leave_doubt (line ∷ lines) none =
+    let both = or-parts (stop_of line.what) (first_stop lines) none in
+    ap (λ (o : Option Change). option_or o (doubt_in lines)) (undoubted-line line.what both.0) ∙ only_stops_leave_doubt lines both.1
+
 pub none_stops : NoneStops
 none_stops lines = (no_stop lines, none_stop lines)
 
 pub first_stops : FirstStops
-first_stops before more line device count none is = behind_no_stop before (line ∷ more) none ∙ ap (λ (w : What). option_or (stop_of w) (first_stop more)) is
+first_stops before more line device count call none is writes =
+    let stop : Stop = record { device = device; count = count } in
+    behind_no_stop before (line ∷ more) none ∙ (ap (λ (w : What). option_or (stop_of w) (first_stop more)) is ∙ ap (λ (b : Bool). option_or (cond b (Some stop) None) (first_stop more)) writes)

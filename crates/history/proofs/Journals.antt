@@ -58,7 +58,7 @@ line_pages state (Dropped below) = go (ltb (oldest state.base.marks) below) wher
   go true = refl
   go false = refl
 line_pages state (Refused why) = refl
-line_pages state (Fault device count wrote) = refl
+line_pages state (Fault device count call) = refl
 
 run_pages : (lines : List Line) (state : State) (page : ℕ) → (run state (changes_of state.base lines)).pages page ≡ pages_after_journal state.pages lines page
 run_pages [] state page = refl
@@ -101,7 +101,7 @@ line_keeps base pins (Dropped below) k = go (ltb (oldest base.marks) below) wher
   go true = (k.1, tt)
   go false = tt
 line_keeps base pins (Refused why) k = tt
-line_keeps base pins (Fault device count wrote) k = tt
+line_keeps base pins (Fault device count call) k = tt
 
 pub journal_keeps : (base : Base) (pins : List Pin) (lines : List Line) → AllKeepRules base pins lines → AllKeepNewest base (changes_of base lines)
 journal_keeps base pins [] all = tt
@@ -198,7 +198,7 @@ line_pins base pins who (Dropped below) k all = go (ltb (oldest base.marks) belo
   go true = pins_stay base.marks below pins k.2 all
   go false = all
 line_pins base pins who (Refused why) k all = pins-filter base.marks (λ (pin : Pin). not (same_item pin.who who)) pins all
-line_pins base pins who (Fault device count wrote) k all = pins-filter base.marks (λ (pin : Pin). not (same_item pin.who who)) pins all
+line_pins base pins who (Fault device count call) k all = pins-filter base.marks (λ (pin : Pin). not (same_item pin.who who)) pins all
 
 all_pins_retained : (base : Base) (pins : List Pin) (lines : List Line) → AllKeepRules base pins lines → PinsAreRetained base.marks pins → PinsAreRetained (bases_after base (changes_of base lines)).marks (pins_of base pins lines)
 all_pins_retained base pins [] keeps all = all

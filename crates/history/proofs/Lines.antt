@@ -15,8 +15,8 @@ use Rattle.history.specs.declared.stop.Stop.{Stop}
 use Rattle.history.specs.History.{bases_after, base_after, State, History, now, with_change, with_changes, pages_as_of}
 use Rattle.history.specs.Journal.{change_of, changes_of, base_behind, after_journal}
 use Rattle.history.specs.Laws.{AllKeepNewest}
-use Rattle.history.specs.LineLaws.{BaseOfOneMore, PinsOfOneMore, LinesOfOneMore, ImagesInOneMore, OpenInOneMore, LastChangeInOneMore, ChangedSinceInOneMore, FirstStopInOneMore, FaultsOfOneMore, FaultsDifferInOneMore, FaultsOfFrontDiffer, PageOfTheDeclaringLine, PagesAsOfStay}
-use Rattle.history.specs.Lines.{base_of, lines_of, open_behind, open_from, change_by, last_change, DeviceFault, same_device, fault_of, faults_of, IsNewer, AreNewer, stop_of, first_stop}
+use Rattle.history.specs.LineLaws.{BaseOfOneMore, PinsOfOneMore, LinesOfOneMore, ImagesInOneMore, OpenInOneMore, LastChangeInOneMore, ChangedSinceInOneMore, DoubtInOneMore, FirstStopInOneMore, FaultsOfOneMore, FaultsDifferInOneMore, FaultsOfFrontDiffer, PageOfTheDeclaringLine, PagesAsOfStay}
+use Rattle.history.specs.Lines.{base_of, lines_of, open_behind, open_from, change_by, last_change, DeviceFault, same_device, fault_of, faults_of, IsNewer, AreNewer, stop_of, first_stop, doubt_in, doubt_of}
 use Rattle.history.specs.Marks.{newest, is_retained}
 use Rattle.history.specs.Sound.{Pin, pins_behind, pins_of}
 use Rattle.history.proofs.AsOf.{as_of_the_declaration, as_of_stays, base_behind_all}
@@ -84,6 +84,11 @@ first_stop_in_one_more [] line = or-none (stop_of line.what)
 first_stop_in_one_more (first ∷ lines) line =
     ap (λ (o : Option Stop). option_or (stop_of first.what) o) (first_stop_in_one_more lines line) ∙ sym (or-assoc (stop_of first.what) (first_stop lines) (stop_of line.what))
 
+pub doubt_in_one_more : DoubtInOneMore
+doubt_in_one_more [] line = or-none (doubt_of line.what)
+doubt_in_one_more (first ∷ lines) line =
+    ap (λ (o : Option Change). option_or (doubt_of first.what) o) (doubt_in_one_more lines line) ∙ sym (or-assoc (doubt_of first.what) (doubt_in lines) (doubt_of line.what))
+
 -- ---- faults
 
 faults-append : (device : Device) (lines more : List Line) → faults_of device (lines ++ more) ≡ faults_of device lines ++ faults_of device more
@@ -123,7 +128,7 @@ one_alone device who LookedAll = tt
 one_alone device who Unlooked = tt
 one_alone device who (Dropped below) = tt
 one_alone device who (Refused why) = tt
-one_alone device who (Fault other count wrote) = go (same_device other device) where
+one_alone device who (Fault other count call) = go (same_device other device) where
   go : (b : Bool) → AreNewer (cond b (record { session = who.session; count = count } ∷ []) [])
   go true = (tt, tt)
   go false = tt

@@ -78,7 +78,7 @@ line_follows base pins (Dropped below) k = go (ltb (oldest base.marks) below) re
   go true is = (record { right = (ltb-true (oldest base.marks) below is, k.1); rises = tt }, tt)
   go false is = tt
 line_follows base pins (Refused why) k = tt
-line_follows base pins (Fault device count wrote) k = tt
+line_follows base pins (Fault device count call) k = tt
 
 lines_follow : (base : Base) (pins : List Pin) (lines : List Line) → AllKeepRules base pins lines → AllMayFollow base (changes_of base lines)
 lines_follow base pins [] all = tt
@@ -154,7 +154,7 @@ pin_stays base pins pin who LookedAll none has = has-right pin (map (λ (mark : 
 pin_stays base pins pin who Unlooked none has = still_pinned who pin pins (λ is. let e : true ≡ false = none is in absurd cc) has
 pin_stays base pins pin who (Dropped below) none has = has
 pin_stays base pins pin who (Refused why) none has = still_pinned who pin pins (λ is. let e : true ≡ false = none is in absurd cc) has
-pin_stays base pins pin who (Fault device count wrote) none has = still_pinned who pin pins (λ is. let e : true ≡ false = none is in absurd cc) has
+pin_stays base pins pin who (Fault device count call) none has = still_pinned who pin pins (λ is. let e : true ≡ false = none is in absurd cc) has
 
 pins_stay : (base : Base) (pins : List Pin) (pin : Pin) (lines : List Line) → AllByRecursion (λ (line : Line). line.who ≡ pin.who → ends_look line.what ≡ false) lines → Has pin pins → Has pin (pins_of base pins lines)
 pins_stay base pins pin [] none has = has
@@ -169,7 +169,7 @@ looked base pins who RolledBack number is = absurd is
 looked base pins who Unlooked number is = absurd is
 looked base pins who (Dropped below) number is = absurd is
 looked base pins who (Refused why) number is = absurd is
-looked base pins who (Fault device count wrote) number is = absurd is
+looked base pins who (Fault device count call) number is = absurd is
 looked base pins who (Looked snapshot) number is = inl (ap (λ (n : ℕ). let pin : Pin = record { who = who; snapshot = n } in pin) is)
 looked base pins who LookedAll number is = has-left (record { who = who; snapshot = number }) (map (λ (mark : Mark). record { who = who; snapshot = mark.number }) base.marks) pins (has_all who number base.marks is)
 

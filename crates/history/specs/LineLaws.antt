@@ -6,13 +6,14 @@ use Rattle.retro_base.specs.declared.device.Device.{Device}
 use Rattle.retro_base.specs.declared.who.Who.{Who}
 use Rattle.history.specs.declared.entry.Base.{Base}
 use Rattle.history.specs.declared.entry.Change.TheVariants.{Commit}
+use Rattle.history.specs.declared.journal.FailedCall.{FailedCall}
 use Rattle.history.specs.declared.journal.Line.{Line}
 use Rattle.history.specs.declared.journal.What.{What}
 use Rattle.history.specs.declared.journal.What.TheVariants.{Began, Done, Looked, LookedAll, Unlooked, Dropped, Refused, Fault}
 use Rattle.history.specs.declared.writes.PageImage.{PageImage}
 use Rattle.history.specs.Journal.{base_behind, changes_of, pages_after_journal, after_journal}
 use Rattle.history.specs.Laws.{IsConsistent}
-use Rattle.history.specs.Lines.{base_of, lines_of, pinned_by, images_of, images_in, open_behind, open_in, is_open, change_by, last_change, changed_since, DeviceFault, fault_of, faults_of, IsNewer, FaultsDiffer, stop_of, first_stop}
+use Rattle.history.specs.Lines.{base_of, lines_of, pinned_by, images_of, images_in, open_behind, open_in, is_open, change_by, last_change, changed_since, DeviceFault, fault_of, faults_of, IsNewer, FaultsDiffer, is_write, stop_of, first_stop, doubt_in, doubt_of}
 use Rattle.history.specs.Marks.{oldest, newest, is_retained}
 use Rattle.history.specs.History.{History, now, pages_as_of}
 use Rattle.history.specs.Right.{IsBase, MayFollow, AllMayFollow}
@@ -53,7 +54,7 @@ CommitsAreSound = (base : Base) (lines : List Line) (line : Line) (label : Optio
 abbrev pub ends_look : What → Bool
 ends_look Unlooked = true
 ends_look (Refused why) = true
-ends_look (Fault device count wrote) = true
+ends_look (Fault device count call) = true
 ends_look _ = false
 
 -- What is looked at: a snapshot, or each that is retained.
@@ -133,6 +134,9 @@ LastChangeInOneMore = (who : Who) (page : ℕ) (lines : List Line) (line : Line)
 abbrev pub FirstStopInOneMore : Type 0
 FirstStopInOneMore = (lines : List Line) (line : Line) → first_stop (lines ++ line ∷ []) ≡ option_or (first_stop lines) (stop_of line.what)
 
+abbrev pub DoubtInOneMore : Type 0
+DoubtInOneMore = (lines : List Line) (line : Line) → doubt_in (lines ++ line ∷ []) ≡ option_or (doubt_in lines) (doubt_of line.what)
+
 -- So it is since a place among the lines before.
 abbrev pub ChangedSinceInOneMore : Type 0
 ChangedSinceInOneMore = (who : Who) (page place : ℕ) (lines : List Line) (line : Line) → place ≤ length lines →
@@ -154,7 +158,7 @@ UnchangedStays = (pages : ℕ → List ℕ) (who : Who) (page : ℕ) (more : Lis
 
 -- no line tells a fault that a write or a sync met
 abbrev pub NoStop : List Line → Type 0
-NoStop lines = AllByRecursion (λ (line : Line). (device : Device) (count : ℕ) → line.what ≡ Fault device count true → ⊥) lines
+NoStop lines = AllByRecursion (λ (line : Line). (device : Device) (count : ℕ) (call : FailedCall) → line.what ≡ Fault device count call → is_write call ≡ true → ⊥) lines
 
 -- There is no first such fault exactly where no line tells one.
 abbrev pub NoneStops : Type 0
@@ -162,8 +166,12 @@ NoneStops = (lines : List Line) → (first_stop lines ≡ None) ↔ NoStop lines
 
 -- It is the one behind lines that tell none, by its device and its count.
 abbrev pub FirstStops : Type 0
-FirstStops = (before more : List Line) (line : Line) (device : Device) (count : ℕ) → NoStop before → line.what ≡ Fault device count true →
+FirstStops = (before more : List Line) (line : Line) (device : Device) (count : ℕ) (call : FailedCall) → NoStop before → line.what ≡ Fault device count call → is_write call ≡ true →
     first_stop (before ++ line ∷ more) ≡ Some (record { device = device; count = count })
+
+-- Where no line tells such a fault, none tells a change in doubt.
+abbrev pub OnlyStopsLeaveDoubt : Type 0
+OnlyStopsLeaveDoubt = (lines : List Line) → first_stop lines ≡ None → doubt_in lines ≡ None
 
 abbrev pub FaultsOfOneMore : Type 0
 FaultsOfOneMore = (device : Device) (lines : List Line) (line : Line) → faults_of device (lines ++ line ∷ []) ≡ faults_of device lines ++ fault_of device line.who line.what

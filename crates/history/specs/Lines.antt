@@ -6,6 +6,9 @@ use Rattle.retro_base.specs.declared.device.Device.{Device}
 use Rattle.retro_base.specs.declared.device.Device.TheVariants.{Log, Pages, Pagelog, Maplog, Cabinet}
 use Rattle.retro_base.specs.declared.who.Who.{Who}
 use Rattle.history.specs.declared.entry.Base.{Base}
+use Rattle.history.specs.declared.entry.Change.{Change}
+use Rattle.history.specs.declared.journal.FailedCall.{FailedCall}
+use Rattle.history.specs.declared.journal.FailedCall.TheVariants.{Append, Read, Write}
 use Rattle.history.specs.declared.journal.Line.{Line}
 use Rattle.history.specs.declared.journal.What.{What}
 use Rattle.history.specs.declared.journal.What.TheVariants.{Began, Done, Looked, LookedAll, Fault}
@@ -95,7 +98,7 @@ pub record DeviceFault : Type 0 where
 
 -- the fault of a device that a line tells, if any
 abbrev pub fault_of : Device → Who → What → List DeviceFault
-fault_of device who (Fault other count wrote) = if same_device other device then record { session = who.session; count = count } ∷ [] else []
+fault_of device who (Fault other count call) = if same_device other device then record { session = who.session; count = count } ∷ [] else []
 fault_of device who _ = []
 
 -- the faults of a device, in order
@@ -116,12 +119,28 @@ AreNewer (fault ∷ faults) = AllByRecursion (IsNewer fault) faults × AreNewer 
 abbrev pub FaultsDiffer : List Line → Type 0
 FaultsDiffer lines = (device : Device) → AreNewer (faults_of device lines)
 
+-- whether the call was to write, to sync or to append
+abbrev pub is_write : FailedCall → Bool
+is_write Read = false
+is_write Write = true
+is_write (Append change) = true
+
 -- the fault of a write or a sync that a line tells, if any
 abbrev pub stop_of : What → Option Stop
-stop_of (Fault device count wrote) = if wrote then Some (record { device = device; count = count }) else None
+stop_of (Fault device count call) = if is_write call then Some (record { device = device; count = count }) else None
 stop_of _ = None
 
 -- the first such fault
 abbrev pub first_stop : List Line → Option Stop
 first_stop [] = None
 first_stop (line ∷ lines) = option_or (stop_of line.what) (first_stop lines)
+
+-- the change that a line tells to be in doubt, if any: a crash may find its record in the log or not
+abbrev pub doubt_of : What → Option Change
+doubt_of (Fault device count (Append change)) = Some change
+doubt_of _ = None
+
+-- the first such change
+abbrev pub doubt_in : List Line → Option Change
+doubt_in [] = None
+doubt_in (line ∷ lines) = option_or (doubt_of line.what) (doubt_in lines)

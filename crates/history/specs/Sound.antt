@@ -33,7 +33,7 @@ pins_behind base pins who (Looked snapshot) = record { who = who; snapshot = sna
 pins_behind base pins who LookedAll = map (λ mark. record { who = who; snapshot = mark.number }) base.marks ++ pins
 pins_behind base pins who Unlooked = unpinned who pins
 pins_behind base pins who (Refused why) = unpinned who pins
-pins_behind base pins who (Fault device count wrote) = unpinned who pins
+pins_behind base pins who (Fault device count call) = unpinned who pins
 pins_behind base pins who _ = pins
 
 -- A commit writes pages of the store, in rising number, and behind it the limits hold.

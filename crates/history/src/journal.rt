@@ -1,9 +1,33 @@
 //! The journal: what became of each item of a run, in order.
 
+ghost use Rattle.std.specs.Prelude.{◌≡◌};
+ghost use Rattle.history.specs.Lines.{is_write};
+
+use crate::entry::Change;
 use crate::label::Label;
 use crate::writes::Writes;
 use retro_base::{Device, Refusal, Who};
 use values::Seq;
+
+/// What a call of a device that failed was to do.
+#[derive(Debug, Drop)]
+pub enum FailedCall {
+    /// A read.
+    Read,
+    /// A write or a sync.
+    Write,
+    /// The append of a change's record to the log, which a crash may find there or not.
+    Append(Change),
+}
+
+impl FailedCall {
+    /// Whether it was to write, to sync or to append.
+    pub fn is_write(&self) -> bool
+        ensures { result ≡ is_write self.now }
+    {
+        !matches!(self, FailedCall::Read)
+    }
+}
 
 /// What a line of the journal says.
 #[derive(Debug, Drop)]
@@ -38,11 +62,11 @@ pub enum What {
     Refused {
         why: Refusal,
     },
-    /// A device failed; `wrote` where it failed in a write or a sync.
+    /// A call of a device failed.
     Fault {
         device: Device,
         count: u64,
-        wrote: bool,
+        call: FailedCall,
     },
 }
 

@@ -1,7 +1,7 @@
 //! What follows from the definitions.
 
 ghost use Rattle.history.specs.Laws.{AsOfStays, AsOfTheDeclaration, CapturedByTheRule, CapturesAreCounted, CapturesGrow, FrontIsSound, HorizonRises, JournalCapturesGrow, JournalPages, MadeIsConsistent, NothingTwice, OneMoreLine, PinnedAreRetained, StartsCount, StaysConsistent, StaysRight};
-ghost use Rattle.history.specs.LineLaws.{BaseOfOneMore, BaseStaysRight, ChangedSinceInOneMore, ChangesMayFollow, CommitIsLastChange, CommitsAreSound, CommitsHoldImages, DropLeaves, DropsAreBelowPins, EndedPinsNothing, FaultsDifferInOneMore, FaultsOfFrontDiffer, FaultsOfOneMore, FirstStopInOneMore, FirstStops, ImagesInOneMore, LastChangeInOneMore, LinesOfOneMore, LookedAtStays, LooksPin, NoneStops, OpenByALine, OpenInOneMore, OpenWhereLastBegins, OthersHoldNoImages, OthersPinsStay, PageOfTheDeclaringLine, PagesAsOfStay, PinsOfOneMore, SoundWithOneMore, UnchangedStays};
+ghost use Rattle.history.specs.LineLaws.{BaseOfOneMore, BaseStaysRight, ChangedSinceInOneMore, ChangesMayFollow, CommitIsLastChange, CommitsAreSound, CommitsHoldImages, DoubtInOneMore, DropLeaves, DropsAreBelowPins, EndedPinsNothing, FaultsDifferInOneMore, FaultsOfFrontDiffer, FaultsOfOneMore, FirstStopInOneMore, FirstStops, ImagesInOneMore, LastChangeInOneMore, LinesOfOneMore, LookedAtStays, LooksPin, NoneStops, OnlyStopsLeaveDoubt, OpenByALine, OpenInOneMore, OpenWhereLastBegins, OthersHoldNoImages, OthersPinsStay, PageOfTheDeclaringLine, PagesAsOfStay, PinsOfOneMore, SoundWithOneMore, UnchangedStays};
 
 /// Of the captures of a consistent history.
 pub fn laws_of_captures()
@@ -77,6 +77,7 @@ pub fn laws_of_lines()
     ensures changes { LastChangeInOneMore }
     ensures since { ChangedSinceInOneMore }
     ensures stops { FirstStopInOneMore }
+    ensures doubts { DoubtInOneMore }
     ensures faults { FaultsOfOneMore }
     // The faults differ as before, and the line's is newer than each of its device.
     ensures differ { FaultsDifferInOneMore }
@@ -120,6 +121,8 @@ pub fn laws_of_stops()
     ensures no_stop { NoneStops }
     // It is the one behind lines that tell none.
     ensures first { FirstStops }
+    // Only such a line tells a change in doubt.
+    ensures doubt { OnlyStopsLeaveDoubt }
 {}
 
 /// Of bases.

@@ -11,12 +11,10 @@ mod replaying;
 mod right;
 mod running;
 mod stop;
-#[cfg(test)]
-mod tests;
 mod writes;
 
 pub use entry::{Base, Change, Mark, newest, newest_start, oldest, oldest_start};
-pub use journal::{Journal, Line, What};
+pub use journal::{FailedCall, Journal, Line, What};
 pub use label::{Label, is_label};
 pub use laws::{
     laws_of_captures, laws_of_journals, laws_of_lines, laws_of_open_items, laws_of_page_changes,
