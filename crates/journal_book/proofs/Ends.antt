@@ -33,7 +33,7 @@ changes_by_writes page LookedAll = refl
 changes_by_writes page Unlooked = refl
 changes_by_writes page (Dropped below) = refl
 changes_by_writes page (Refused why) = refl
-changes_by_writes page (Fault device count wrote) = refl
+changes_by_writes page (Fault device count call) = refl
 
 pub images_by_writes : (what : What) → images_of what ≡ length (writes_of what)
 images_by_writes Began = refl
@@ -45,7 +45,7 @@ images_by_writes LookedAll = refl
 images_by_writes Unlooked = refl
 images_by_writes (Dropped below) = refl
 images_by_writes (Refused why) = refl
-images_by_writes (Fault device count wrote) = refl
+images_by_writes (Fault device count call) = refl
 
 above : (n : ℕ) (c : ℕ) → cond (ltb 0 (n + 1)) (n + 1 + 1) c ≡ suc n + 1
 above n c = grind (arith, nat_tests)
@@ -134,7 +134,7 @@ commits page LookedAll e = absurd cc
 commits page Unlooked e = absurd cc
 commits page (Dropped below) e = absurd cc
 commits page (Refused why) e = absurd cc
-commits page (Fault device count wrote) e = absurd cc
+commits page (Fault device count call) e = absurd cc
 
 -- else it is the line at the place before the end
 some_last : (who : Who) (page : ℕ) (lines : List Line) (d : Line) → NoCommitOf who lines → 0 < change_end page lines

@@ -208,8 +208,8 @@ fn first_of(stop: Option<Stop>, what: &What) -> Option<Stop>
         What::Fault {
             device,
             count,
-            wrote: true,
-        } => Some(Stop {
+            call,
+        } if call.is_write() => Some(Stop {
             device: *device,
             count: *count,
         }),
