@@ -369,7 +369,7 @@ fits_looked l who what look fits none b quiet own began up =
 ends_begins : (what : What) → ends_look what ≡ true → begins what ≡ false
 ends_begins Unlooked e = refl
 ends_begins (Refused why) e = refl
-ends_begins (Fault device count wrote) e = refl
+ends_begins (Fault device count call) e = refl
 ends_begins Began e = absurd cc
 ends_begins (Done label writes) e = absurd cc
 ends_begins (Overlapped session item) e = absurd cc

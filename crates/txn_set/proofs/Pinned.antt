@@ -5,6 +5,7 @@ use Rattle.std.proofs.lemmas.Bool.{eqb-true, eqb-false}
 use Rattle.std.proofs.lemmas.List.{append-nil}
 use Rattle.retro_base.specs.declared.who.Who.{Who}
 use Rattle.history.specs.declared.entry.Base.{Base}
+use Rattle.history.specs.declared.journal.FailedCall.{FailedCall}
 use Rattle.history.specs.declared.journal.Line.{Line}
 use Rattle.history.specs.declared.journal.What.{What}
 use Rattle.history.specs.declared.journal.What.TheVariants.{Began, Done, Overlapped, RolledBack, Looked, LookedAll, Unlooked, Dropped, Refused, Fault}
@@ -61,7 +62,7 @@ plain base pins who (Looked snapshot) b e = absurd cc
 plain base pins who LookedAll b e = absurd cc
 plain base pins who Unlooked b e = absurd cc
 plain base pins who (Refused why) b e = absurd cc
-plain base pins who (Fault device count wrote) b e = absurd cc
+plain base pins who (Fault device count call) b e = absurd cc
 
 -- behind a line that begins nothing an item that pinned nothing pins nothing
 nothing : (opening : Base) (lines : List Line) (who : Who) (what : What) → begins what ≡ false → pinned_by who (pins_of opening [] lines) ≡ [] → pinned_by who (pins_of opening [] (lines ++ line_of who what ∷ [])) ≡ []
@@ -162,8 +163,8 @@ drop_pins opening l who fits closed_there = go (keeps_drop who (work_at l.works.
       (λ other same. sym (ap (pins_at other) (idle_none l who (is_idle_so who l closed_there e))))
 
 pub fault_pins : FaultPins
-fault_pins opening l who device count wrote fits closes = go (is_some (work_at l.works.slots who.session)) refl where
+fault_pins opening l who device count call fits closes = go (is_some (work_at l.works.slots who.session)) refl where
   go : (b : Bool) → is_some (work_at l.works.slots who.session) ≡ b
-      → PinsFit opening (cond b (closed who (Fault device count wrote) l) (ledger_of l.book.pages (l.book.lines ++ line_of who (Fault device count wrote) ∷ []) l.book.kept (l.book.workers - 1) l.works.pages l.works.slots))
-  go true e = close_pins opening l who (Fault device count wrote) fits e closes
-  go false e = lone opening l who fits (is_none (work_at l.works.slots who.session) e) (Fault device count wrote) (l.book.workers - 1) refl
+      → PinsFit opening (cond b (closed who (Fault device count call) l) (ledger_of l.book.pages (l.book.lines ++ line_of who (Fault device count call) ∷ []) l.book.kept (l.book.workers - 1) l.works.pages l.works.slots))
+  go true e = close_pins opening l who (Fault device count call) fits e closes
+  go false e = lone opening l who fits (is_none (work_at l.works.slots who.session) e) (Fault device count call) (l.book.workers - 1) refl

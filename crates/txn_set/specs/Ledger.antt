@@ -5,6 +5,9 @@ use Rattle.retro_base.specs.declared.limits.TheConstants.{WORKER_LINES}
 use Rattle.retro_base.specs.declared.refusal.Refusal.{Refusal}
 use Rattle.retro_base.specs.declared.refusal.Refusal.TheVariants.{DiskFault, OutOfMemory, Overlap, TooManyPages}
 use Rattle.retro_base.specs.declared.who.Who.{Who}
+use Rattle.history.specs.declared.entry.Change.{Change}
+use Rattle.history.specs.declared.journal.FailedCall.{FailedCall}
+use Rattle.history.specs.declared.journal.FailedCall.TheVariants.{Append, Read}
 use Rattle.history.specs.declared.journal.Line.{Line}
 use Rattle.history.specs.declared.journal.What.{What}
 use Rattle.history.specs.declared.journal.What.TheVariants.{Done, Fault, Overlapped, RolledBack, Refused, Unlooked}
@@ -29,17 +32,17 @@ line_of who what = record { who = who; what = what }
 -- the line that closes a transaction which keeps this refusal, if any
 abbrev pub closing : Option Refusal → Ending → What
 closing (Some (Overlap session item)) why = Overlapped session item
-closing (Some (DiskFault device count)) why = Fault device count false
+closing (Some (DiskFault device count)) why = Fault device count Read
 closing (Some other) why = Refused other
 closing None ending.Asked = RolledBack
 closing None (ending.Refused why) = Refused why
-closing None (ending.Failed device count) = Fault device count false
+closing None (ending.Failed device count) = Fault device count Read
 
 -- the line that ends a look
 abbrev pub ended : Ending → What
 ended ending.Asked = Unlooked
 ended (ending.Refused why) = Refused why
-ended (ending.Failed device count) = Fault device count false
+ended (ending.Failed device count) = Fault device count Read
 
 -- whether a transaction keeps such a refusal, and answers it from then on
 abbrev pub is_kept : Refusal → Bool
@@ -127,6 +130,10 @@ taken who ledger = record ledger { works = working ledger.works who.session None
 abbrev pub committed : Who → Option (List ℕ) → List PageImage → Ledger → Ledger
 committed who label writes ledger = record ledger { book = closing_with ledger.book (line_of who (Done label writes)) }
 
+-- with the line of a fault at which the change of a transaction that was taken out came into doubt
+abbrev pub doubted : Who → Device → ℕ → Change → Ledger → Ledger
+doubted who device count change ledger = record ledger { book = closing_with ledger.book (line_of who (Fault device count (Append change))) }
+
 -- refused so, and its line told; or for want of memory, and nothing told
 abbrev pub IsRefusedWith : Ledger → Ledger → Refusal → Result (Unit {0}) Refusal → Ledger → Type 0
 IsRefusedWith old told why (Ok x) new = ⊥
@@ -145,10 +152,10 @@ abbrev pub keeping_drop : Who → Ledger → Ledger
 keeping_drop who ledger = record { book = record ledger.book { kept = ledger.book.kept + 1 }; works = working ledger.works who.session (Some (KeptDrop who)) }
 
 -- with the line of a fault, which closes what the session has, or is a worker's
-abbrev pub faulted : Who → Device → ℕ → Bool → Ledger → Ledger
-faulted who device count wrote ledger =
-    if is_some (work_at ledger.works.slots who.session) then closed who (Fault device count wrote) ledger
-    else record ledger { book = noting ledger.book (line_of who (Fault device count wrote)) }
+abbrev pub faulted : Who → Device → ℕ → FailedCall → Ledger → Ledger
+faulted who device count call ledger =
+    if is_some (work_at ledger.works.slots who.session) then closed who (Fault device count call) ledger
+    else record ledger { book = noting ledger.book (line_of who (Fault device count call)) }
 
 abbrev pub drop_kept : Who → Ledger → Ledger
 drop_kept who ledger = if keeps_drop who (work_at ledger.works.slots who.session) then ledger else keeping_drop who (given_up who ledger)

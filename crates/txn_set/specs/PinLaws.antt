@@ -5,6 +5,7 @@ use Rattle.retro_base.specs.declared.refusal.Refusal.{Refusal}
 use Rattle.retro_base.specs.declared.who.Who.{Who}
 use Rattle.history.specs.declared.entry.Base.{Base}
 use Rattle.history.specs.declared.journal.What.{What}
+use Rattle.history.specs.declared.journal.FailedCall.{FailedCall}
 use Rattle.history.specs.declared.journal.What.TheVariants.{Began, Fault, Looked, LookedAll, Refused}
 use Rattle.history.specs.Lines.{base_of}
 use Rattle.journal_book.specs.declared.work.Transaction.{Transaction}
@@ -47,5 +48,5 @@ abbrev pub DropPins : Type 0
 DropPins = (opening : Base) (l : Ledger) (who : Who) → PinsFit opening l → is_closed (work_at l.works.slots who.session) ≡ true → PinsFit opening (drop_kept who l)
 
 abbrev pub FaultPins : Type 0
-FaultPins = (opening : Base) (l : Ledger) (who : Who) (device : Device) (count : ℕ) (wrote : Bool) → PinsFit opening l →
-    Closes who (Fault device count wrote) (work_at l.works.slots who.session) → PinsFit opening (faulted who device count wrote l)
+FaultPins = (opening : Base) (l : Ledger) (who : Who) (device : Device) (count : ℕ) (call : FailedCall) → PinsFit opening l →
+    Closes who (Fault device count call) (work_at l.works.slots who.session) → PinsFit opening (faulted who device count call l)

@@ -3,7 +3,7 @@
 ghost use Rattle.std.specs.Prelude.{◌≡◌};
 ghost use Rattle.txn_set.specs.Ledger.{closing, ended, is_kept};
 
-use history::What;
+use history::{FailedCall, What};
 use retro_base::{Device, Refusal};
 
 /// Why a transaction or a look ends.
@@ -27,7 +27,7 @@ pub(crate) fn ended(why: Ending) -> What
         Ending::Failed { device, count } => What::Fault {
             device,
             count,
-            wrote: false,
+            call: FailedCall::Read,
         },
     }
 }
@@ -41,7 +41,7 @@ fn closing_kept(kept: Refusal) -> What
         Refusal::DiskFault { device, count } => What::Fault {
             device,
             count,
-            wrote: false,
+            call: FailedCall::Read,
         },
         why => What::Refused { why },
     }

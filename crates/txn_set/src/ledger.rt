@@ -10,7 +10,7 @@ ghost use Rattle.history.specs.Lines.{images_in};
 ghost use Rattle.journal_book.specs.declared.work.Transaction.{Transaction};
 ghost use Rattle.journal_book.specs.declared.work.Work.TheVariants.{Open};
 ghost use Rattle.journal_book.specs.Book.{lines_refused, writes_of};
-ghost use Rattle.txn_set.specs.Ledger.{IsKeptDrop, IsLookingAs, IsOpenAs, IsRefusedWith, MayFault, closed, closing, committed, drop_kept, drop_lines, ended, faulted, fresh, given_up, gives_up, is_closed, is_idle, keeping_drop, keeps_drop, keeps_other_drop, kept_behind, looking, no_lines, opened, taken, told, with_open};
+ghost use Rattle.txn_set.specs.Ledger.{IsKeptDrop, IsLookingAs, IsOpenAs, IsRefusedWith, MayFault, closed, closing, committed, doubted, drop_kept, drop_lines, ended, faulted, fresh, given_up, gives_up, is_closed, is_idle, keeping_drop, keeps_drop, keeps_other_drop, kept_behind, looking, no_lines, opened, taken, told, with_open};
 ghost use Rattle.std.specs.List.{AllByRecursion};
 ghost use Rattle.history.specs.Writes.{is_among, rises};
 ghost use Rattle.txn_set.specs.Refused.{captures_behind, commit_refused, edit_refused, look_refused, read_refused};
@@ -21,7 +21,7 @@ ghost use Rattle.txn_set.specs.declared.ledger.Ledger.{Ledger};
 use crate::counts::Counts;
 use crate::ending::{Ending, closing, ended, is_kept};
 use crate::refusing::{commit_refused, edit_refused, look_refused, read_refused};
-use history::{Label, Line, Mark, PageImage, Stop, What, Writes, copied_marks};
+use history::{Change, FailedCall, Label, Line, Mark, PageImage, Stop, What, Writes, copied_marks};
 use journal_book::{Book, Look, Transaction, Work, Works, edit_of};
 use retro_base::{Device, Page, Refusal, Who};
 use std::alloc::{AllocError, Global};
@@ -254,6 +254,26 @@ impl Ledger {
         });
     }
 
+    /// Adds the line of a fault at which the change of a transaction that was taken out came into doubt; takes no
+    /// memory.
+    pub fn fail(&mut self, who: Who, device: Device, count: u64, change: Change)
+        requires kept { 1 ≤ self.old.book.kept }
+        ensures done { self.new ≡ doubted who device count change self.old }
+        ensures fits { (before : Ledger) (t : Transaction) → WorksFit before
+            → work_at before.works.slots who.session ≡ Some (Open t) → t.who ≡ who
+            → self.old ≡ taken who before → WorksFit self.new }
+    {
+        let call = FailedCall::Append(change);
+        self.book.close(Line {
+            who,
+            what: What::Fault {
+                device,
+                count,
+                call,
+            },
+        });
+    }
+
     /// Closes what the session has with a line of this item that is no commit; takes no memory.
     pub fn close(&mut self, who: Who, what: What)
         requires fits { WorksFit self.old }
@@ -408,17 +428,17 @@ impl Ledger {
     }
 
     /// Adds the line of a fault: it closes what the session has, or else is a worker's. Takes no memory.
-    pub fn note(&mut self, who: Who, device: Device, count: u64, wrote: bool)
+    pub fn note(&mut self, who: Who, device: Device, count: u64, call: FailedCall)
         requires fits { WorksFit self.old }
         requires place { MayFault who self.old }
-        requires closes { Closes who (Fault device count wrote) (work_at self.old.works.slots who.session) }
-        ensures done { self.new ≡ faulted who device count wrote self.old }
+        requires closes { Closes who (Fault device count call) (work_at self.old.works.slots who.session) }
+        ensures done { self.new ≡ faulted who device count call self.old }
         ensures fits { WorksFit self.new }
     {
         let what = What::Fault {
             device,
             count,
-            wrote,
+            call,
         };
         if has_work(&self.works, who.session) {
             self.close(who, what);
