@@ -8,17 +8,20 @@ use Rattle.retro_base.specs.declared.refusal.Refusal.{Refusal}
 use Rattle.retro_base.specs.declared.refusal.Refusal.TheVariants.{OutOfMemory, NoSuchSnapshot, Pinned, Stopped}
 use Rattle.retro_base.specs.declared.refusal.Refusal.TheVariants as refusal
 use Rattle.retro_base.specs.declared.who.Who.{Who}
+use Rattle.history.specs.declared.entry.Change.TheVariants as change
+use Rattle.history.specs.declared.journal.FailedCall.{FailedCall}
+use Rattle.history.specs.declared.journal.FailedCall.TheVariants.{Append, Read, Write}
 use Rattle.history.specs.declared.journal.Line.{Line}
 use Rattle.history.specs.declared.journal.What.{What}
 use Rattle.history.specs.declared.journal.What.TheVariants.{Began, Done, Overlapped, RolledBack, Looked, LookedAll, Unlooked, Dropped, Refused, Fault}
 use Rattle.history.specs.declared.writes.PageImage.{PageImage}
 use Rattle.history.specs.History.{written}
-use Rattle.history.specs.Lines.{begins, first_stop}
+use Rattle.history.specs.Lines.{begins, first_stop, is_write}
 use Rattle.journal_law.specs.Facts.{Fits, with_tables}
 use Rattle.journal_law.specs.Fates.{began_of, fate}
 use Rattle.journal_law.specs.Language.{AsOf, Commit, DropBelow, End, Kind, Language, OverAll, Rollback, Transaction, after_of, answer, answer_by}
-use Rattle.journal_law.specs.Lawful.{AtDrop, DropRefused, FaultIsNew, Ground, IsEnding, IsLimit, IsOverlapBy, IsWorker, MayDrop, MemoryAt, OverlapAt, RulesAt, SnapshotAt, WritesNothing, at_drop, limit_of, query_end}
-use Rattle.journal_law.specs.LinesFit.{All, Answers, At, LinesFit, LookAt, kind_at, opened_by}
+use Rattle.journal_law.specs.Lawful.{AtDrop, DoubtAt, DropRefused, FaultIsNew, Ground, IsEnding, IsLimit, IsOverlapBy, IsWorker, MayDrop, MemoryAt, OverlapAt, RulesAt, SnapshotAt, WritesNothing, at_drop, doubt_by, limit_of, query_end}
+use Rattle.journal_law.specs.LinesFit.{All, Answers, At, LeavesCommit, LeavesDrop, LeavesNone, LinesFit, LookAt, kind_at, opened_by}
 use Rattle.journal_law.specs.Own.{SinceLine, is_began, is_looked, is_looking, is_trying, line}
 use Rattle.journal_law.specs.Pages.{Pages, page_world, pins_of}
 use Rattle.journal_law.specs.Shows.{Shows, ShowsAlong, world}
@@ -56,8 +59,8 @@ trying_looks_not who lines since rest at = ap is_looked (last_there who Began li
 trying : (who : Who) (lines since rest : List Line) → SinceLine who Began lines since rest → is_trying who lines ≡ true
 trying who lines since rest at = ap is_began (last_there who Began lines since rest at)
 
-no_look_fault : (b wrote : Bool) → b ≡ false → b ≡ true → wrote ≡ false
-no_look_fault b wrote e f = absurd (true≢false (sym f ∙ e))
+no_look_fault : (b write : Bool) → b ≡ false → b ≡ true → write ≡ false
+no_look_fault b write e f = absurd (true≢false (sym f ∙ e))
 
 or_left : (b c : Bool) → b ≡ true → (b || c) ≡ true
 or_left true c e = refl
@@ -66,6 +69,27 @@ or_left false c e = absurd (true≢false (sym e))
 or_right : (b c : Bool) → c ≡ true → (b || c) ≡ true
 or_right true c e = refl
 or_right false c e = e
+
+-- what a failed call leaves in doubt is the item's own change
+own_commit : (L : Language) (pages : Pages) (at : AtDrop) (tables : L.Tables) (item : L.Item) → L.IsStored pages tables → (end : End) (device : Device) (count : ℕ) (call : FailedCall)
+    → LeavesCommit L pages item end call → doubt_by L pages at tables item (Transaction end) (Fault device count call)
+own_commit L pages at tables item stored end device count Read leaves = tt
+own_commit L pages at tables item stored end device count Write leaves = tt
+own_commit L pages at tables item stored (Commit given) device count (Append (change.Commit label writes)) leaves = (leaves.0, leaves.1 tables stored)
+own_commit L pages at tables item stored (Commit given) device count (Append (change.Drop number)) leaves = absurd leaves
+own_commit L pages at tables item stored Rollback device count (Append other) leaves = absurd leaves
+
+own_drop : (L : Language) (pages : Pages) (at : AtDrop) (tables : L.Tables) (item : L.Item) (below : ℕ) (device : Device) (count : ℕ) (call : FailedCall)
+    → LeavesDrop at below call → doubt_by L pages at tables item (DropBelow below) (Fault device count call)
+own_drop L pages at tables item below device count Read leaves = tt
+own_drop L pages at tables item below device count Write leaves = tt
+own_drop L pages at tables item below device count (Append (change.Commit label writes)) leaves = absurd leaves
+own_drop L pages at tables item below device count (Append (change.Drop number)) leaves = leaves
+
+no_doubt : (L : Language) (pages : Pages) (at : AtDrop) (tables : L.Tables) (device : Device) (count : ℕ) (call : FailedCall) → LeavesNone call → DoubtAt L pages at tables None (Fault device count call)
+no_doubt L pages at tables device count Read leaves = tt
+no_doubt L pages at tables device count Write leaves = tt
+no_doubt L pages at tables device count (Append other) leaves = absurd leaves
 
 module _ (L : Language) (items : Who → Option L.Item) (ground : Ground) (before : List Line) (who : Who) (item : L.Item) (k : Kind) where
   -- what is to be shown of a line of an item of this kind, at any tables
@@ -78,6 +102,7 @@ module _ (L : Language) (items : Who → Option L.Item) (ground : Ground) (befor
     pub limit : limit_of L ground who before item k what
     pub new : FaultIsNew ground.faults (is_looking who before) what
     pub stopped : is_some (first_stop before) ≡ true → WritesNothing (oldest_of (world L items tables before).marks) what
+    pub doubt : doubt_by L (page_world ground.pages before).current (at_drop ground.pages (world L items tables before) before) (world L items tables before).current item k what
     pub memory : MemoryAt (is_trying who before || is_looking who before) what
 
   abbrev pub AllShown : What → Type 0
@@ -92,6 +117,7 @@ module _ (L : Language) (items : Who → Option L.Item) (ground : Ground) (befor
     snapshot = subst (λ (j : Kind). SnapshotAt (world L items tables before) (at_drop ground.pages (world L items tables before) before) (Some j) (is_looking who before) what) (sym e) at.snapshot;
     limit = subst (λ (j : Kind). limit_of L ground who before item j what) (sym e) at.limit;
     fault = record { new = at.new; stopped = at.stopped };
+    doubt = subst (λ (j : Kind). doubt_by L (page_world ground.pages before).current (at_drop ground.pages (world L items tables before) before) (world L items tables before).current item j what) (sym e) at.doubt;
     memory = at.memory;
   }
 
@@ -112,24 +138,25 @@ module _ (L : Language) (items : Who → Option L.Item) (ground : Ground) (befor
   module _ (end : End) (e : L.kind item ≡ Transaction end) where
     pub began_fits : Fits L items ground before (line who Began)
     began_fits = fits_by L items ground before who item (Transaction end) Began is e
-        (λ tables along shows. record { leaves = tt; ending = tt; query = tt; overlap = tt; snapshot = tt; limit = tt; new = tt; stopped = λ _. tt; memory = tt })
+        (λ tables along shows. record { leaves = tt; ending = tt; query = tt; overlap = tt; snapshot = tt; limit = tt; new = tt; stopped = λ _. tt; doubt = tt; memory = tt })
 
     pub overlapped_fits : (session number : ℕ) → IsOverlapBy who before session number → Fits L items ground before (line who (Overlapped session number))
     overlapped_fits session number over = fits_by L items ground before who item (Transaction end) (Overlapped session number) is e
-        (λ tables along shows. record { leaves = tt; ending = tt; query = tt; overlap = over; snapshot = tt; limit = tt; new = tt; stopped = λ _. tt; memory = tt })
+        (λ tables along shows. record { leaves = tt; ending = tt; query = tt; overlap = over; snapshot = tt; limit = tt; new = tt; stopped = λ _. tt; doubt = tt; memory = tt })
 
     module _ (since rest : List Line) (at : SinceLine who Began before since rest) where
       -- an attempt is refused for a limit that it met
       pub limit_fits : (why : Refusal) → IsLimit L ground who before item end why → Fits L items ground before (line who (Refused why))
       limit_fits why limit = fits_by L items ground before who item (Transaction end) (Refused why) is e
-          (λ tables along shows. record { leaves = tt; ending = tt; query = tt; overlap = tt; snapshot = tt; limit = limit; new = tt; stopped = λ _. tt; memory = memory why })
+          (λ tables along shows. record { leaves = tt; ending = tt; query = tt; overlap = tt; snapshot = tt; limit = limit; new = tt; stopped = λ _. tt; doubt = tt; memory = memory why })
         where
           memory : (why : Refusal) → MemoryAt (is_trying who before || is_looking who before) (Refused why)
           memory OutOfMemory = or_left (is_trying who before) (is_looking who before) (trying who before since rest at)
           memory why = tt
 
-      pub attempt_fault_fits : (device : Device) (count : ℕ) (wrote : Bool) → (count < 2 ^ 64 - 1 → ground.faults device < count) → Fits L items ground before (line who (Fault device count wrote))
-      attempt_fault_fits device count wrote new = fits_by L items ground before who item (Transaction end) (Fault device count wrote) is e
+      pub attempt_fault_fits : (device : Device) (count : ℕ) (call : FailedCall) → (count < 2 ^ 64 - 1 → ground.faults device < count) → LeavesCommit L (page_world ground.pages before).current item end call
+          → Fits L items ground before (line who (Fault device count call))
+      attempt_fault_fits device count call new leaves = fits_by L items ground before who item (Transaction end) (Fault device count call) is e
           (λ tables along shows. record {
             leaves = tt;
             ending = tt;
@@ -137,14 +164,15 @@ module _ (L : Language) (items : Who → Option L.Item) (ground : Ground) (befor
             overlap = tt;
             snapshot = tt;
             limit = tt;
-            new = (new, no_look_fault (is_looking who before) wrote (trying_looks_not who before since rest at));
+            new = (new, no_look_fault (is_looking who before) (is_write call) (trying_looks_not who before since rest at));
             stopped = λ _. tt;
+            doubt = own_commit L (page_world ground.pages before).current (at_drop ground.pages (world L items tables before) before) (world L items tables before).current item shows.current end device count call leaves;
             memory = tt;
           })
 
   pub rolled_fits : L.kind item ≡ Transaction Rollback → Fits L items ground before (line who RolledBack)
   rolled_fits e = fits_by L items ground before who item (Transaction Rollback) RolledBack is e
-      (λ tables along shows. record { leaves = tt; ending = tt; query = tt; overlap = tt; snapshot = tt; limit = tt; new = tt; stopped = λ _. tt; memory = tt })
+      (λ tables along shows. record { leaves = tt; ending = tt; query = tt; overlap = tt; snapshot = tt; limit = tt; new = tt; stopped = λ _. tt; doubt = tt; memory = tt })
 
   -- a commit writes pages that hold the tables behind its statements; behind a stop it commits nothing
   pub done_fits : (label : Option (List ℕ)) (writes : List PageImage) → L.kind item ≡ Transaction (Commit label)
@@ -161,6 +189,7 @@ module _ (L : Language) (items : Who → Option L.Item) (ground : Ground) (befor
         limit = tt;
         new = tt;
         stopped = λ stop. nothing (oldest_of (world L items tables before).marks) (quiet stop).0 (quiet stop).1;
+        doubt = tt;
         memory = tt;
       })
     where
@@ -184,11 +213,11 @@ module _ (L : Language) (items : Who → Option L.Item) (ground : Ground) (befor
   looked_fits n held e stands = fits_by L items ground before who item (AsOf n) (Looked n) is e
       (λ tables along shows.
       let found = tables_of L n (page_world ground.pages before) (world L items tables before) held shows stands in
-      record { leaves = tt; ending = tt; query = tt; overlap = tt; snapshot = (refl, (found.0, found.1)); limit = tt; new = tt; stopped = λ _. tt; memory = tt })
+      record { leaves = tt; ending = tt; query = tt; overlap = tt; snapshot = (refl, (found.0, found.1)); limit = tt; new = tt; stopped = λ _. tt; doubt = tt; memory = tt })
 
   pub looked_all_fits : L.kind item ≡ OverAll → Fits L items ground before (line who LookedAll)
   looked_all_fits e = fits_by L items ground before who item OverAll LookedAll is e
-      (λ tables along shows. record { leaves = tt; ending = tt; query = tt; overlap = tt; snapshot = tt; limit = tt; new = tt; stopped = λ _. tt; memory = tt })
+      (λ tables along shows. record { leaves = tt; ending = tt; query = tt; overlap = tt; snapshot = tt; limit = tt; new = tt; stopped = λ _. tt; doubt = tt; memory = tt })
 
   pub look_refused_fits : (n : ℕ) (why : Refusal) → L.kind item ≡ AsOf n → is_looking who before ≡ false → as_of n (page_world ground.pages before) ≡ Err why → Fits L items ground before (line who (Refused why))
   look_refused_fits n why e fresh stands = fits_by L items ground before who item (AsOf n) (Refused why) is e
@@ -203,6 +232,7 @@ module _ (L : Language) (items : Who → Option L.Item) (ground : Ground) (befor
         limit = tt;
         new = tt;
         stopped = λ _. tt;
+        doubt = tt;
         memory = not_memory n (page_world ground.pages before) why stands (is_trying who before || is_looking who before);
       })
 
@@ -258,6 +288,7 @@ module _ (L : Language) (items : Who → Option L.Item) (ground : Ground) (befor
           limit = limit look;
           new = tt;
           stopped = λ _. tt;
+          doubt = tt;
           memory = tt;
         }
 
@@ -273,6 +304,7 @@ module _ (L : Language) (items : Who → Option L.Item) (ground : Ground) (befor
           limit = limit look;
           new = tt;
           stopped = λ _. tt;
+          doubt = tt;
           memory = memory why is_now;
         })
       where
@@ -300,11 +332,11 @@ module _ (L : Language) (items : Who → Option L.Item) (ground : Ground) (befor
         memory OutOfMemory now = or_right (is_trying who before) (is_looking who before) now
         memory why now = tt
 
-  pub look_fault_fits : (look : LookAt) → L.kind item ≡ kind_at look → (device : Device) (count : ℕ) → (count < 2 ^ 64 - 1 → ground.faults device < count) → Fits L items ground before (line who (Fault device count false))
-  look_fault_fits (At n) e device count new = fits_by L items ground before who item (AsOf n) (Fault device count false) is e
-      (λ tables along shows. record { leaves = tt; ending = tt; query = tt; overlap = tt; snapshot = tt; limit = tt; new = (new, λ _. refl); stopped = λ _. tt; memory = tt })
-  look_fault_fits All e device count new = fits_by L items ground before who item OverAll (Fault device count false) is e
-      (λ tables along shows. record { leaves = tt; ending = tt; query = tt; overlap = tt; snapshot = tt; limit = tt; new = (new, λ _. refl); stopped = λ _. tt; memory = tt })
+  pub look_fault_fits : (look : LookAt) → L.kind item ≡ kind_at look → (device : Device) (count : ℕ) → (count < 2 ^ 64 - 1 → ground.faults device < count) → Fits L items ground before (line who (Fault device count Read))
+  look_fault_fits (At n) e device count new = fits_by L items ground before who item (AsOf n) (Fault device count Read) is e
+      (λ tables along shows. record { leaves = tt; ending = tt; query = tt; overlap = tt; snapshot = tt; limit = tt; new = (new, λ _. refl); stopped = λ _. tt; doubt = tt; memory = tt })
+  look_fault_fits All e device count new = fits_by L items ground before who item OverAll (Fault device count Read) is e
+      (λ tables along shows. record { leaves = tt; ending = tt; query = tt; overlap = tt; snapshot = tt; limit = tt; new = (new, λ _. refl); stopped = λ _. tt; doubt = tt; memory = tt })
 
   -- ---- drops
 
@@ -324,6 +356,7 @@ module _ (L : Language) (items : Who → Option L.Item) (ground : Ground) (befor
           limit = tt;
           new = tt;
           stopped = λ stop. absurd (true≢false (sym stop ∙ ap is_some may.goes));
+          doubt = tt;
           memory = tt;
         })
 
@@ -338,11 +371,13 @@ module _ (L : Language) (items : Who → Option L.Item) (ground : Ground) (befor
           limit = tt;
           new = tt;
           stopped = λ _. tt;
+          doubt = tt;
           memory = drop_not_memory (at_drop ground.pages (page_world ground.pages before) before) below why refused (is_trying who before || is_looking who before);
         })
 
-    pub drop_fault_fits : (device : Device) (count : ℕ) (wrote : Bool) → is_looking who before ≡ false → (count < 2 ^ 64 - 1 → ground.faults device < count) → Fits L items ground before (line who (Fault device count wrote))
-    drop_fault_fits device count wrote none new = fits_by L items ground before who item (DropBelow below) (Fault device count wrote) is e
+    pub drop_fault_fits : (device : Device) (count : ℕ) (call : FailedCall) → is_looking who before ≡ false → (count < 2 ^ 64 - 1 → ground.faults device < count)
+        → LeavesDrop (at_drop ground.pages (page_world ground.pages before) before) below call → Fits L items ground before (line who (Fault device count call))
+    drop_fault_fits device count call none new leaves = fits_by L items ground before who item (DropBelow below) (Fault device count call) is e
         (λ tables along shows. record {
           leaves = tt;
           ending = tt;
@@ -350,16 +385,18 @@ module _ (L : Language) (items : Who → Option L.Item) (ground : Ground) (befor
           overlap = tt;
           snapshot = tt;
           limit = tt;
-          new = (new, no_look_fault (is_looking who before) wrote none);
+          new = (new, no_look_fault (is_looking who before) (is_write call) none);
           stopped = λ _. tt;
+          doubt = own_drop L (page_world ground.pages before).current (at_drop ground.pages (world L items tables before) before) (world L items tables before).current item below device count call
+              (subst (λ (at : AtDrop). LeavesDrop at below call) (same_newest tables shows) leaves);
           memory = tt;
         })
 
 -- a worker's fault
-pub worker_fault_fits : (L : Language) (items : Who → Option L.Item) (ground : Ground) (before : List Line) (who : Who) (device : Device) (count : ℕ) (wrote : Bool)
-    → items who ≡ None → IsWorker who → is_looking who before ≡ false → (count < 2 ^ 64 - 1 → ground.faults device < count) → Fits L items ground before (line who (Fault device count wrote))
-worker_fault_fits L items ground before who device count wrote is worker none new tables along =
-    let what : What = Fault device count wrote in
+pub worker_fault_fits : (L : Language) (items : Who → Option L.Item) (ground : Ground) (before : List Line) (who : Who) (device : Device) (count : ℕ) (call : FailedCall)
+    → items who ≡ None → IsWorker who → is_looking who before ≡ false → (count < 2 ^ 64 - 1 → ground.faults device < count) → LeavesNone call → Fits L items ground before (line who (Fault device count call))
+worker_fault_fits L items ground before who device count call is worker none new leaves tables along =
+    let what : What = Fault device count call in
     let here = along_end L items ground.pages tables before along in
     let next = shows_behind L (page_world ground.pages before) (world L items tables before) what (after_of L (items who) (world L items tables before).current) here tt in
     let at : RulesAt L items (with_tables L items ground tables) before who None (world L items tables before) what = record {
@@ -369,7 +406,8 @@ worker_fault_fits L items ground before who device count wrote is worker none ne
       overlap = tt;
       snapshot = tt;
       limit = tt;
-      fault = record { new = (new, no_look_fault (is_looking who before) wrote none); stopped = λ _. tt };
+      fault = record { new = (new, no_look_fault (is_looking who before) (is_write call) none); stopped = λ _. tt };
+      doubt = no_doubt L (page_world ground.pages before).current (at_drop ground.pages (world L items tables before) before) (world L items tables before).current device count call leaves;
       memory = tt;
     } in (
       rw (page_append ground.pages before (line who what ∷ []), world_append L items tables before (line who what ∷ [])) next,

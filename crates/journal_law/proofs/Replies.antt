@@ -1,10 +1,11 @@
 -- What a session tells of an item is its reply, by the item's last line.
-use Rattle.std.proofs.Common.{◌≡◌, ◌+◌, ◌++◌, ℕ, Bool, true, false, List, [], ◌∷◌, Option, Some, None, refl, ap, sym, subst, ◌∙◌}
+use Rattle.std.proofs.Common.{◌≡◌, ◌+◌, ◌++◌, ℕ, true, false, List, [], ◌∷◌, Option, Some, None, refl, ap, sym, subst, ◌∙◌}
 use Rattle.std.specs.Option.{option_or, option_map_or}
 use Rattle.retro_base.specs.declared.device.Device.{Device}
 use Rattle.retro_base.specs.declared.refusal.Refusal.{Refusal}
 use Rattle.retro_base.specs.declared.refusal.Refusal.TheVariants as refusal
 use Rattle.retro_base.specs.declared.who.Who.{Who}
+use Rattle.history.specs.declared.journal.FailedCall.{FailedCall}
 use Rattle.history.specs.declared.journal.Line.{Line}
 use Rattle.history.specs.declared.journal.What.{What}
 use Rattle.history.specs.declared.journal.What.TheVariants.{Done, Overlapped, RolledBack, Unlooked, Dropped, Refused, Fault}
@@ -50,8 +51,8 @@ module _ (L : Language) (items : Who → Option L.Item) (pages : World Pages) (w
     pub overlapped : (session other : ℕ) → IsReply L items pages who item (before ++ line who (Overlapped session other) ∷ []) ((L.words item).refused (refusal.Overlap session other))
     overlapped session other tables along = by_last tables before (Overlapped session other) ((L.words item).refused (refusal.Overlap session other)) (λ began. refl)
 
-    pub failed : (device : Device) (count : ℕ) (wrote : Bool) → IsReply L items pages who item (before ++ line who (Fault device count wrote) ∷ []) ((L.words item).refused (refusal.DiskFault device count))
-    failed device count wrote tables along = by_last tables before (Fault device count wrote) ((L.words item).refused (refusal.DiskFault device count)) (λ began. refl)
+    pub failed : (device : Device) (count : ℕ) (call : FailedCall) → IsReply L items pages who item (before ++ line who (Fault device count call) ∷ []) ((L.words item).refused (refusal.DiskFault device count))
+    failed device count call tables along = by_last tables before (Fault device count call) ((L.words item).refused (refusal.DiskFault device count)) (λ began. refl)
 
     pub dropped : (below : ℕ) → IsReply L items pages who item (before ++ line who (Dropped below) ∷ []) ((L.words item).dropped below)
     dropped below tables along = by_last tables before (Dropped below) ((L.words item).dropped below) (λ began. refl)

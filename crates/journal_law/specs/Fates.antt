@@ -59,7 +59,7 @@ module _ (L : Language) where
   reply_at item f (Dropped below) = (L.words item).dropped below
   reply_at item f (Refused why) = (L.words item).refused why
   reply_at item f (Overlapped session other) = (L.words item).refused (Overlap session other)
-  reply_at item f (Fault device count wrote) = (L.words item).refused (DiskFault device count)
+  reply_at item f (Fault device count call) = (L.words item).refused (DiskFault device count)
   reply_at item f what = (L.words item).not_run
 
   -- the reply lines of an item by what became of it

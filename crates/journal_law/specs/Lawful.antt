@@ -7,14 +7,16 @@ use Rattle.retro_base.specs.declared.refusal.Refusal.{Refusal}
 use Rattle.retro_base.specs.declared.refusal.Refusal.TheVariants.{OutOfMemory, ArchiveFull, JournalFull, NoSuchSnapshot, PagesFull, Pinned, SnapshotsFull, Stopped, TooManyPages}
 use Rattle.retro_base.specs.declared.who.Who.{Who}
 use Rattle.history.specs.declared.entry.Base.{Base}
+use Rattle.history.specs.declared.entry.Change.{Change}
+use Rattle.history.specs.declared.journal.FailedCall.TheVariants.{Append}
 use Rattle.history.specs.declared.journal.Line.{Line}
 use Rattle.history.specs.declared.journal.What.{What}
 use Rattle.history.specs.declared.journal.What.TheVariants.{Began, Done, Overlapped, RolledBack, Looked, LookedAll, Unlooked, Dropped, Refused, Fault}
 use Rattle.history.specs.declared.writes.PageImage.{PageImage}
 use Rattle.history.specs.declared.entry.Change.TheVariants as change
-use Rattle.history.specs.History.{base_after}
+use Rattle.history.specs.History.{base_after, written}
 use Rattle.history.specs.Marks.{oldest_start, newest as newest_mark}
-use Rattle.history.specs.Lines.{FaultsDiffer, base_of, first_stop, images_in, lines_of}
+use Rattle.history.specs.Lines.{FaultsDiffer, base_of, first_stop, images_in, is_write, lines_of}
 use Rattle.history.specs.declared.stop.Stop.{Stop}
 use Rattle.history.specs.Sound.{Pin}
 use Rattle.history.specs.Writes.{pages_of, rises}
@@ -34,14 +36,14 @@ AreAttempts (Began ∷ Overlapped session item ∷ whats) = AreAttempts whats
 AreAttempts (Began ∷ Done label writes ∷ []) = Unit {0}
 AreAttempts (Began ∷ RolledBack ∷ []) = Unit {0}
 AreAttempts (Began ∷ Refused why ∷ []) = Unit {0}
-AreAttempts (Began ∷ Fault device count wrote ∷ []) = Unit {0}
+AreAttempts (Began ∷ Fault device count call ∷ []) = Unit {0}
 AreAttempts whats = ⊥
 
 -- the end of a look
 abbrev pub EndsLook : List What → Type 0
 EndsLook (Unlooked ∷ []) = Unit {0}
 EndsLook (Refused why ∷ []) = Unit {0}
-EndsLook (Fault device count wrote ∷ []) = Unit {0}
+EndsLook (Fault device count call ∷ []) = Unit {0}
 EndsLook whats = ⊥
 
 -- What the lines of an item say, in order. An item without lines was cut short, or not run, or has none.
@@ -53,7 +55,7 @@ IsRun (AsOf snapshot) (Refused why ∷ []) = Unit {0}
 IsRun OverAll (LookedAll ∷ whats) = EndsLook whats
 IsRun (DropBelow below) (Dropped number ∷ []) = Unit {0}
 IsRun (DropBelow below) (Refused why ∷ []) = Unit {0}
-IsRun (DropBelow below) (Fault device count wrote ∷ []) = Unit {0}
+IsRun (DropBelow below) (Fault device count call ∷ []) = Unit {0}
 IsRun kind whats = ⊥
 
 -- the last line of an item is an overlap before the 64th attempt, or it lacks a line that it needs
@@ -79,7 +81,7 @@ abbrev pub IsWorker : Who → Type 0
 IsWorker who = SESSIONS ≤ who.session
 
 abbrev pub IsFault : What → Type 0
-IsFault (Fault device count wrote) = Unit {0}
+IsFault (Fault device count call) = Unit {0}
 IsFault what = ⊥
 
 -- a line is of an item of the script, or of a worker that met a fault
@@ -335,7 +337,7 @@ WritesNothing oldest what = Unit {0}
 
 -- the fault's count is above the device's at the opening, and a look's fault did not write
 abbrev pub FaultIsNew : (Device → ℕ) → Bool → What → Type 0
-FaultIsNew faults looking (Fault device count wrote) = (count < 2 ^ 64 - 1 → faults device < count) × (looking ≡ true → wrote ≡ false)
+FaultIsNew faults looking (Fault device count call) = (count < 2 ^ 64 - 1 → faults device < count) × (looking ≡ true → is_write call ≡ false)
 FaultIsNew faults looking what = Unit {0}
 
 pub record FaultAt (faults : Device → ℕ) (oldest : ℕ) (stop : Option Stop) (looking : Bool) (what : What) : Type 0 where
@@ -344,11 +346,31 @@ pub record FaultAt (faults : Device → ℕ) (oldest : ℕ) (stop : Option Stop)
 
 -- no fault has a count above the device's at the end
 abbrev pub CountedBy : (Device → ℕ) → What → Type 0
-CountedBy faults (Fault device count wrote) = count ≤ faults device
+CountedBy faults (Fault device count call) = count ≤ faults device
 CountedBy faults what = Unit {0}
 
 abbrev pub IsCounted : (Device → ℕ) → Line → Type 0
 IsCounted faults line = CountedBy faults line.what
+
+-- ---- doubt
+
+module _ (L : Language) where
+  -- A change that is in doubt is the item's own: a commit with its label, whose writes make of these pages such as hold the tables behind its statements; or its drop, which may be.
+  abbrev pub IsOwnChange : Pages → AtDrop → L.Tables → L.Item → Kind → Change → Type 0
+  IsOwnChange pages at tables item (Transaction (Commit given)) (change.Commit label writes) = (label ≡ given) × L.IsStored (written pages writes) (L.after item tables)
+  IsOwnChange pages at tables item (DropBelow below) (change.Drop number) = (number ≡ below) × MayDrop at below
+  IsOwnChange pages at tables item kind other = ⊥
+
+  -- what a fault leaves in doubt
+  abbrev pub doubt_by : Pages → AtDrop → L.Tables → L.Item → Kind → What → Type 0
+  doubt_by pages at tables item kind (Fault device count (Append change)) = IsOwnChange pages at tables item kind change
+  doubt_by pages at tables item kind what = Unit {0}
+
+  -- a worker's fault leaves nothing in doubt
+  abbrev pub DoubtAt : Pages → AtDrop → L.Tables → Option L.Item → What → Type 0
+  DoubtAt pages at tables (Some item) what = doubt_by pages at tables item (L.kind item) what
+  DoubtAt pages at tables None (Fault device count (Append change)) = ⊥
+  DoubtAt pages at tables None what = Unit {0}
 
 -- ---- memory
 
@@ -373,6 +395,7 @@ module _ (L : Language) (items : Who → Option L.Item) where
     pub snapshot : SnapshotAt now (at_drop o.opened.pages now before) (kind_of L one) (is_looking who before) what
     pub limit : LimitAt L o.opened who before one what
     pub fault : FaultAt o.opened.faults (oldest_of now.marks) (first_stop before) (is_looking who before) what
+    pub doubt : DoubtAt L (page_world o.opened.pages before).current (at_drop o.opened.pages now before) now.current one what
     pub memory : MemoryAt (is_trying who before || is_looking who before) what
 
   abbrev pub KeepsRules : Opening L → List Line → Line → Type 0
@@ -382,7 +405,7 @@ module _ (L : Language) (items : Who → Option L.Item) where
   abbrev pub AtEach : (List Line → Line → Type 0) → List Line → Type 0
   AtEach Rule journal = (before after : List Line) (line : Line) → journal ≡ before ++ line ∷ after → Rule before line
 
-  -- A journal that a run of these items may leave, from this opening on, where the devices have counted so many faults at its end. The rules are those of shape, ends, queries, overlaps, snapshots, limits, faults and memory.
+  -- A journal that a run of these items may leave, from this opening on, where the devices have counted so many faults at its end. The rules are those of shape, ends, queries, overlaps, snapshots, limits, faults with what they leave in doubt, and memory.
   pub record Lawful (o : Opening L) (ending : Device → ℕ) (journal : List Line) : Type 0 where
     pub shape : HasShape L items journal
     pub at_each : AtEach (KeepsRules o) journal

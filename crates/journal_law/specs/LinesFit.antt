@@ -1,9 +1,12 @@
 -- What a session has to know of a line of each kind, so that it fits.
-use Rattle.std.specs.Prelude.{◌≡◌, ◌⊎◌, ◌<◌, ◌-◌, ◌^◌, ℕ, Bool, true, false, List, [], Option, Some, None, is_some, Result, Ok, Err}
+use Rattle.std.specs.Prelude.{◌≡◌, ◌⊎◌, ◌<◌, ◌-◌, ◌^◌, ℕ, true, false, List, [], Option, Some, None, is_some, Result, Ok, Err}
 use Rattle.retro_base.specs.declared.device.Device.{Device}
 use Rattle.retro_base.specs.declared.refusal.Refusal.{Refusal}
 use Rattle.retro_base.specs.declared.refusal.Refusal.TheVariants.{OutOfMemory}
 use Rattle.retro_base.specs.declared.who.Who.{Who}
+use Rattle.history.specs.declared.entry.Change.TheVariants as change
+use Rattle.history.specs.declared.journal.FailedCall.{FailedCall}
+use Rattle.history.specs.declared.journal.FailedCall.TheVariants.{Append, Read}
 use Rattle.history.specs.declared.journal.Line.{Line}
 use Rattle.history.specs.declared.journal.What.{What}
 use Rattle.history.specs.declared.journal.What.TheVariants.{Began, Done, Overlapped, RolledBack, Looked, LookedAll, Unlooked, Dropped, Refused, Fault}
@@ -12,7 +15,7 @@ use Rattle.history.specs.History.{written}
 use Rattle.history.specs.Lines.{first_stop}
 use Rattle.journal_law.specs.Facts.{Fits}
 use Rattle.journal_law.specs.Language.{AsOf, Commit, DropBelow, End, Kind, Language, OverAll, Rollback, Transaction, answer}
-use Rattle.journal_law.specs.Lawful.{DropRefused, Ground, IsLimit, IsOverlapBy, IsWorker, MayDrop, at_drop}
+use Rattle.journal_law.specs.Lawful.{AtDrop, DropRefused, Ground, IsLimit, IsOverlapBy, IsWorker, MayDrop, at_drop}
 use Rattle.journal_law.specs.Own.{SinceLine, is_looking, line}
 use Rattle.journal_law.specs.Pages.{Pages, page_world}
 use Rattle.journal_law.specs.Shows.{Shows}
@@ -39,6 +42,23 @@ IsAbove ground device count = count < 2 ^ 64 - 1 → ground.faults device < coun
 abbrev pub Answers : (L : Language) → Ground → L.Item → List Line → Result (List ℕ) Refusal → Type 0
 Answers L ground item since answered = (w : World L.Tables) → Shows L (page_world ground.pages since) w → answer L item w ≡ answered
 
+-- What a failed call leaves in doubt of a transaction that ends so, whatever tables the pages hold: its own commit, or nothing.
+abbrev pub LeavesCommit : (L : Language) → Pages → L.Item → End → FailedCall → Type 0
+LeavesCommit L pages item (Commit given) (Append (change.Commit label writes)) =
+    (label ≡ given) × ((tables : L.Tables) → L.IsStored pages tables → L.IsStored (written pages writes) (L.after item tables))
+LeavesCommit L pages item end (Append change) = ⊥
+LeavesCommit L pages item end call = Unit {0}
+
+-- of a drop: itself, where it may be, or nothing
+abbrev pub LeavesDrop : AtDrop → ℕ → FailedCall → Type 0
+LeavesDrop at below (Append (change.Drop number)) = (number ≡ below) × MayDrop at below
+LeavesDrop at below (Append change) = ⊥
+LeavesDrop at below call = Unit {0}
+
+abbrev pub LeavesNone : FailedCall → Type 0
+LeavesNone (Append change) = ⊥
+LeavesNone call = Unit {0}
+
 -- for each item and each place
 abbrev pub AtEachItem : (L : Language) → ((Who → Option L.Item) → Ground → List Line → Who → L.Item → Type 0) → Type 0
 AtEachItem L P = (items : Who → Option L.Item) (ground : Ground) (before : List Line) (who : Who) (item : L.Item) → items who ≡ Some item → P items ground before who item
@@ -53,7 +73,7 @@ pub record TransactionsFit (L : Language) : Type 0 where
   pub refused : AtEachItem L (λ items ground before who item. (end : End) → L.kind item ≡ Transaction end → (since rest : List Line) → SinceLine who Began before since rest →
       (why : Refusal) → IsLimit L ground who before item end why → Fits L items ground before (line who (Refused why)))
   pub failed : AtEachItem L (λ items ground before who item. (end : End) → L.kind item ≡ Transaction end → (since rest : List Line) → SinceLine who Began before since rest →
-      (device : Device) (count : ℕ) (wrote : Bool) → IsAbove ground device count → Fits L items ground before (line who (Fault device count wrote)))
+      (device : Device) (count : ℕ) (call : FailedCall) → IsAbove ground device count → LeavesCommit L (page_world ground.pages before).current item end call → Fits L items ground before (line who (Fault device count call)))
   pub rolled_back : AtEachItem L (λ items ground before who item. L.kind item ≡ Transaction Rollback → Fits L items ground before (line who RolledBack))
   -- the writes make of pages that hold tables pages that hold the tables behind the statements; behind a stop nothing is committed
   pub done : AtEachItem L (λ items ground before who item. (label : Option (List ℕ)) (writes : List PageImage) → L.kind item ≡ Transaction (Commit label) →
@@ -74,7 +94,7 @@ pub record LooksFit (L : Language) : Type 0 where
   pub unanswered : AtEachItem L (λ items ground before who item. (look : LookAt) → L.kind item ≡ kind_at look → (since rest : List Line) → SinceLine who (opened_by look) before since rest →
       (why : Refusal) → (why ≡ OutOfMemory) ⊎ Answers L ground item since (Err why) → Fits L items ground before (line who (Refused why)))
   pub failed : AtEachItem L (λ items ground before who item. (look : LookAt) → L.kind item ≡ kind_at look → (device : Device) (count : ℕ) → IsAbove ground device count →
-      Fits L items ground before (line who (Fault device count false)))
+      Fits L items ground before (line who (Fault device count Read)))
   -- the answer at one snapshot is that over the tables which the snapshot's pages hold
   pub as_of : AtEachItem L (λ items ground before who item. (n : ℕ) (since : List Line) (held : Pages) (answered : Result (List ℕ) Refusal) → L.kind item ≡ AsOf n → as_of n (page_world ground.pages since) ≡ Ok held →
       ((tables : L.Tables) → L.IsStored held tables → L.asks item tables ≡ answered) → Answers L ground item since answered)
@@ -87,13 +107,13 @@ pub record DropsFit (L : Language) : Type 0 where
       Fits L items ground before (line who (Dropped below)))
   pub refused : AtEachItem L (λ items ground before who item. (below : ℕ) → L.kind item ≡ DropBelow below → (why : Refusal) → DropRefused (at_drop ground.pages (page_world ground.pages before) before) below why →
       Fits L items ground before (line who (Refused why)))
-  pub failed : AtEachItem L (λ items ground before who item. (below : ℕ) → L.kind item ≡ DropBelow below → (device : Device) (count : ℕ) (wrote : Bool) → is_looking who before ≡ false → IsAbove ground device count →
-      Fits L items ground before (line who (Fault device count wrote)))
+  pub failed : AtEachItem L (λ items ground before who item. (below : ℕ) → L.kind item ≡ DropBelow below → (device : Device) (count : ℕ) (call : FailedCall) → is_looking who before ≡ false → IsAbove ground device count →
+      LeavesDrop (at_drop ground.pages (page_world ground.pages before) before) below call → Fits L items ground before (line who (Fault device count call)))
 
 -- a line of each kind fits
 pub record LinesFit (L : Language) : Type 0 where
   pub transactions : TransactionsFit L
   pub looks : LooksFit L
   pub drops : DropsFit L
-  pub workers : (items : Who → Option L.Item) (ground : Ground) (before : List Line) (who : Who) (device : Device) (count : ℕ) (wrote : Bool) →
-      items who ≡ None → IsWorker who → is_looking who before ≡ false → IsAbove ground device count → Fits L items ground before (line who (Fault device count wrote))
+  pub workers : (items : Who → Option L.Item) (ground : Ground) (before : List Line) (who : Who) (device : Device) (count : ℕ) (call : FailedCall) →
+      items who ≡ None → IsWorker who → is_looking who before ≡ false → IsAbove ground device count → LeavesNone call → Fits L items ground before (line who (Fault device count call))

@@ -1,9 +1,10 @@
 -- What a session has to know of an item that has ended, so that what it tells is the item's reply.
-use Rattle.std.specs.Prelude.{◌≡◌, ◌+◌, ◌++◌, ℕ, Bool, true, List, [], ◌∷◌, Option}
+use Rattle.std.specs.Prelude.{◌≡◌, ◌+◌, ◌++◌, ℕ, true, List, [], ◌∷◌, Option}
 use Rattle.retro_base.specs.declared.device.Device.{Device}
 use Rattle.retro_base.specs.declared.refusal.Refusal.{Refusal}
 use Rattle.retro_base.specs.declared.refusal.Refusal.TheVariants.{DiskFault, Overlap}
 use Rattle.retro_base.specs.declared.who.Who.{Who}
+use Rattle.history.specs.declared.journal.FailedCall.{FailedCall}
 use Rattle.history.specs.declared.journal.Line.{Line}
 use Rattle.history.specs.declared.journal.What.{What}
 use Rattle.history.specs.declared.journal.What.TheVariants.{Done, Overlapped, RolledBack, Unlooked, Dropped, Refused, Fault}
@@ -36,8 +37,8 @@ pub record RepliesTold (L : Language) : Type 0 where
   pub refused : OfEachItem L (λ items pages who item. (before : List Line) (why : Refusal) → IsReply L items pages who item (before ++ line who (Refused why) ∷ []) ((L.words item).refused why))
   pub overlapped : OfEachItem L (λ items pages who item. (before : List Line) (session other : ℕ) →
       IsReply L items pages who item (before ++ line who (Overlapped session other) ∷ []) ((L.words item).refused (Overlap session other)))
-  pub failed : OfEachItem L (λ items pages who item. (before : List Line) (device : Device) (count : ℕ) (wrote : Bool) →
-      IsReply L items pages who item (before ++ line who (Fault device count wrote) ∷ []) ((L.words item).refused (DiskFault device count)))
+  pub failed : OfEachItem L (λ items pages who item. (before : List Line) (device : Device) (count : ℕ) (call : FailedCall) →
+      IsReply L items pages who item (before ++ line who (Fault device count call) ∷ []) ((L.words item).refused (DiskFault device count)))
   pub dropped : OfEachItem L (λ items pages who item. (before : List Line) (below : ℕ) → IsReply L items pages who item (before ++ line who (Dropped below) ∷ []) ((L.words item).dropped below))
   -- it stays the reply while the journal grows by lines that are not the item's
   pub stays : OfEachItem L (λ items pages who item. (front more : List Line) (text : List ℕ) → own who more ≡ [] → IsReply L items pages who item front text → IsReply L items pages who item (front ++ more) text)

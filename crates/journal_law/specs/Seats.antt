@@ -6,6 +6,8 @@ use Rattle.retro_base.specs.declared.refusal.Refusal.{Refusal}
 use Rattle.retro_base.specs.declared.refusal.Refusal.TheVariants as refusal
 use Rattle.retro_base.specs.declared.who.Who.{Who}
 use Rattle.history.specs.declared.entry.Mark.{Mark as MarkOf}
+use Rattle.history.specs.declared.entry.Change.TheVariants as change
+use Rattle.history.specs.declared.journal.FailedCall.TheVariants.{Append, Read, Write}
 use Rattle.history.specs.declared.journal.Line.{Line}
 use Rattle.history.specs.declared.journal.What.{What}
 use Rattle.history.specs.declared.journal.What.TheVariants.{Began, Done, Overlapped, RolledBack, Looked, LookedAll, Unlooked, Dropped, Refused, Fault}
@@ -191,13 +193,18 @@ pub record CommitWaits (old new : View) (a : Attempt) (label : Option (List ℕ)
   pub waits : Waits old new (Open a)
   pub is : IsCommitRefused (base_of new.opened.base new.front) new.front label a.edits why
 
--- A commit writes exactly the edits, and gives the number of the snapshot that it declares; behind a stop it commits nothing. A fault, of its own write or while room was made for it, ends the attempt with its line, whatever has become of the pages that it read.
+-- A fault while room was made for a commit ends the attempt, whatever has become of the pages that it read; so does one of its own write, which leaves the commit in doubt: just before its line each page that was read is as at Began.
+abbrev pub FailsCommit : Option (List ℕ) → View → View → Attempt → Device → ℕ → Type 0
+FailsCommit label old new a device count =
+    Adds old new a.who (Fault device count Write) Idle ⊎ CommitEnds old new a (Fault device count (Append (change.Commit label a.edits)))
+
+-- A commit writes exactly the edits, and gives the number of the snapshot that it declares; behind a stop it commits nothing. A fault ends the attempt with its line.
 abbrev pub CommitGives : Option (List ℕ) → View → View → Attempt → Result (Option ℕ) Refusal → Type 0
 CommitGives label old new a (Ok number) =
     (ends : CommitEnds old new a (Done label a.edits)) × (number ≡ number_of label (place old new ends.adds.moves))
     × (is_some (first_stop (lines_before old new ends.adds.moves)) ≡ true → (label ≡ None) × (a.edits ≡ []))
 CommitGives label old new a (Err (refusal.DiskFault device count)) =
-    ((a.kept ≡ Some (refusal.DiskFault device count)) × Waits old new (Open a)) ⊎ (Adds old new a.who (Fault device count true) Idle × IsNew new device count)
+    ((a.kept ≡ Some (refusal.DiskFault device count)) × Waits old new (Open a)) ⊎ (FailsCommit label old new a device count × IsNew new device count)
 CommitGives label old new a (Err (refusal.Overlap session item)) = Waits old new (Open (record a { kept = Some (refusal.Overlap session item) })) × IsKeptOrWhy new a (refusal.Overlap session item)
 CommitGives label old new a (Err (refusal.TooManyPages needed)) = Waits old new (Open a) × (a.kept ≡ Some (refusal.TooManyPages needed))
 CommitGives label old new a (Err (refusal.Stopped device count)) =
@@ -212,11 +219,11 @@ CommitGives label old new a (Err why) = Waits old new (Open a) × (why ≡ refus
 -- the line that ends an attempt: its kept refusal goes before what is asked
 abbrev pub closing : Option Refusal → Ending → What
 closing (Some (refusal.Overlap session item)) why = Overlapped session item
-closing (Some (refusal.DiskFault device count)) why = Fault device count false
+closing (Some (refusal.DiskFault device count)) why = Fault device count Read
 closing (Some kept) why = Refused kept
 closing None ending.Asked = RolledBack
 closing None (ending.Refused why) = Refused why
-closing None (ending.Failed device count) = Fault device count false
+closing None (ending.Failed device count) = Fault device count Read
 
 -- a fault is given as an end only where the seat was told of it, and no overlap is
 abbrev pub MayEnd : View → Ending → Type 0
@@ -270,7 +277,7 @@ PastGives honest n page out old new l (Err why) = Waits old new (Looking l) × (
 abbrev pub unlooking : Ending → What
 unlooking ending.Asked = Unlooked
 unlooking (ending.Refused why) = Refused why
-unlooking (ending.Failed device count) = Fault device count false
+unlooking (ending.Failed device count) = Fault device count Read
 
 abbrev pub UnlookGives : Ending → View → View → Look → Type 0
 UnlookGives why old new l = Adds old new l.who (unlooking why) Idle
@@ -284,9 +291,15 @@ MayDropThere old new moves below = MayDrop (at_drop old.opened.pages (place old 
 abbrev pub DropRefusedThere : {own : List Line} → (old new : View) → Moves old new own → ℕ → Refusal → Type 0
 DropRefusedThere old new moves below why = DropRefused (at_drop old.opened.pages (place old new moves) (lines_before old new moves)) below why
 
+-- A fault while room was made for it ends a drop; so does one of its own write, which leaves it in doubt where it may be.
+abbrev pub FailsDrop : Who → ℕ → View → View → Device → ℕ → Type 0
+FailsDrop who below old new device count =
+    Adds old new who (Fault device count Write) Idle
+    ⊎ ((adds : Adds old new who (Fault device count (Append (change.Drop below))) Idle) × MayDropThere old new adds.moves below)
+
 abbrev pub DropGives : Who → ℕ → View → View → Result (Unit {0}) Refusal → Type 0
 DropGives who below old new (Ok u) = (adds : Adds old new who (Dropped below) Idle) × MayDropThere old new adds.moves below
-DropGives who below old new (Err (refusal.DiskFault device count)) = Adds old new who (Fault device count true) Idle × IsNew new device count
+DropGives who below old new (Err (refusal.DiskFault device count)) = FailsDrop who below old new device count × IsNew new device count
 DropGives who below old new (Err (refusal.JournalFull lines images)) = Waits old new old.work × (JOURNAL_LINES - WORKER_LINES < lines)
 DropGives who below old new (Err refusal.OutOfMemory) = Waits old new old.work
 DropGives who below old new (Err why) = (adds : Adds old new who (Refused why) Idle) × DropRefusedThere old new adds.moves below why

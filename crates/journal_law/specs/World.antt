@@ -69,5 +69,5 @@ pins_behind world pins who (whats.Looked snapshot) = record { who = who; snapsho
 pins_behind world pins who whats.LookedAll = map (λ mark. record { who = who; snapshot = mark.number }) world.marks ++ pins
 pins_behind world pins who whats.Unlooked = unpinned who pins
 pins_behind world pins who (whats.Refused why) = unpinned who pins
-pins_behind world pins who (whats.Fault device count wrote) = unpinned who pins
+pins_behind world pins who (whats.Fault device count call) = unpinned who pins
 pins_behind world pins who what = pins
