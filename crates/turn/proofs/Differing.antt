@@ -6,6 +6,7 @@ use native.Mathlib.Decide.{dec_lt}
 use Rattle.retro_base.specs.declared.device.Device.{Device}
 use Rattle.retro_base.specs.declared.who.Who.{Who}
 use Rattle.history.specs.declared.journal.Line.{Line}
+use Rattle.history.specs.declared.journal.FailedCall.{FailedCall}
 use Rattle.history.specs.declared.journal.What.{What}
 use Rattle.history.specs.declared.journal.What.TheVariants.{Began, Done, Overlapped, RolledBack, Looked, LookedAll, Unlooked, Dropped, Refused, Fault}
 use Rattle.history.specs.Lines.{DeviceFault, FaultsDiffer, fault_of, faults_of, lines_of, same_device}
@@ -18,8 +19,8 @@ use Rattle.turn.specs.Rule.{IsNewer}
 use Rattle.turn.specs.Seats.{AddsLine}
 use Rattle.turn.proofs.Faults.{desk_told, lines_append, times_append}
 
-told_once : (d e : Device) (c : ℕ) (wrote : Bool) → same_device e d ≡ true → line_fault d c (Fault e c wrote) ≡ 1
-told_once d e c wrote is =
+told_once : (d e : Device) (c : ℕ) (call : FailedCall) → same_device e d ≡ true → line_fault d c (Fault e c call) ≡ 1
+told_once d e c call is =
     ap (λ (t : Bool). cond t (cond (eqb c c) 1 0) 0) is ∙ ap (λ (t : Bool). cond t 1 0) (eq-eqb c c refl)
 
 -- what is so of a fault that a line tells
@@ -33,10 +34,10 @@ each_fault d who LookedAll P p = tt
 each_fault d who Unlooked P p = tt
 each_fault d who (Dropped below) P p = tt
 each_fault d who (Refused why) P p = tt
-each_fault d who (Fault e c wrote) P p = go (same_device e d) refl
+each_fault d who (Fault e c call) P p = go (same_device e d) refl
   where
     go : (t : Bool) → same_device e d ≡ t → AllByRecursion P (cond t (record { session = who.session; count = c } ∷ []) [])
-    go true is = (p c (told_once d e c wrote is), tt)
+    go true is = (p c (told_once d e c call is), tt)
     go false is = tt
 
 all_join : {X : Type 0} (P : X → Type 0) (xs ys : List X) → AllByRecursion P xs → AllByRecursion P ys → AllByRecursion P (xs ++ ys)

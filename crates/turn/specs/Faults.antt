@@ -28,7 +28,7 @@ fault_times device count faults = total (one_fault device count) faults
 
 -- 1 where a line tells this fault
 abbrev pub line_fault : Device → ℕ → What → ℕ
-line_fault device count (Fault d c wrote) = one_fault device count (d, c)
+line_fault device count (Fault d c call) = one_fault device count (d, c)
 line_fault device count _ = 0
 
 -- how many lines tell it

@@ -32,7 +32,7 @@ one_behind base line n quiet is = go line.what quiet
     go : (what : What) → is_quiet what ≡ true → horizon_at (base_behind base (record line { what = what })) ≡ (1, newest_behind n what)
     go Began q = is
     go RolledBack q = is
-    go (Fault device count wrote) q = is
+    go (Fault device count call) q = is
     go (Done (Some label) []) q =
         let mark : Mark = record { number = newest base.marks + 1; label = label; start = base.captures + 0 } in
         λ i. (oldest_stays base.marks mark (ap (λ (h : ℕ × ℕ). h.0) is) refl i, (newest-push base.marks mark ∙ ap (λ (h : ℕ × ℕ). h.1 + 1) is) i)

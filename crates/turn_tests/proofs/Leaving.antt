@@ -2,6 +2,7 @@
 use Rattle.std.proofs.Common.{◌≡◌, ◌<◌, ◌≤◌, ◌+◌, ◌∙◌, ◌⊎◌, ℕ, Bool, true, false, cond, eqb, ltb, ◌||◌, List, [], ◌∷◌, ◌++◌, ap, refl, sym, subst, inl, inr, ⊎_elim, arith, append-nil, eq-eqb, lt-ltb}
 use Rattle.retro_base.specs.declared.device.Device.{Device}
 use Rattle.retro_base.specs.declared.device.Device.TheVariants.{Log, Pages, Pagelog, Maplog, Cabinet}
+use Rattle.history.specs.declared.journal.FailedCall.{FailedCall}
 use Rattle.history.specs.declared.journal.Line.{Line}
 use Rattle.history.specs.declared.journal.What.TheVariants.{Fault}
 use Rattle.turn.specs.declared.view.Holding.{Holding}
@@ -54,15 +55,15 @@ rose_first old new device d c up = ap (λ (t : Bool). fault_times d c (cond t ((
         (λ (last : new device ≡ LAST). ap (λ (t : Bool). ltb (old device) (new device) || t) (eq-eqb (new device) LAST last) ∙ or_true (ltb (old device) (new device))) up.more
 
 -- a fault that the desk met in this entry
-pub told_by_desk : (faults : List (Device × ℕ)) (old k : ℕ) (wrote : Bool) → IsMore old k → IsTold (Fault Log k wrote) (faults ++ desk_faults (only Log old) (only Log k))
-told_by_desk faults old k wrote up d c p =
+pub told_by_desk : (faults : List (Device × ℕ)) (old k : ℕ) (call : FailedCall) → IsMore old k → IsTold (Fault Log k call) (faults ++ desk_faults (only Log old) (only Log k))
+told_by_desk faults old k call up d c p =
     let first = rose_first (only Log old) (only Log k) Log d c up in
     let sum = times_append d c (rose (only Log old) (only Log k) Log) (rose (only Log old) (only Log k) Pages) in
     let all = times_append d c faults (desk_faults (only Log old) (only Log k)) in omega arith
 
 -- a fault that the vault met
-pub told_by_vault : (faults : List (Device × ℕ)) (old k : ℕ) (wrote : Bool) → IsMore old k → IsTold (Fault Pagelog k wrote) (faults ++ vault_faults (only Pagelog old) (only Pagelog k))
-told_by_vault faults old k wrote up d c p =
+pub told_by_vault : (faults : List (Device × ℕ)) (old k : ℕ) (call : FailedCall) → IsMore old k → IsTold (Fault Pagelog k call) (faults ++ vault_faults (only Pagelog old) (only Pagelog k))
+told_by_vault faults old k call up d c p =
     let first = rose_first (only Pagelog old) (only Pagelog k) Pagelog d c up in
     let sum = times_append d c (rose (only Pagelog old) (only Pagelog k) Pagelog) (rose (only Pagelog old) (only Pagelog k) Maplog ++ rose (only Pagelog old) (only Pagelog k) Cabinet) in
     let all = times_append d c faults (vault_faults (only Pagelog old) (only Pagelog k)) in omega arith

@@ -5,6 +5,7 @@ use Rattle.retro_base.specs.declared.device.Device.{Device}
 use Rattle.retro_base.specs.declared.device.Device.TheVariants.{Log, Pagelog}
 use Rattle.history.specs.Lines.{horizon_of, same_device}
 use Rattle.history.specs.declared.entry.Base.{Base}
+use Rattle.history.specs.declared.journal.FailedCall.TheVariants.{Read}
 use Rattle.history.specs.declared.journal.Line.{Line}
 use Rattle.history.specs.declared.journal.What.{What}
 use Rattle.history.specs.declared.journal.What.TheVariants.{Began, Done, Fault, RolledBack}
@@ -18,7 +19,7 @@ abbrev pub is_quiet : What → Bool
 is_quiet Began = true
 is_quiet RolledBack = true
 is_quiet (Done (Some label) []) = true
-is_quiet (Fault device count false) = true
+is_quiet (Fault device count Read) = true
 is_quiet _ = false
 
 -- the newest snapshot behind a line

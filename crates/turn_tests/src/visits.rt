@@ -3,6 +3,7 @@
 ghost use Rattle.std.specs.Prelude.{◌≡◌, ◌≤◌, ◌+◌, ◌∷◌, ◌++◌, [], ℕ, Bool, List, take, true};
 ghost use Rattle.retro_base.specs.declared.device.Device.{Device};
 ghost use Rattle.retro_base.specs.declared.device.Device.TheVariants.{Pagelog};
+ghost use Rattle.history.specs.declared.journal.FailedCall.{FailedCall};
 ghost use Rattle.history.specs.declared.journal.What.TheVariants.{Fault};
 ghost use Rattle.turn.specs.Views.{PARTS};
 ghost use Rattle.turn.specs.Seats.{held, mine};
@@ -11,7 +12,7 @@ ghost use Rattle.turn_tests.specs.Meanings.{is_quiet};
 ghost use Rattle.turn.specs.Tables.{table_of};
 
 use crate::small::{Book, Shelf};
-use history::{Label, Line, What, Writes};
+use history::{FailedCall, Label, Line, What, Writes};
 use retro_base::{Device, Who};
 use std::alloc::Global;
 use std::sync::Wait;
@@ -77,7 +78,7 @@ fn fail_in_desk<R: Wait>(
     let what = What::Fault {
         device: Device::Log,
         count,
-        wrote: false,
+        call: FailedCall::Read,
     };
     let added = book.add(line_by(session, 0, what));
     turn.leave_desk(seat, book);
@@ -94,7 +95,7 @@ fn fail_in_vault<R: Wait>(
     requires ready { IsReady (table_of turn.now) lines seat.old }
     ensures ready { IsReady (table_of turn.now) lines seat.new }
     ensures same { Keeps seat.old seat.new }
-    ensures told { (wrote : Bool) → IsTold (Fault Pagelog result wrote) (mine seat.new).faults }
+    ensures told { (call : FailedCall) → IsTold (Fault Pagelog result call) (mine seat.new).faults }
 {
     let mut shelf = turn.enter_vault(rt, seat);
     let count = shelf.fail();
@@ -182,7 +183,7 @@ fn meet_faults<R: Wait>(rt: &R, turn: &Turn<Book, Shelf>, seat: &mut Seat<Book, 
     let what = What::Fault {
         device: Device::Pagelog,
         count,
-        wrote: false,
+        call: FailedCall::Read,
     };
     lines + add(rt, turn, seat, 0, what, lines)
 }

@@ -1,4 +1,5 @@
-use Rattle.std.proofs.Common.{◌∙◌, ◌<◌, sym, ap, subst, arith, false}
+use Rattle.std.proofs.Common.{◌∙◌, ◌<◌, sym, ap, subst, arith}
+use Rattle.history.specs.declared.journal.FailedCall.TheVariants.{Read}
 use Rattle.turn.specs.Faults.{line_fault}
 use Rattle.turn.specs.Seats.{MayLeave, held, mine}
 use Rattle.turn_tests.specs.Makes.{Makes}
@@ -19,6 +20,6 @@ leave_desk-requires g c =
           (may_add h (held c.enter_desk-book.new.seat) k line c.add-added.result old c.add-added.new.self c.requires.whole
           (ap (λ l. l.who.session) c.line_by.ensures ∙ (c.number-session.ensures ∙ sym c.requires.ready.rests.seat.number)) (ap (λ l. is_quiet l.what) c.line_by.ensures)
           (more_rises old.faults k c.fail-count.ensures.more (omega arith))
-          (λ d n p. told_by_desk h.faults old.faults k false c.fail-count.ensures.more d n (subst (λ l. 0 < line_fault d n l.what) c.line_by.ensures p)) e.fits e.acked
+          (λ d n p. told_by_desk h.faults old.faults k Read c.fail-count.ensures.more d n (subst (λ l. 0 < line_fault d n l.what) c.line_by.ensures p)) e.fits e.acked
           (subst (λ b. Makes line c.add-added.result b c.add-added.new.self) c.fail-count.ensures.new c.add-added.ensures)),
     )

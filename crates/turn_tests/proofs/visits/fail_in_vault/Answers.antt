@@ -22,11 +22,11 @@ returns-clause-same g c =
     record { number = c.leave_vault.ensures.same.0.number ∙ e.same.0.number; parts = ap (λ h. h.parts) now }
 
 pub returns-clause-told : goal.returns-clause-told
-returns-clause-told g c = λ wrote.
+returns-clause-told g c = λ call.
     let e = c.enter_vault-shelf.ensures in
     let f = c.fail-count.ensures in
     let old = c.enter_vault-shelf.result in
     let now = c.leave_vault.ensures.mine old e.inside ∙ ap (behind_vault of_shelf old c.fail-count.new.self) e.same.1 in
-    subst (λ h. IsTold (Fault Pagelog c.fail-count.result wrote) h.faults) (sym now)
-    (subst (λ n. IsTold (Fault Pagelog c.fail-count.result wrote) ((mine c.args.seat.now).faults ++ vault_faults (only Pagelog old.faults) (only Pagelog n))) (sym f.rest.1)
-    (told_by_vault (mine c.args.seat.now).faults old.faults c.fail-count.result wrote f.more))
+    subst (λ h. IsTold (Fault Pagelog c.fail-count.result call) h.faults) (sym now)
+    (subst (λ n. IsTold (Fault Pagelog c.fail-count.result call) ((mine c.args.seat.now).faults ++ vault_faults (only Pagelog old.faults) (only Pagelog n))) (sym f.rest.1)
+    (told_by_vault (mine c.args.seat.now).faults old.faults c.fail-count.result call f.more))
