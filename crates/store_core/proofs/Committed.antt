@@ -45,7 +45,7 @@ use Rattle.store_core.specs.declared.desk_core.Core.{Core}
 use Rattle.journal_book.proofs.Slots.{work_at_with}
 use Rattle.store_core.specs.Commits.{IsAllowed, IsMayCommit}
 use Rattle.store_core.specs.Core.{IsCore}
-use Rattle.store_core.proofs.Cores.{base_is, core_line, holds_ended, with_nothing}
+use Rattle.store_core.proofs.Cores.{base_is, core_line, doubt_stays, holds_ended, with_nothing}
 use Rattle.store_core.proofs.Ledgers.{ledger_committed}
 use Rattle.store_core.proofs.Opened.{and_true, stop_stays}
 
@@ -140,7 +140,8 @@ module _ {D : Type 0} (honest : D → Type 0) (state : D → State) (opening : H
             (ap (λ (c : Option Change). with_changes plain.history (option_to_list c)) (sym (change_done core.desk.base label t.edits leaves)))
             (holds_ended core.desk.pool desk.pool core.ledger.works.slots who.session is.edits is.ledger.works.apart
             (λ page. released page ∙ ap (λ (w : Option Work). held core.desk.pool page && not (is_among page (pages_of (edits_of w)))) (sym there)))
-            (stop ∙ stop_stays core.desk.stop (stop_of (whats.Done label t.edits)) refl) (ap (λ (b : Base). b.page_count) base))
+            (stop ∙ stop_stays core.desk.stop (stop_of (whats.Done label t.edits)) refl) (ap (λ (b : Base). b.page_count) base)
+            (doubt_stays honest state opening core plain is (changed plain change) (line_of who (whats.Done label t.edits)) refl))
 
 -- ---- the open transaction of a session is one
 
@@ -188,7 +189,7 @@ module _ {D : Type 0} (honest : D → Type 0) (state : D → State) (opening : H
       ∙ ap (λ (w : List PageImage). with_changes plain.history (option_to_list (change_of core.desk.base (whats.Done None w)))) empty.1))
       (holds_ended core.desk.pool core.desk.pool core.ledger.works.slots who.session is.edits is.ledger.works.apart
       (λ page. and_true (held core.desk.pool page) ∙ ap (λ (l : List PageImage). held core.desk.pool page && not (is_among page (pages_of l))) (sym empty.1 ∙ sym (ap edits_of there))))
-      (stop_stays core.desk.stop (stop_of (whats.Done label t.edits)) refl) refl)
+      (stop_stays core.desk.stop (stop_of (whats.Done label t.edits)) refl) refl (doubt_stays honest state opening core plain is plain (line_of who (whats.Done label t.edits)) refl))
 
 -- the captures behind a commit stay below 2^64
 pub captures_below : (base : Base) (writes : List PageImage) → IsBase base → length writes ≤ EDITED_PAGES → captures_behind (counts_of base writes) < 2 ^ 64

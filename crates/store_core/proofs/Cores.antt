@@ -1,5 +1,5 @@
 -- The core behind a line, and behind a change of one session's work.
-use Rattle.std.proofs.Common.{◌≡◌, ◌∙◌, ◌&&◌, not, ℕ, Bool, true, false, cond, eqb, List, [], ◌∷◌, ◌++◌, refl, sym, ap, Option, Some, None}
+use Rattle.std.proofs.Common.{◌≡◌, ◌∙◌, ◌&&◌, not, ℕ, Bool, true, false, cond, eqb, List, [], ◌∷◌, ◌++◌, refl, sym, ap, Option, Some, None, subst}
 use Rattle.std.specs.Option.{option_or, option_to_list}
 use Rattle.std.proofs.lemmas.Bool.{eqb-true, eqb-false}
 use Rattle.disk_model.specs.Disk.{State}
@@ -9,20 +9,21 @@ use Rattle.history.specs.declared.journal.Line.{Line}
 use Rattle.history.specs.declared.journal.What.{What}
 use Rattle.history.specs.History.{History, now, with_changes}
 use Rattle.history.specs.Journal.{after_journal, change_of, changes_of}
-use Rattle.history.specs.Lines.{base_of, first_stop, stop_of}
+use Rattle.history.specs.Lines.{base_of, doubt_in, doubt_of, first_stop, stop_of}
 use Rattle.history.specs.Writes.{is_among, pages_of}
 use Rattle.history.proofs.Journals.{one_more_line, with_changes-append}
-use Rattle.history.proofs.Lines.{base_after_journal, first_stop_in_one_more}
+use Rattle.history.proofs.Items.{only_stops_leave_doubt}
+use Rattle.history.proofs.Lines.{base_after_journal, doubt_in_one_more, first_stop_in_one_more}
 use Rattle.page_pool.specs.Side.{Pool, held}
-use Rattle.race_model.specs.Desk.{Desk}
-use Rattle.race_model.specs.Fits.{DeskFits}
+use Rattle.race_model.specs.Desk.{Desk, Doubt, NewBase, OneMore, Sure}
+use Rattle.race_model.specs.Fits.{DeskFits, DoubtFits}
 use Rattle.history.specs.declared.stop.Stop.{Stop}
 use Rattle.desk.specs.Desk.{IsDesk}
 use Rattle.journal_book.specs.declared.work.Work.{Work}
 use Rattle.journal_book.specs.Works.{edits_of, edits_page, work_at, with_work}
 use Rattle.journal_book.proofs.Slots.{work_at_with}
 use Rattle.store_core.specs.declared.desk_core.Core.{Core}
-use Rattle.store_core.specs.Core.{HoldsEdits, IsCore, IsLedger}
+use Rattle.store_core.specs.Core.{HoldsEdits, IsCore, IsLedger, IsToldDoubt}
 
 -- a line that tells no stop and leaves no change in the log
 pub record IsQuiet (what : What) : Type 0 where
@@ -83,6 +84,22 @@ holds_ended pool new slots session holds apart released = record {
 
 -- ---- the core
 
+-- a desk that goes on is in no doubt
+pub none_told : (desk : Desk) (doubt : Doubt) (lines : List Line) → desk.stopped ≡ false → DoubtFits desk doubt → IsToldDoubt doubt lines
+none_told desk Sure lines goes f = tt
+none_told desk (OneMore change) lines goes f = absurd (cc (goes, f.1))
+none_told desk (NewBase version) lines goes f = tt
+
+-- the line of the fault tells the change in doubt
+pub told_new : (lines : List Line) (line : Line) (change : Change) → first_stop lines ≡ None → doubt_of line.what ≡ Some change → doubt_in (lines ++ line ∷ []) ≡ Some change
+told_new lines line change none is =
+    doubt_in_one_more lines line ∙ (ap (λ (c : Option Change). option_or (doubt_in lines) c) is ∙ ap (λ (c : Option Change). option_or c (Some change)) (only_stops_leave_doubt lines none))
+
+pub told_on : (doubt : Doubt) (lines : List Line) (line : Line) → IsToldDoubt doubt lines → IsToldDoubt doubt (lines ++ line ∷ [])
+told_on Sure lines line told = tt
+told_on (OneMore change) lines line told = doubt_in_one_more lines line ∙ ap (λ (c : Option Change). option_or c (doubt_of line.what)) told
+told_on (NewBase version) lines line told = tt
+
 pub append-nil : {X : Type 0} (xs : List X) → xs ++ [] ≡ xs
 append-nil [] = refl
 append-nil (x ∷ xs) = ap (λ l. x ∷ l) (append-nil xs)
@@ -102,8 +119,8 @@ module _ {D : Type 0} (honest : D → Type 0) (state : D → State) (opening : H
   -- behind a line
   pub core_line : (new : Core D) (other : Desk) (line : Line) → new.ledger.book.lines ≡ core.ledger.book.lines ++ line ∷ [] → new.ledger.book.pages ≡ core.ledger.book.pages → IsLedger (now opening).base new.ledger
       → IsDesk honest state new.desk other → DeskFits other → other.history ≡ with_changes plain.history (option_to_list (change_of core.desk.base line.what)) → HoldsEdits new.desk.pool new.ledger.works.slots
-      → new.desk.stop ≡ option_or core.desk.stop (stop_of line.what) → new.desk.base.page_count ≡ core.desk.base.page_count → IsCore honest state opening new other
-  core_line new other line lines pages ledger desk fits history holds stop count = record {
+      → new.desk.stop ≡ option_or core.desk.stop (stop_of line.what) → new.desk.base.page_count ≡ core.desk.base.page_count → IsToldDoubt other.doubt (core.ledger.book.lines ++ line ∷ []) → IsCore honest state opening new other
+  core_line new other line lines pages ledger desk fits history holds stop count told = record {
     ledger = ledger;
     is = desk;
     fits = fits;
@@ -111,7 +128,12 @@ module _ {D : Type 0} (honest : D → Type 0) (state : D → State) (opening : H
     pages = pages ∙ is.pages ∙ sym count;
     edits = holds;
     stop = stop ∙ ap (λ (s : Option Stop). option_or s (stop_of line.what)) is.stop ∙ sym (first_stop_in_one_more core.ledger.book.lines line) ∙ ap first_stop (sym lines);
+    doubt = subst (IsToldDoubt other.doubt) (sym lines) told;
   }
+
+  -- what is in doubt stays told
+  pub doubt_stays : (other : Desk) (line : Line) → other.doubt ≡ plain.doubt → IsToldDoubt other.doubt (core.ledger.book.lines ++ line ∷ [])
+  doubt_stays other line same = told_on other.doubt core.ledger.book.lines line (subst (λ (d : Doubt). IsToldDoubt d core.ledger.book.lines) (sym same) is.doubt)
 
   or_none : (s : Option Stop) → option_or s None ≡ s
   or_none None = refl
@@ -122,16 +144,16 @@ module _ {D : Type 0} (honest : D → Type 0) (state : D → State) (opening : H
 
   -- behind a line that leaves the log, and the plain desk, as they are
   pub core_quiet : (new : Core D) (other : Desk) (line : Line) → new.ledger.book.lines ≡ core.ledger.book.lines ++ line ∷ [] → new.ledger.book.pages ≡ core.ledger.book.pages → IsLedger (now opening).base new.ledger
-      → IsDesk honest state new.desk other → DeskFits other → other.history ≡ plain.history → HoldsEdits new.desk.pool new.ledger.works.slots → IsQuiet line.what → new.desk.stop ≡ core.desk.stop → new.desk.base ≡ core.desk.base → IsCore honest state opening new other
-  core_quiet new other line lines pages ledger desk fits history holds quiet stop base =
+      → IsDesk honest state new.desk other → DeskFits other → other.history ≡ plain.history → HoldsEdits new.desk.pool new.ledger.works.slots → IsQuiet line.what → new.desk.stop ≡ core.desk.stop → new.desk.base ≡ core.desk.base → other.doubt ≡ plain.doubt → IsCore honest state opening new other
+  core_quiet new other line lines pages ledger desk fits history holds quiet stop base doubt =
       core_line new other line lines pages ledger desk fits
       (history ∙ sym (with_nothing plain.history) ∙ ap (λ (c : Option Change). with_changes plain.history (option_to_list c)) (sym (quiet.changes core.desk.base)))
-      holds (stop ∙ sym (or_none core.desk.stop) ∙ ap (option_or core.desk.stop) (sym quiet.stops)) (ap (λ (b : Base). b.page_count) base)
+      holds (stop ∙ sym (or_none core.desk.stop) ∙ ap (option_or core.desk.stop) (sym quiet.stops)) (ap (λ (b : Base). b.page_count) base) (doubt_stays other line doubt)
 
   -- behind no line
   pub core_still : (new : Core D) (other : Desk) → new.ledger.book.lines ≡ core.ledger.book.lines → new.ledger.book.pages ≡ core.ledger.book.pages → IsLedger (now opening).base new.ledger
-      → IsDesk honest state new.desk other → DeskFits other → other.history ≡ plain.history → HoldsEdits new.desk.pool new.ledger.works.slots → new.desk.stop ≡ core.desk.stop → new.desk.base ≡ core.desk.base → IsCore honest state opening new other
-  core_still new other lines pages ledger desk fits history holds stop base = record {
+      → IsDesk honest state new.desk other → DeskFits other → other.history ≡ plain.history → HoldsEdits new.desk.pool new.ledger.works.slots → new.desk.stop ≡ core.desk.stop → new.desk.base ≡ core.desk.base → IsToldDoubt other.doubt core.ledger.book.lines → IsCore honest state opening new other
+  core_still new other lines pages ledger desk fits history holds stop base told = record {
     ledger = ledger;
     is = desk;
     fits = fits;
@@ -139,4 +161,5 @@ module _ {D : Type 0} (honest : D → Type 0) (state : D → State) (opening : H
     pages = pages ∙ is.pages ∙ ap (λ (b : Base). b.page_count) (sym base);
     edits = holds;
     stop = stop ∙ is.stop ∙ ap first_stop (sym lines);
+    doubt = subst (IsToldDoubt other.doubt) (sym lines) told;
   }

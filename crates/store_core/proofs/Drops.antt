@@ -31,7 +31,7 @@ use Rattle.txn_set.proofs.Drops.{drops_stay_sound}
 use Rattle.txn_set.proofs.LedgerSteps.{some_kept}
 use Rattle.store_core.specs.declared.desk_core.Core.{Core}
 use Rattle.store_core.specs.Core.{IsCore}
-use Rattle.store_core.proofs.Cores.{base_is, core_line, holds_moved, same_edits}
+use Rattle.store_core.proofs.Cores.{base_is, core_line, doubt_stays, holds_moved, same_edits}
 use Rattle.store_core.proofs.Ledgers.{ledger_closed, own_ended}
 use Rattle.store_core.proofs.Opened.{stop_stays}
 use Rattle.store_core.proofs.Pins.{PinsForNone}
@@ -88,8 +88,8 @@ module _ {D : Type 0} (honest : D → Type 0) (state : D → State) (opening : H
 
   pub core_dropped : (desk : RunningDesk D) (ledger : Ledger) (other : Desk) → ledger ≡ closed who (whats.Dropped below) core.ledger → WorksFit ledger → IsDesk honest state desk other → DeskFits other
       → other.history ≡ with_changes plain.history (option_to_list (change_of core.desk.base (whats.Dropped below))) → ((page : ℕ) → held desk.pool page ≡ held core.desk.pool page)
-      → desk.stop ≡ core.desk.stop → desk.base.page_count ≡ core.desk.base.page_count → IsCore honest state opening (record { desk = desk; ledger = ledger }) other
-  core_dropped desk ledger other ledger_is works is_desk fits history same stop count =
+      → desk.stop ≡ core.desk.stop → desk.base.page_count ≡ core.desk.base.page_count → other.doubt ≡ plain.doubt → IsCore honest state opening (record { desk = desk; ledger = ledger }) other
+  core_dropped desk ledger other ledger_is works is_desk fits history same stop count doubt =
       let work : Option Work = work_at core.ledger.works.slots who.session in
       subst (λ (l : Ledger). IsCore honest state opening (record { desk = desk; ledger = l }) other) (sym ledger_is)
       (core_line honest state opening core plain is (record { desk = desk; ledger = closed who (whats.Dropped below) core.ledger }) other (line_of who (whats.Dropped below)) refl refl
@@ -97,4 +97,4 @@ module _ {D : Type 0} (honest : D → Type 0) (state : D → State) (opening : H
       (own_ended (now opening).base core.ledger.book.lines (line_of who (whats.Dropped below)) refl (is.ledger.pins.pins who ∙ drop_own who work kept)) (subst WorksFit ledger_is works))
       is_desk fits history
       (holds_moved core.desk.pool desk.pool core.ledger.works.slots (with_work core.ledger.works.slots who.session None) is.edits same (same_edits core.ledger.works.slots who.session None (drop_edits work kept)))
-      (stop ∙ stop_stays core.desk.stop (stop_of (whats.Dropped below)) refl) count)
+      (stop ∙ stop_stays core.desk.stop (stop_of (whats.Dropped below)) refl) count (doubt_stays honest state opening core plain is other (line_of who (whats.Dropped below)) doubt))

@@ -48,7 +48,7 @@ module _ {D : Type 0} (honest : D → Type 0) (state : D → State) (opening : H
   core_read desk rest is_desk same =
       core_still honest state opening core plain is (record { desk = desk; ledger = core.ledger }) plain refl refl is.ledger is_desk is.fits refl
       (holds_moved core.desk.pool desk.pool core.ledger.works.slots core.ledger.works.slots is.edits same (λ page other. refl))
-      (ap (λ (r : RunningDesk D). r.stop) rest) (ap (λ (r : RunningDesk D). r.base) rest)
+      (ap (λ (r : RunningDesk D). r.stop) rest) (ap (λ (r : RunningDesk D). r.base) rest) is.doubt
 
   -- a transaction in the place of one with the same edits
   pub core_with : (ledger : Ledger) (who : Who) (t next : Transaction) → work_at core.ledger.works.slots who.session ≡ Some (Open t) → next.edits ≡ t.edits → ledger ≡ with_open who next core.ledger → WorksFit ledger
@@ -60,7 +60,7 @@ module _ {D : Type 0} (honest : D → Type 0) (state : D → State) (opening : H
       (subst (AllByRecursion (λ (e : PageImage). length e.bytes ≡ PAGE_BYTES)) (ap edits_of (there) ∙ sym edits) (is.ledger.whole who.session)) (subst WorksFit ledger_is fits))
       is.is is.fits refl
       (holds_moved core.desk.pool core.desk.pool core.ledger.works.slots (with_work core.ledger.works.slots who.session (Some (Open next))) is.edits (λ page. refl)
-      (same_edits core.ledger.works.slots who.session (Some (Open next)) (edits ∙ sym (ap edits_of there)))) refl refl)
+      (same_edits core.ledger.works.slots who.session (Some (Open next)) (edits ∙ sym (ap edits_of there)))) refl refl is.doubt)
 
 -- a transaction that keeps nothing more is as it was
 pub still_open : (who : Who) (l : Ledger) (t : Transaction) → work_at l.works.slots who.session ≡ Some (Open t) → l ≡ with_open who t l
@@ -179,7 +179,7 @@ module _ {D : Type 0} (honest : D → Type 0) (state : D → State) (opening : H
       (ledger_with (now opening).base core.ledger is.ledger who t (editing image t) there
       (whole_edit image t.edits whole (subst (AllByRecursion Whole) (ap edits_of there) (is.ledger.whole who.session))) (subst WorksFit ledger_is fits))
       is_desk is.fits refl (holds_edited core.desk.pool desk.pool core.ledger.works.slots who.session t image is.edits there more)
-      (ap (λ (r : RunningDesk D). r.stop) rest) (ap (λ (r : RunningDesk D). r.base) rest))
+      (ap (λ (r : RunningDesk D). r.stop) rest) (ap (λ (r : RunningDesk D). r.base) rest) is.doubt)
 
   -- an edit that failed leaves the core as it was, but for what memory has of pages
   pub core_unedited : (between desk : RunningDesk D) (ledger : Ledger) (who : Who) (t : Transaction) (page : ℕ) → work_at core.ledger.works.slots who.session ≡ Some (Open t)

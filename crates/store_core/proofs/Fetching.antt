@@ -17,7 +17,8 @@ use Rattle.txn_set.specs.Ledger.{no_lines}
 use Rattle.txn_set.specs.WorksFit.{WorksFit}
 use Rattle.store_core.specs.declared.desk_core.Core.{Core}
 use Rattle.store_core.specs.Core.{FetchesCore, IsCore, IsWholeCore}
-use Rattle.store_core.proofs.Cores.{append-nil}
+use Rattle.desk.proofs.Steps.{going}
+use Rattle.store_core.proofs.Cores.{append-nil, none_told}
 
 core_opened : {D : Type 0} (honest : D → Type 0) (state : D → State) (desk : RunningDesk D) (plain : Desk) (pages : ℕ) → IsDesk honest state desk plain → DeskFits plain → ((page : ℕ) → held desk.pool page ≡ false) → desk.stop ≡ None
     → desk.base.page_count ≡ pages → WorksFit (no_lines pages) → IsCore honest state plain.history (record { desk = desk; ledger = no_lines pages }) plain
@@ -35,6 +36,7 @@ core_opened honest state desk plain pages is fits free goes count works = record
   pages = sym count;
   edits = record { kept = λ page session e. absurd cc; only = λ page h. absurd (cc (h, free page)) };
   stop = goes;
+  doubt = none_told plain plain.doubt [] (going desk.stop plain.stopped is.stopped goes) fits.doubt;
 }
 
 pub fetches : {D : Type 0} (honest : D → Type 0) (state : D → State) (version : Version) (log pages : D) (mappings : Mappings) (desk : RunningDesk D) (ledger : Ledger) (count : ℕ) → FetchesDesk honest state version log pages mappings desk → desk.stop ≡ None

@@ -12,6 +12,7 @@ use Rattle.history.specs.declared.entry.Base.{Base}
 use Rattle.history.specs.declared.entry.Change.TheVariants.{Drop}
 use Rattle.history.specs.declared.journal.Line.{Line}
 use Rattle.history.specs.declared.journal.What.{What}
+use Rattle.history.specs.declared.journal.FailedCall.TheVariants.{Write}
 use Rattle.history.specs.declared.journal.What.TheVariants as whats
 use Rattle.history.specs.History.{History, now}
 use Rattle.history.specs.Journal.{change_of}
@@ -28,7 +29,7 @@ use Rattle.journal_book.specs.Book.{Book, lines_needed, lines_refused}
 use Rattle.journal_book.specs.Works.{edits_of, first_pin, least_pin, lesser, work_at, with_work}
 use Rattle.journal_book.proofs.Slots.{work_at_with}
 use Rattle.txn_set.specs.declared.ledger.Ledger.{Ledger}
-use Rattle.txn_set.specs.Ledger.{IsKeptDrop, closed, drop_kept, given_up, gives_up, is_closed, keeping_drop, keeps_drop, keeps_other_drop}
+use Rattle.txn_set.specs.Ledger.{IsKeptDrop, closed, drop_kept, given_up, gives_up, is_closed, keeping_drop, keeps_drop, keeps_other_drop, line_of}
 use Rattle.txn_set.specs.Refused.{drop_refused, no_snapshot, pinned_below, stopped, where_so}
 use Rattle.txn_set.specs.WorksFit.{Closes, WorksFit}
 use Rattle.txn_set.proofs.FitSteps.{fits_gives_up, fits_keeping_drop, idle_none}
@@ -37,7 +38,7 @@ use Rattle.store_core.specs.declared.desk_core.Core.{Core}
 use Rattle.store_core.specs.Calls.{MayRecord}
 use Rattle.store_core.specs.Core.{IsCore}
 use Rattle.store_core.specs.Drops.{drop_line_refused, drop_refused_by, is_kept_drop}
-use Rattle.store_core.proofs.Cores.{core_still, holds_moved, same_edits}
+use Rattle.store_core.proofs.Cores.{core_still, doubt_stays, holds_moved, same_edits}
 use Rattle.store_core.proofs.Drops.{drop_edits, drop_some, none_first, none_mapped}
 use Rattle.store_core.proofs.Ledgers.{ledger_gives_up, ledger_keeping}
 use Rattle.store_core.proofs.Opened.{and_true, core_ended, core_given_up, ends_refused, given_book, stop_stays}
@@ -116,7 +117,7 @@ module _ (who : Who) (l : Ledger) (closed : is_closed (work_at l.works.slots who
 pub kept_may_record : (who : Who) (l : Ledger) → IsKeptDrop (work_at l.works.slots who.session) → MayRecord who l
 kept_may_record who l kept = (
   λ none. absurd (cc (none, drop_some (work_at l.works.slots who.session) kept)),
-  λ device count. closes_drop who (whats.Fault device count true) (work_at l.works.slots who.session) kept refl,
+  λ device count. closes_drop who (whats.Fault device count Write) (work_at l.works.slots who.session) kept refl,
 )
 
 -- ---- no such refusal is a fault
@@ -191,7 +192,7 @@ module _ {D : Type 0} (honest : D → Type 0) (state : D → State) (opening : H
             core_still honest state opening (record { desk = core.desk; ledger = g }) plain given (record { desk = core.desk; ledger = keeping_drop who g }) plain refl refl
             (ledger_keeping (now opening).base g given.ledger who none (sym (one_line_needed who core.ledger e) ∙ room) (fits_keeping_drop g who given.ledger.works none)) is.is is.fits refl
             (holds_moved core.desk.pool core.desk.pool g.works.slots (with_work g.works.slots who.session (Some (KeptDrop who))) given.edits (λ page. refl)
-            (same_edits g.works.slots who.session (Some (KeptDrop who)) (ap edits_of (sym none)))) refl refl
+            (same_edits g.works.slots who.session (Some (KeptDrop who)) (ap edits_of (sym none)))) refl refl given.doubt
 
   module _ (who : Who) (kept : IsKeptDrop (work_at core.ledger.works.slots who.session)) where
     -- without it
@@ -200,7 +201,7 @@ module _ {D : Type 0} (honest : D → Type 0) (state : D → State) (opening : H
         core_still honest state opening core plain is (record { desk = core.desk; ledger = gives_up who.session core.ledger }) plain refl refl
         (ledger_gives_up (now opening).base core.ledger is.ledger who.session kept (fits_gives_up core.ledger who.session is.ledger.works kept)) is.is is.fits refl
         (holds_moved core.desk.pool core.desk.pool core.ledger.works.slots (with_work core.ledger.works.slots who.session None) is.edits (λ page. refl)
-        (same_edits core.ledger.works.slots who.session None (drop_edits (work_at core.ledger.works.slots who.session) kept))) refl refl
+        (same_edits core.ledger.works.slots who.session None (drop_edits (work_at core.ledger.works.slots who.session) kept))) refl refl is.doubt
 
     -- behind a line that says why the drop was refused
     pub core_not_dropped : (why : Refusal) (ledger : Ledger) → ledger ≡ closed who (whats.Refused why) core.ledger → WorksFit ledger → IsCore honest state opening (record { desk = core.desk; ledger = ledger }) plain
@@ -208,4 +209,4 @@ module _ {D : Type 0} (honest : D → Type 0) (state : D → State) (opening : H
         core_ended honest state opening core plain is core.desk ledger plain who (whats.Refused why) ledger_is fits (drop_some (work_at core.ledger.works.slots who.session) kept)
         (closes_drop who (whats.Refused why) (work_at core.ledger.works.slots who.session) kept refl) (ends_refused why) is.is is.fits refl
         (λ page. and_true (held core.desk.pool page) ∙ ap (λ (l : List PageImage). held core.desk.pool page && not (is_among page (pages_of l))) (drop_edits (work_at core.ledger.works.slots who.session) kept))
-        (stop_stays core.desk.stop (stop_of (whats.Refused why)) refl) refl
+        (stop_stays core.desk.stop (stop_of (whats.Refused why)) refl) refl (doubt_stays honest state opening core plain is plain (line_of who (whats.Refused why)) refl)

@@ -73,7 +73,7 @@ own_ended opening lines line not_begun none = at line.what refl not_begun where
   at whats.Unlooked e n = ended_pins_nothing opening lines line cc
   at (whats.Dropped below) e n = still (behind_as _ e)
   at (whats.Refused why) e n = ended_pins_nothing opening lines line cc
-  at (whats.Fault device count wrote) e n = ended_pins_nothing opening lines line cc
+  at (whats.Fault device count call) e n = ended_pins_nothing opening lines line cc
 
 module _ (opening : Base) (l : Ledger) (is : IsLedger opening l) where
   abbrev Rules : What → Type 0

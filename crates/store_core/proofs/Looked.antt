@@ -98,7 +98,7 @@ module _ {D : Type 0} (honest : D → Type 0) (state : D → State) (opening : H
       → IsCore honest state opening (record { desk = core.desk; ledger = told who (whats.Refused why) core.ledger }) plain
   core_refused who why none room fits =
       core_quiet honest state opening core plain is (record { desk = core.desk; ledger = told who (whats.Refused why) core.ledger }) plain (line_of who (whats.Refused why)) refl refl
-      (ledger_told (now opening).base core.ledger is.ledger who (whats.Refused why) none refl room tt fits) is.is is.fits refl is.edits (quiet_refused why) refl refl
+      (ledger_told (now opening).base core.ledger is.ledger who (whats.Refused why) none refl room tt fits) is.is is.fits refl is.edits (quiet_refused why) refl refl refl
 
   core_looking : (who : Who) (number : ℕ) (lines : List Line) → work_at core.ledger.works.slots who.session ≡ None → lines_refused core.ledger.book 2 ≡ None → WorksFit (opened who (whats.Looked number) (looking who lines (number ∷ [])) core.ledger)
       → is_retained number core.desk.base.marks ≡ true → IsCore honest state opening (record { desk = core.desk; ledger = opened who (whats.Looked number) (looking who lines (number ∷ [])) core.ledger }) plain

@@ -9,6 +9,8 @@ use Rattle.retro_base.specs.declared.refusal.Refusal.TheVariants as refusals
 use Rattle.retro_base.specs.declared.who.Who.{Who}
 use Rattle.history.specs.declared.entry.Base.{Base}
 use Rattle.history.specs.declared.entry.Change.{Change}
+use Rattle.history.specs.declared.journal.FailedCall.{FailedCall}
+use Rattle.history.specs.declared.journal.FailedCall.TheVariants.{Read}
 use Rattle.history.specs.declared.journal.What.{What}
 use Rattle.history.specs.declared.journal.What.TheVariants as whats
 use Rattle.history.specs.History.{History, now, with_changes}
@@ -36,7 +38,7 @@ use Rattle.txn_set.specs.WorksFit.{Closes, WorksFit, pins_at}
 use Rattle.txn_set.proofs.FitSteps.{idle_none}
 use Rattle.store_core.specs.declared.desk_core.Core.{Core}
 use Rattle.store_core.specs.Calls.{HasOpened}
-use Rattle.store_core.specs.Core.{IsCore, IsLedger}
+use Rattle.store_core.specs.Core.{IsCore, IsLedger, IsToldDoubt}
 use Rattle.store_core.proofs.Cores.{IsQuiet, core_line, core_quiet, core_still, holds_ended, holds_moved, same_edits, with_nothing}
 use Rattle.store_core.proofs.Ledgers.{ledger_closed, ledger_given_up, ledger_opened, none_pinned, own_ended}
 use Rattle.store_core.proofs.Pins.{PinsForNone, closed_pins}
@@ -53,7 +55,7 @@ ended_begins whats.LookedAll e = absurd cc
 ended_begins whats.Unlooked e = refl
 ended_begins (whats.Dropped below) e = refl
 ended_begins (whats.Refused why) e = refl
-ended_begins (whats.Fault device count wrote) e = refl
+ended_begins (whats.Fault device count call) e = refl
 
 pub quiet_began : IsQuiet whats.Began
 quiet_began = record { stops = refl; changes = λ base. refl }
@@ -75,13 +77,13 @@ pub record EndsWork (what : What) : Type 0 where
 pub ends_refused : (why : Refusal) → EndsWork (whats.Refused why)
 ends_refused why = record { changes = λ base. refl; rules = λ base pins. tt }
 
-pub ends_fault : (device : Device) (count : ℕ) (wrote : Bool) → EndsWork (whats.Fault device count wrote)
-ends_fault device count wrote = record { changes = λ base. refl; rules = λ base pins. tt }
+pub ends_fault : (device : Device) (count : ℕ) (call : FailedCall) → EndsWork (whats.Fault device count call)
+ends_fault device count call = record { changes = λ base. refl; rules = λ base pins. tt }
 
 pub ended_ends : (why : Ending) → EndsWork (ended why)
 ended_ends ending.Asked = record { changes = λ base. refl; rules = λ base pins. tt }
 ended_ends (ending.Refused why) = ends_refused why
-ended_ends (ending.Failed device count) = ends_fault device count false
+ended_ends (ending.Failed device count) = ends_fault device count Read
 
 pub ended_stop : (why : Ending) → stop_of (ended why) ≡ None
 ended_stop ending.Asked = refl
@@ -98,7 +100,7 @@ by_refusal why = record { ends = ends_refused why; stop = refl }
 
 kept_ends : (kept : Refusal) (why : Ending) → Ends (closing (Some kept) why)
 kept_ends (refusals.Overlap session item) why = record { ends = record { changes = λ base. refl; rules = λ base pins. tt }; stop = refl }
-kept_ends (refusals.DiskFault device count) why = record { ends = ends_fault device count false; stop = refl }
+kept_ends (refusals.DiskFault device count) why = record { ends = ends_fault device count Read; stop = refl }
 kept_ends refusals.OutOfMemory why = by_refusal refusals.OutOfMemory
 kept_ends refusals.SourceFault why = by_refusal refusals.SourceFault
 kept_ends refusals.SinkFault why = by_refusal refusals.SinkFault
@@ -127,7 +129,7 @@ kept_ends refusals.BadSizes why = by_refusal refusals.BadSizes
 closing_ending : (kept : Option Refusal) (why : Ending) → Ends (closing kept why)
 closing_ending None ending.Asked = record { ends = record { changes = λ base. refl; rules = λ base pins. tt }; stop = refl }
 closing_ending None (ending.Refused why) = by_refusal why
-closing_ending None (ending.Failed device count) = record { ends = ends_fault device count false; stop = refl }
+closing_ending None (ending.Failed device count) = record { ends = ends_fault device count Read; stop = refl }
 closing_ending (Some kept) why = kept_ends kept why
 
 pub closing_work : (kept : Option Refusal) (why : Ending) → EndsWork (closing kept why)
@@ -162,7 +164,7 @@ module _ {D : Type 0} (honest : D → Type 0) (state : D → State) (opening : H
   core_given_up who =
       core_still honest state opening core plain is (record { desk = core.desk; ledger = given_up who core.ledger }) plain (given_book core.ledger who).0 (given_book core.ledger who).1
       (ledger_given_up (now opening).base core.ledger is.ledger who) is.is is.fits refl
-      (holds_moved core.desk.pool core.desk.pool core.ledger.works.slots (given_up who core.ledger).works.slots is.edits (λ page. refl) (given_edits core.ledger who)) refl refl
+      (holds_moved core.desk.pool core.desk.pool core.ledger.works.slots (given_up who core.ledger).works.slots is.edits (λ page. refl) (given_edits core.ledger who)) refl refl is.doubt
 
   -- a work opened
   pub core_opened : (who : Who) (what : What) (work : Work) → work_at core.ledger.works.slots who.session ≡ None → lines_refused core.ledger.book 2 ≡ None → WorksFit (opened who what work core.ledger)
@@ -173,7 +175,7 @@ module _ {D : Type 0} (honest : D → Type 0) (state : D → State) (opening : H
       core_quiet honest state opening core plain is (record { desk = core.desk; ledger = opened who what work core.ledger }) plain (line_of who what) refl refl
       (ledger_opened (now opening).base core.ledger is.ledger who what work none room fits rules others own edits) is.is is.fits refl
       (holds_moved core.desk.pool core.desk.pool core.ledger.works.slots (with_work core.ledger.works.slots who.session (Some work)) is.edits (λ page. refl)
-      (same_edits core.ledger.works.slots who.session (Some work) (edits ∙ ap edits_of (sym none)))) quiet refl refl
+      (same_edits core.ledger.works.slots who.session (Some work) (edits ∙ ap edits_of (sym none)))) quiet refl refl refl
 
   own_closed : (who : Who) (what : What) (work : Option Work) → work_at core.ledger.works.slots who.session ≡ work → IsSome work → Closes who what work
       → (begins what ≡ false) × (pinned_by who (pins_of (now opening).base [] (core.ledger.book.lines ++ line_of who what ∷ [])) ≡ [])
@@ -188,14 +190,14 @@ module _ {D : Type 0} (honest : D → Type 0) (state : D → State) (opening : H
   pub core_ended : (desk : RunningDesk D) (ledger : Ledger) (other : Desk) (who : Who) (what : What) → ledger ≡ closed who what core.ledger → WorksFit ledger → IsSome (work_at core.ledger.works.slots who.session)
       → Closes who what (work_at core.ledger.works.slots who.session) → EndsWork what → IsDesk honest state desk other → DeskFits other → other.history ≡ plain.history
       → ((page : ℕ) → held desk.pool page ≡ (held core.desk.pool page && not (is_among page (pages_of (edits_of (work_at core.ledger.works.slots who.session))))))
-      → desk.stop ≡ option_or core.desk.stop (stop_of what) → desk.base ≡ core.desk.base → IsCore honest state opening (record { desk = desk; ledger = ledger }) other
-  core_ended desk ledger other who what ledger_is fits some closes ends is_desk desk_fits history released stop base =
+      → desk.stop ≡ option_or core.desk.stop (stop_of what) → desk.base ≡ core.desk.base → IsToldDoubt other.doubt (core.ledger.book.lines ++ line_of who what ∷ []) → IsCore honest state opening (record { desk = desk; ledger = ledger }) other
+  core_ended desk ledger other who what ledger_is fits some closes ends is_desk desk_fits history released stop base told =
       let own = own_closed who what (work_at core.ledger.works.slots who.session) refl some closes in
       let behind : IsLedger (now opening).base (closed who what core.ledger) = ledger_closed (now opening).base core.ledger is.ledger who what some own.0 (ends.rules _ _) (closed_pins who what _ closes) own.1 (subst WorksFit ledger_is fits) in
       subst (λ (l : Ledger). IsCore honest state opening (record { desk = desk; ledger = l }) other) (sym ledger_is)
       (core_line honest state opening core plain is (record { desk = desk; ledger = closed who what core.ledger }) other (line_of who what) refl refl behind is_desk desk_fits
       (history ∙ sym (with_nothing honest state opening core plain is plain.history) ∙ ap (λ (c : Option Change). with_changes plain.history (option_to_list c)) (sym (ends.changes core.desk.base)))
-      (holds_ended core.desk.pool desk.pool core.ledger.works.slots who.session is.edits is.ledger.works.apart released) stop (ap (λ (b : Base). b.page_count) base))
+      (holds_ended core.desk.pool desk.pool core.ledger.works.slots who.session is.edits is.ledger.works.apart released) stop (ap (λ (b : Base). b.page_count) base) told)
 
 -- a call that opens a work
 pub core_opens : {D T : Type 0} (honest : D → Type 0) (state : D → State) (opening : History) (core : Core D) (plain : Desk) → IsCore honest state opening core plain → (who : Who) (what : What) (work : Work) (new : Ledger) (result : Result T Refusal)

@@ -6,6 +6,8 @@ use Rattle.retro_base.specs.declared.refusal.Refusal.TheVariants.{DiskFault, Out
 use Rattle.retro_base.specs.declared.who.Who.{Who}
 use Rattle.history.specs.declared.entry.Change.TheVariants.{Drop}
 use Rattle.history.specs.declared.journal.What.{What}
+use Rattle.history.specs.declared.journal.FailedCall.{FailedCall}
+use Rattle.history.specs.declared.journal.FailedCall.TheVariants.{Write}
 use Rattle.history.specs.declared.journal.What.TheVariants as whats
 use Rattle.history.specs.Writes.{is_among}
 use Rattle.journal_book.specs.declared.work.Look.{Look}
@@ -43,12 +45,16 @@ pub record HasAnswered {T : Type 0} (who : Who) (t next : Transaction) (refused 
 
 -- A fault of the item may have its line: it closes what the session has, which is this item's, or else is one of the two that are kept for workers.
 abbrev pub MayRecord : Who → Ledger → Type 0
-MayRecord who ledger = MayFault who ledger × ((device : Device) (count : ℕ) → Closes who (whats.Fault device count true) (work_at ledger.works.slots who.session))
+MayRecord who ledger = MayFault who ledger × ((device : Device) (count : ℕ) → Closes who (whats.Fault device count Write) (work_at ledger.works.slots who.session))
 
--- with the line of a fault that a write or a sync met, if this is one
+-- with the line of a fault that such a call met, if this is one
+abbrev pub failed_at : FailedCall → Who → Refusal → Ledger → Ledger
+failed_at call who (DiskFault device count) ledger = faulted who device count call ledger
+failed_at call who _ ledger = ledger
+
+-- that a write or a sync met
 abbrev pub failed : Who → Refusal → Ledger → Ledger
-failed who (DiskFault device count) ledger = faulted who device count true ledger
-failed who _ ledger = ledger
+failed who why ledger = failed_at Write who why ledger
 
 -- whether a page was edited by what such a fault closed
 abbrev pub has_released : Who → Refusal → ℕ → Ledger → Bool

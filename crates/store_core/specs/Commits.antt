@@ -3,6 +3,7 @@ use Rattle.std.specs.Prelude.{◌≡◌, false, ℕ, List, Option, Some, None, R
 use Rattle.disk_model.specs.Disk.{State}
 use Rattle.history.specs.Lines.{first_stop}
 use Rattle.history.specs.declared.entry.Change.TheVariants.{Commit}
+use Rattle.history.specs.declared.journal.FailedCall.TheVariants.{Append}
 use Rattle.history.specs.declared.writes.PageImage.{PageImage}
 use Rattle.retro_base.specs.declared.refusal.Refusal.{Refusal}
 use Rattle.retro_base.specs.declared.who.Who.{Who}
@@ -23,7 +24,7 @@ use Rattle.txn_set.specs.declared.ledger.Ledger.{Ledger}
 use Rattle.txn_set.specs.Ledger.{committed, taken}
 use Rattle.txn_set.specs.Refused.{commit_refused, counts_of, leaves_record}
 use Rattle.store_core.specs.declared.desk_core.Core.{Core}
-use Rattle.store_core.specs.Calls.{failed}
+use Rattle.store_core.specs.Calls.{failed_at}
 
 -- the entry is a commit
 abbrev pub IsCommit : Entry → Type 0
@@ -56,7 +57,7 @@ pub record MayCommitAs {D : Type 0} (core : Core D) (who : Who) (label : Option 
 
 -- the ledger behind a commit that was not refused before it took any memory
 abbrev pub HasEnded : {T : Type 0} → Who → Option (List ℕ) → Transaction → Ledger → Ledger → Result T Refusal → Type 0
-HasEnded who label t old new result = MatchResult result (λ _. new ≡ committed who label t.edits (taken who old)) (λ why. new ≡ failed who why old)
+HasEnded who label t old new result = MatchResult result (λ _. new ≡ committed who label t.edits (taken who old)) (λ why. new ≡ failed_at (Append (Commit label t.edits)) who why old)
 
 -- the plain desk behind a commit
 abbrev pub desk_behind : Desk → Option (List ℕ) → List PageImage → Desk

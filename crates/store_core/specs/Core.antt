@@ -1,19 +1,20 @@
 -- When a core is a plain desk behind a journal.
-use Rattle.std.specs.Prelude.{◌≡◌, ◌≤◌, ◌+◌, ℕ, true, List, length, Option}
+use Rattle.std.specs.Prelude.{◌≡◌, ◌≤◌, ◌+◌, ℕ, true, List, length, Option, Some}
 use Rattle.std.specs.List.{AllByRecursion}
 use Rattle.area_log.specs.Listed.{DeviceStandsFor}
 use Rattle.disk_model.specs.declared.four.Sizes.{Sizes}
 use Rattle.disk_model.specs.Disk.{State}
 use Rattle.retro_base.specs.declared.limits.TheConstants.{JOURNAL_LINES, LOG_REGION_BYTES, PAGE_BYTES, WORKER_LINES}
-use Rattle.history.specs.Lines.{first_stop}
+use Rattle.history.specs.Lines.{doubt_in, first_stop}
 use Rattle.history.specs.declared.entry.Base.{Base}
+use Rattle.history.specs.declared.journal.Line.{Line}
 use Rattle.history.specs.declared.log.Log.{Log}
 use Rattle.history.specs.declared.log.Version.{Version}
 use Rattle.history.specs.History.{History, now}
 use Rattle.history.specs.Journal.{after_journal}
 use Rattle.history.specs.Sound.{IsSound}
 use Rattle.page_pool.specs.Side.{Pool, held}
-use Rattle.race_model.specs.Desk.{Desk}
+use Rattle.race_model.specs.Desk.{Desk, Doubt, OneMore}
 use Rattle.records.specs.Log.{IsLog}
 use Rattle.replay.specs.Joined.{AreJoined}
 use Rattle.replay.specs.Opened.{opened}
@@ -47,7 +48,12 @@ pub record HoldsEdits {D : Type 0} (pool : Pool D) (slots : List (Option Work)) 
   pub kept : (page session : ℕ) → edits_page page (work_at slots session) ≡ true → held pool page ≡ true
   pub only : (page : ℕ) → held pool page ≡ true → (session : ℕ) × (edits_page page (work_at slots session) ≡ true)
 
--- The running desk is the plain one, which fits; its history is that of the opening with the changes of the journal; and it has stopped at the first fault that a line tells of a write or a sync.
+-- a change in doubt is the one that the journal tells to be
+abbrev pub IsToldDoubt : Doubt → List Line → Type 0
+IsToldDoubt (OneMore change) lines = doubt_in lines ≡ Some change
+IsToldDoubt _ lines = Unit {0}
+
+-- The running desk is the plain one, which fits; its history is that of the opening with the changes of the journal; it has stopped at the first fault that a line tells of a write or a sync; and a change that is in doubt is told.
 pub record IsCore {D : Type 0} (is_honest : D → Type 0) (state : D → State) (opening : History) (core : Core D) (plain : Desk) : Type 0 where
   pub ledger : IsLedger (now opening).base core.ledger
   pub is : IsDesk is_honest state core.desk plain
@@ -56,6 +62,7 @@ pub record IsCore {D : Type 0} (is_honest : D → Type 0) (state : D → State) 
   pub pages : core.ledger.book.pages ≡ core.desk.base.page_count
   pub edits : HoldsEdits core.desk.pool core.ledger.works.slots
   pub stop : core.desk.stop ≡ first_stop core.ledger.book.lines
+  pub doubt : IsToldDoubt plain.doubt core.ledger.book.lines
 
 -- an opening and a plain desk that a core is
 pub record IsWholeCore {D : Type 0} (is_honest : D → Type 0) (state : D → State) (core : Core D) : Type 0 where

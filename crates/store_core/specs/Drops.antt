@@ -4,6 +4,8 @@ use Rattle.retro_base.specs.declared.refusal.Refusal.{Refusal}
 use Rattle.retro_base.specs.declared.refusal.Refusal.TheVariants.{OutOfMemory}
 use Rattle.retro_base.specs.declared.who.Who.{Who}
 use Rattle.history.specs.Lines.{first_stop}
+use Rattle.history.specs.declared.entry.Change.TheVariants.{Drop}
+use Rattle.history.specs.declared.journal.FailedCall.TheVariants.{Append}
 use Rattle.history.specs.declared.journal.What.TheVariants as whats
 use Rattle.history.specs.Marks.{newest}
 use Rattle.journal_book.specs.declared.work.Work.{Work}
@@ -14,7 +16,7 @@ use Rattle.txn_set.specs.declared.ledger.Ledger.{Ledger}
 use Rattle.txn_set.specs.Ledger.{closed, drop_kept, drop_lines, given_up, gives_up}
 use Rattle.txn_set.specs.Refused.{drop_refused}
 use Rattle.store_core.specs.declared.desk_core.Core.{Core}
-use Rattle.store_core.specs.Calls.{failed}
+use Rattle.store_core.specs.Calls.{failed_at}
 
 -- Why a drop's line is refused: it finds no room behind what the session gives up. A line that is kept counts once.
 abbrev pub drop_line_refused : Who → Ledger → Option Refusal
@@ -30,9 +32,9 @@ pub record IsAllowedDrop {D : Type 0} (core : Core D) (who : Who) (below : ℕ) 
   pub free : drop_refused_by (newest core.desk.base.marks) below core.ledger ≡ None
 
 -- A drop that had its line was refused: for want of memory it gives the line up, else keeps it, or has the fault's.
-pub record HasEndedDrop (who : Who) (why : Refusal) (kept new : Ledger) : Type 0 where
+pub record HasEndedDrop (who : Who) (below : ℕ) (why : Refusal) (kept new : Ledger) : Type 0 where
   pub memory : why ≡ OutOfMemory → new ≡ gives_up who.session kept
-  pub other : (why ≡ OutOfMemory → ⊥) → new ≡ failed who why kept
+  pub other : (why ≡ OutOfMemory → ⊥) → new ≡ failed_at (Append (Drop below)) who why kept
 
 -- A drop of the snapshots below a number, where this is the newest one. JournalFull comes exactly where its line finds
 -- no room. Then it is refused where it may not be, with a line that says so. Else its own line tells it, or it was
@@ -46,7 +48,7 @@ pub record HasDropped {T : Type 0} (who : Who) (below newest : ℕ) (old new : L
   pub done : OnOk result ((drop_refused_by newest below old ≡ None)
       × (new ≡ closed who (whats.Dropped below) (drop_kept who old)))
   pub kept : drop_line_refused who old ≡ None → drop_refused_by newest below old ≡ None →
-      IfErr result (λ why. HasEndedDrop who why (drop_kept who old) new
+      IfErr result (λ why. HasEndedDrop who below why (drop_kept who old) new
       ⊎ ((why ≡ OutOfMemory) × (new ≡ given_up who old)))
 
 -- whether this is the line of a drop that is kept, in whatever phase

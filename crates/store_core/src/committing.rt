@@ -1,12 +1,13 @@
 //! Commits as the desk is asked for them.
 
-ghost use Rattle.std.specs.Prelude.{◌≡◌, true, false, ℕ, Some, None, is_some, option_copied, length, if◌then◌else◌, IsTrue, Err, IfErr, IfOk, IfSome, MatchResult, OnOk};
+ghost use Rattle.std.specs.Prelude.{◌≡◌, ◌&&◌, not, true, false, ℕ, Some, None, is_some, option_copied, length, if◌then◌else◌, IsTrue, Err, IfErr, IfOk, IfSome, MatchResult, OnOk};
 ghost use Rattle.disk_model.specs.Moments.{LeavesOnly};
 ghost use Rattle.disk_model.specs.Runs.{SameDevice};
 ghost use Rattle.retro_base.specs.declared.refusal.Refusal.{Refusal};
 ghost use Rattle.gate_log.specs.Cause.{IsDiskFault};
 ghost use Rattle.history.specs.Lines.{first_stop};
 ghost use Rattle.history.specs.declared.entry.Change.TheVariants.{Commit};
+ghost use Rattle.history.specs.declared.journal.FailedCall.TheVariants.{Append};
 ghost use Rattle.history.specs.History.{History};
 ghost use Rattle.history.specs.Label.{is_label};
 ghost use Rattle.history.specs.Marks.{newest};
@@ -17,9 +18,13 @@ ghost use Rattle.journal_book.specs.Works.{work_at};
 ghost use Rattle.race_model.specs.Desk.{Desk};
 ghost use Rattle.race_model.specs.Machine.{changed, change_failed};
 ghost use Rattle.desk.specs.Cause.{IsChangeRefusal};
-ghost use Rattle.desk.specs.Desk.{ListsLogOf};
+ghost use Rattle.page_pool.specs.Side.{held};
+ghost use Rattle.desk.specs.Desk.{IsDesk, IsWhole, ListsLogOf};
+ghost use Rattle.desk.specs.Steps.{SameButPages};
 ghost use Rattle.txn_set.specs.Ledger.{IsOpenAs, committed, kept_behind, taken, with_open};
 ghost use Rattle.txn_set.specs.Refused.{commit_refused, counts_of, leaves_record};
+ghost use Rattle.txn_set.specs.WorksFit.{WorksFit};
+ghost use Rattle.store_core.specs.Calls.{failed_at, has_released};
 ghost use Rattle.store_core.specs.Commits.{HasEnded, IsAllowed, IsRefusedSo, MayCommitAs, desk_behind};
 ghost use Rattle.store_core.specs.Core.{IsCore, IsWholeCore, StaysCore};
 
@@ -27,12 +32,40 @@ use crate::commit::{Sent, counts_of, label_of, leaves_record, send};
 use crate::desk_core::Core;
 use crate::works::{edits_of, release_all};
 use disk_model::Disk;
-use history::Label;
+use history::{Change, Label};
 use journal_book::Transaction;
 use retro_base::{Refusal, Who};
 use std::alloc::Global;
 
 impl<D: Disk + Drop> Core<D> {
+    // Records the line of a fault that the append of a commit met, if this is one, with the change that it leaves in
+    // doubt: it closes the transaction, and releases its pages.
+    fn record_commit(&mut self, who: Who, label: Option<Label>, why: Refusal)
+        requires whole { IsWhole D.is_honest D.state self.old.desk }
+        requires works { WorksFit self.old.ledger }
+        requires is_open { IsOpenAs self.old.ledger.works.slots who }
+        ensures rest { SameButPages self.old.desk self.new.desk }
+        ensures file { self.new.desk.pool.file ≡ self.old.desk.pool.file }
+        ensures works { WorksFit self.new.ledger }
+        ensures ledger { (t : Transaction) → work_at self.old.ledger.works.slots who.session ≡ Some (Open t)
+            → self.new.ledger ≡ failed_at (Append (Commit label t.edits)) who why self.old.ledger }
+        ensures untouched { (IsDiskFault why → ⊥) → self.new.desk ≡ self.old.desk }
+        ensures held { (page : ℕ) → held self.new.desk.pool page
+            ≡ (held self.old.desk.pool page && not (has_released who why page self.old.ledger)) }
+        ensures desk { (plain : Desk) → IsDesk D.is_honest D.state self.old.desk plain
+            → IsDesk D.is_honest D.state self.new.desk plain }
+    {
+        if let Refusal::DiskFault { device, count } = why {
+            release_all(&mut self.desk, edits_of(&self.ledger.works, who.session));
+            let Transaction { edits, .. } = self.ledger.take(who);
+            let change = Change::Commit {
+                label,
+                writes: edits,
+            };
+            self.ledger.fail(who, device, count, change);
+        }
+    }
+
     // Makes a commit that was not refused, and that leaves a record.
     fn commit_record(
         &mut self,
@@ -93,7 +126,7 @@ impl<D: Disk + Drop> Core<D> {
                     reads,
                     kept,
                 });
-                self.record(who, why);
+                self.record_commit(who, label, why);
                 Err(why)
             }
         }

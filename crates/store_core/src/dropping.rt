@@ -28,7 +28,7 @@ ghost use Rattle.store_core.specs.Drops.{HasDropped, HasEndedDrop, IsAllowedDrop
 use crate::desk_core::Core;
 use desk::RunningDesk;
 use disk_model::Disk;
-use history::{Change, What};
+use history::{Change, FailedCall, What};
 use journal_book::{Work, Works};
 use records::Entry;
 use retro_base::{Refusal, Who};
@@ -84,14 +84,14 @@ fn keeps_drop(works: &Works, session: u16) -> bool
 
 impl<D: Disk + Drop> Core<D> {
     // Ends a drop that was refused behind its line: want of memory gives the line up, a fault closes it.
-    fn end_drop(&mut self, who: Who, why: Refusal)
+    fn end_drop(&mut self, who: Who, below: u32, why: Refusal)
         requires whole { IsWhole D.is_honest D.state self.old.desk }
         requires works { WorksFit self.old.ledger }
         requires kept { IsKeptDrop (work_at self.old.ledger.works.slots who.session) }
         ensures rest { SameButPages self.old.desk self.new.desk }
         ensures file { self.new.desk.pool.file ≡ self.old.desk.pool.file }
         ensures works { WorksFit self.new.ledger }
-        ensures ledger { HasEndedDrop who why self.old.ledger self.new.ledger }
+        ensures ledger { HasEndedDrop who below why self.old.ledger self.new.ledger }
         ensures untouched { (IsDiskFault why → ⊥) → self.new.desk ≡ self.old.desk }
         ensures held { IsDiskFault why → (page : ℕ) → held self.new.desk.pool page
             ≡ (held self.old.desk.pool page && not (has_released who why page self.old.ledger)) }
@@ -101,7 +101,7 @@ impl<D: Disk + Drop> Core<D> {
     {
         match why {
             Refusal::OutOfMemory => self.ledger.give_up(who.session),
-            _ => self.record(who, why),
+            _ => self.record(who, FailedCall::Append(Change::Drop { below }), why),
         }
     }
 
@@ -114,7 +114,7 @@ impl<D: Disk + Drop> Core<D> {
         ensures same { SameDevice D.extent D.is_honest self.old.desk.log.disk self.new.desk.log.disk }
         ensures pages { self.new.desk.pool.file ≡ self.old.desk.pool.file }
         ensures ledger { MatchResult result (λ _. self.new.ledger ≡ closed who (Dropped below) self.old.ledger)
-            (λ why. HasEndedDrop who why self.old.ledger self.new.ledger) }
+            (λ why. HasEndedDrop who below why self.old.ledger self.new.ledger) }
         ensures cause { MatchResult result
             (λ _. D.faults self.new.desk.log.disk ≡ D.faults self.old.desk.log.disk)
             (IsChangeRefusal self.old.desk.log.log.area.log
@@ -139,7 +139,7 @@ impl<D: Disk + Drop> Core<D> {
                 Ok(())
             }
             Err(why) => {
-                self.end_drop(who, why);
+                self.end_drop(who, below, why);
                 Err(why)
             }
         }
@@ -153,7 +153,7 @@ impl<D: Disk + Drop> Core<D> {
         ensures same { SameDevice D.extent D.is_honest self.old.desk.log.disk self.new.desk.log.disk }
         ensures pages { self.new.desk.pool.file ≡ self.old.desk.pool.file }
         ensures ledger { MatchResult result (λ _. self.new.ledger ≡ closed who (Dropped below) self.old.ledger)
-            (λ why. HasEndedDrop who why self.old.ledger self.new.ledger) }
+            (λ why. HasEndedDrop who below why self.old.ledger self.new.ledger) }
         ensures cause { MatchResult result
             (λ _. D.faults self.new.desk.log.disk ≡ D.faults self.old.desk.log.disk)
             (IsChangeRefusal self.old.desk.log.log.area.log

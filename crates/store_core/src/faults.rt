@@ -9,6 +9,7 @@ ghost use Rattle.retro_base.specs.Cause.{IsFault};
 ghost use Rattle.retro_base.specs.declared.device.Device.TheVariants.{Log, Pages};
 ghost use Rattle.gate_log.specs.Cause.{IsDiskFault};
 ghost use Rattle.history.specs.declared.journal.What.TheVariants.{Fault};
+ghost use Rattle.history.specs.Lines.{is_write};
 ghost use Rattle.history.specs.History.{History};
 ghost use Rattle.journal_book.specs.Works.{work_at};
 ghost use Rattle.page_pool.specs.Side.{held};
@@ -20,14 +21,14 @@ ghost use Rattle.desk.specs.Desk.{HoldsPagesOf, IsDesk, IsWhole, ListsLogOf};
 ghost use Rattle.desk.specs.Steps.{IsLeastWritable, NoneWritable, SameButPages};
 ghost use Rattle.txn_set.specs.Ledger.{MayFault, faulted};
 ghost use Rattle.txn_set.specs.WorksFit.{Closes, WorksFit};
-ghost use Rattle.store_core.specs.Calls.{MayRecord, failed, has_released};
+ghost use Rattle.store_core.specs.Calls.{MayRecord, failed, failed_at, has_released};
 ghost use Rattle.store_core.specs.Core.{IsCore, IsWholeCore, StaysCore};
 
 use crate::desk_core::Core;
 use crate::works::{edits_of, release_all};
 use desk::RunningDesk;
 use disk_model::Disk;
-use history::Stop;
+use history::{FailedCall, Stop};
 use retro_base::{Device, Refusal, Who};
 use std::alloc::Global;
 
@@ -48,16 +49,18 @@ fn stop_where<D: Disk + Drop>(desk: &mut RunningDesk<D>, wrote: bool, fault: Sto
 }
 
 impl<D: Disk + Drop> Core<D> {
-    // Records the line of a fault that a write or a sync met, if this is one: it closes what the session has, and
-    // releases its pages, or else is a worker's.
-    pub(crate) fn record(&mut self, who: Who, why: Refusal)
+    // Records the line of a fault that such a call met, if this is one: it closes what the session has, and releases
+    // its pages, or else is a worker's.
+    pub(crate) fn record(&mut self, who: Who, call: FailedCall, why: Refusal)
         requires whole { IsWhole D.is_honest D.state self.old.desk }
         requires works { WorksFit self.old.ledger }
-        requires place { MayRecord who self.old.ledger }
+        requires place { MayFault who self.old.ledger }
+        requires closes { (device : _) (count : ℕ)
+            → Closes who (Fault device count call) (work_at self.old.ledger.works.slots who.session) }
         ensures rest { SameButPages self.old.desk self.new.desk }
         ensures file { self.new.desk.pool.file ≡ self.old.desk.pool.file }
         ensures works { WorksFit self.new.ledger }
-        ensures ledger { self.new.ledger ≡ failed who why self.old.ledger }
+        ensures ledger { self.new.ledger ≡ failed_at call who why self.old.ledger }
         ensures untouched { (IsDiskFault why → ⊥) → self.new.desk ≡ self.old.desk }
         ensures held { (page : ℕ) → held self.new.desk.pool page
             ≡ (held self.old.desk.pool page && not (has_released who why page self.old.ledger)) }
@@ -66,7 +69,7 @@ impl<D: Disk + Drop> Core<D> {
     {
         if let Refusal::DiskFault { device, count } = why {
             release_all(&mut self.desk, edits_of(&self.ledger.works, who.session));
-            self.ledger.note(who, device, count, true);
+            self.ledger.note(who, device, count, call);
         }
     }
 
@@ -106,7 +109,7 @@ impl<D: Disk + Drop> Core<D> {
         match self.desk.write_back() {
             Ok(wrote) => Ok(wrote),
             Err(why) => {
-                self.record(who, why);
+                self.record(who, FailedCall::Write, why);
                 Err(why)
             }
         }
@@ -139,7 +142,7 @@ impl<D: Disk + Drop> Core<D> {
         match self.desk.settle() {
             Ok(()) => Ok(()),
             Err(why) => {
-                self.record(who, why);
+                self.record(who, FailedCall::Write, why);
                 Err(why)
             }
         }
@@ -177,7 +180,7 @@ impl<D: Disk + Drop> Core<D> {
         match self.desk.cut_log(alloc) {
             Ok(was_cut) => Ok(was_cut),
             Err(why) => {
-                self.record(who, why);
+                self.record(who, FailedCall::Write, why);
                 Err(why)
             }
         }
@@ -185,19 +188,19 @@ impl<D: Disk + Drop> Core<D> {
 
     /// Records the line of a fault of another device's call: it closes what the session has, or else is a worker's.
     /// Where a write or a sync met it, the desk stops. Takes no memory.
-    pub fn note(&mut self, who: Who, device: Device, count: u64, wrote: bool)
+    pub fn note(&mut self, who: Who, device: Device, count: u64, call: FailedCall)
         requires core { IsWholeCore D.is_honest D.state self.old }
         requires place { MayFault who self.old.ledger }
-        requires closes { Closes who (Fault device count wrote) (work_at self.old.ledger.works.slots who.session) }
+        requires closes { Closes who (Fault device count call) (work_at self.old.ledger.works.slots who.session) }
         ensures log { self.new.desk.log ≡ self.old.desk.log }
         ensures file { self.new.desk.pool.file ≡ self.old.desk.pool.file }
-        ensures ledger { self.new.ledger ≡ faulted who device count wrote self.old.ledger }
+        ensures ledger { self.new.ledger ≡ faulted who device count call self.old.ledger }
         ensures stops { (opening : History) (plain : Desk) → IsCore D.is_honest D.state opening self.old plain
-            → wrote ≡ true → IsCore D.is_honest D.state opening self.new (stopped plain) }
-        ensures quiet { wrote ≡ false → StaysCore D.is_honest D.state self.old self.new }
+            → is_write call ≡ true → IsCore D.is_honest D.state opening self.new (stopped plain) }
+        ensures quiet { is_write call ≡ false → StaysCore D.is_honest D.state self.old self.new }
     {
-        stop_where(&mut self.desk, wrote, Stop { device, count });
+        stop_where(&mut self.desk, call.is_write(), Stop { device, count });
         release_all(&mut self.desk, edits_of(&self.ledger.works, who.session));
-        self.ledger.note(who, device, count, wrote);
+        self.ledger.note(who, device, count, call);
     }
 }

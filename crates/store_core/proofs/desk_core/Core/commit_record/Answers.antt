@@ -6,6 +6,8 @@ use Rattle.retro_base.specs.declared.refusal.Refusal.{Refusal}
 use Rattle.retro_base.specs.declared.who.Who.{Who}
 use Rattle.gate_log.specs.Cause.{IsDiskFault}
 use Rattle.history.specs.declared.entry.Change.TheVariants.{Commit}
+use Rattle.history.specs.declared.journal.FailedCall.TheVariants.{Append}
+use Rattle.history.specs.declared.journal.What.TheVariants as whats
 use Rattle.history.specs.declared.writes.PageImage.{PageImage}
 use Rattle.history.specs.History.{base_after}
 use Rattle.history.specs.Writes.{is_among, pages_of}
@@ -23,12 +25,14 @@ use Rattle.journal_book.specs.declared.work.Work.{Work}
 use Rattle.journal_book.specs.declared.work.Work.TheVariants.{Open}
 use Rattle.journal_book.specs.Works.{work_at}
 use Rattle.txn_set.specs.declared.ledger.Ledger.{Ledger}
-use Rattle.txn_set.specs.Ledger.{taken}
+use Rattle.txn_set.specs.Ledger.{line_of, taken}
+use Rattle.txn_set.specs.WorksFit.{Closes}
 use Rattle.store_core.specs.declared.desk_core.Core.{Core}
-use Rattle.store_core.specs.Calls.{failed, has_released}
+use Rattle.store_core.specs.Calls.{failed_at, has_released}
 use Rattle.store_core.specs.Commits.{IsMayCommit}
 use Rattle.store_core.specs.Core.{IsCore}
 use Rattle.store_core.proofs.Committed.{allowed_one, commit_fits, commit_right, committed_same, core_committed, core_pair, edits_held, fitting, goes_on, kept_one, may_commit, same_open, taken_none}
+use Rattle.store_core.proofs.Cores.{told_new}
 use Rattle.store_core.proofs.Faulted.{core_fails, failed_same, going_refusal, may_record}
 use Rattle.store_core.proofs.desk_core.Core.commit_record.Goals as goal
 
@@ -100,10 +104,10 @@ returns-in-Err-clause-any_moment g c = λ opening plain t is allowed told.
     let t0 : Transaction = c.take-began.result in
     let there : work_at c.args.self.now.ledger.works.slots c.args.who.session ≡ Some (Open t0) = c.take-began.ensures.transaction in
     let may : IsMayCommit g.D.Disk.is_honest g.D.Disk.state c.args.self.now.desk plain c.args.label t0.edits = may_commit g.D.Disk.is_honest g.D.Disk.state opening c.args.self.now plain is c.args.who t0 c.args.label there (allowed_one c.args.self.now c.args.who c.args.label t t0 there allowed).free (c.requires.leaves t0 there) in
-    subst (λ (x : Transaction). LeavesOnly g.D.Disk.remembers (g.D.Disk.clock c.args.self.now.desk.log.disk) (g.D.Disk.clock c.record.new.self.desk.log.disk) (ListsLogOf (change_failed plain (Commit c.args.label x.edits))))
+    subst (λ (x : Transaction). LeavesOnly g.D.Disk.remembers (g.D.Disk.clock c.args.self.now.desk.log.disk) (g.D.Disk.clock c.record_commit.new.self.desk.log.disk) (ListsLogOf (change_failed plain (Commit c.args.label x.edits))))
     (same_open (work_at c.args.self.now.ledger.works.slots c.args.who.session) t0 t there allowed.is_open)
     (subst (λ (l : LogSide g.row.D.Denot). LeavesOnly g.D.Disk.remembers (g.D.Disk.clock c.args.self.now.desk.log.disk) (g.D.Disk.clock l.disk) (ListsLogOf (change_failed plain (Commit c.args.label t0.edits))))
-    (sym (ap (λ (r : RunningDesk g.row.D.Denot). r.log) c.record.ensures.rest)) (c.send-label.ensures.any_moment plain may told))
+    (sym (ap (λ (r : RunningDesk g.row.D.Denot). r.log) c.record_commit.ensures.rest)) (c.send-label.ensures.any_moment plain may told))
 
 -- the transaction was put back
 put_back : {D : Type 0} (core : Core D) (who : Who) (t back : Transaction) (between new : Ledger) → work_at core.ledger.works.slots who.session ≡ Some (Open t) → t.who ≡ who → back ≡ t → between ≡ taken who core.ledger
@@ -121,9 +125,10 @@ returns-in-Err-clause-untouched g c = λ other.
     let there : work_at c.args.self.now.ledger.works.slots c.args.who.session ≡ Some (Open t0) = c.take-began.ensures.transaction in
     let own : t0.who ≡ c.args.who = subst (λ (x : Transaction). x.who ≡ c.args.who) (same_open (work_at c.args.self.now.ledger.works.slots c.args.who.session) c.requires.may.transaction t0 c.requires.may.allowed.is_open there) c.requires.may.is_of in
     let back : c.put.new.self ≡ c.args.self.now.ledger = put_back c.args.self.now c.args.who t0 (edited t0 c.send-label.result.writes) c.take-began.new.self c.put.new.self there own (ap (edited t0) c.send-label.ensures.parts.1) c.take-began.ensures.ledger c.put.ensures.undone in
-    core_pair c.record.new.self c.args.self.now
-    (c.record.ensures.untouched other ∙ subst (λ (r : Result (Unit {0}) Refusal). IfErr r (λ why. (IsDiskFault why → ⊥) → c.send-label.new.desk ≡ c.args.self.now.desk)) c.in-Err.is c.send-label.ensures.untouched other)
-    (c.record.ensures.ledger ∙ failed_same c.args.who c.in-Err.why c.put.new.self other ∙ back)
+    core_pair c.record_commit.new.self c.args.self.now
+    (c.record_commit.ensures.untouched other ∙ subst (λ (r : Result (Unit {0}) Refusal). IfErr r (λ why. (IsDiskFault why → ⊥) → c.send-label.new.desk ≡ c.args.self.now.desk)) c.in-Err.is c.send-label.ensures.untouched other)
+    (c.record_commit.ensures.ledger t0 (subst (λ (l : Ledger). work_at l.works.slots c.args.who.session ≡ Some (Open t0)) (sym back) there)
+    ∙ failed_same (Append (Commit c.send-label.result.label t0.edits)) c.args.who c.in-Err.why c.put.new.self other ∙ back)
 
 pub returns-in-Err-clause-cause : goal.returns-in-Err-clause-cause
 returns-in-Err-clause-cause g c = λ t allowed.
@@ -134,9 +139,9 @@ returns-in-Err-clause-cause g c = λ t allowed.
     let size : ℕ = length (change_bytes c.args.self.now.desk.log.log.version (Commit c.args.label t0.edits)) in
     let refused : IsWriteRefusal c.args.self.now.desk.stop (IsOwn size (g.D.Disk.faults c.send-label.new.desk.log.disk)) c.in-Err.why =
     subst (λ (r : Result (Unit {0}) Refusal). MatchResult r (λ _. (c.args.self.now.desk.stop ≡ None) × (g.D.Disk.faults c.send-label.new.desk.log.disk ≡ g.D.Disk.faults c.args.self.now.desk.log.disk)) (IsWriteRefusal c.args.self.now.desk.stop (IsOwn size (g.D.Disk.faults c.send-label.new.desk.log.disk)))) c.in-Err.is c.send-label.ensures.cause in
-    subst (λ (x : Transaction). IsOwn (length (change_bytes c.args.self.now.desk.log.log.version (Commit c.args.label x.edits))) (g.D.Disk.faults c.record.new.self.desk.log.disk) c.in-Err.why)
+    subst (λ (x : Transaction). IsOwn (length (change_bytes c.args.self.now.desk.log.log.version (Commit c.args.label x.edits))) (g.D.Disk.faults c.record_commit.new.self.desk.log.disk) c.in-Err.why)
     (same_open (work_at c.args.self.now.ledger.works.slots c.args.who.session) t0 t there allowed.is_open)
-    (subst (λ (l : LogSide g.row.D.Denot). IsOwn size (g.D.Disk.faults l.disk) c.in-Err.why) (sym (ap (λ (r : RunningDesk g.row.D.Denot). r.log) c.record.ensures.rest))
+    (subst (λ (l : LogSide g.row.D.Denot). IsOwn size (g.D.Disk.faults l.disk) c.in-Err.why) (sym (ap (λ (r : RunningDesk g.row.D.Denot). r.log) c.record_commit.ensures.rest))
     (going_refusal c.args.self.now.desk.stop (IsOwn size (g.D.Disk.faults c.send-label.new.desk.log.disk)) c.in-Err.why goes refused))
 
 pub returns-in-Err-clause-failed : goal.returns-in-Err-clause-failed
@@ -151,13 +156,18 @@ returns-in-Err-clause-failed g c = λ opening plain t is allowed fault.
     let other : Desk = change_failed plain (Commit c.args.label t0.edits) in
     let sent : IsDesk g.D.Disk.is_honest g.D.Disk.state c.send-label.new.desk other =
     subst (λ (r : Result (Unit {0}) Refusal). IfErr r (λ why. IsDiskFault why → IsDesk g.D.Disk.is_honest g.D.Disk.state c.send-label.new.desk other)) c.in-Err.is (c.send-label.ensures.failed plain may) fault in
-    subst (λ (x : Transaction). IsCore g.D.Disk.is_honest g.D.Disk.state opening c.record.new.self (change_failed plain (Commit c.args.label x.edits)))
+    subst (λ (x : Transaction). IsCore g.D.Disk.is_honest g.D.Disk.state opening c.record_commit.new.self (change_failed plain (Commit c.args.label x.edits)))
     (same_open (work_at c.args.self.now.ledger.works.slots c.args.who.session) t0 t there allowed.is_open)
-    (core_fails g.D.Disk.is_honest g.D.Disk.state opening c.args.self.now plain is c.send-label.new.desk c.record.new.self.desk other c.args.who c.in-Err.why c.record.new.self.ledger fault
-    (may_record c.args.who c.args.self.now.ledger t0 there own)
+    (core_fails g.D.Disk.is_honest g.D.Disk.state opening c.args.self.now plain is c.send-label.new.desk c.record_commit.new.self.desk other c.args.who (Append (Commit c.args.label t0.edits)) c.in-Err.why c.record_commit.new.self.ledger fault refl
+    (may_record c.args.who c.args.self.now.ledger t0 there own).0
+    (λ device count. subst (Closes c.args.who (whats.Fault device count (Append (Commit c.args.label t0.edits)))) (sym there) (refl, own))
     (goes_on g.D.Disk.is_honest g.D.Disk.state opening c.args.self.now plain is c.args.who t0 c.args.label there free leaves)
     (subst (λ (r : Result (Unit {0}) Refusal). MatchResult r (λ _. c.send-label.new.desk.stop ≡ c.args.self.now.desk.stop) (λ why. c.send-label.new.desk.stop ≡ stop_behind c.args.self.now.desk.stop why)) c.in-Err.is c.send-label.ensures.stop)
-    (sent.base ∙ sym is.is.base) c.send-label.ensures.held c.record.ensures.rest
-    (λ page. c.record.ensures.held page ∙ ap (λ (l : Ledger). held c.send-label.new.desk.pool page && not (has_released c.args.who c.in-Err.why page l)) back)
-    (c.record.ensures.ledger ∙ ap (failed c.args.who c.in-Err.why) back) c.record.ensures.works (c.record.ensures.desk other sent)
-    (change_failed_keeps plain is.fits (Commit c.args.label t0.edits) may.follows) refl)
+    (sent.base ∙ sym is.is.base) c.send-label.ensures.held c.record_commit.ensures.rest
+    (λ page. c.record_commit.ensures.held page ∙ ap (λ (l : Ledger). held c.send-label.new.desk.pool page && not (has_released c.args.who c.in-Err.why page l)) back)
+    (c.record_commit.ensures.ledger t0 (subst (λ (l : Ledger). work_at l.works.slots c.args.who.session ≡ Some (Open t0)) (sym back) there)
+    ∙ ap (λ (l : Option (List ℕ)). failed_at (Append (Commit l t0.edits)) c.args.who c.in-Err.why c.put.new.self) c.send-label.ensures.parts.0
+    ∙ ap (failed_at (Append (Commit c.args.label t0.edits)) c.args.who c.in-Err.why) back) c.record_commit.ensures.works (c.record_commit.ensures.desk other sent)
+    (change_failed_keeps plain is.fits (Commit c.args.label t0.edits) may.follows) refl
+    (λ device count. told_new c.args.self.now.ledger.book.lines (line_of c.args.who (whats.Fault device count (Append (Commit c.args.label t0.edits)))) (Commit c.args.label t0.edits)
+    (sym is.stop ∙ goes_on g.D.Disk.is_honest g.D.Disk.state opening c.args.self.now plain is c.args.who t0 c.args.label there free leaves) refl))

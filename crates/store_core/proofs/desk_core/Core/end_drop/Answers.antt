@@ -1,4 +1,6 @@
 use Rattle.std.proofs.Common.{◌∙◌, sym, subst}
+use Rattle.history.specs.declared.entry.Change.TheVariants.{Drop}
+use Rattle.history.specs.declared.journal.FailedCall.TheVariants.{Append}
 use Rattle.txn_set.specs.declared.ledger.Ledger.{Ledger}
 use Rattle.store_core.specs.declared.desk_core.Core.{Core}
 use Rattle.store_core.specs.Core.{IsCore}
@@ -23,5 +25,5 @@ returns-in_default g c = record {
   desk = c.record.ensures.desk;
   stays = λ other opening plain is.
       subst (λ (x : Core g.row.D.Denot). IsCore g.D.Disk.is_honest g.D.Disk.state opening x plain)
-      (sym (core_pair c.record.new.self c.args.self.now (c.record.ensures.untouched other) (c.record.ensures.ledger ∙ failed_same c.args.who c.args.why c.args.self.now.ledger other))) is;
+      (sym (core_pair c.record.new.self c.args.self.now (c.record.ensures.untouched other) (c.record.ensures.ledger ∙ failed_same (Append (Drop c.args.below)) c.args.who c.args.why c.args.self.now.ledger other))) is;
 }
