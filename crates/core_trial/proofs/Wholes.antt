@@ -19,6 +19,7 @@ use Rattle.store_core.specs.Calls.{failed}
 use Rattle.store_core.specs.Commits.{IsAllowed, IsRefusedSo, desk_behind}
 use Rattle.store_core.specs.Core.{IsCore, IsWholeCore, StaysCore}
 use Rattle.store_core.proofs.Committed.{core_pair}
+use Rattle.history.specs.declared.journal.FailedCall.TheVariants.{Write}
 use Rattle.store_core.proofs.Faulted.{failed_same}
 
 fault_or : (why : Refusal) → IsDiskFault why ⊎ (IsDiskFault why → ⊥)
@@ -65,7 +66,7 @@ module _ {D : Type 0} (honest : D → Type 0) (state : D → State) (old new : C
   refused : {T : Type 0} (who : Who) (outcome : Result T Refusal) → MatchResult outcome (λ _. new.ledger ≡ old.ledger) (λ why. new.ledger ≡ failed who why old.ledger)
       → IfErr outcome (λ why. (IsDiskFault why → ⊥) → new.desk ≡ old.desk) → IfErr outcome (λ why. (IsDiskFault why → ⊥) → IsWholeCore honest state new)
   refused who (Ok x) ledger untouched = untouched
-  refused who (Err why) ledger untouched = λ none. same (core_pair new old (untouched none) (ledger ∙ failed_same who why old.ledger none))
+  refused who (Err why) ledger untouched = λ none. same (core_pair new old (untouched none) (ledger ∙ failed_same Write who why old.ledger none))
 
   pub commit_whole : (who : Who) (label : Option (List ℕ)) (outcome : Result (Option ℕ) Refusal) → IsOpenAs old.ledger.works.slots who
       → ((t : Transaction) (why : Refusal) → IsRefusedSo old who label t why → StaysCore honest state old new)

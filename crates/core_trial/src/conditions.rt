@@ -1,8 +1,9 @@
 //! What the calls of a desk ask, as tests.
 
-ghost use Rattle.std.specs.Prelude.{◌≡◌, true, ℕ, Bool, IsTrue, IfSome};
+ghost use Rattle.std.specs.Prelude.{◌≡◌, true, ℕ, IsTrue, IfSome};
 ghost use Rattle.retro_base.specs.declared.device.Device.{Device};
 ghost use Rattle.history.specs.Label.{is_label};
+ghost use Rattle.history.specs.declared.journal.FailedCall.{FailedCall};
 ghost use Rattle.history.specs.declared.journal.What.TheVariants.{Fault};
 ghost use Rattle.journal_book.specs.Works.{work_at};
 ghost use Rattle.store_core.specs.Calls.{IsPinned};
@@ -68,8 +69,8 @@ pub(crate) fn is_pinned(ledger: &Ledger, session: u16, snapshot: u32) -> bool
 /// Whether a fault of the item may have its line: as what the session has, but for a look, or as a worker's.
 pub(crate) fn may_fault(ledger: &Ledger, who: Who) -> bool
     ensures place { IsTrue result → MayFault who ledger.now }
-    ensures closes { IsTrue result → (device : Device) (count : ℕ) (wrote : Bool)
-        → Closes who (Fault device count wrote) (work_at ledger.now.works.slots who.session) }
+    ensures closes { IsTrue result → (device : Device) (count : ℕ) (call : FailedCall)
+        → Closes who (Fault device count call) (work_at ledger.now.works.slots who.session) }
 {
     match ledger.works.at(who.session) {
         None => ledger.book.workers() >= 1,

@@ -2,7 +2,7 @@
 
 use crate::conditions::{is_closed, is_idle, is_looking, is_open, is_pinned, may_fault, may_mark};
 use disk_model::Disk;
-use history::{Journal, Mark, Version};
+use history::{FailedCall, Journal, Mark, Version};
 use race_model::{Batch, Receipt};
 use retro_base::{Device, Page, Refusal, Who};
 use skippy::Mappings;
@@ -36,6 +36,14 @@ impl<D: Disk> Model for Trial<D> {
 pub struct Peek {
     pub page: Page,
     pub acked: u64,
+}
+
+// A call that was to write, or to read.
+fn call_of(wrote: bool) -> FailedCall {
+    if wrote {
+        return FailedCall::Write;
+    }
+    FailedCall::Read
 }
 
 impl<D: Disk + Drop> Trial<D> {
@@ -194,7 +202,7 @@ impl<D: Disk + Drop> Trial<D> {
         if !may_fault(self.core.ledger(), who) {
             return Err(NOT_ASKED);
         }
-        self.core.note(who, device, count, wrote);
+        self.core.note(who, device, count, call_of(wrote));
         Ok(())
     }
 

@@ -1,4 +1,5 @@
-use Rattle.std.proofs.Common.{refl, subst, true}
+use Rattle.std.proofs.Common.{refl, subst}
+use Rattle.history.specs.declared.journal.FailedCall.TheVariants.{Write}
 use Rattle.race_model.specs.Machine.{cut, cut_failed}
 use Rattle.core_trial.proofs.Wholes.{err_map, ok_and, told_whole}
 use Rattle.txn_set.specs.declared.ledger.Ledger.{Ledger}
@@ -6,7 +7,7 @@ use Rattle.store_core.specs.Calls.{MayRecord}
 use Rattle.core_trial.proofs.trial.Trial.cut_log.Goals as goal
 
 pub cut_log-requires-clause-place : goal.cut_log-requires-clause-place
-cut_log-requires-clause-place g c = subst (λ (l : Ledger). MayRecord c.args.who l) c.ledger.ensures (c.if-not-may_fault.ensures.place refl, λ device count. c.if-not-may_fault.ensures.closes refl device count true)
+cut_log-requires-clause-place g c = subst (λ (l : Ledger). MayRecord c.args.who l) c.ledger.ensures (c.if-not-may_fault.ensures.place refl, λ device count. c.if-not-may_fault.ensures.closes refl device count Write)
 
 pub invariant_of-self : goal.invariant_of-self
 invariant_of-self g c =

@@ -1,4 +1,5 @@
-use Rattle.std.proofs.Common.{refl, subst, true}
+use Rattle.std.proofs.Common.{refl, subst}
+use Rattle.history.specs.declared.journal.FailedCall.TheVariants.{Write}
 use Rattle.race_model.specs.Machine.{write_failed, written}
 use Rattle.core_trial.proofs.Wholes.{err_map, ok_and, told_whole}
 use Rattle.txn_set.specs.declared.ledger.Ledger.{Ledger}
@@ -6,7 +7,7 @@ use Rattle.store_core.specs.Calls.{MayRecord}
 use Rattle.core_trial.proofs.trial.Trial.write_back.Goals as goal
 
 pub write_back-requires-clause-place : goal.write_back-requires-clause-place
-write_back-requires-clause-place g c = subst (λ (l : Ledger). MayRecord c.args.who l) c.ledger.ensures (c.if-not-may_fault.ensures.place refl, λ device count. c.if-not-may_fault.ensures.closes refl device count true)
+write_back-requires-clause-place g c = subst (λ (l : Ledger). MayRecord c.args.who l) c.ledger.ensures (c.if-not-may_fault.ensures.place refl, λ device count. c.if-not-may_fault.ensures.closes refl device count Write)
 
 pub invariant_of-self : goal.invariant_of-self
 invariant_of-self g c =
