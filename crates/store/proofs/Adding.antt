@@ -3,6 +3,7 @@ use Rattle.std.proofs.Common.{◌≡◌, ◌≢◌, ◌⊎◌, ◌∙◌, ℕ, B
 use Rattle.std.specs.Prelude.{is_some}
 use Rattle.retro_base.specs.declared.device.Device.{Device}
 use Rattle.retro_base.specs.declared.who.Who.{Who}
+use Rattle.history.specs.declared.journal.FailedCall.{FailedCall}
 use Rattle.history.specs.declared.journal.Line.{Line}
 use Rattle.history.specs.declared.journal.What.{What}
 use Rattle.history.specs.declared.journal.What.TheVariants as whats
@@ -181,11 +182,11 @@ module _ (who : Who) (May : What → Type 0) (l new : Ledger) where
       (more_fits l new (ap (λ (x : Ledger). x.book.workers) e) (line_of who (whats.Done label writes)) is) ends (none_open (l.book.lines ++ line_of who (whats.Done label writes) ∷ []) (ap (λ (x : Ledger). work_at x.works.slots who.session) e ∙ slot_own l.works.slots who.session None))
 
   -- the fault of a session that has something open, or of a worker that told none
-  pub adds_faulted : (device : Device) (count : ℕ) (wrote : Bool) → (is_some (work_at l.works.slots who.session) ≡ false → IsFreshWorker who.session l.book.lines) → May (whats.Fault device count wrote)
-      → new ≡ faulted who device count wrote l → AddsOwn who.session May l new
-  adds_faulted device count wrote fresh may e = at (is_some (work_at l.works.slots who.session)) refl where
+  pub adds_faulted : (device : Device) (count : ℕ) (call : FailedCall) → (is_some (work_at l.works.slots who.session) ≡ false → IsFreshWorker who.session l.book.lines) → May (whats.Fault device count call)
+      → new ≡ faulted who device count call l → AddsOwn who.session May l new
+  adds_faulted device count call fresh may e = at (is_some (work_at l.works.slots who.session)) refl where
     what : What
-    what = whats.Fault device count wrote
+    what = whats.Fault device count call
 
     none : (w : Option Work) → is_some w ≡ false → w ≡ None
     none None f = refl
@@ -196,7 +197,7 @@ module _ (who : Who) (May : What → Type 0) (l new : Ledger) where
     at false t =
         let is : new ≡ record l { book = noting l.book (line_of who what) } = e ∙ ap (λ (b : Bool). cond b (closed who what l) (record l { book = noting l.book (line_of who what) })) t in
         one_more what may (λ other ne. ap (λ (x : Ledger). work_at x.works.slots other) is) (ap (λ (x : Ledger). x.book.lines) is)
-        (λ fits. subst WorkersFit (sym is) (noted_fits who device count wrote l (fresh t) fits)) (λ tried. tt)
+        (λ fits. subst WorkersFit (sym is) (noted_fits who device count call l (fresh t) fits)) (λ tried. tt)
         (none_open (l.book.lines ++ line_of who what ∷ []) (ap (λ (x : Ledger). work_at x.works.slots who.session) is ∙ none (work_at l.works.slots who.session) t))
 
   -- a drop that keeps its line, gives it up, or has it
@@ -224,5 +225,5 @@ module _ (who : Who) (May : What → Type 0) (l new : Ledger) where
         (ap (λ (x : Ledger). x.book.workers) f) (λ t. none_open l.book.lines (ap (λ (x : Ledger). work_at x.works.slots who.session) f ∙ slot_own l.works.slots who.session None))
 
 -- the line of a fault closes what is open
-pub faulted_closed : (who : Who) (l : Ledger) (device : Device) (count : ℕ) (wrote : Bool) (work : Work) → work_at l.works.slots who.session ≡ Some work → faulted who device count wrote l ≡ closed who (whats.Fault device count wrote) l
-faulted_closed who l device count wrote work e = ap (λ (b : Bool). cond b (closed who (whats.Fault device count wrote) l) (record l { book = noting l.book (line_of who (whats.Fault device count wrote)) })) (ap is_some e)
+pub faulted_closed : (who : Who) (l : Ledger) (device : Device) (count : ℕ) (call : FailedCall) (work : Work) → work_at l.works.slots who.session ≡ Some work → faulted who device count call l ≡ closed who (whats.Fault device count call) l
+faulted_closed who l device count call work e = ap (λ (b : Bool). cond b (closed who (whats.Fault device count call) l) (record l { book = noting l.book (line_of who (whats.Fault device count call)) })) (ap is_some e)

@@ -25,7 +25,7 @@ step_current world who LookedAll = refl
 step_current world who Unlooked = refl
 step_current world who (Dropped below) = refl
 step_current world who (Refused why) = refl
-step_current world who (Fault device count wrote) = refl
+step_current world who (Fault device count call) = refl
 
 pub current_is : (world : World Pages) (lines : List Line) → (page_world world lines).current ≡ pages_after_journal world.current lines
 current_is world [] = refl
@@ -55,7 +55,7 @@ after_at one other page (l ∷ lines) same = after_at (pages_behind one l.what) 
   behind_at Unlooked = same
   behind_at (Dropped below) = same
   behind_at (Refused why) = same
-  behind_at (Fault device count wrote) = same
+  behind_at (Fault device count call) = same
 
 -- ---- what is refused by neither of two tests
 

@@ -1,5 +1,5 @@
 -- A commit that asks the desk until the log has room.
-use Rattle.std.proofs.Common.{◌≡◌, ◌∙◌, ◌||◌, ℕ, Bool, true, false, cond, List, Option, Some, None, Result, Err, refl, sym, ap, subst, inl, inr}
+use Rattle.std.proofs.Common.{◌≡◌, ◌∙◌, ◌||◌, ℕ, Bool, true, false, cond, List, Option, Some, None, Result, Err, refl, sym, ap, subst}
 use Rattle.std.specs.Prelude.{is_some, length, nat_lt, option_map}
 use Rattle.std.specs.Option.{option_or}
 use Rattle.atomic_table.specs.Seated.{TableId}
@@ -7,9 +7,10 @@ use Rattle.disk_model.specs.Disk.{State}
 use Rattle.disk_model.specs.Moments.{Clock}
 use Rattle.retro_base.specs.declared.device.Device.{Device}
 use Rattle.retro_base.specs.declared.refusal.Refusal.{Refusal}
-use Rattle.retro_base.specs.declared.refusal.Refusal.TheVariants.{DiskFault, NoRoom, OutOfMemory, Stopped}
+use Rattle.retro_base.specs.declared.refusal.Refusal.TheVariants.{NoRoom, Stopped}
 use Rattle.retro_base.specs.declared.who.Who.{Who}
 use Rattle.gate_log.specs.Cause.{IsDiskFault}
+use Rattle.history.specs.declared.journal.FailedCall.TheVariants.{Write}
 use Rattle.history.specs.declared.journal.Line.{Line}
 use Rattle.history.specs.declared.journal.What.TheVariants.{Fault}
 use Rattle.history.specs.declared.stop.Stop.{Stop}
@@ -26,11 +27,13 @@ use Rattle.txn_set.specs.WorksFit.{Closes, MayKeep}
 use Rattle.store_core.specs.declared.desk_core.Core.{Core}
 use Rattle.turn.specs.Seats.{mine}
 use Rattle.store.specs.Calls.{CommitDoes, refused_so}
-use Rattle.store.specs.Rounds.{AnswersAtLast, IsNoRoom, IsRoom, MayServe, Passes, RoomRefused, RoundRefused}
+use Rattle.store.specs.Rounds.{AnswersAtLast, IsRoom, MayAskAgain, MayServe, Passes}
 use Rattle.store.specs.Seats.{IsOpenIn, IsReady, Sat, Visits, journal, slots_of}
 use Rattle.store.proofs.Finding.{some_is}
 use Rattle.store.proofs.Meeting.{work_stays}
 use Rattle.store.proofs.Passing.{passes_quiet}
+use Rattle.store.proofs.Reaching.{AnswersSo}
+use Rattle.store.proofs.Rooming.{answers_so}
 
 err_is : (r : Result (Option ℕ) Refusal) (x y : Refusal) → r ≡ Err x → r ≡ Err y → x ≡ y
 err_is r x y e f = cc (e, f)
@@ -87,21 +90,20 @@ room_no_fault _ is fault = is
 -- a seat with an open transaction may make rounds
 pub open_serves : {D : Type 0} (s : Sat D) (who : Who) → IsOpenIn s who → MayServe s who
 open_serves s who is = record {
-  closes = λ d c. subst (λ (w : Option Work). Closes who (Fault d c true) w) (sym is.open_there) (refl, is.is_of);
+  closes = λ d c. subst (λ (w : Option Work). Closes who (Fault d c Write) w) (sym is.open_there) (refl, is.is_of);
   worker = λ none. absurd (cc (none, is.open_there));
 }
 
 pub open_on : {D : Type 0} (z : TableId) (s0 s1 : Sat D) (who : Who) → Passes z s0 s1 → IsOpenIn s0 who → IsOpenIn s1 who
 open_on z s0 s1 who passes is = record { transaction = is.transaction; open_there = work_stays s0 s1 passes.stays ∙ is.open_there; is_of = is.is_of }
 
-module _ {D : Type 0} (is_honest : D → Type 0) (state : D → State) (faults : D → ℕ) (z : TableId) (remembers : Type 0) (clock : D → Clock) (who : Who) where
-  -- the desk found no room
-  abbrev pub FindsNone : Result (Option ℕ) Refusal → Type 0
-  FindsNone r = IsNoRoom is_honest state faults z remembers clock who r
+pub not_room : (why : Refusal) → ((needed free : ℕ) → why ≡ NoRoom needed free → ⊥) → IsRoom why → ⊥
+not_room (NoRoom needed free) none is = none needed free refl
+not_room _ none is = is
 
-  pub not_room : (why : Refusal) → ((needed free : ℕ) → why ≡ NoRoom needed free → ⊥) → FindsNone (Err why) → ⊥
-  not_room (NoRoom needed free) none is = none needed free refl
-  not_room _ none is = is
+pub not_again : (why : Refusal) → ((d : Device) (c : ℕ) → why ≡ Stopped d c → ⊥) → MayAskAgain (Err why) → ⊥
+not_again (Stopped d c) none may = none d c refl
+not_again _ none may = may
 
 module _ {D : Type 0} (is_honest : D → Type 0) (state : D → State) (faults : D → ℕ) (z : TableId) (remembers : Type 0) (clock : D → Clock) (who : Who) (label : Option (List ℕ)) (t : Transaction) where
   -- what an answer of the desk is of
@@ -122,17 +124,11 @@ module _ {D : Type 0} (is_honest : D → Type 0) (state : D → State) (faults :
           let fits = found.is.ledger.works.each who.session (Open t) here in
           absurd (keeps_no_room t.kept because fits.may_keep kept (subst IsRoom same room))
 
-  module _ (s0 s1 : Sat D) (passes : Passes z s0 s1) where
-    abbrev pub Answers : Result (Option ℕ) Refusal → Sat D → Type 0
-    Answers r s2 = AnswersAtLast is_honest state faults z remembers clock who (CommitDoes is_honest state faults remembers clock who label t) r s0 s2
-
-    pub answers_now : (r : Result (Option ℕ) Refusal) (s2 : Sat D) → Answer r s1 s2 → (FindsNone is_honest state faults z remembers clock who r → ⊥) → Answers r s2
-    answers_now r s2 v none = inl (record { middle = s1; passes = passes; visits = v }, none)
-
-    pub answers_refused : (why : Refusal) (s2 : Sat D) → ((d : Device) (c : ℕ) → why ≡ Stopped d c → ⊥) → RoundRefused is_honest state faults z who why s0 s2 → Answers (Err why) s2
-    answers_refused why s2 none refused = inr (why, refl, at why none refused) where
-      at : (why : Refusal) → ((d : Device) (c : ℕ) → why ≡ Stopped d c → ⊥) → RoundRefused is_honest state faults z who why s0 s2 → RoomRefused is_honest state faults z remembers clock who why s0 s2
-      at (Stopped d c) none e = none d c refl
-      at (DiskFault d c) none e = e
-      at OutOfMemory none e = e
-      at _ none e = e
+  -- what the desk does at last, behind rounds that leave a fault's line at most
+  pub commit_so : (r : Result (Option ℕ) Refusal) (s0 s1 : Sat D) → IsReady z s0 → who.session ≡ s0.number → (mine s0).work ≡ Some (Open t) →
+      AnswersAtLast is_honest state faults z remembers clock who (CommitDoes is_honest state faults remembers clock who label t) r s0 s1 →
+      AnswersSo is_honest state faults z who (CommitDoes is_honest state faults remembers clock who label t) r s0 s1
+  commit_so r s0 s1 ready own there answers = answers_so is_honest state faults z remembers clock who (CommitDoes is_honest state faults remembers clock who label t) r
+      (λ s. (who.session ≡ s.number) × ((mine s).work ≡ Some (Open t)))
+      (λ full a b room here is v. room_passes a b here is.0 is.1 full room v)
+      (λ a b passes is. (is.0 ∙ sym passes.stays.same.number, work_stays a b passes.stays ∙ is.1)) answers ready (own, there)

@@ -260,19 +260,23 @@ module _ {D : Type 0} (is_honest : D → Type 0) (state : D → State) (start : 
 
 -- ---- what a call tells
 
-module _ {D : Type 0} (is_honest : D → Type 0) (state : D → State) (faults : D → ℕ) (batch : Batch) (old new : Running D) where
-  pub laid_refused : (fault : Fault) → IsRefusedWrite Pagelog ⊥ old.first_fault (faults old.pagelog.disk) (faults new.pagelog.disk) fault.why fault.wrote → ((IsDiskFault fault.why → ⊥) → new ≡ old) → IsNotCarried is_honest state faults old new fault.why
-  laid_refused fault refused untouched = at fault.why refused untouched where
-    at : (why : Refusal) → IsRefusedWrite Pagelog ⊥ old.first_fault (faults old.pagelog.disk) (faults new.pagelog.disk) why fault.wrote → ((IsDiskFault why → ⊥) → new ≡ old) → IsNotCarried is_honest state faults old new why
-    at (Stopped d c) r u = (u (λ x. x), r.0)
+module _ {D : Type 0} (faults : D → ℕ) (batch : Batch) (old new : Running D) (none : old.side.held ≤ batch.first) where
+  pub laid_refused : (fault : Fault) → old.laid < batch_end batch → new.side ≡ old.side → IsRefusedWrite Pagelog ⊥ old.first_fault (faults old.pagelog.disk) (faults new.pagelog.disk) fault.why fault.wrote → ((IsDiskFault fault.why → ⊥) → new ≡ old) → IsNotCarried faults batch old new fault.why
+  laid_refused fault less side refused untouched = at fault.why refused untouched where
+    at : (why : Refusal) → IsRefusedWrite Pagelog ⊥ old.first_fault (faults old.pagelog.disk) (faults new.pagelog.disk) why fault.wrote → ((IsDiskFault why → ⊥) → new ≡ old) → IsNotCarried faults batch old new why
+    at (Stopped d c) r u = (none, r.0, u (λ x. x))
     at OutOfMemory r u = absurd r.0
-    at (DiskFault d c) r u = inl r.2
+    at (DiskFault d c) r u = inl ((record { goes = r.0; none = none }, less), side, r.2)
     at _ r u = absurd r.2
 
-  pub entered_refused : (fault : Fault) → IsRefusedWrite Maplog (Unit {0}) old.first_fault (faults old.side.disk) (faults new.side.disk) fault.why fault.wrote → ((old.first_fault ≡ None → ⊥) → new ≡ old) → IsNotCarried is_honest state faults old new fault.why
-  entered_refused fault refused stopped = at fault.why refused where
-    at : (why : Refusal) → IsRefusedWrite Maplog (Unit {0}) old.first_fault (faults old.side.disk) (faults new.side.disk) why fault.wrote → IsNotCarried is_honest state faults old new why
-    at (Stopped d c) r = (stopped (λ none. absurd (cc (none, r.0))), r.0)
-    at OutOfMemory r = tt
-    at (DiskFault d c) r = inr r.2
+  pub entered_refused : (fault : Fault) → batch_end batch ≤ old.laid → new.pagelog ≡ old.pagelog → new.side.held ≡ old.side.held → IsRefusedWrite Maplog (Unit {0}) old.first_fault (faults old.side.disk) (faults new.side.disk) fault.why fault.wrote → ((old.first_fault ≡ None → ⊥) → new ≡ old) → IsNotCarried faults batch old new fault.why
+  entered_refused fault is_laid slots left refused stopped = at fault.why refused where
+    at : (why : Refusal) → IsRefusedWrite Maplog (Unit {0}) old.first_fault (faults old.side.disk) (faults new.side.disk) why fault.wrote → IsNotCarried faults batch old new why
+    at (Stopped d c) r = (none, r.0, stopped (λ going. absurd (cc (going, r.0))))
+    at OutOfMemory r = ((record { goes = r.1; none = none }, is_laid), slots, left, r.3)
+    at (DiskFault d c) r = inr ((record { goes = r.0; none = none }, is_laid), slots, left, r.2)
     at _ r = absurd r.2
+
+-- an archive that goes on is no vault that has stopped
+pub vault_goes : {D : Type 0} (is_honest : D → Type 0) (state : D → State) (archive : Running D) (vault : Vault) → IsVault is_honest state archive vault → archive.first_fault ≡ None → vault.stopped ≡ false
+vault_goes is_honest state archive vault is going = is.stopped ∙ ap is_some going

@@ -18,9 +18,10 @@ use Rattle.gate_log.specs.Cause.{IsDiskFault}
 use Rattle.history.specs.declared.entry.Change.TheVariants.{Commit}
 use Rattle.journal_book.specs.Works.{keeping_refusal}
 use Rattle.journal_law.specs.Lawful.{IsCommitRefused, IsOverlapBy}
-use Rattle.store.specs.Rounds.{IsNewSince, IsRoom}
+use Rattle.store.specs.Rounds.{AnswersAtLast, IsNoRoom, IsRoom, Passes}
 use Rattle.store_core.specs.declared.desk_core.Core.{Core}
 use Rattle.history.specs.declared.entry.Base.{Base}
+use Rattle.history.specs.declared.journal.FailedCall.TheVariants.{Append, Write}
 use Rattle.history.specs.declared.journal.Line.{Line}
 use Rattle.history.specs.declared.journal.What.{What}
 use Rattle.history.specs.declared.journal.What.TheVariants.{Done, Fault}
@@ -47,26 +48,27 @@ use Rattle.turn.specs.Seats.{mine, opening, seen}
 use Rattle.store.specs.declared.desk_side.DeskSide.{DeskSide}
 use Rattle.store.specs.declared.start.Start.{Start}
 use Rattle.store.specs.Calls.{CommitDoes, refused_so}
-use Rattle.store.specs.Rounds.{AnswersAtLast, IsNoRoom, Passes, RoomRefused}
 use Rattle.store.specs.Seats.{IsReady, Sat, Visited, journal, slots_of}
 use Rattle.store.specs.Start.{opened_base}
 use Rattle.store.proofs.Adding.{faulted_closed, slot_own}
 use Rattle.store.proofs.Finding.{above_so, some_is}
 use Rattle.store.proofs.Meeting.{work_stays}
 use Rattle.store.proofs.Trying.{kept_who}
-use Rattle.store_core.specs.Calls.{failed}
+use Rattle.store_core.specs.Calls.{failed_at}
 use Rattle.store_core.proofs.Cores.{base_is}
 use Rattle.store.specs.declared.told.ToldFault.{ToldFault}
 use Rattle.store.specs.Ground.{ground_of, world_of}
 use Rattle.store.specs.Seen.{HasBegun, IsSeated, ground_in, told_of, view_of, work_in}
 use Rattle.store.specs.Worlds.{AreNamed}
 use Rattle.store.proofs.Agreeing.{or_none, unchanged_agrees}
+use Rattle.store.proofs.Asking.{commit_so}
 use Rattle.store.proofs.Coming.{Came, came, lines_append, moves, seated_none, seated_open, there, work_so}
 use Rattle.store.proofs.Gives.{own_names}
 use Rattle.store.proofs.Limits.{IsLimit, archive_limit, images_limit, snapshots_limit}
 use Rattle.store.proofs.Named.{names_same, names_stay}
 use Rattle.store.proofs.Overlaps.{changed_overlaps}
 use Rattle.store.proofs.ReadGiven.{begun_few, begun_on, kept_began}
+use Rattle.store.proofs.Reaching.{AnswersSo, IsNewSince, RoomRefused}
 
 newest_last : (n : ℕ) (ms : List (Mark Pages)) (m : Mark Pages) → newest_behind n (ms ++ m ∷ []) ≡ m.number
 newest_last n [] m = refl
@@ -172,14 +174,14 @@ module _ {D : Type 0} (is_honest : D → Type 0) (state : D → State) (faults :
   core_work same = (came_core same).work_is
 
   -- a fault of a round ends it
-  pub round_fault : (d : Device) (c : ℕ) → after ≡ [] → d1.core.ledger ≡ faulted who d c true d0.core.ledger → IsNewSince is_honest state faults z d c s1
-      → (Adds Old (New after) t.who (Fault d c true) seat.Idle × IsNew (New after) d c) × ((mine s1).work ≡ None)
-  round_fault d c quiet e since =
-      let closes = e ∙ faulted_closed who d0.core.ledger d c true (work.Open t) open_there in
-      let came_so = came_all (one t.who (Fault d c true)) None (ap (λ (l : Ledger). l.book.lines) closes ∙ ap (λ (w : Who). journal d0 ++ line w (Fault d c true) ∷ []) (sym of))
-      (there is_honest state faults z m s1 d0 d1 passes.ready v who own_there None (closed who (Fault d c true) d0.core.ledger) closes (slot_own (slots_of d0) who.session None)) in
+  pub round_fault : (label : Option (List ℕ)) (d : Device) (c : ℕ) → after ≡ [] → d1.core.ledger ≡ faulted who d c Write d0.core.ledger → IsNewSince is_honest state faults z d c s1
+      → (seat.FailsCommit label Old (New after) A d c × IsNew (New after) d c) × ((mine s1).work ≡ None)
+  round_fault label d c quiet e since =
+      let closes = e ∙ faulted_closed who d0.core.ledger d c Write (work.Open t) open_there in
+      let came_so = came_all (one t.who (Fault d c Write)) None (ap (λ (l : Ledger). l.book.lines) closes ∙ ap (λ (w : Who). journal d0 ++ line w (Fault d c Write) ∷ []) (sym of))
+      (there is_honest state faults z m s1 d0 d1 passes.ready v who own_there None (closed who (Fault d c Write) d0.core.ledger) closes (slot_own (slots_of d0) who.session None)) in
       let there = v.same.opening ∙ v.opening in
-      ((done_so (Fault d c true) quiet came_so, λ less. subst (λ g. g.faults d < c) (sym (ap (ground_in state faults) there)) (since d0.start there less)), came_so.work_is)
+      ((inl (done_so (Fault d c Write) quiet came_so), λ less. subst (λ g. g.faults d < c) (sym (ap (ground_in state faults) there)) (since d0.start there less)), came_so.work_is)
 
   waits_core : d1.core ≡ d0.core → Waits Old (New before) (seat.Open A)
   waits_core same =
@@ -274,7 +276,7 @@ module _ {D : Type 0} (is_honest : D → Type 0) (state : D → State) (faults :
       at (Some why) refused = absurd (cc (e, (does.refused why refused).0))
       at None free =
           let parts = free_parts free in
-          let ledger = subst (λ (x : Result (Option ℕ) Refusal). MatchResult x (λ _. d1.core.ledger ≡ committed who label t.edits (taken who d0.core.ledger)) (λ why. d1.core.ledger ≡ failed who why d0.core.ledger)) e (does.makes free).ended in
+          let ledger = subst (λ (x : Result (Option ℕ) Refusal). MatchResult x (λ _. d1.core.ledger ≡ committed who label t.edits (taken who d0.core.ledger)) (λ why. d1.core.ledger ≡ failed_at (Append (Commit label t.edits)) who why d0.core.ledger)) e (does.makes free).ended in
           let c = ended_came (Done label t.edits) (committed who label t.edits (taken who d0.core.ledger)) ledger refl (slot_own (slots_of d0) who.session None) in
           let lines : journal d1 ≡ journal d0 ++ one t.who (Done label t.edits) = ap (λ (x : Ledger). x.book.lines) ledger ∙ ap (λ (w : Who). journal d0 ++ line w (Done label t.edits) ∷ []) (sym of) in (
             record { adds = done_so (Done label t.edits) (same_told ∙ quiet) c; agree = agrees parts.1 },
@@ -353,14 +355,18 @@ module _ {D : Type 0} (is_honest : D → Type 0) (state : D → State) (faults :
     fault_so : (d : Device) (c : ℕ) → r ≡ Err (refusal.DiskFault d c) → refused_so is_honest state faults d0.core t label ≡ None → Gives (Err (refusal.DiskFault d c))
     fault_so d c e free =
         let made = does.makes free in
-        let ledger : d1.core.ledger ≡ faulted who d c true d0.core.ledger = subst (λ (x : Result (Option ℕ) Refusal). MatchResult x (λ _. d1.core.ledger ≡ committed who label t.edits (taken who d0.core.ledger)) (λ why. d1.core.ledger ≡ failed who why d0.core.ledger)) e made.ended in
-        let closes = ledger ∙ faulted_closed who d0.core.ledger d c true (work.Open t) open_there in
+        let ledger : d1.core.ledger ≡ faulted who d c (Append (Commit label t.edits)) d0.core.ledger = subst (λ (x : Result (Option ℕ) Refusal). MatchResult x (λ _. d1.core.ledger ≡ committed who label t.edits (taken who d0.core.ledger)) (λ why. d1.core.ledger ≡ failed_at (Append (Commit label t.edits)) who why d0.core.ledger)) e made.ended in
+        let closes = ledger ∙ faulted_closed who d0.core.ledger d c (Append (Commit label t.edits)) (work.Open t) open_there in
         let cause = (subst (λ (x : Result (Option ℕ) Refusal). MatchResult x (λ _. faults d1.core.desk.log.disk ≡ faults d0.core.desk.log.disk)
         (IsChangeRefusal d0.core.desk.log.log.area.log (length (change_bytes d0.core.desk.log.log.version (Commit label t.edits))) (faults d0.core.desk.log.disk) (faults d1.core.desk.log.disk))) e made.cause).1 in
         let log : d ≡ Log = cause.0 ∙ does.names in
         let opened_is : (New after).opened ≡ ground_of state faults d0.start = ap (ground_in state faults) (v.same.opening ∙ v.opening) in
         inr (
-          done_so (Fault d c true) (same_told ∙ quiet) (ended_came (Fault d c true) (closed who (Fault d c true) d0.core.ledger) closes refl (slot_own (slots_of d0) who.session None)),
+          inr (record {
+            adds = done_so (Fault d c (Append (Commit label t.edits))) (same_told ∙ quiet)
+                (ended_came (Fault d c (Append (Commit label t.edits))) (closed who (Fault d c (Append (Commit label t.edits))) d0.core.ledger) closes refl (slot_own (slots_of d0) who.session None));
+            agree = agrees (free_parts free).1;
+          }),
           λ less. subst (λ (x : Device). (New after).opened.faults x < c) (sym log) (subst (λ g. g.faults Log < c) (sym opened_is)
               (above_so (faults d0.start.core.value.desk.log.disk) (faults d0.core.desk.log.disk) (faults d1.core.desk.log.disk) c (v.keeps.later Log) cause.3 cause.1 less)),
         )
@@ -402,13 +408,13 @@ module _ {D : Type 0} (is_honest : D → Type 0) (state : D → State) (faults :
       at : (o : Option Refusal) → refused_so is_honest state faults d0.core t label ≡ o → IsSeated who asked after s1
       at (Some why) refused = absurd (cc (e, (does.refused why refused).0))
       at None free =
-          let ledger = subst (λ (x : Result (Option ℕ) Refusal). MatchResult x (λ _. d1.core.ledger ≡ committed who label t.edits (taken who d0.core.ledger)) (λ why. d1.core.ledger ≡ failed who why d0.core.ledger)) e (does.makes free).ended in
+          let ledger = subst (λ (x : Result (Option ℕ) Refusal). MatchResult x (λ _. d1.core.ledger ≡ committed who label t.edits (taken who d0.core.ledger)) (λ why. d1.core.ledger ≡ failed_at (Append (Commit label t.edits)) who why d0.core.ledger)) e (does.makes free).ended in
           keeps_none (ended_came (Done label t.edits) (committed who label t.edits (taken who d0.core.ledger)) ledger refl (slot_own (slots_of d0) who.session None)).work_is
     commit_keeps (Err why) e none = at (refused_so is_honest state faults d0.core t label) refl where
       made : (w : Refusal) → why ≡ w → refused_so is_honest state faults d0.core t label ≡ None → IsSeated who asked after s1
       made (refusal.DiskFault d c) same free =
-          let ledger : d1.core.ledger ≡ faulted who d c true d0.core.ledger = subst (λ (x : Result (Option ℕ) Refusal). MatchResult x (λ _. d1.core.ledger ≡ committed who label t.edits (taken who d0.core.ledger)) (λ why. d1.core.ledger ≡ failed who why d0.core.ledger)) (e ∙ ap Err same) (does.makes free).ended in
-          keeps_none (ended_came (Fault d c true) (closed who (Fault d c true) d0.core.ledger) (ledger ∙ faulted_closed who d0.core.ledger d c true (work.Open t) open_there) refl (slot_own (slots_of d0) who.session None)).work_is
+          let ledger : d1.core.ledger ≡ faulted who d c (Append (Commit label t.edits)) d0.core.ledger = subst (λ (x : Result (Option ℕ) Refusal). MatchResult x (λ _. d1.core.ledger ≡ committed who label t.edits (taken who d0.core.ledger)) (λ why. d1.core.ledger ≡ failed_at (Append (Commit label t.edits)) who why d0.core.ledger)) (e ∙ ap Err same) (does.makes free).ended in
+          keeps_none (ended_came (Fault d c (Append (Commit label t.edits))) (closed who (Fault d c (Append (Commit label t.edits))) d0.core.ledger) (ledger ∙ faulted_closed who d0.core.ledger d c (Append (Commit label t.edits)) (work.Open t) open_there) refl (slot_own (slots_of d0) who.session None)).work_is
       made refusal.OutOfMemory same free =
           let core = subst (λ (x : Result (Option ℕ) Refusal). IfErr x (λ w. (IsDiskFault w → ⊥) → d1.core ≡ d0.core)) (e ∙ ap Err same) (does.makes free).untouched (λ f. f) in
           seated_open who asked after s1 t t (same_told ∙ quiet) of refl refl (begun_now (ap (λ (c : Core D). c.ledger.book.lines) core)) (core_work core)
@@ -449,19 +455,22 @@ module _ {D : Type 0} (is_honest : D → Type 0) (state : D → State) (faults :
             (subst (λ (n : ℕ). HasBegun (seen s1) n t) (sym p.stays.same.number) (subst (λ (l : List Line). HasBegun l s0.number t) p.waits.front (begun_on (seen s0) p.waits.others s0.number t begun p.waits.apart))) work_is,
       )
 
-  pub commit_answers : (r : Result (Option ℕ) Refusal) → AnswersAtLast is_honest state faults z remembers clock who (CommitDoes is_honest state faults remembers clock who label t) r s0 s1 → CommitGives label Was Is Tried r × IsSeated who asked after s1
-  commit_answers r (inl (reaches, none)) =
+  answers_give : (r : Result (Option ℕ) Refusal) → AnswersSo is_honest state faults z who (CommitDoes is_honest state faults remembers clock who label t) r s0 s1 → CommitGives label Was Is Tried r × IsSeated who asked after s1
+  answers_give r (inl (reaches, none)) =
       let v = reaches.visits in
-      let no : (why : Refusal) → r ≡ Err why → IsRoom why → ⊥ = λ why e room. none (subst (λ (x : Result (Option ℕ) Refusal). IsNoRoom is_honest state faults z remembers clock who x) (sym e) room) in (
+      let no : (why : Refusal) → r ≡ Err why → IsRoom why → ⊥ = λ why e room. none (subst (λ (x : Result (Option ℕ) Refusal). IsNoRoom x) (sym e) room) in (
         commit_gives is_honest state faults remembers clock z s0 reaches.middle s1 v.before v.after ready reaches.passes v.visited who asked before after own t is_open of begun label r v.does quiet same_told r refl no,
         commit_keeps is_honest state faults remembers clock z s0 reaches.middle s1 v.before v.after ready reaches.passes v.visited who asked before after own t is_open of begun label r v.does quiet same_told r refl no,
       )
-  commit_answers r (inr (why, e, refused)) = subst (λ (x : Result (Option ℕ) Refusal). CommitGives label Was Is Tried x × IsSeated who asked after s1) (sym e) (at why refused) where
-    at : (w : Refusal) → RoomRefused is_honest state faults z remembers clock who w s0 s1 → CommitGives label Was Is Tried (Err w) × IsSeated who asked after s1
+  answers_give r (inr (why, e, refused)) = subst (λ (x : Result (Option ℕ) Refusal). CommitGives label Was Is Tried x × IsSeated who asked after s1) (sym e) (at why refused) where
+    at : (w : Refusal) → RoomRefused is_honest state faults z who w s0 s1 → CommitGives label Was Is Tried (Err w) × IsSeated who asked after s1
     at (refusal.DiskFault d c) e =
         let reaches = e.0 in
         let v = reaches.visits in
-        let f = round_fault is_honest state faults remembers clock z s0 reaches.middle s1 v.before v.after ready reaches.passes v.visited who asked before after own t is_open of begun d c (same_told ∙ quiet) v.does e.1 in
+        let f = round_fault is_honest state faults remembers clock z s0 reaches.middle s1 v.before v.after ready reaches.passes v.visited who asked before after own t is_open of begun label d c (same_told ∙ quiet) v.does e.1 in
         (inr f.0, subst (λ (ts : List ToldFault). IsSeated who asked ts s1) (sym (same_told ∙ quiet)) (seated_none who asked s1 f.1))
     at refusal.OutOfMemory p = let w = passed p in ((w.0, refl), w.1)
     at _ p = absurd p
+
+  pub commit_answers : (r : Result (Option ℕ) Refusal) → AnswersAtLast is_honest state faults z remembers clock who (CommitDoes is_honest state faults remembers clock who label t) r s0 s1 → CommitGives label Was Is Tried r × IsSeated who asked after s1
+  commit_answers r answers = answers_give r (commit_so is_honest state faults z remembers clock who label t r s0 s1 ready own is_open answers)

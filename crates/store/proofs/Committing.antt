@@ -12,6 +12,7 @@ use Rattle.retro_base.specs.declared.refusal.Refusal.TheVariants.{DiskFault}
 use Rattle.retro_base.specs.declared.who.Who.{Who}
 use Rattle.gate_log.specs.Cause.{IsDiskFault}
 use Rattle.history.specs.declared.entry.Change.TheVariants.{Commit}
+use Rattle.history.specs.declared.journal.FailedCall.TheVariants.{Append}
 use Rattle.history.specs.declared.journal.Line.{Line}
 use Rattle.history.specs.declared.journal.What.TheVariants as whats
 use Rattle.history.specs.declared.log.Version.{Version}
@@ -31,7 +32,7 @@ use Rattle.txn_set.specs.declared.counts.Counts.{Counts}
 use Rattle.txn_set.specs.Ledger.{closed, committed, faulted, kept_behind, taken}
 use Rattle.txn_set.specs.Refused.{archive_refused, commit_refused, counts_of, first_changed, images_refused, leaves_record, overlap, snapshots_refused, stopped_refused}
 use Rattle.store_core.specs.declared.desk_core.Core.{Core}
-use Rattle.store_core.specs.Calls.{failed}
+use Rattle.store_core.specs.Calls.{failed_at}
 use Rattle.store_core.specs.Commits.{desk_behind}
 use Rattle.store_core.specs.Core.{IsCore}
 use Rattle.turn.specs.Faults.{LAST, desk_faults, fault_times}
@@ -140,7 +141,7 @@ module _ {D : Type 0} (is_honest : D → Type 0) (state : D → State) (faults :
           let is_err : result ≡ Err (DiskFault d c) = e ∙ ap Err w in
           let failing = λ (origin : Origin) (from_ : IsCoreFrom is_honest state origin old.core).
           subst (λ (r : Result (Option ℕ) Refusal). IfErr r (λ w. IsDiskFault w → IsCore is_honest state origin.history new.core (change_failed from_.plain (Commit label t.edits)))) is_err (m.failed origin.history from_.plain from_.is) tt in
-          let ledger : new.core.ledger ≡ faulted who d c true old.core.ledger = subst (λ (r : Result (Option ℕ) Refusal). MatchResult r (λ _. new.core.ledger ≡ committed who label t.edits (taken who old.core.ledger)) (λ w. new.core.ledger ≡ failed who w old.core.ledger)) is_err m.ended in
+          let ledger : new.core.ledger ≡ faulted who d c (Append (Commit label t.edits)) old.core.ledger = subst (λ (r : Result (Option ℕ) Refusal). MatchResult r (λ _. new.core.ledger ≡ committed who label t.edits (taken who old.core.ledger)) (λ w. new.core.ledger ≡ failed_at (Append (Commit label t.edits)) who w old.core.ledger)) is_err m.ended in
           let first = stands.stands stands.origin stands.opened in
           let cause = subst (λ (r : Result (Option ℕ) Refusal). MatchResult r (λ _. faults new.core.desk.log.disk ≡ faults old.core.desk.log.disk)
           (IsChangeRefusal old.core.desk.log.log.area.log (length (change_bytes old.core.desk.log.log.version (Commit label t.edits))) (faults old.core.desk.log.disk) (faults new.core.desk.log.disk))) is_err m.cause in
@@ -149,12 +150,12 @@ module _ {D : Type 0} (is_honest : D → Type 0) (state : D → State) (faults :
           let told : 0 < fault_times d c (desk_faults (desk_counts faults old.core) (desk_counts faults new.core)) =
           subst (λ (x : Device × ℕ). 0 < fault_times x.0 x.1 (desk_faults (desk_counts faults old.core) (desk_counts faults new.core))) (λ i. (sym is_log i, sym fault.1 i))
           (told_log (desk_counts faults old.core) (desk_counts faults new.core) fault.3 (subst (λ (n : ℕ). n ≤ LAST) fault.1 (few d c is_err))) in
-          let closes_so : new.core.ledger ≡ closed who (whats.Fault d c true) old.core.ledger = ledger ∙ faulted_closed who old.core.ledger d c true (Open t) there in
+          let closes_so : new.core.ledger ≡ closed who (whats.Fault d c (Append (Commit label t.edits))) old.core.ledger = ledger ∙ faulted_closed who old.core.ledger d c (Append (Commit label t.edits)) (Open t) there in
           visit is_honest state faults who always old new start
           (stands_moved is_honest state old new start (λ origin from_. record { plain = change_failed from_.plain (Commit label t.edits); is = failing origin from_; floor = from_.floor; in_version = (from_.in_version.0, tt) }) honest stands)
           (counts_up faults old.core new.core fault.2 pages_up)
           (acked_by first.plain (change_failed first.plain (Commit label t.edits)) refl stands.origin first.is (failing stands.origin first))
-          (λ mine own. adds_faulted who (IsToldIn _) old.core.ledger new.core.ledger d c true (λ none. absurd (cc (sym none ∙ ap is_some there))) (λ e n p. more_told mine.faults _ e n (fault_is _ d c told e n p)) ledger)
+          (λ mine own. adds_faulted who (IsToldIn _) old.core.ledger new.core.ledger d c (Append (Commit label t.edits)) (λ none. absurd (cc (sym none ∙ ap is_some there))) (λ e n p. more_told mine.faults _ e n (fault_is _ d c told e n p)) ledger)
           (closes is_honest state faults who old new start stands always (subst IsClosed (sym (ap (λ (l : Ledger). work_at l.works.slots who.session) closes_so ∙ slot_own (slots_of old) who.session None)) tt))
 
     pick : (r : Option Refusal) → refused_so is_honest state faults old.core t label ≡ r → IsVisit is_honest state faults who always old new

@@ -1,6 +1,5 @@
 -- What a crash leaves of the devices of a store that is closed.
 use Rattle.std.proofs.Common.{◌≡◌, ◌∙◌, ◌⊎◌, inl, inr, ◌*◌, ◌<◌, ◌≤◌, ℕ, Bool, true, cond, eqb, List, [], ◌∷◌, length, Option, Some, None, refl, sym, ap, subst, arith, eq-eqb}
-use Rattle.std.specs.Prelude.{IfSome, is_some}
 use Rattle.std.specs.List.{AllByRecursion}
 use Rattle.block_file.proofs.Blocks.{image_settled}
 use Rattle.disk_model.specs.declared.four.Four.{Four}
@@ -18,16 +17,15 @@ use Rattle.history.specs.declared.journal.What.{What}
 use Rattle.history.specs.declared.journal.What.TheVariants.{Fault}
 use Rattle.history.specs.declared.log.Log as declared
 use Rattle.history.specs.declared.log.Version.{Version}
-use Rattle.history.specs.History.{History, State as Place, now, run}
+use Rattle.history.specs.History.{History, State as Place, run}
 use Rattle.history.specs.Journal.{after_journal}
-use Rattle.history.specs.Lines.{same_device}
-use Rattle.history.specs.Right.{MayFollow}
+use Rattle.history.specs.Lines.{doubt_in, same_device}
 use Rattle.journal_law.specs.Lawful.{CountedBy, IsCounted}
 use Rattle.opening.specs.Devices.{AreHonest, AreImages, of_each}
 use Rattle.opening.specs.Opening.{AreSized, page_at}
 use Rattle.race_model.specs.Desk.{ArePagesOf, Desk, Doubt, IsInDoubt, NewBase, OneMore, Sure}
 use Rattle.race_model.specs.Fits.{DoubtFits, VaultFits}
-use Rattle.race_model.specs.Images.{OpenInDoubt}
+use Rattle.race_model.specs.Images.{IsSameWorld, OpenInDoubt}
 use Rattle.race_model.specs.Vault.{AreSlotsOf, IsMaplogOf, Maplog as MaplogOf, Vault}
 use Rattle.race_model.proofs.Grows.{all_at}
 use Rattle.race_model.proofs.Histories.{capacity_stays}
@@ -36,12 +34,13 @@ use Rattle.records.specs.Log.{IsLog}
 use Rattle.records.specs.Maplog.{IsMaplog}
 use Rattle.redo_log.specs.Redo.{ListsOneOf}
 use Rattle.replay.specs.Laws.{AreRightContents}
-use Rattle.replay.specs.Opened.{Contents}
+use Rattle.replay.specs.Opened.{Contents, opened}
 use Rattle.skippy.specs.Mappings.{end_of}
 use Rattle.archive.specs.Archive.{Running}
 use Rattle.archive.specs.Side.{ListsMaplogOf}
 use Rattle.desk.specs.Desk.{log_of, other_log}
 use Rattle.store_core.specs.declared.desk_core.Core.{Core}
+use Rattle.store_core.specs.Core.{IsToldDoubt}
 use Rattle.turn.specs.Faults.{count_of, fault_lines, line_fault, one_fault}
 use Rattle.store.specs.declared.desk_side.DeskSide.{DeskSide}
 use Rattle.store.specs.declared.start.Start.{Start}
@@ -88,7 +87,7 @@ pub counted_lines : (ending : Device → ℕ) (lines : List Line) → ((d : Devi
 counted_lines ending [] below = tt
 counted_lines ending (line ∷ lines) below = (at line.what (λ d c h. below d c (omega (arith, h))), counted_lines ending lines (λ d c h. below d c (omega (arith, h)))) where
   at : (what : What) → ((d : Device) (c : ℕ) → 0 < line_fault d c what → c ≤ ending d) → CountedBy ending what
-  at (Fault d c wrote) told = told d c (own_fault d c)
+  at (Fault d c call) told = told d c (own_fault d c)
   at what told = tt
 
 pub each_count : {D : Type 0} (faults : D → ℕ) (core : Core D) (archive : Running D) (d : Device) → count_of (desk_counts faults core) (vault_counts faults archive) d ≡ of_each faults (disks_of core archive) d
@@ -105,16 +104,22 @@ change_in Sure = None
 change_in (OneMore change) = Some change
 change_in (NewBase version) = None
 
-doubt_so : (desk : Desk) (doubt : Doubt) → DoubtFits desk doubt → ((change : Change) → change_in doubt ≡ Some change → desk.stopped ≡ true) × IfSome (change_in doubt) (MayFollow (now desk.history).base)
-doubt_so desk Sure f = (λ change e. absurd (cc e), tt)
-doubt_so desk (OneMore other) f = (λ change e. f.1, f.0)
-doubt_so desk (NewBase version) f = (λ change e. absurd (cc e), tt)
+-- that no reader can tell the contents from the history is told whatever is in doubt
+in_no_doubt : (contents : Contents) (history : History) (doubt : Option Change) → IsSameWorld (opened contents) history → OpensTo contents history doubt
+in_no_doubt contents history None same = same
+in_no_doubt contents history (Some change) same = inl same
+
+-- what is in doubt is told
+told_opens : (contents : Contents) (history : History) (doubt : Doubt) (lines : List Line) → IsToldDoubt doubt lines → OpensTo contents history (change_in doubt) → OpensTo contents history (doubt_in lines)
+told_opens contents history Sure lines told opens = in_no_doubt contents history (doubt_in lines) opens
+told_opens contents history (NewBase version) lines told opens = in_no_doubt contents history (doubt_in lines) opens
+told_opens contents history (OneMore change) lines told opens = subst (OpensTo contents history) (sym told) opens
 
 -- what an image opens to, and its log's version
-opened_as : (contents : Contents) (desk : Desk) (doubt : Doubt) → OpenInDoubt contents desk doubt → IsDoubtIn desk.version doubt → AreRightContents contents × (contents.log.version ≡ desk.version) × OpensTo contents desk.history (change_in doubt)
-opened_as contents desk Sure o v = (o.store.right, o.in_version, o.same)
-opened_as contents desk (NewBase version) o v = elim o [ inl x ↦ (x.store.right, x.in_version, x.same) | inr x ↦ (x.store.right, x.in_version ∙ v, x.same) ]
-opened_as contents desk (OneMore change) o v = elim o [ inl x ↦ (x.store.right, x.in_version, inl x.same) | inr x ↦ (x.store.right, x.in_version, inr x.same) ]
+opened_as : (contents : Contents) (desk : Desk) (doubt : Doubt) → DoubtFits desk doubt → OpenInDoubt contents desk doubt → IsDoubtIn desk.version doubt → AreRightContents contents × (contents.log.version ≡ desk.version) × OpensTo contents desk.history (change_in doubt)
+opened_as contents desk Sure f o v = (o.store.right, o.in_version, o.same)
+opened_as contents desk (NewBase version) f o v = elim o [ inl x ↦ (x.store.right, x.in_version, x.same) | inr x ↦ (x.store.right, x.in_version ∙ v, x.same) ]
+opened_as contents desk (OneMore change) f o v = elim o [ inl x ↦ (x.store.right, x.in_version, inl x.same) | inr x ↦ (x.store.right, x.in_version, inr (f.0, x.same)) ]
 
 may_log : (desk : Desk) (doubt : Doubt) (log : declared.Log) → (log ≡ log_of desk) ⊎ (other_log desk doubt ≡ Some log) → (log ≡ log_of desk) ⊎ IsInDoubt desk doubt log
 may_log desk doubt log (inl same) = inl same
@@ -200,7 +205,7 @@ module _ {D : Type 0} (extent : D → ℕ) (is_honest : D → Type 0) (state : D
     slots_here slot sure = let r = from_vault.is.slots honest.pagelog in image_settled (state archive.pagelog.disk) devices.pagelog slot images.pagelog (r.sure slot sure) ∙ r.reads slot
 
     open_so : AreRightContents Found × (log_here.log.version ≡ from_desk.plain.version) × OpensTo Found from_desk.plain.history (change_in from_desk.plain.doubt)
-    open_so = opened_as Found from_desk.plain from_desk.plain.doubt
+    open_so = opened_as Found from_desk.plain from_desk.plain.doubt from_desk.is.fits.doubt
         (apart_open from_desk.plain from_vault.vault maplog_here.maplog.version Found from_desk.is.fits vault_fits enough log_may pages_here maplog_here.is slots_here)
         (subst (λ (v : Version). IsDoubtIn v from_desk.plain.doubt) (sym from_desk.in_version.0) from_desk.in_version.1)
 
@@ -226,7 +231,7 @@ module _ {D : Type 0} (extent : D → ℕ) (is_honest : D → Type 0) (state : D
         (subst (λ (n : ℕ). DeviceStandsFor (maplog_half log_here.log.base.capacity) (IsMaplog maplog_here.maplog.version n log_here.log.base.capacity) devices.maplog maplog_here.maplog.mappings) pages
         (subst (λ (n : ℕ). DeviceStandsFor (maplog_half n) (IsMaplog maplog_here.maplog.version archive.side.log.page_count n) devices.maplog maplog_here.maplog.mappings) capacity maplog_here.lists))
 
-    holds_here : HoldWorld origin.log devices Here (change_in from_desk.plain.doubt)
+    holds_here : HoldWorld origin.log devices Here (doubt_in (journal side))
     holds_here = record {
       contents = Found;
       hold = record {
@@ -237,15 +242,9 @@ module _ {D : Type 0} (extent : D → ℕ) (is_honest : D → Type 0) (state : D
         maplog = maplog_stands;
       };
       joined = open_so.0.joined;
-      opens = subst (λ (h : History). OpensTo Found h (change_in from_desk.plain.doubt)) from_desk.is.journal open_so.2;
+      opens = told_opens Found Here from_desk.plain.doubt (journal side) from_desk.is.doubt
+          (subst (λ (h : History). OpensTo Found h (change_in from_desk.plain.doubt)) from_desk.is.journal open_so.2);
     }
 
   pub crashes_open : CrashesOpen state origin.log origin.history (journal side) (disks_of side.core archive)
-  crashes_open =
-      let doubt = doubt_so from_desk.plain from_desk.plain.doubt from_desk.is.fits.doubt in
-      record {
-        doubt = change_in from_desk.plain.doubt;
-        stopped = λ change e. ap is_some (sym from_desk.is.stop) ∙ (sym from_desk.is.is.stopped ∙ doubt.0 change e);
-        follows = subst (λ (h : History). IfSome (change_in from_desk.plain.doubt) (MayFollow (now h).base)) from_desk.is.journal doubt.1;
-        opens = holds_here;
-      }
+  crashes_open = holds_here

@@ -4,6 +4,7 @@ use Rattle.std.specs.Prelude.{IfErr, MatchResult, OnOk, is_some, nat_lt, option_
 use Rattle.std.specs.List.{AllByRecursion}
 use Rattle.std.specs.Option.{option_or}
 use Rattle.std.proofs.lemmas.Bool.{eqb-true, ltb-false, ltb-true}
+use Rattle.std.proofs.lemmas.List.{length-append}
 use Rattle.atomic_table.specs.Seated.{TableId}
 use Rattle.disk_model.specs.Disk.{State}
 use Rattle.disk_model.specs.Moments.{Clock}
@@ -15,6 +16,9 @@ use Rattle.retro_base.specs.declared.refusal.Refusal.TheVariants as refusal
 use Rattle.retro_base.specs.declared.who.Who.{Who}
 use Rattle.history.specs.declared.entry.Base.{Base}
 use Rattle.history.specs.declared.entry.Change.TheVariants.{Drop}
+use Rattle.history.specs.declared.journal.FailedCall.{FailedCall}
+use Rattle.history.specs.declared.journal.FailedCall.TheVariants.{Append, Write}
+use Rattle.txn_set.proofs.Drops.{drops_stay_sound}
 use Rattle.history.specs.declared.journal.Line.{Line}
 use Rattle.history.specs.declared.journal.What.{What}
 use Rattle.history.specs.declared.journal.What.TheVariants.{Dropped, Fault, Refused}
@@ -35,8 +39,8 @@ use Rattle.journal_law.specs.World.{World, newest}
 use Rattle.records.specs.Entries.{change_bytes}
 use Rattle.desk.specs.Cause.{IsChangeRefusal}
 use Rattle.txn_set.specs.declared.ledger.Ledger.{Ledger}
-use Rattle.txn_set.specs.Ledger.{closed, drop_kept, faulted, given_up, gives_up, line_of}
-use Rattle.txn_set.specs.Refused.{no_snapshot, pinned_below, stopped, where_so}
+use Rattle.txn_set.specs.Ledger.{closed, drop_kept, faulted, given_up, gives_up, is_closed, line_of}
+use Rattle.txn_set.specs.Refused.{drop_refused, no_snapshot, pinned_below, stopped, where_so}
 use Rattle.txn_set.specs.WorksFit.{PinsFit}
 use Rattle.store_core.specs.Drops.{HasEndedDrop, drop_line_refused, drop_refused_by, is_kept_drop}
 use Rattle.store_core.proofs.Cores.{base_is}
@@ -44,15 +48,16 @@ use Rattle.turn.specs.Seats.{IsSame, mine, opening, seen}
 use Rattle.store.specs.declared.desk_side.DeskSide.{DeskSide}
 use Rattle.store.specs.declared.start.Start.{Start}
 use Rattle.store.specs.RoundCalls.{DropDoes}
-use Rattle.store.specs.Rounds.{AnswersAtLast, DropAnswers, DropAsks, IsNewSince, IsNoRoom, Passes, RoomRefused, tells_drop}
-use Rattle.store.specs.Seats.{Sat, Visited, Visits, Waits as SeatWaits, journal, slots_of}
+use Rattle.store.specs.Rounds.{DropAnswers, IsNoRoom, Passes, tells_drop}
+use Rattle.store.specs.Seats.{IsReady, Sat, Visited, Visits, Waits as SeatWaits, journal, slots_of}
 use Rattle.store.specs.Start.{opened_base}
 use Rattle.store.proofs.Adding.{given_lines, kept_lines}
 use Rattle.store.proofs.Finding.{some_is}
 use Rattle.store.proofs.Leaving.{sound_journal}
 use Rattle.store.proofs.Passing.{new_fault}
 use Rattle.store.proofs.Recalling.{waits_on}
-use Rattle.store.proofs.Writing.{same_on}
+use Rattle.store.proofs.Reaching.{AnswersSo, DropSo, IsNewSince, RoomRefused, same_on}
+use Rattle.store.proofs.Redropping.{drop_as}
 use Rattle.store.specs.declared.told.ToldFault.{ToldFault}
 use Rattle.store.specs.Ground.{ground_of}
 use Rattle.store.specs.Seen.{ground_in, told_of, view_of, work_in}
@@ -94,9 +99,9 @@ goes_on None rest e = refl
 goes_on (Some s) rest e = absurd (cc e)
 
 -- the line of a fault stands in any case
-faulted_line : (who : Who) (device : Device) (count : ℕ) (l : Ledger) → (faulted who device count true l).book.lines ≡ l.book.lines ++ line who (Fault device count true) ∷ []
-faulted_line who device count l = at (is_some (work_at l.works.slots who.session)) where
-  at : (test : Bool) → (cond test (closed who (Fault device count true) l) (record l { book = noting l.book (line_of who (Fault device count true)) })).book.lines ≡ l.book.lines ++ line who (Fault device count true) ∷ []
+faulted_line : (who : Who) (device : Device) (count : ℕ) (call : FailedCall) (l : Ledger) → (faulted who device count call l).book.lines ≡ l.book.lines ++ line who (Fault device count call) ∷ []
+faulted_line who device count call l = at (is_some (work_at l.works.slots who.session)) where
+  at : (test : Bool) → (cond test (closed who (Fault device count call) l) (record l { book = noting l.book (line_of who (Fault device count call)) })).book.lines ≡ l.book.lines ++ line who (Fault device count call) ∷ []
   at true = refl
   at false = refl
 
@@ -132,7 +137,7 @@ module _ {D : Type 0} (is_honest : D → Type 0) (state : D → State) (faults :
     -- what it has left
     abbrev Left : Result (Unit {0}) Refusal → Type 0
     Left (Ok u) = Told (Dropped below) × (drop_refused_by Newest below d0.core.ledger ≡ None)
-    Left (Err (refusal.DiskFault d c)) = Told (Fault d c true) × IsNewSince is_honest state faults z d c s1
+    Left (Err (refusal.DiskFault d c)) = Told (Fault d c (Append (Drop below))) × (drop_refused_by Newest below d0.core.ledger ≡ None) × IsNewSince is_honest state faults z d c s1
     Left (Err (refusal.JournalFull lines images)) = (journal d1 ≡ journal d0) × (JOURNAL_LINES - WORKER_LINES < lines)
     Left (Err refusal.OutOfMemory) = journal d1 ≡ journal d0
     Left (Err (refusal.NoRoom needed free)) = journal d1 ≡ journal d0
@@ -179,10 +184,11 @@ module _ {D : Type 0} (is_honest : D → Type 0) (state : D → State) (faults :
           cause why e = subst (λ (x : Result (Unit {0}) Refusal). MatchResult x (λ _. faults d1.core.desk.log.disk ≡ faults d0.core.desk.log.disk)
               (IsChangeRefusal d0.core.desk.log.log.area.log (length (change_bytes d0.core.desk.log.log.version (Drop below))) (faults d0.core.desk.log.disk) (faults d1.core.desk.log.disk))) e (does.cause (record { room = room; free = free }))
 
-          ended_left : (why : Refusal) → r ≡ Err why → HasEndedDrop who why Kept d1.core.ledger → Left (Err why)
+          ended_left : (why : Refusal) → r ≡ Err why → HasEndedDrop who below why Kept d1.core.ledger → Left (Err why)
           ended_left (refusal.DiskFault d c) e end =
               let f = (cause (refusal.DiskFault d c) e).1 in (
-                ap (λ (l : Ledger). l.book.lines) (end.other (λ m. absurd (cc m))) ∙ (faulted_line who d c Kept ∙ ap (λ (l : List Line). l ++ one who (Fault d c true)) (kept_lines who d0.core.ledger)),
+                ap (λ (l : Ledger). l.book.lines) (end.other (λ m. absurd (cc m))) ∙ (faulted_line who d c (Append (Drop below)) Kept ∙ ap (λ (l : List Line). l ++ one who (Fault d c (Append (Drop below)))) (kept_lines who d0.core.ledger)),
+                free,
                 λ start at. new_fault faults Log _ _ d c (f.0 ∙ does.names, f.1, f.2, f.3) start (subst (λ (x : Start D). faults x.core.value.desk.log.disk ≤ faults d0.core.desk.log.disk) (start_is start at) (v.keeps.later Log)),
               )
           ended_left refusal.OutOfMemory e end = gave_line (end.memory refl)
@@ -193,7 +199,7 @@ module _ {D : Type 0} (is_honest : D → Type 0) (state : D → State) (faults :
         answered refused is (Ok u) e =
             let d = subst (λ (x : Result (Unit {0}) Refusal). OnOk x ((drop_refused_by Newest below d0.core.ledger ≡ None) × (d1.core.ledger ≡ closed who (Dropped below) Kept))) e does.dropped.done in (closed_line (Dropped below) d.1, d.0)
         answered None is (Err why) e = ⊎_elim (ended_left is why e) (λ (g : (why ≡ refusal.OutOfMemory) × (d1.core.ledger ≡ given_up who d0.core.ledger)). memory_left why g.0 (given_line g.1))
-            (subst (λ (x : Result (Unit {0}) Refusal). IfErr x (λ w. HasEndedDrop who w Kept d1.core.ledger ⊎ ((w ≡ refusal.OutOfMemory) × (d1.core.ledger ≡ given_up who d0.core.ledger)))) e (does.dropped.kept room is))
+            (subst (λ (x : Result (Unit {0}) Refusal). IfErr x (λ w. HasEndedDrop who below w Kept d1.core.ledger ⊎ ((w ≡ refusal.OutOfMemory) × (d1.core.ledger ≡ given_up who d0.core.ledger)))) e (does.dropped.kept room is))
         answered (Some because) is (Err why) e = ⊎_elim (λ (l : (why ≡ because) × (d1.core.ledger ≡ closed who (Refused because) Kept)). subst (λ (w : Refusal). Left (Err w)) (sym l.0) (refused_left because is l.1))
             (λ (g : (why ≡ refusal.OutOfMemory) × (d1.core.ledger ≡ given_up who d0.core.ledger)). memory_left why g.0 (given_line g.1))
             (subst (λ (x : Result (Unit {0}) Refusal). IfErr x (λ o. ((o ≡ because) × (d1.core.ledger ≡ closed who (Refused because) Kept)) ⊎ ((o ≡ refusal.OutOfMemory) × (d1.core.ledger ≡ given_up who d0.core.ledger)))) e (does.dropped.refused because room is))
@@ -310,6 +316,24 @@ module _ {D : Type 0} (is_honest : D → Type 0) (state : D → State) (faults :
             free = subst (AllByRecursion (λ (pin : Pin). below ≤ pin.snapshot)) (sym pins_there) rules.2;
           }
 
+      -- so may one that a fault leaves in doubt
+      may_doubt : (call : FailedCall) (d : Device) (c : ℕ) → journal d1 ≡ journal d0 ++ one who (Fault d c call) → drop_refused_by (marks.newest d0.core.desk.base.marks) below d0.core.ledger ≡ None → MayDrop Meets below
+      may_doubt call d c lines free =
+          let found = v.stands.stands v.stands.origin v.stands.opened in
+          let short = (subst (λ (x : Start D). IsSound (opened_base x) (journal d1)) v.start (sound_journal is_honest state d1 v.stands_after)).short in
+          let place : length (journal d0) < JOURNAL_LINES = omega (arith, short, ap (λ (l : List Line). length l) lines ∙ length-append (journal d0) (one who (Fault d c call))) in
+          let sound_before : IsSound Opening (journal d0) = subst (λ (b : Base). IsSound b (journal d0)) v.stands.opened.base found.is.ledger.sound in
+          let rules : KeepsRules (base_of Opening (journal d0)) (sound.pins_of Opening [] (journal d0)) (Dropped below) =
+          ((sound_with_one_more Opening (journal d0) (line who (Dropped below))).0
+          (drops_stay_sound Opening (first_stop (journal d0)) d0.core.ledger (line who (Dropped below)) below sound_before place found.is.ledger.works pins_fit
+          (subst (λ (b : Base). drop_refused (first_stop (journal d0)) (marks.newest b.marks) below (slots_of d0) ≡ None) base_there free) refl)).2 in
+          let newest_is = ap (λ (b : Base). marks.newest b.marks) (sym base_there) ∙ newest_there in
+          record {
+            goes = stop_there None (goes_on (first_stop (journal d0)) _ free);
+            numbered = (rules.0, subst (λ (n : ℕ). below ≤ n) newest_is rules.1);
+            free = subst (AllByRecursion (λ (pin : Pin). below ≤ pin.snapshot)) (sym pins_there) rules.2;
+          }
+
       -- a drop that was refused is refused so
       refused_there : (why : Refusal) → drop_refused_by (marks.newest d0.core.desk.base.marks) below d0.core.ledger ≡ Some why → DropRefused Meets below why
       refused_there why e = at (kind_of (marks.newest d0.core.desk.base.marks) below (least_pin (slots_of d0)) (first_stop (journal d0)) why e) where
@@ -333,7 +357,7 @@ module _ {D : Type 0} (is_honest : D → Type 0) (state : D → State) (faults :
 
         told_gives : (r : Result (Unit {0}) Refusal) → tells_drop r ≡ true → Leaves r → DropGives who below Old New r
         told_gives (Ok u) tells left = (adds_so (Dropped below) left.0, may_drop left.0 left.1)
-        told_gives (Err (refusal.DiskFault d c)) tells left = (adds_so (Fault d c true) left.0, is_new d c left.1)
+        told_gives (Err (refusal.DiskFault d c)) tells left = (inr (adds_so (Fault d c (Append (Drop below))) left.0, may_doubt (Append (Drop below)) d c left.0 left.1), is_new d c left.2)
         told_gives (Err (refusal.Stopped d c)) tells left = (adds_so (Refused (refusal.Stopped d c)) left.0, refused_there (refusal.Stopped d c) left.1)
         told_gives (Err (refusal.NoSuchSnapshot n k)) tells left = (adds_so (Refused (refusal.NoSuchSnapshot n k)) left.0, refused_there (refusal.NoSuchSnapshot n k) left.1)
         told_gives (Err (refusal.Pinned n k)) tells left = (adds_so (Refused (refusal.Pinned n k)) left.0, refused_there (refusal.Pinned n k) left.1)
@@ -343,16 +367,16 @@ module _ {D : Type 0} (is_honest : D → Type 0) (state : D → State) (faults :
 
   module _ (remembers : Type 0) (clock : D → Clock) (who : Who) (below : ℕ) where
     abbrev Asks : Result (Unit {0}) Refusal → Sat D → Sat D → Type 0
-    Asks = DropAsks is_honest state faults z remembers clock who below
+    Asks = DropSo is_honest state faults z who (DropDoes is_honest state faults remembers clock who below)
 
     abbrev Again : Result (Unit {0}) Refusal → Sat D → Sat D → Type 0
-    Again = AnswersAtLast is_honest state faults z remembers clock who (DropDoes is_honest state faults remembers clock who below)
+    Again = AnswersSo is_honest state faults z who (DropDoes is_honest state faults remembers clock who below)
 
     abbrev Visit : Result (Unit {0}) Refusal → Sat D → Sat D → Type 0
     Visit r = Visits is_honest state faults z (DropDoes is_honest state faults remembers clock who below r)
 
     -- a visit that found no room left nothing
-    first_reached : (s0 s1 : Sat D) (first : Result (Unit {0}) Refusal) → IsNoRoom is_honest state faults z remembers clock who first → Visit first s0 s1 → Reached s0 s1
+    first_reached : (s0 s1 : Sat D) (first : Result (Unit {0}) Refusal) → IsNoRoom first → Visit first s0 s1 → Reached s0 s1
     first_reached s0 s1 (Ok u) room v = absurd room
     first_reached s0 s1 (Err (refusal.NoRoom needed free)) room v = reached_quiet s0 s1 v.before v.after v.visited (left remembers clock who below s0 s1 v.before v.after v.visited (Err (refusal.NoRoom needed free)) v.does)
     first_reached s0 s1 (Err _) room v = absurd room
@@ -369,13 +393,15 @@ module _ {D : Type 0} (is_honest : D → Type 0) (state : D → State) (faults :
         to_kept : Reached s0 kept
         to_kept = first_reached s0 kept first room v
 
-        fault : (d : Device) (c : ℕ) → RoomRefused is_honest state faults z remembers clock who (refusal.DiskFault d c) kept s1 → Gives (Err (refusal.DiskFault d c))
+        fault : (d : Device) (c : ℕ) → RoomRefused is_honest state faults z who (refusal.DiskFault d c) kept s1 → Gives (Err (refusal.DiskFault d c))
         fault d c f =
             let u = f.0.visits in
-            told_gives s0 s1 asked told quiet none who below f.0.middle (reached_on s0 kept f.0.middle to_kept (reached_passes z kept f.0.middle f.0.passes)) u.before u.after u.visited remembers clock (Err (refusal.DiskFault d c)) refl
-            (ap (λ (l : Ledger). l.book.lines) u.does ∙ faulted_line who d c u.before.core.ledger, f.1)
+            let reached = reached_on s0 kept f.0.middle to_kept (reached_passes z kept f.0.middle f.0.passes) in (
+              inl (adds_so s0 s1 asked told quiet none who below f.0.middle reached u.before u.after u.visited (Fault d c Write) (ap (λ (l : Ledger). l.book.lines) u.does ∙ faulted_line who d c Write u.before.core.ledger)),
+              is_new s0 s1 asked told quiet none who below f.0.middle reached u.before u.after u.visited d c f.1,
+            )
 
-        at : (why : Refusal) → tells_drop (Err why) ≡ true → RoomRefused is_honest state faults z remembers clock who why kept s1 → Gives (Err why)
+        at : (why : Refusal) → tells_drop (Err why) ≡ true → RoomRefused is_honest state faults z who why kept s1 → Gives (Err why)
         at (refusal.DiskFault d c) t f = fault d c f
         at (refusal.Stopped d c) t f = absurd f
         at refusal.OutOfMemory t f = absurd (cc t)
@@ -395,12 +421,12 @@ module _ {D : Type 0} (is_honest : D → Type 0) (state : D → State) (faults :
     Untold r = ⊥
 
     -- a visit that no line tells
-    visit_untold : (s0 s1 : Sat D) (r : Result (Unit {0}) Refusal) → tells_drop r ≡ false → (IsNoRoom is_honest state faults z remembers clock who r → ⊥) → Visit r s0 s1 → Reached s0 s1 × Untold r
+    visit_untold : (s0 s1 : Sat D) (r : Result (Unit {0}) Refusal) → tells_drop r ≡ false → (IsNoRoom r → ⊥) → Visit r s0 s1 → Reached s0 s1 × Untold r
     visit_untold s0 s1 r untold room v = at r untold room (left remembers clock who below s0 s1 v.before v.after v.visited r v.does) refl where
       Here : Result (Unit {0}) Refusal → Type 0
       Here = Left remembers clock who below s0 s1 v.before v.after v.visited
 
-      at : (x : Result (Unit {0}) Refusal) → tells_drop x ≡ false → (IsNoRoom is_honest state faults z remembers clock who x → ⊥) → Here x → r ≡ x → Reached s0 s1 × Untold x
+      at : (x : Result (Unit {0}) Refusal) → tells_drop x ≡ false → (IsNoRoom x → ⊥) → Here x → r ≡ x → Reached s0 s1 × Untold x
       at (Err (refusal.JournalFull lines images)) t n l e = (reached_quiet s0 s1 v.before v.after v.visited l.0, l.1)
       at (Err refusal.OutOfMemory) t n l e = (reached_quiet s0 s1 v.before v.after v.visited l, tt)
       at (Err (refusal.NoRoom needed free)) t n l e = absurd (n tt)
@@ -423,7 +449,7 @@ module _ {D : Type 0} (is_honest : D → Type 0) (state : D → State) (faults :
       to_kept : Reached s0 kept
       to_kept = first_reached s0 kept first room v
 
-      at : (why : Refusal) → tells_drop (Err why) ≡ false → RoomRefused is_honest state faults z remembers clock who why kept s1 → Reached s0 s1 × Untold (Err why)
+      at : (why : Refusal) → tells_drop (Err why) ≡ false → RoomRefused is_honest state faults z who why kept s1 → Reached s0 s1 × Untold (Err why)
       at (refusal.DiskFault d c) t f = absurd (cc t)
       at (refusal.Stopped d c) t f = absurd f
       at refusal.OutOfMemory t f = (reached_on s0 kept s1 to_kept (reached_passes z kept s1 f), tt)
@@ -445,15 +471,18 @@ module _ {D : Type 0} (is_honest : D → Type 0) (state : D → State) (faults :
       untold_gives (Ok u) reached x = absurd x
       untold_gives (Err _) reached x = absurd x
 
-      pub drop_gives : (r : Result (Unit {0}) Refusal) → DropAnswers is_honest state faults z remembers clock who below r s0 s1 → Answer r
-      drop_gives r answers = at (tells_drop r) refl where
+      pub drop_gives : IsReady z s0 → who.session ≡ s0.number → (r : Result (Unit {0}) Refusal) → DropAnswers is_honest state faults z remembers clock who below r s0 s1 → Answer r
+      drop_gives ready own r answers = at (tells_drop r) refl where
+        asks : Asks r s0 answers.asked
+        asks = drop_as is_honest state faults z remembers clock who below r s0 answers.asked ready own (ap is_closed none_before) answers.asks
+
         at : (test : Bool) → tells_drop r ≡ test → Answer r
         at true tells =
             let same = answers.told tells in
             subst (λ (s : Sat D). DropGives who below (view_of state faults asked told s0) (view_of state faults asked told s) r) (sym same)
-            (asked_gives s0 answers.asked asked told quiet (subst (λ (s : Sat D). (mine s).work ≡ None) same none) r tells answers.asks)
+            (asked_gives s0 answers.asked asked told quiet (subst (λ (s : Sat D). (mine s).work ≡ None) same none) r tells asks)
         at false tells =
-            let u = asked_untold s0 answers.asked r tells answers.asks in
+            let u = asked_untold s0 answers.asked r tells asks in
             let v = answers.gives_up tells in
             untold_gives r (reached_on s0 answers.asked s1 u.0 (reached_quiet answers.asked s1 v.before v.after v.visited (without_lines (is_kept_drop (work_at (slots_of v.before) who.session)) v.before v.after v.does.ledger))) u.1 where
               without_lines : (test : Bool) (d0 d1 : DeskSide D) → d1.core.ledger ≡ cond test (gives_up who.session d0.core.ledger) d0.core.ledger → journal d1 ≡ journal d0

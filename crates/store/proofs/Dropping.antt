@@ -12,6 +12,8 @@ use Rattle.retro_base.specs.declared.refusal.Refusal.TheVariants.{DiskFault, Jou
 use Rattle.retro_base.specs.declared.who.Who.{Who}
 use Rattle.gate_log.specs.Cause.{IsDiskFault}
 use Rattle.history.specs.declared.entry.Change.TheVariants.{Drop}
+use Rattle.history.specs.declared.journal.FailedCall.{FailedCall}
+use Rattle.history.specs.declared.journal.FailedCall.TheVariants.{Append}
 use Rattle.history.specs.declared.journal.What.TheVariants as whats
 use Rattle.history.specs.declared.log.Version.{Version}
 use Rattle.history.specs.declared.stop.Stop.{Stop}
@@ -29,7 +31,7 @@ use Rattle.desk.specs.declared.desk.RunningDesk.{RunningDesk}
 use Rattle.txn_set.specs.declared.ledger.Ledger.{Ledger}
 use Rattle.txn_set.specs.Ledger.{closed, drop_kept, faulted, given_up, gives_up, is_closed, keeps_drop, keeps_other_drop}
 use Rattle.txn_set.specs.Refused.{no_snapshot, pinned_below, stopped, where_so}
-use Rattle.store_core.specs.Calls.{dropped_behind, failed}
+use Rattle.store_core.specs.Calls.{dropped_behind, failed_at}
 use Rattle.store_core.specs.Core.{IsCore}
 use Rattle.store_core.specs.Drops.{HasEndedDrop, IsAllowedDrop, drop_line_refused, drop_refused_by, is_kept_drop, without_drop}
 use Rattle.turn.specs.Faults.{LAST, desk_faults, fault_times}
@@ -139,9 +141,9 @@ memory_or OutOfMemory = inl refl
 memory_or (DiskFault d c) = inr (λ e. absurd (cc e))
 memory_or _ = inr (λ e. absurd (cc e))
 
-pub not_failed : (who : Who) (why : Refusal) (l : Ledger) → (IsDiskFault why → ⊥) → failed who why l ≡ l
-not_failed who (DiskFault d c) l none = absurd (none tt)
-not_failed who _ l none = refl
+pub not_failed : (call : FailedCall) (who : Who) (why : Refusal) (l : Ledger) → (IsDiskFault why → ⊥) → failed_at call who why l ≡ l
+not_failed call who (DiskFault d c) l none = absurd (none tt)
+not_failed call who _ l none = refl
 
 module _ {D : Type 0} (is_honest : D → Type 0) (state : D → State) (faults : D → ℕ) (remembers : Type 0) (clock : D → Clock) (who : Who) (old new : DeskSide D) (start : new.start ≡ old.start) (stands : DeskStands is_honest state old) where
   floor_behind : (below : ℕ) (plain : Desk) → ((dropped_behind (oldest old.core.desk.base.marks) below plain).floor ≡ plain.floor) × ((dropped_behind (oldest old.core.desk.base.marks) below plain).acked ≡ plain.acked)
@@ -195,19 +197,19 @@ module _ {D : Type 0} (is_honest : D → Type 0) (state : D → State) (faults :
         (acked_by first.plain (dropped_behind (oldest old.core.desk.base.marks) below first.plain) (floor_behind below first.plain).1 stands.origin first.is (done stands.origin first))
         (λ mine own. adds_dropped who (IsToldIn _) old.core.ledger new.core.ledger (whats.Dropped below) (λ d c p. absurd (omega (arith, p))) tt ledger)
         (closes is_honest state faults who old new start stands always (slot_is _ None ledger (slot_own (drop_kept who old.core.ledger).works.slots who.session None) tt))
-    made room free (Err why) e = ⊎_elim ended given (subst (λ (r : Result (Unit {0}) Refusal). IfErr r (λ w. HasEndedDrop who w (drop_kept who old.core.ledger) new.core.ledger ⊎ ((w ≡ OutOfMemory) × (new.core.ledger ≡ given_up who old.core.ledger)))) e (does.dropped.kept room free)) where
+    made room free (Err why) e = ⊎_elim ended given (subst (λ (r : Result (Unit {0}) Refusal). IfErr r (λ w. HasEndedDrop who below w (drop_kept who old.core.ledger) new.core.ledger ⊎ ((w ≡ OutOfMemory) × (new.core.ledger ≡ given_up who old.core.ledger)))) e (does.dropped.kept room free)) where
       given : (why ≡ OutOfMemory) × (new.core.ledger ≡ given_up who old.core.ledger) → IsVisit is_honest state faults who always old new
       given g = gave why e (λ f. subst IsDiskFault g.0 f) g.1
 
       keeps : new.core.ledger ≡ drop_kept who old.core.ledger → (IsDiskFault why → ⊥) → IsVisit is_honest state faults who always old new
       keeps ledger none = untouched why e none (λ mine. adds_kept who (IsToldIn mine) old.core.ledger new.core.ledger ledger) (slot_is (drop_kept who old.core.ledger) _ ledger refl (kept_closed who _ (kept_slot who old.core.ledger)))
 
-      fails : (d : Device) (c : ℕ) → why ≡ DiskFault d c → new.core.ledger ≡ failed who why (drop_kept who old.core.ledger) → IsVisit is_honest state faults who always old new
+      fails : (d : Device) (c : ℕ) → why ≡ DiskFault d c → new.core.ledger ≡ failed_at (Append (Drop below)) who why (drop_kept who old.core.ledger) → IsVisit is_honest state faults who always old new
       fails d c w ended =
           let is_err : result ≡ Err (DiskFault d c) = e ∙ ap Err w in
-          let ledger : new.core.ledger ≡ faulted who d c true (drop_kept who old.core.ledger) = ended ∙ ap (λ (x : Refusal). failed who x (drop_kept who old.core.ledger)) w in
+          let ledger : new.core.ledger ≡ faulted who d c (Append (Drop below)) (drop_kept who old.core.ledger) = ended ∙ ap (λ (x : Refusal). failed_at (Append (Drop below)) who x (drop_kept who old.core.ledger)) w in
           let there = some_there (work_at (drop_kept who old.core.ledger).works.slots who.session) (some_kept who _ (kept_slot who old.core.ledger)) in
-          let closes_so : new.core.ledger ≡ closed who (whats.Fault d c true) (drop_kept who old.core.ledger) = ledger ∙ faulted_closed who (drop_kept who old.core.ledger) d c true there.0 there.1 in
+          let closes_so : new.core.ledger ≡ closed who (whats.Fault d c (Append (Drop below))) (drop_kept who old.core.ledger) = ledger ∙ faulted_closed who (drop_kept who old.core.ledger) d c (Append (Drop below)) there.0 there.1 in
           let failing = λ (origin : Origin) (from_ : IsCoreFrom is_honest state origin old.core).
           subst (λ (r : Result (Unit {0}) Refusal). IfErr r (λ w. IsDiskFault w → IsCore is_honest state origin.history new.core (change_failed from_.plain (Drop below)))) is_err (does.failed origin.history from_.plain from_.is) tt in
           let first = stands.stands stands.origin stands.opened in
@@ -222,15 +224,15 @@ module _ {D : Type 0} (is_honest : D → Type 0) (state : D → State) (faults :
           (stands_moved is_honest state old new start (λ origin from_. record { plain = change_failed from_.plain (Drop below); is = failing origin from_; floor = from_.floor; in_version = (from_.in_version.0, tt) }) honest stands)
           (counts_up faults old.core new.core fault.2 pages_up)
           (acked_by first.plain (change_failed first.plain (Drop below)) refl stands.origin first.is (failing stands.origin first))
-          (λ mine own. adds_dropped who (IsToldIn _) old.core.ledger new.core.ledger (whats.Fault d c true) (λ x n p. more_told _ _ x n (fault_is _ d c told x n p)) tt closes_so)
+          (λ mine own. adds_dropped who (IsToldIn _) old.core.ledger new.core.ledger (whats.Fault d c (Append (Drop below))) (λ x n p. more_told _ _ x n (fault_is _ d c told x n p)) tt closes_so)
           (closes is_honest state faults who old new start stands always (slot_is _ None closes_so (slot_own (drop_kept who old.core.ledger).works.slots who.session None) tt))
 
-      ended : HasEndedDrop who why (drop_kept who old.core.ledger) new.core.ledger → IsVisit is_honest state faults who always old new
+      ended : HasEndedDrop who below why (drop_kept who old.core.ledger) new.core.ledger → IsVisit is_honest state faults who always old new
       ended end = ⊎_elim
           (λ (memory : why ≡ OutOfMemory). untouched why e (λ f. subst IsDiskFault memory f) (λ mine. adds_gave who (IsToldIn mine) old.core.ledger new.core.ledger (end.memory memory))
           (slot_is _ None (end.memory memory) (slot_own (drop_kept who old.core.ledger).works.slots who.session None) tt))
           (λ (other : why ≡ OutOfMemory → ⊥). ⊎_elim (λ (f : (d : Device) × (c : ℕ) × (why ≡ DiskFault d c)). fails f.0 f.1 f.2 (end.other other))
-          (λ (none : IsDiskFault why → ⊥). keeps (end.other other ∙ not_failed who why (drop_kept who old.core.ledger) none) none) (fault_or why)) (memory_or why)
+          (λ (none : IsDiskFault why → ⊥). keeps (end.other other ∙ not_failed (Append (Drop below)) who why (drop_kept who old.core.ledger) none) none) (fault_or why)) (memory_or why)
 
     -- it was refused with a line that says so, or for want of memory
     told_so : (why : Refusal) (room : drop_line_refused who old.core.ledger ≡ None) → drop_refused_by (newest old.core.desk.base.marks) below old.core.ledger ≡ Some why → (r : Result (Unit {0}) Refusal) → result ≡ r → IsVisit is_honest state faults who always old new
@@ -270,13 +272,13 @@ module _ {D : Type 0} (is_honest : D → Type 0) (state : D → State) (faults :
     then_kept : new.core.ledger ≡ drop_kept who old.core.ledger → is_closed Then ≡ true
     then_kept e = then_is (drop_kept who old.core.ledger) _ e refl (kept_still who _ (kept_slot who old.core.ledger))
 
-    then_ended : (why : Refusal) → HasEndedDrop who why (drop_kept who old.core.ledger) new.core.ledger → is_closed Then ≡ true
+    then_ended : (why : Refusal) → HasEndedDrop who below why (drop_kept who old.core.ledger) new.core.ledger → is_closed Then ≡ true
     then_ended why end = ⊎_elim (λ (memory : why ≡ OutOfMemory). then_is _ None (end.memory memory) (slot_own (drop_kept who old.core.ledger).works.slots who.session None) refl)
         (λ (other : why ≡ OutOfMemory → ⊥). ⊎_elim
         (λ (f : (d : Device) × (c : ℕ) × (why ≡ DiskFault d c)).
         let there = some_there (work_at (drop_kept who old.core.ledger).works.slots who.session) (some_kept who _ (kept_slot who old.core.ledger)) in
-        then_closed (whats.Fault f.0 f.1 true) (end.other other ∙ (ap (λ (x : Refusal). failed who x (drop_kept who old.core.ledger)) f.2 ∙ faulted_closed who (drop_kept who old.core.ledger) f.0 f.1 true there.0 there.1)))
-        (λ (none : IsDiskFault why → ⊥). then_kept (end.other other ∙ not_failed who why (drop_kept who old.core.ledger) none)) (fault_or why)) (memory_or why)
+        then_closed (whats.Fault f.0 f.1 (Append (Drop below))) (end.other other ∙ (ap (λ (x : Refusal). failed_at (Append (Drop below)) who x (drop_kept who old.core.ledger)) f.2 ∙ faulted_closed who (drop_kept who old.core.ledger) f.0 f.1 (Append (Drop below)) there.0 there.1)))
+        (λ (none : IsDiskFault why → ⊥). then_kept (end.other other ∙ not_failed (Append (Drop below)) who why (drop_kept who old.core.ledger) none)) (fault_or why)) (memory_or why)
 
     -- behind each drop nothing is open
     pub drops_closed : is_closed Then ≡ true
@@ -285,7 +287,7 @@ module _ {D : Type 0} (is_honest : D → Type 0) (state : D → State) (faults :
       answered room refused is (Ok x) e =
           then_closed (whats.Dropped below) (subst (λ (r : Result (Unit {0}) Refusal). OnOk r ((drop_refused_by (newest old.core.desk.base.marks) below old.core.ledger ≡ None) × (new.core.ledger ≡ closed who (whats.Dropped below) (drop_kept who old.core.ledger)))) e does.dropped.done).1
       answered room None is (Err why) e = ⊎_elim (then_ended why) (λ (g : (why ≡ OutOfMemory) × (new.core.ledger ≡ given_up who old.core.ledger)). then_given g.1)
-          (subst (λ (r : Result (Unit {0}) Refusal). IfErr r (λ w. HasEndedDrop who w (drop_kept who old.core.ledger) new.core.ledger ⊎ ((w ≡ OutOfMemory) × (new.core.ledger ≡ given_up who old.core.ledger)))) e (does.dropped.kept room is))
+          (subst (λ (r : Result (Unit {0}) Refusal). IfErr r (λ w. HasEndedDrop who below w (drop_kept who old.core.ledger) new.core.ledger ⊎ ((w ≡ OutOfMemory) × (new.core.ledger ≡ given_up who old.core.ledger)))) e (does.dropped.kept room is))
       answered room (Some because) is (Err why) e = ⊎_elim (λ (l : (why ≡ because) × (new.core.ledger ≡ closed who (whats.Refused because) (drop_kept who old.core.ledger))). then_closed _ l.1)
           (λ (g : (why ≡ OutOfMemory) × (new.core.ledger ≡ given_up who old.core.ledger)). then_given g.1)
           (subst (λ (r : Result (Unit {0}) Refusal). IfErr r (λ o. ((o ≡ because) × (new.core.ledger ≡ closed who (whats.Refused because) (drop_kept who old.core.ledger))) ⊎ ((o ≡ OutOfMemory) × (new.core.ledger ≡ given_up who old.core.ledger)))) e (does.dropped.refused because room is))
@@ -299,9 +301,9 @@ module _ {D : Type 0} (is_honest : D → Type 0) (state : D → State) (faults :
     no_room_kept why e is = at (drop_line_refused who old.core.ledger) refl where
       answered : (room : drop_line_refused who old.core.ledger ≡ None) (refused : Option Refusal) → drop_refused_by (newest old.core.desk.base.marks) below old.core.ledger ≡ refused → new.core.ledger ≡ drop_kept who old.core.ledger
       answered room None free = ⊎_elim
-          (λ (end : HasEndedDrop who why (drop_kept who old.core.ledger) new.core.ledger). end.other (λ m. subst IsRoom m is) ∙ not_failed who why (drop_kept who old.core.ledger) (room_no_fault why is))
+          (λ (end : HasEndedDrop who below why (drop_kept who old.core.ledger) new.core.ledger). end.other (λ m. subst IsRoom m is) ∙ not_failed (Append (Drop below)) who why (drop_kept who old.core.ledger) (room_no_fault why is))
           (λ (g : (why ≡ OutOfMemory) × (new.core.ledger ≡ given_up who old.core.ledger)). absurd (subst IsRoom g.0 is))
-          (subst (λ (r : Result (Unit {0}) Refusal). IfErr r (λ w. HasEndedDrop who w (drop_kept who old.core.ledger) new.core.ledger ⊎ ((w ≡ OutOfMemory) × (new.core.ledger ≡ given_up who old.core.ledger)))) e (does.dropped.kept room free))
+          (subst (λ (r : Result (Unit {0}) Refusal). IfErr r (λ w. HasEndedDrop who below w (drop_kept who old.core.ledger) new.core.ledger ⊎ ((w ≡ OutOfMemory) × (new.core.ledger ≡ given_up who old.core.ledger)))) e (does.dropped.kept room free))
       answered room (Some because) refused = ⊎_elim
           (λ (l : (why ≡ because) × (new.core.ledger ≡ closed who (whats.Refused because) (drop_kept who old.core.ledger))).
           absurd (refused_tells IsRoom (newest old.core.desk.base.marks) below old.core.ledger (λ s x. x) (λ a b x. x) (λ a b x. x) (because, refused, subst IsRoom l.0 is)))

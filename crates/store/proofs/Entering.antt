@@ -7,8 +7,10 @@ use Rattle.disk_model.specs.Disk.{State}
 use Rattle.retro_base.specs.declared.device.Device.{Device}
 use Rattle.retro_base.specs.declared.who.Who.{Who}
 use Rattle.history.specs.declared.entry.Base.{Base}
+use Rattle.history.specs.declared.entry.Change.{Change}
+use Rattle.history.specs.declared.entry.Change.TheVariants.{Commit, Drop}
 use Rattle.history.specs.declared.journal.Line.{Line}
-use Rattle.history.specs.History.{now}
+use Rattle.history.specs.History.{base_after, bases_after, now}
 use Rattle.history.specs.Journal.{changes_of}
 use Rattle.history.specs.Lines.{lines_of}
 use Rattle.journal_book.specs.declared.work.Work.{Work}
@@ -52,6 +54,14 @@ began_fits pages lines (KeptDrop who) fits = omega arith
 same_inside : {A : Type 0} (p : Place A) (n m : ℕ) (x y : A) → p ≡ Inside n x → p ≡ Inside m y → x ≡ y
 same_inside p n m x y e f = cc (e, f)
 
+capacity_after : (base : Base) (change : Change) → (base_after base change).capacity ≡ base.capacity
+capacity_after base (Commit label writes) = refl
+capacity_after base (Drop below) = refl
+
+slots_stay : (base : Base) (changes : List Change) → (bases_after base changes).capacity ≡ base.capacity
+slots_stay base [] = refl
+slots_stay base (change ∷ changes) = slots_stay (base_after base change) changes ∙ capacity_after base change
+
 module _ {D : Type 0} (is_honest : D → Type 0) (state : D → State) where
   pub own_work : (side : DeskSide D) (n : ℕ) → DeskStands is_honest state side → IsOwnWork (journal side) n (work_at (slots_of side) n)
   own_work side n stands =
@@ -68,6 +78,14 @@ module _ {D : Type 0} (is_honest : D → Type 0) (state : D → State) where
       let base : Base = (now stands.origin.history).base in
       ap (λ (b : Base). b.page_count) (base_is is_honest state stands.origin.history side.core found.plain found.is)
       ∙ (count_stays (changes_of base (journal side)) base ∙ ap (λ (b : Base). b.page_count) stands.opened.base)
+
+  -- and its archive as many slots
+  pub capacity_stays : (side : DeskSide D) → DeskStands is_honest state side → side.core.desk.base.capacity ≡ (opened_base side.start).capacity
+  capacity_stays side stands =
+      let found = stands.stands stands.origin stands.opened in
+      let base : Base = (now stands.origin.history).base in
+      ap (λ (b : Base). b.capacity) (base_is is_honest state stands.origin.history side.core found.plain found.is)
+      ∙ (slots_stay base (changes_of base (journal side)) ∙ ap (λ (b : Base). b.capacity) stands.opened.base)
 
   module _ (faults : D → ℕ) (z : TableId) (s0 s1 : Sat D) (d0 : DeskSide D) (entered : HasEntered is_honest state faults z s0 s1 d0) where
     pub same_side : (other : DeskSide D) → IsInDesk z s1 other → other ≡ d0

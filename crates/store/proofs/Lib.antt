@@ -27,11 +27,13 @@ pub mod Overlaps
 pub mod Passing
 pub mod Pasts
 pub mod ReadGiven
+pub mod Reaching
 pub mod Reading
 pub mod Recalled
 pub mod Recalling
 pub mod Recovery
 pub mod Redropping
+pub mod Rooming
 pub mod Seating
 pub mod Serving
 pub mod Showing

@@ -99,7 +99,7 @@ pins_are base world pins who (Looked snapshot) are = refl
 pins_are base world pins who Unlooked are = refl
 pins_are base world pins who (Dropped below) are = refl
 pins_are base world pins who (Refused why) are = refl
-pins_are base world pins who (Fault device count wrote) are = refl
+pins_are base world pins who (Fault device count call) are = refl
 
 pins_along : (base : Base) (world : World Pages) (pins : List Pin) (lines : List Line) → AreNamed base.marks world.marks → pins_from world pins lines ≡ sound.pins_of base pins lines
 pins_along base world pins [] are = refl

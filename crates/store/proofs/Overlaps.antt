@@ -33,7 +33,7 @@ same_began LookedAll = refl
 same_began Unlooked = refl
 same_began (Dropped below) = refl
 same_began (Refused why) = refl
-same_began (Fault device count wrote) = refl
+same_began (Fault device count call) = refl
 
 trying_is : (who : Who) (last : Option What) (lines : List Line) → trying_from who (law.is_began last) lines ≡ law.is_began (last_behind last (own who lines))
 trying_is who last [] = refl
@@ -82,7 +82,7 @@ ends_so before who page LookedAll e ends = absurd (cc e)
 ends_so before who page Unlooked e ends = absurd (cc e)
 ends_so before who page (Dropped below) e ends = absurd (cc e)
 ends_so before who page (Refused why) e ends = absurd (cc e)
-ends_so before who page (Fault device count wrote) e ends = absurd (cc e)
+ends_so before who page (Fault device count call) e ends = absurd (cc e)
 
 ends_at : (before front : List Line) (l : Line) (more : List Line) → AllEndAttempts before (front ++ l ∷ more) → EndsAttempt (before ++ front) l.who l.what
 ends_at before [] l more all = subst (λ (ls : List Line). EndsAttempt ls l.who l.what) (sym (append-nil before)) all.0

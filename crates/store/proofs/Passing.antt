@@ -1,17 +1,18 @@
 -- Seats that go to the desk and to the vault, and leave nothing of their own.
-use Rattle.std.proofs.Common.{◌≡◌, ◌≤◌, ◌<◌, ◌∙◌, ◌++◌, ℕ, true, false, min, List, [], ◌∷◌, length, take, Option, Some, None, Result, Ok, Err, refl, sym, ap, subst, ⊎_elim, arith, append-nil}
-use Rattle.std.specs.Prelude.{MatchResult, is_some}
+use Rattle.std.proofs.Common.{◌≡◌, ◌≤◌, ◌∙◌, ◌++◌, ℕ, true, false, min, List, [], ◌∷◌, length, take, Option, Some, None, Result, refl, sym, ap, subst, arith, append-nil}
+use Rattle.std.specs.Prelude.{is_some}
 use Rattle.std.proofs.lemmas.List.{length-map, length-take, take-map, take_min}
 use Rattle.atomic_table.specs.Seated.{TableId}
 use Rattle.disk_model.specs.Disk.{State}
+use Rattle.disk_model.specs.Moments.{Clock}
 use Rattle.retro_base.specs.Cause.{IsFault}
 use Rattle.retro_base.specs.declared.device.Device.{Device}
 use Rattle.retro_base.specs.declared.device.Device.TheVariants.{Log, Pages, Pagelog, Maplog, Cabinet}
-use Rattle.retro_base.specs.declared.refusal.Refusal.{Refusal}
-use Rattle.retro_base.specs.declared.refusal.Refusal.TheVariants.{DiskFault, OutOfMemory, Stopped}
+use Rattle.retro_base.specs.declared.refusal.Refusal.TheVariants.{DiskFault}
 use Rattle.retro_base.specs.declared.limits.TheConstants.{BATCH}
 use Rattle.retro_base.specs.declared.who.Who.{Who}
 use Rattle.history.specs.declared.entry.Base.{Base}
+use Rattle.history.specs.declared.journal.FailedCall.TheVariants.{Write}
 use Rattle.history.specs.declared.journal.Line.{Line}
 use Rattle.history.specs.declared.journal.What.TheVariants.{Fault}
 use Rattle.history.specs.declared.writes.PageImage.{PageImage}
@@ -34,21 +35,17 @@ use Rattle.desk.proofs.Steps.{counted}
 use Rattle.txn_set.specs.Ledger.{MayFault}
 use Rattle.txn_set.specs.WorksFit.{Closes}
 use Rattle.store_core.specs.Calls.{MayRecord}
-use Rattle.turn.specs.declared.view.Holding.{Holding}
-use Rattle.turn.specs.Faults.{LAST, fault_times, vault_faults}
 use Rattle.turn.specs.Seats.{MayLeaveVault, held, mine, opening, seen}
 use Rattle.store.specs.declared.desk_side.DeskSide.{DeskSide}
 use Rattle.store.specs.declared.start.Start.{Start}
 use Rattle.store.specs.declared.carrying.Carried.{Carried}
-use Rattle.store.specs.declared.carrying.Carried.TheVariants.{Entered, Laid, There}
-use Rattle.store.specs.Carrying.{Carries, IsBatchIn, IsCarried, IsNotCarried, MayCarry}
-use Rattle.store.specs.Rounds.{IsBatchAt, IsCarriedAt, IsVaultRefusal, MayServe, Passes, SawVault}
-use Rattle.store.specs.Seats.{FaultFits, HasEntered, HasEnteredVault, IsReady, IsWhole, Sat, Visited, VisitedVault, Waits, journal, slots_of}
+use Rattle.store.specs.Carrying.{Carries, IsBatchIn, MayCarry}
+use Rattle.store.specs.Rounds.{IsBatchAt, MayServe, Passes}
+use Rattle.store.specs.Seats.{HasEntered, HasEnteredVault, IsReady, IsWhole, Sat, Visited, VisitedVault, Waits, journal, slots_of}
 use Rattle.store.specs.Sides.{of_vault}
 use Rattle.store.specs.Start.{IsAbove, opened_base, opened_counts, vault_counts}
 use Rattle.store.specs.Workers.{IsFreshWorker, has_fault}
-use Rattle.store.proofs.Committing.{more_told}
-use Rattle.store.proofs.Finding.{above_so, some_is, told_maplog, told_pagelog}
+use Rattle.store.proofs.Finding.{above_so, some_is}
 use Rattle.store.proofs.Leaving.{sound_journal}
 use Rattle.store.proofs.Meeting.{whole_stays, work_stays}
 use Rattle.store.proofs.Recalling.{lines_append, stays_glance, stays_on, waits_glance, waits_on}
@@ -67,7 +64,7 @@ module _ {D : Type 0} (z : TableId) (s0 s1 : Sat D) (passes : Passes z s0 s1) wh
   serve_on who serve =
       let work = work_stays s0 s1 passes.stays in
       record {
-        closes = λ d c. subst (λ (w : Option Work). Closes who (Fault d c true) w) (sym work) (serve.closes d c);
+        closes = λ d c. subst (λ (w : Option Work). Closes who (Fault d c Write) w) (sym work) (serve.closes d c);
         worker = λ none.
             let was = serve.worker (sym work ∙ none) in
             let lines : lines_of s0.number (seen s1) ≡ lines_of s0.number (seen s0) =
@@ -111,8 +108,8 @@ module _ {D : Type 0} (is_honest : D → Type 0) (state : D → State) (faults :
       let lines : lines_of s0.number (journal d0) ≡ lines_of s0.number (seen s0) = sym entered.lines ∙ entered.ready.lines in
       subst (λ (n : ℕ). IsFreshWorker n (journal d0)) (sym own) (was.0, ap has_fault lines ∙ was.1)
 
-  pub closes_there : (d : Device) (c : ℕ) → Closes who (Fault d c true) (work_at (slots_of d0) who.session)
-  closes_there d c = subst (λ (w : Option Work). Closes who (Fault d c true) w) work_here (serve.closes d c)
+  pub closes_there : (d : Device) (c : ℕ) → Closes who (Fault d c Write) (work_at (slots_of d0) who.session)
+  closes_there d c = subst (λ (w : Option Work). Closes who (Fault d c Write) w) work_here (serve.closes d c)
 
   pub fault_there : MayFault who d0.core.ledger
   fault_there none = worker_place who d0.core.ledger (fresh_there none) entered.keeps.workers
@@ -226,7 +223,7 @@ module _ {D : Type 0} (is_honest : D → Type 0) (state : D → State) (faults :
       let o = opened_is (opening s0) entered.ready.rests.seat.opened in
       record { start = o.0; lines = seen s1; stands = entered.stands o.0 o.1; sound = entered.sound o.0 o.1; is_batch = batch_here o.0 o.1 }
 
-  module _ (a1 : Running D) (result : Result Carried VaultFault) (carries : Carries is_honest state faults batch a0 a1 result) where
+  module _ (remembers : Type 0) (clock : D → Clock) (a1 : Running D) (result : Result Carried VaultFault) (carries : Carries is_honest state faults remembers clock batch result a0 a1) where
     pub may_leave_vault : MayLeaveVault (of_vault is_honest state faults) (opening s1) (seen s1) a0 a1
     may_leave_vault = record {
       held = carries.held;
@@ -236,40 +233,6 @@ module _ {D : Type 0} (is_honest : D → Type 0) (state : D → State) (faults :
         λ d. let a = entered.later start e0 d in let b = vault_up faults a0 a1 carries.pagelog carries.maplog d in omega (arith, a, b),
       );
     }
-
-    module _ (s2 : Sat D) (v : VisitedVault is_honest state faults z s0 s2 a0 a1) where
-      -- what the vault did to it, as the seat has then seen
-      saw : (Had : Running D → Type 0) → a1 ≡ a0 → Had a0 → SawVault is_honest state faults z Had s2
-      saw Had same had = record { before = s0; archive = a0; visited = subst (λ (a : Running D). VisitedVault is_honest state faults z s0 s2 a0 a) same v; had = had }
-
-      told_here : (d : Device) (c : ℕ) → 0 < fault_times d c (vault_faults (vault_counts faults a0) (vault_counts faults a1)) → 0 < fault_times d c (mine s2).faults
-      told_here d c told = subst (λ (h : Holding Work). 0 < fault_times d c h.faults) (sym v.mine_is) (more_told (mine s0).faults _ d c told)
-
-      pub carried_at : (r : Result Carried VaultFault) → FaultFits r → MatchResult r (IsCarried is_honest state batch a0 a1) (λ fault. IsNotCarried is_honest state faults a0 a1 fault.why)
-          → MatchResult r (IsCarriedAt is_honest state faults z batch s2) (λ fault. IsVaultRefusal is_honest state faults z s2 fault.why)
-      carried_at (Ok There) few o = saw (λ archive. batch.first < archive.side.held) o.0 o.1
-      carried_at (Ok Laid) few o = tt
-      carried_at (Ok (Entered receipt)) few o = (o.0, v.held_is ∙ o.1)
-      carried_at (Err fault) few o = at fault.why (λ d c e. few fault d c refl e) o where
-        Told : Device → ℕ → Type 0
-        Told d c = 0 < fault_times d c (mine s2).faults
-
-        at : (why : Refusal) → ((d : Device) (c : ℕ) → why ≡ DiskFault d c → c ≤ LAST) → IsNotCarried is_honest state faults a0 a1 why → IsVaultRefusal is_honest state faults z s2 why
-        at (Stopped d c) small r = saw (λ archive. archive.first_fault ≡ Some (d, c)) r.0 r.1
-        at OutOfMemory small r = tt
-        at (DiskFault d c) small r = ⊎_elim
-            (λ (f : IsFault Pagelog (faults a0.pagelog.disk) (faults a1.pagelog.disk) (DiskFault d c)). (
-              told_here d c (subst (λ (x : Device × ℕ). 0 < fault_times x.0 x.1 (vault_faults (vault_counts faults a0) (vault_counts faults a1))) (λ i. (sym f.0 i, sym f.1 i))
-                  (told_pagelog (vault_counts faults a0) (vault_counts faults a1) f.3 (subst (λ (n : ℕ). n ≤ LAST) f.1 (small d c refl)))),
-              λ start e. new_fault faults Pagelog _ _ d c f start (entered.later start (sym v.same.opening ∙ e) Pagelog),
-            ))
-            (λ (f : IsFault Maplog (faults a0.side.disk) (faults a1.side.disk) (DiskFault d c)). (
-              told_here d c (subst (λ (x : Device × ℕ). 0 < fault_times x.0 x.1 (vault_faults (vault_counts faults a0) (vault_counts faults a1))) (λ i. (sym f.0 i, sym f.1 i))
-                  (told_maplog (vault_counts faults a0) (vault_counts faults a1) f.3 (subst (λ (n : ℕ). n ≤ LAST) f.1 (small d c refl)))),
-              λ start e. new_fault faults Maplog _ _ d c f start (entered.later start (sym v.same.opening ∙ e) Maplog),
-            ))
-            r
-        at _ small r = ⊎_elim (λ x. absurd x) (λ x. absurd x) r
 
 -- ---- what the vault holds may be acknowledged
 

@@ -1,6 +1,5 @@
 -- What readers see of a store that was just opened, and of what a crash leaves of one that is closed.
 use Rattle.std.proofs.Common.{◌≡◌, ◌≤◌, ◌+◌, ◌-◌, ◌%◌, ◌∙◌, inl, inr, ℕ, Bool, true, cond, eqb, max, drop, length, List, [], ◌∷◌, Option, Some, None, map, refl, ap, sym, subst, arith, eq-eqb, ne_eqb, length-drop}
-use Rattle.std.specs.Prelude.{IfSome, is_some}
 use Rattle.std.specs.List.{AllByRecursion}
 use Rattle.std.proofs.lemmas.List.{drop-drop, take_all}
 use Rattle.block_file.specs.Blocks.{block_at}
@@ -14,9 +13,8 @@ use Rattle.history.specs.declared.writes.PageImage.{PageImage}
 use Rattle.history.specs.History.{History, captures, now, pages_as_of, with_change}
 use Rattle.history.specs.Journal.{after_journal}
 use Rattle.history.specs.Laws.{IsConsistent, KeepsNewest}
-use Rattle.history.specs.Lines.{first_stop}
+use Rattle.history.specs.Lines.{doubt_in}
 use Rattle.history.specs.Marks.{MarksRise, is_retained, oldest_start, start_of}
-use Rattle.history.specs.Right.{MayFollow}
 use Rattle.history.specs.Sound.{IsSound}
 use Rattle.history.proofs.AsOf.{over}
 use Rattle.history.proofs.Captures.{with_changes-none}
@@ -75,10 +73,10 @@ module _ (history : History) (floor : ℕ) (world : World Pages) (lines : List L
   as_before : IsSameWorld (opened contents) Here → IsWorldOf (opened contents) (page_world world lines)
   as_before same = same_world_shows (opened contents) Here floor (page_world world lines) right same here
 
-  shown_with : (doubt : Option Change) → IfSome doubt (MayFollow (now Here).base) → OpensTo contents Here doubt → ShowsOneOf contents (page_world world lines) doubt
-  shown_with None may same = as_before same
-  shown_with (Some change) may (inl same) = inl (as_before same)
-  shown_with (Some change) may (inr same) = inr (same_world_shows (opened contents) (with_change Here change) floor (changed_world change (page_world world lines)) (fits_with Here floor right change may) same
+  shown_with : (doubt : Option Change) → OpensTo contents Here doubt → ShowsOneOf contents (page_world world lines) doubt
+  shown_with None same = as_before same
+  shown_with (Some change) (inl same) = inl (as_before same)
+  shown_with (Some change) (inr (may, same)) = inr (same_world_shows (opened contents) (with_change Here change) floor (changed_world change (page_world world lines)) (fits_with Here floor right change may) same
       (change_step Here (page_world world lines) change right.consistent (keeps_newest (now Here).base change may.right) here))
 
 pub opens_shown : OpensShown
@@ -219,17 +217,12 @@ closed_shows {D = D} is_honest state faults start limit seats left closes just b
     let lines : List Line = left.journal in
     let sound : IsSound (now just.origin.history).base lines =
     subst (λ (b : Base). IsSound b lines) (ap (λ (s : Start D). s.core.value.desk.base) closes.begun ∙ sym just.opened.base) (subst (λ (l : List Line). IsSound closes.side.start.core.value.desk.base l) (sym closes.lines) (sound_journal is_honest state closes.side closes.stands)) in
+    λ devices images.
+    let holds = crashes devices images in
     record {
-      doubt = crashes.doubt;
-      stopped = λ change e. subst (λ (l : List Line). is_some (first_stop l) ≡ true) (sym closes.lines) (crashes.stopped change e);
-      shows = λ devices images.
-          let holds = crashes.opens devices images in
-          record {
-            contents = holds.contents;
-            hold = holds.hold;
-            joined = holds.joined;
-            shows = opens_shown just.origin.history just.origin.floor world lines crashes.doubt holds.contents just.opened.fits is sound
-                (subst (λ (l : List Line). IfSome crashes.doubt (MayFollow (now (after_journal just.origin.history l)).base)) (sym closes.lines) crashes.follows)
-                (subst (λ (l : List Line). OpensTo holds.contents (after_journal just.origin.history l) crashes.doubt) (sym closes.lines) holds.opens);
-          };
+      contents = holds.contents;
+      hold = holds.hold;
+      joined = holds.joined;
+      shows = opens_shown just.origin.history just.origin.floor world lines (doubt_in lines) holds.contents just.opened.fits is sound
+          (subst (λ (l : List Line). OpensTo holds.contents (after_journal just.origin.history l) (doubt_in l)) (sym closes.lines) holds.opens);
     }

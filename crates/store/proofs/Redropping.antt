@@ -6,9 +6,10 @@ use Rattle.disk_model.specs.Disk.{State}
 use Rattle.disk_model.specs.Moments.{Clock}
 use Rattle.retro_base.specs.declared.device.Device.{Device}
 use Rattle.retro_base.specs.declared.refusal.Refusal.{Refusal}
-use Rattle.retro_base.specs.declared.refusal.Refusal.TheVariants.{DiskFault, NoRoom, NoSuchSnapshot, OutOfMemory, Pinned, Stopped}
+use Rattle.retro_base.specs.declared.refusal.Refusal.TheVariants.{DiskFault, NoSuchSnapshot, OutOfMemory, Pinned, Stopped}
 use Rattle.retro_base.specs.declared.who.Who.{Who}
 use Rattle.history.specs.declared.entry.Change.TheVariants.{Drop}
+use Rattle.history.specs.declared.journal.FailedCall.TheVariants.{Append, Write}
 use Rattle.history.specs.declared.journal.What.{What}
 use Rattle.history.specs.declared.journal.What.TheVariants.{Dropped, Fault, Refused}
 use Rattle.history.specs.Marks.{newest}
@@ -23,15 +24,17 @@ use Rattle.txn_set.specs.WorksFit.{Closes}
 use Rattle.store_core.specs.Drops.{HasEndedDrop, drop_line_refused, drop_refused_by}
 use Rattle.turn.specs.Seats.{mine}
 use Rattle.store.specs.RoundCalls.{DropDoes}
-use Rattle.store.specs.Rounds.{AnswersAtLast, DropAsks, IsNoRoom, IsRoom, MayServe, Passes, RoomRefused, RoundRefused, tells_drop}
+use Rattle.store.specs.Rounds.{AnswersAtLast, IsNoRoom, IsRoom, MayServe, Passes, tells_drop}
 use Rattle.store.specs.Seats.{IsReady, Sat, Visits, slots_of}
 use Rattle.store.proofs.Adding.{faulted_closed, kept_slot, slot_own}
 use Rattle.store.proofs.Dropping.{err_is, kept_still, lines_tells, no_room_kept, some_kept, some_there}
 use Rattle.store.proofs.Meeting.{work_stays}
 use Rattle.store.proofs.Passing.{passes_quiet}
+use Rattle.store.proofs.Reaching.{AnswersSo, DropSo, RoomRefused, RoundRefused}
+use Rattle.store.proofs.Rooming.{drop_so}
 use Rattle.store.proofs.Working.{closed_none, work_as}
 
-kept_closes : (who : Who) (d : Device) (c : ℕ) (w : Option Work) → keeps_drop who w ≡ true → Closes who (Fault d c true) w
+kept_closes : (who : Who) (d : Device) (c : ℕ) (w : Option Work) → keeps_drop who w ≡ true → Closes who (Fault d c Write) w
 kept_closes who d c None e = tt
 kept_closes who d c (Some (Open t)) e = absurd (cc e)
 kept_closes who d c (Some (Looking look)) e = absurd (cc e)
@@ -52,11 +55,10 @@ module _ {D : Type 0} (is_honest : D → Type 0) (state : D → State) (faults :
   abbrev Answer : Result (Unit {0}) Refusal → Sat D → Sat D → Type 0
   Answer r = Visits is_honest state faults z (DropDoes is_honest state faults remembers clock who below r)
 
-  -- the desk found no room
-  abbrev FindsNone : Result (Unit {0}) Refusal → Type 0
-  FindsNone r = IsNoRoom is_honest state faults z remembers clock who r
+  abbrev So : Result (Unit {0}) Refusal → Sat D → Sat D → Type 0
+  So = AnswersSo is_honest state faults z who (DropDoes is_honest state faults remembers clock who below)
 
-  abbrev Answers : Result (Unit {0}) Refusal → Sat D → Sat D → Type 0
+  abbrev pub Answers : Result (Unit {0}) Refusal → Sat D → Sat D → Type 0
   Answers = AnswersAtLast is_honest state faults z remembers clock who (DropDoes is_honest state faults remembers clock who below)
 
   -- a drop that finds no room again leaves nothing
@@ -77,12 +79,12 @@ module _ {D : Type 0} (is_honest : D → Type 0) (state : D → State) (faults :
       let mine_is : who.session ≡ e.0.middle.number = own ∙ sym e.0.passes.stays.same.number in
       let there : keeps_drop who (work_at (slots_of v.before) who.session) ≡ true = ap (keeps_drop who) (ap (work_at (slots_of v.before)) mine_is ∙ sym v.visited.work) ∙ here in
       let some = some_there (work_at (slots_of v.before) who.session) (some_kept who (work_at (slots_of v.before) who.session) there) in
-      closed_none is_honest state faults z e.0.middle s1 v.before v.after v.visited who mine_is (Fault d c true) (v.does ∙ faulted_closed who v.before.core.ledger d c true some.0 some.1)
+      closed_none is_honest state faults z e.0.middle s1 v.before v.after v.visited who mine_is (Fault d c Write) (v.does ∙ faulted_closed who v.before.core.ledger d c Write some.0 some.1)
 
   -- a round that was refused leaves nothing open
   pub refused_closed : (s0 s1 : Sat D) → who.session ≡ s0.number → keeps_drop who (mine s0).work ≡ true → (why : Refusal) → RoundRefused is_honest state faults z who why s0 s1 → is_closed (mine s1).work ≡ true
   refused_closed s0 s1 own kept (DiskFault d c) e = ap is_closed (fault_none s0 s1 own kept d c e)
-  refused_closed s0 s1 own kept (Stopped d c) e = kept_still who (mine s1).work (kept_on z who s0 s1 e.0 kept)
+  refused_closed s0 s1 own kept (Stopped d c) e = kept_still who (mine s1).work (kept_on z who s0 s1 e kept)
   refused_closed s0 s1 own kept OutOfMemory e = kept_still who (mine s1).work (kept_on z who s0 s1 e kept)
   refused_closed s0 s1 own kept _ e = absurd e
 
@@ -119,10 +121,10 @@ module _ {D : Type 0} (is_honest : D → Type 0) (state : D → State) (faults :
       cause room free why e = subst (λ (x : Result (Unit {0}) Refusal). MatchResult x (λ _. faults v.after.core.desk.log.disk ≡ faults v.before.core.desk.log.disk)
           (IsChangeRefusal v.before.core.desk.log.log.area.log (length (change_bytes v.before.core.desk.log.log.version (Drop below))) (faults v.before.core.desk.log.disk) (faults v.after.core.desk.log.disk))) e (v.does.cause (record { room = room; free = free }))
 
-      ended : drop_line_refused who Before ≡ None → drop_refused_by Newest below Before ≡ None → (why : Refusal) → r ≡ Err why → HasEndedDrop who why (drop_kept who Before) v.after.core.ledger → (mine s1).work ≡ None
+      ended : drop_line_refused who Before ≡ None → drop_refused_by Newest below Before ≡ None → (why : Refusal) → r ≡ Err why → HasEndedDrop who below why (drop_kept who Before) v.after.core.ledger → (mine s1).work ≡ None
       ended room free (DiskFault d c) e end =
           let some = some_there (work_at (drop_kept who Before).works.slots who.session) (some_kept who _ (kept_slot who Before)) in
-          closes_so (Fault d c true) (end.other (λ m. absurd (cc m)) ∙ faulted_closed who (drop_kept who Before) d c true some.0 some.1)
+          closes_so (Fault d c (Append (Drop below))) (end.other (λ m. absurd (cc m)) ∙ faulted_closed who (drop_kept who Before) d c (Append (Drop below)) some.0 some.1)
       ended room free (Stopped d c) e end = absurd (cause room free _ e).1
       ended room free (NoSuchSnapshot n m) e end = absurd (cause room free _ e).1
       ended room free (Pinned n m) e end = absurd (cause room free _ e).1
@@ -132,7 +134,7 @@ module _ {D : Type 0} (is_honest : D → Type 0) (state : D → State) (faults :
       answered room refused is (Ok u) e =
           closes_so (Dropped below) (subst (λ (x : Result (Unit {0}) Refusal). OnOk x ((drop_refused_by Newest below Before ≡ None) × (v.after.core.ledger ≡ closed who (Dropped below) (drop_kept who Before)))) e v.does.dropped.done).1
       answered room None is (Err why) e = ⊎_elim (ended room is why e) (λ (g : (why ≡ OutOfMemory) × (v.after.core.ledger ≡ given_up who Before)). absurd (no_memory why e g.0))
-          (subst (λ (x : Result (Unit {0}) Refusal). IfErr x (λ w. HasEndedDrop who w (drop_kept who Before) v.after.core.ledger ⊎ ((w ≡ OutOfMemory) × (v.after.core.ledger ≡ given_up who Before)))) e (v.does.dropped.kept room is))
+          (subst (λ (x : Result (Unit {0}) Refusal). IfErr x (λ w. HasEndedDrop who below w (drop_kept who Before) v.after.core.ledger ⊎ ((w ≡ OutOfMemory) × (v.after.core.ledger ≡ given_up who Before)))) e (v.does.dropped.kept room is))
       answered room (Some because) is (Err why) e = ⊎_elim (λ (l : (why ≡ because) × (v.after.core.ledger ≡ closed who (Refused because) (drop_kept who Before))). closes_so (Refused because) l.1)
           (λ (g : (why ≡ OutOfMemory) × (v.after.core.ledger ≡ given_up who Before)). absurd (no_memory why e g.0))
           (subst (λ (x : Result (Unit {0}) Refusal). IfErr x (λ o. ((o ≡ because) × (v.after.core.ledger ≡ closed who (Refused because) (drop_kept who Before))) ⊎ ((o ≡ OutOfMemory) × (v.after.core.ledger ≡ given_up who Before)))) e (v.does.dropped.refused because room is))
@@ -142,46 +144,36 @@ module _ {D : Type 0} (is_honest : D → Type 0) (state : D → State) (faults :
       at (Some why) full = absurd (lines_tells (λ (w : Refusal). tells_drop (Err w) ≡ true) (given_up who Before).book _ (λ a b t. absurd (cc t))
           (why, full, subst (λ (x : Result (Unit {0}) Refusal). tells_drop x ≡ true) (v.does.dropped.full why full).0 tells))
 
-  -- a drop that its line tells leaves nothing open
-  pub asks_none : (s0 s1 : Sat D) → who.session ≡ s0.number → is_closed (mine s0).work ≡ true → (r : Result (Unit {0}) Refusal) → DropAsks is_honest state faults z remembers clock who below r s0 s1 → tells_drop r ≡ true → (mine s1).work ≡ None
-  asks_none s0 s1 own open_before r (inl (v, none)) tells = told_none s0 s1 own open_before r v tells
-  asks_none s0 s1 own open_before r (inr (first, kept, room, v, answers)) tells = found first room v answers where
+  -- ---- a drop as a whole
+
+  -- behind the first asking nothing is left until the last, or but for the line of a fault
+  pub drop_as : (r : Result (Unit {0}) Refusal) (s0 s1 : Sat D) → IsReady z s0 → who.session ≡ s0.number → is_closed (mine s0).work ≡ true → Answers r s0 s1 → DropSo is_honest state faults z who (DropDoes is_honest state faults remembers clock who below) r s0 s1
+  drop_as r s0 s1 ready own closed_before answers = drop_so is_honest state faults z remembers clock who (DropDoes is_honest state faults remembers clock who below) r
+      (λ s. (who.session ≡ s.number) × (keeps_drop who (mine s).work ≡ true))
+      (λ full a b room here is v. again_passes a b here is.0 is.1 full room v)
+      (λ a b passes is. (is.0 ∙ sym passes.stays.same.number, kept_on z who a b passes is.1)) answers
+      (λ full s room v. (own ∙ sym v.visited.same.number, keeps_line s0 s own closed_before (Err full) v full refl room))
+
+  so_none : (s0 s1 : Sat D) → who.session ≡ s0.number → is_closed (mine s0).work ≡ true → (r : Result (Unit {0}) Refusal) → DropSo is_honest state faults z who (DropDoes is_honest state faults remembers clock who below) r s0 s1 → tells_drop r ≡ true → (mine s1).work ≡ None
+  so_none s0 s1 own open_before r (inl (v, none)) tells = told_none s0 s1 own open_before r v tells
+  so_none s0 s1 own open_before r (inr (first, kept, room, v, answers)) tells = found first room v answers where
     mine_kept : who.session ≡ kept.number
     mine_kept = own ∙ sym v.visited.same.number
 
-    again : keeps_drop who (mine kept).work ≡ true → Answers r kept s1 → (mine s1).work ≡ None
+    again : keeps_drop who (mine kept).work ≡ true → So r kept s1 → (mine s1).work ≡ None
     again line (inl (reaches, none)) =
         told_none reaches.middle s1 (mine_kept ∙ sym reaches.passes.stays.same.number) (kept_still who (mine reaches.middle).work (kept_on z who kept reaches.middle reaches.passes line)) r reaches.visits tells
     again line (inr (why, e, refused)) = at why (subst (λ (x : Result (Unit {0}) Refusal). tells_drop x ≡ true) e tells) refused where
-      at : (why : Refusal) → tells_drop (Err why) ≡ true → RoomRefused is_honest state faults z remembers clock who why kept s1 → (mine s1).work ≡ None
+      at : (why : Refusal) → tells_drop (Err why) ≡ true → RoomRefused is_honest state faults z who why kept s1 → (mine s1).work ≡ None
       at (DiskFault d c) t f = fault_none kept s1 mine_kept line d c f
       at (Stopped d c) t f = absurd f
       at OutOfMemory t f = absurd (cc t)
       at _ t f = absurd f
 
-    found : (first : Result (Unit {0}) Refusal) → FindsNone first → Answer first s0 kept → Answers r kept s1 → (mine s1).work ≡ None
+    found : (first : Result (Unit {0}) Refusal) → IsNoRoom first → Answer first s0 kept → So r kept s1 → (mine s1).work ≡ None
     found (Ok x) room v answers = absurd room
     found (Err why) room v answers = again (keeps_line s0 kept own open_before (Err why) v why refl room) answers
 
-  pub is_not_room : (why : Refusal) → ((needed free : ℕ) → why ≡ NoRoom needed free → ⊥) → FindsNone (Err why) → ⊥
-  is_not_room (NoRoom needed free) none is = none needed free refl
-  is_not_room _ none is = is
-
-  pub drop_answers : (s0 s1 : Sat D) → Passes z s0 s1 → (r : Result (Unit {0}) Refusal) (s2 : Sat D) → Answer r s1 s2 → (FindsNone r → ⊥) → Answers r s0 s2
-  drop_answers s0 s1 passes r s2 v none = inl (record { middle = s1; passes = passes; visits = v }, none)
-
-  pub drop_refused : (why : Refusal) (s0 s2 : Sat D) → ((d : Device) (c : ℕ) → why ≡ Stopped d c → ⊥) → RoundRefused is_honest state faults z who why s0 s2 → Answers (Err why) s0 s2
-  drop_refused why s0 s2 none refused = inr (why, refl, at why none refused) where
-    at : (why : Refusal) → ((d : Device) (c : ℕ) → why ≡ Stopped d c → ⊥) → RoundRefused is_honest state faults z who why s0 s2 → RoomRefused is_honest state faults z remembers clock who why s0 s2
-    at (Stopped d c) none e = none d c refl
-    at (DiskFault d c) none e = e
-    at OutOfMemory none e = e
-    at _ none e = e
-
-  -- a drop that finds room at once, or is refused otherwise
-  pub at_once : (s0 : Sat D) (r : Result (Unit {0}) Refusal) (s2 : Sat D) → Answer r s0 s2 → (FindsNone r → ⊥) → DropAsks is_honest state faults z remembers clock who below r s0 s2
-  at_once s0 r s2 v none = inl (v, none)
-
-  -- and one that keeps its line
-  pub at_last : (s0 : Sat D) (why : Refusal) (s1 : Sat D) → IsRoom why → Answer (Err why) s0 s1 → (r : Result (Unit {0}) Refusal) (s2 : Sat D) → Answers r s1 s2 → DropAsks is_honest state faults z remembers clock who below r s0 s2
-  at_last s0 why s1 room v r s2 answers = inr (Err why, s1, room, v, answers)
+  -- a drop that its line tells leaves nothing open
+  pub asks_none : (s0 s1 : Sat D) → IsReady z s0 → who.session ≡ s0.number → is_closed (mine s0).work ≡ true → (r : Result (Unit {0}) Refusal) → Answers r s0 s1 → tells_drop r ≡ true → (mine s1).work ≡ None
+  asks_none s0 s1 ready own closed_before r answers tells = so_none s0 s1 own closed_before r (drop_as r s0 s1 ready own closed_before answers) tells

@@ -22,6 +22,8 @@ use Rattle.desk.specs.Cause.{IsWriteRefusal}
 use Rattle.desk.specs.declared.desk.RunningDesk.{RunningDesk}
 use Rattle.txn_set.specs.declared.ledger.Ledger.{Ledger}
 use Rattle.txn_set.specs.Ledger.{closed, faulted, line_of}
+use Rattle.history.specs.declared.journal.FailedCall.TheVariants.{Write}
+use Rattle.history.specs.declared.journal.FailedCall.{FailedCall}
 use Rattle.history.specs.declared.journal.What.TheVariants.{Fault}
 use Rattle.store_core.specs.declared.desk_core.Core.{Core}
 use Rattle.store_core.specs.Calls.{failed}
@@ -89,27 +91,27 @@ module _ {D : Type 0} (is_honest : D → Type 0) (state : D → State) (faults :
     pub same_visit : (tells : List (Device × ℕ) → Type 0) → new.core.ledger ≡ old.core.ledger → IsVisit is_honest state faults who tells old new
     same_visit tells same = visit is_honest state faults who tells old new start stands_behind counts acked_same (λ mine own. adds_nothing who (IsToldIn _) old.core.ledger new.core.ledger same) (keeps_same tells same)
 
-    closed_behind : (d : Device) (c : ℕ) (wrote : Bool) → new.core.ledger ≡ faulted who d c wrote old.core.ledger → IsClosed (work_at (slots_of new) who.session)
-    closed_behind d c wrote e = at (is_some (work_at (slots_of old) who.session)) refl where
+    closed_behind : (d : Device) (c : ℕ) (call : FailedCall) → new.core.ledger ≡ faulted who d c call old.core.ledger → IsClosed (work_at (slots_of new) who.session)
+    closed_behind d c call e = at (is_some (work_at (slots_of old) who.session)) refl where
       Is : Bool → Ledger
-      Is test = cond test (closed who (Fault d c wrote) old.core.ledger) (record old.core.ledger { book = noting old.core.ledger.book (line_of who (Fault d c wrote)) })
+      Is test = cond test (closed who (Fault d c call) old.core.ledger) (record old.core.ledger { book = noting old.core.ledger.book (line_of who (Fault d c call)) })
 
       at : (test : Bool) → is_some (work_at (slots_of old) who.session) ≡ test → IsClosed (work_at (slots_of new) who.session)
       at true t = subst IsClosed (sym (ap (λ (l : Ledger). work_at l.works.slots who.session) (e ∙ ap Is t) ∙ slot_own (slots_of old) who.session None)) tt
       at false t = subst IsClosed (sym (ap (λ (l : Ledger). work_at l.works.slots who.session) (e ∙ ap Is t))) (none_closed (work_at (slots_of old) who.session) t)
 
-    pub fault_visit : (tells : List (Device × ℕ) → Type 0) (d : Device) (c : ℕ) (wrote : Bool) → Fresh → new.core.ledger ≡ faulted who d c wrote old.core.ledger
+    pub fault_visit : (tells : List (Device × ℕ) → Type 0) (d : Device) (c : ℕ) (call : FailedCall) → Fresh → new.core.ledger ≡ faulted who d c call old.core.ledger
         → ((mine : Holding Work) → HasOwn who tells old mine → 0 < fault_times d c (mine.faults ++ Told is_honest state faults who tells old new)) → IsVisit is_honest state faults who tells old new
-    fault_visit tells d c wrote fresh ledger told =
+    fault_visit tells d c call fresh ledger told =
         visit is_honest state faults who tells old new start stands_behind counts acked_same
-        (λ mine own. adds_faulted who (IsToldIn _) old.core.ledger new.core.ledger d c wrote fresh (λ e n p. fault_is _ d c (told mine own) e n p) ledger)
-        (closes is_honest state faults who old new start stands tells (closed_behind d c wrote ledger))
+        (λ mine own. adds_faulted who (IsToldIn _) old.core.ledger new.core.ledger d c call fresh (λ e n p. fault_is _ d c (told mine own) e n p) ledger)
+        (closes is_honest state faults who old new start stands tells (closed_behind d c call ledger))
 
     -- a call of a worker, whose fault has its line
     pub served : {T : Type 0} (result : Result T Refusal) → Fresh → HasServed who old.core new.core result → ((d : Device) (c : ℕ) → result ≡ Err (DiskFault d c) → 0 < fault_times d c (Told is_honest state faults who always old new))
         → IsVisit is_honest state faults who always old new
     served (Ok x) fresh ledger told = same_visit always ledger
-    served (Err (DiskFault d c)) fresh ledger told = fault_visit always d c true fresh ledger (λ mine own. more_told mine.faults _ d c (told d c refl))
+    served (Err (DiskFault d c)) fresh ledger told = fault_visit always d c Write fresh ledger (λ mine own. more_told mine.faults _ d c (told d c refl))
     served (Err why) fresh ledger told = same_visit always ledger
 
   moved_same : new.core ≡ old.core → Moved
@@ -153,12 +155,12 @@ module _ {D : Type 0} (is_honest : D → Type 0) (state : D → State) (faults :
 
   -- ---- each call
 
-  pub notes : (device : Device) (count : ℕ) → Fresh → NoteDoes is_honest state who device count true old.core new.core → IsVisit is_honest state faults who (λ fs. 0 < fault_times device count fs) old new
+  pub notes : (device : Device) (count : ℕ) → Fresh → NoteDoes is_honest state who device count Write old.core new.core → IsVisit is_honest state faults who (λ fs. 0 < fault_times device count fs) old new
   notes device count fresh does =
       fault_visit (λ origin from_. (record { plain = stopped from_.plain; is = does.stops origin.history from_.plain from_.is refl; floor = from_.floor; in_version = from_.in_version }, refl))
       (record { log = log_honest does.log; pages = same_pages is_honest old.core new.core does.file })
       (counts_up faults old.core new.core (let e = ap (λ l. faults l.disk) does.log in omega (arith, e)) (let e = ap (λ (f : File D). faults f.disk) does.file in omega (arith, e)))
-      (λ fs. 0 < fault_times device count fs) device count true fresh does.ledger (λ mine own. told_more mine.faults _ device count own.told)
+      (λ fs. 0 < fault_times device count fs) device count Write fresh does.ledger (λ mine own. told_more mine.faults _ device count own.told)
 
   module _ (remembers : Type 0) (clock : D → Clock) where
     writes_moved : (result : Result Bool Refusal) → WriteBackDoes is_honest state faults remembers clock who result old.core new.core → Moved

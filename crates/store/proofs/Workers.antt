@@ -4,6 +4,7 @@ use Rattle.std.proofs.lemmas.List.Elements.{filter-append}
 use Rattle.retro_base.specs.declared.device.Device.{Device}
 use Rattle.retro_base.specs.declared.limits.TheConstants.{SESSIONS}
 use Rattle.retro_base.specs.declared.who.Who.{Who}
+use Rattle.history.specs.declared.journal.FailedCall.{FailedCall}
 use Rattle.history.specs.declared.journal.Line.{Line}
 use Rattle.history.specs.declared.journal.What.TheVariants.{Fault}
 use Rattle.history.specs.Lines.{lines_of}
@@ -51,9 +52,9 @@ module _ (old new : Ledger) (workers : new.book.workers ≡ old.book.workers) wh
 own_line : (n : ℕ) (line : Line) → line.who.session ≡ n → tells_fault line.what ≡ true → has_fault (lines_of n (line ∷ [])) ≡ true
 own_line n line own tells = ap (λ (b : Bool). has_fault (cond b (line ∷ []) [])) (eq-eqb line.who.session n own) ∙ ap (λ (b : Bool). b || false) tells
 
-module _ (who : Who) (device : Device) (count : ℕ) (wrote : Bool) (l : Ledger) where
+module _ (who : Who) (device : Device) (count : ℕ) (call : FailedCall) (l : Ledger) where
   abbrev Line_is : Line
-  Line_is = line_of who (Fault device count wrote)
+  Line_is = line_of who (Fault device count call)
 
   told_now : told_by who.session (l.book.lines ++ Line_is ∷ []) ≡ 1
   told_now = ap {B = ℕ} (λ (b : Bool). cond b 1 0) (ap has_fault (lines_append who.session l.book.lines (Line_is ∷ [])) ∙ (fault_append (lines_of who.session l.book.lines) (lines_of who.session (Line_is ∷ []))

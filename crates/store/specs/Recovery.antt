@@ -1,5 +1,5 @@
 -- What readers see of a store that was just opened, and of what a crash leaves of one that is closed.
-use Rattle.std.specs.Prelude.{◌≡◌, ◌⊎◌, ℕ, true, List, Option, Some, None, IfSome, is_some}
+use Rattle.std.specs.Prelude.{◌⊎◌, ℕ, List, Option, Some, None}
 use Rattle.disk_model.specs.declared.four.Four.{Four}
 use Rattle.disk_model.specs.Disk.{State}
 use Rattle.history.specs.declared.entry.Change.{Change}
@@ -10,8 +10,7 @@ use Rattle.history.specs.declared.journal.What.TheVariants.{Done, Dropped}
 use Rattle.history.specs.declared.log.Version.{Version}
 use Rattle.history.specs.History.{History, now}
 use Rattle.history.specs.Journal.{after_journal, pages_behind}
-use Rattle.history.specs.Lines.{first_stop}
-use Rattle.history.specs.Right.{MayFollow}
+use Rattle.history.specs.Lines.{doubt_in}
 use Rattle.history.specs.Sound.{IsSound}
 use Rattle.journal_law.specs.Pages.{Pages, page_world}
 use Rattle.journal_law.specs.World.{World, behind}
@@ -51,8 +50,7 @@ ShowsOneOf contents world (Some change) = IsWorldOf (opened contents) world ⊎ 
 abbrev pub OpensShown : Type 0
 OpensShown = (history : History) (floor : ℕ) (world : World Pages) (lines : List Line) (doubt : Option Change) (contents : Contents) →
     HistoryFits history floor → IsWorldOf history world → IsSound (now history).base lines →
-    IfSome doubt (MayFollow (now (after_journal history lines)).base) → OpensTo contents (after_journal history lines) doubt →
-    ShowsOneOf contents (page_world world lines) doubt
+    OpensTo contents (after_journal history lines) doubt → ShowsOneOf contents (page_world world lines) doubt
 
 -- the devices hold contents that belong together, in records of the version, and of which readers see so
 pub record HoldShown (version : Version) (devices : Four (List ℕ)) (world : World Pages) (doubt : Option Change) : Type 0 where
@@ -61,12 +59,10 @@ pub record HoldShown (version : Version) (devices : Four (List ℕ)) (world : Wo
   pub joined : AreJoined contents
   pub shows : ShowsOneOf contents world doubt
 
--- Whatever a crash leaves of the four devices, readers see the world, or that behind the one change in doubt. There is
--- one only where a line tells a fault of a write or a sync.
-pub record CrashesShow {D : Type 0} (state : D → State) (version : Version) (world : World Pages) (lines : List Line) (disks : Four D) : Type 0 where
-  pub doubt : Option Change
-  pub stopped : (change : Change) → doubt ≡ Some change → is_some (first_stop lines) ≡ true
-  pub shows : (devices : Four (List ℕ)) → AreImages state disks devices → HoldShown version devices world doubt
+-- Whatever a crash leaves of the four devices, readers see the world behind the lines, or that behind the one change that
+-- they tell to be in doubt.
+abbrev pub CrashesShow : {D : Type 0} → (D → State) → Version → World Pages → List Line → Four D → Type 0
+CrashesShow state version world lines disks = (devices : Four (List ℕ)) → AreImages state disks devices → HoldShown version devices world (doubt_in lines)
 
 module _ {D : Type 0} (is_honest : D → Type 0) (state : D → State) where
   -- Of the history that a store was just opened to readers see the pages that its devices and memory tell.

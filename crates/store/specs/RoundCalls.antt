@@ -11,6 +11,8 @@ use Rattle.retro_base.specs.declared.refusal.Refusal.{Refusal}
 use Rattle.retro_base.specs.declared.refusal.Refusal.TheVariants.{OutOfMemory}
 use Rattle.retro_base.specs.declared.who.Who.{Who}
 use Rattle.gate_log.specs.Cause.{IsDiskFault}
+use Rattle.history.specs.declared.journal.FailedCall.{FailedCall}
+use Rattle.history.specs.Lines.{is_write}
 use Rattle.history.specs.declared.entry.Change.TheVariants.{Drop}
 use Rattle.history.specs.History.{History}
 use Rattle.history.specs.Marks.{newest, oldest}
@@ -52,13 +54,13 @@ module _ {D : Type 0} (is_honest : D → Type 0) (state : D → State) where
         IsCore is_honest state opening new (acked_to plain receipt)
 
   -- The line of a fault that another device met stands, and the desk has stopped where it met a write or a sync.
-  pub record NoteDoes (who : Who) (device : Device) (count : ℕ) (wrote : Bool) (old new : Core D) : Type 0 where
+  pub record NoteDoes (who : Who) (device : Device) (count : ℕ) (call : FailedCall) (old new : Core D) : Type 0 where
     pub log : new.desk.log ≡ old.desk.log
     pub file : new.desk.pool.file ≡ old.desk.pool.file
-    pub ledger : new.ledger ≡ faulted who device count wrote old.ledger
+    pub ledger : new.ledger ≡ faulted who device count call old.ledger
     pub stops : (opening : History) (plain : Desk) → IsCore is_honest state opening old plain →
-        wrote ≡ true → IsCore is_honest state opening new (stopped plain)
-    pub quiet : wrote ≡ false → StaysCore is_honest state old new
+        is_write call ≡ true → IsCore is_honest state opening new (stopped plain)
+    pub quiet : is_write call ≡ false → StaysCore is_honest state old new
 
   -- The session gives up the line that it keeps for a drop, if any.
   pub record GivesUpDrop (who : Who) (old new : Core D) : Type 0 where

@@ -1,5 +1,5 @@
 -- What rounds leave: a seat goes to the desk and to the vault, over and over, and leaves at most one line.
-use Rattle.std.specs.Prelude.{◌≡◌, ◌⊎◌, ◌<◌, ◌+◌, ◌-◌, ◌/◌, ℕ, Bool, true, false, Some, None, Result, Ok, Err, IfOk, MatchResult}
+use Rattle.std.specs.Prelude.{◌≡◌, ◌<◌, ◌+◌, ◌-◌, ◌/◌, ℕ, Bool, true, false, [], Some, None, Result, Ok, Err, MatchResult}
 use Rattle.atomic_table.specs.Seated.{TableId}
 use Rattle.disk_model.specs.Disk.{State}
 use Rattle.disk_model.specs.Moments.{Clock}
@@ -8,33 +8,35 @@ use Rattle.retro_base.specs.declared.limits.TheConstants.{BATCH, LOG_REGION_BYTE
 use Rattle.retro_base.specs.declared.refusal.Refusal.{Refusal}
 use Rattle.retro_base.specs.declared.refusal.Refusal.TheVariants.{DiskFault, NoRoom, NoSuchSnapshot, OutOfMemory, Pinned, Stopped}
 use Rattle.retro_base.specs.declared.who.Who.{Who}
-use Rattle.history.specs.declared.journal.What.TheVariants.{Fault}
-use Rattle.history.specs.Lines.{first_stop}
+use Rattle.history.specs.declared.journal.FailedCall.TheVariants.{Write}
+use Rattle.history.specs.declared.journal.What.TheVariants as what
 use Rattle.archive.specs.Archive.{Running}
+use Rattle.race_model.specs.declared.fault.Fault.{Fault}
 use Rattle.race_model.specs.Vault.{Batch, batch_end}
-use Rattle.txn_set.specs.Ledger.{faulted}
 use Rattle.txn_set.specs.WorksFit.{Closes}
 use Rattle.store_core.specs.declared.desk_core.Core.{Core}
-use Rattle.turn.specs.Faults.{fault_times}
 use Rattle.turn.specs.Seats.{held, mine, opening, seen}
 use Rattle.store.specs.declared.carrying.Carried.{Carried}
 use Rattle.store.specs.declared.carrying.Carried.TheVariants.{Entered, Laid, There}
 use Rattle.store.specs.declared.start.Start.{Start}
-use Rattle.store.specs.Carrying.{IsBatchIn}
-use Rattle.store.specs.RoundCalls.{AckDoes, CutsBelow, DropDoes, GivesUpDrop, Offers, SettleDoes, WriteBackDoes}
+use Rattle.store.specs.Carrying.{Carries, IsBatchIn}
+use Rattle.store.specs.RoundCalls.{AckDoes, CutDoes, CutsBelow, DropDoes, GivesUpDrop, NoteDoes, Offers, SettleDoes, WriteBackDoes}
 use Rattle.store.specs.Seats.{IsReady, Sat, StaysIn, VisitedVault, Visits, Waits}
-use Rattle.store.specs.Start.{IsAbove}
 use Rattle.store.specs.Workers.{IsFreshWorker}
 
 -- A fault of the item finds its line: it closes what the seat has open, or is a worker's, which told none as yet.
 pub record MayServe {D : Type 0} (s : Sat D) (who : Who) : Type 0 where
-  pub closes : (device : Device) (count : ℕ) → Closes who (Fault device count true) (mine s).work
+  pub closes : (device : Device) (count : ℕ) → Closes who (what.Fault device count Write) (mine s).work
   pub worker : (mine s).work ≡ None → IsFreshWorker s.number (seen s)
 
 -- the log has no room
 abbrev pub IsRoom : Refusal → Type 0
 IsRoom (NoRoom needed free) = Unit {0}
 IsRoom _ = ⊥
+
+abbrev pub IsNoRoom : {T : Type 0} → Result T Refusal → Type 0
+IsNoRoom (Err why) = IsRoom why
+IsNoRoom _ = ⊥
 
 -- whether a line of its own tells what became of a drop
 abbrev pub tells_drop : Result (Unit {0}) Refusal → Bool
@@ -51,74 +53,61 @@ pub record Passes {D : Type 0} (z : TableId) (old new : Sat D) : Type 0 where
   pub stays : StaysIn old new
   pub waits : Waits old new
 
+-- a batch as it is made
+abbrev pub no_batch : Batch
+no_batch = record { first = 0; low = 0; images = [] }
+
+-- the batch is done with, unless it was laid alone
+abbrev pub IsDone : Result Carried Fault → Type 0
+IsDone (Ok Laid) = ⊥
+IsDone result = Unit {0}
+
+-- room was made, or the rounds found the store stopped, which the desk tells itself
+abbrev pub MayAskAgain : Result (Unit {0}) Refusal → Type 0
+MayAskAgain (Ok x) = Unit {0}
+MayAskAgain (Err (Stopped device count)) = Unit {0}
+MayAskAgain _ = ⊥
+
 module _ {D : Type 0} (is_honest : D → Type 0) (state : D → State) where
   -- The batch has captures behind the journal that the seat has seen, from a number on that it has seen the vault hold.
   abbrev pub IsBatchAt : Sat D → Batch → Type 0
   IsBatchAt s batch = (start : Start D) → opening s ≡ Some start → IsBatchIn is_honest state start (seen s) (held s) batch
 
-  module _ (faults : D → ℕ) (z : TableId) where
-    -- The seat passed so, and then made a visit to the desk in which the core did that. So what it has seen is what it had seen,
-    -- lines of others, and the lines of that visit.
-    pub record Reaches (Does : Core D → Core D → Type 0) (old new : Sat D) : Type 0 where
-      pub middle : Sat D
-      pub passes : Passes z old middle
-      pub visits : Visits is_honest state faults z Does middle new
-
-    -- a fault of the device with this count is new since the opening
-    abbrev pub IsNewSince : Device → ℕ → Sat D → Type 0
-    IsNewSince device count s = (start : Start D) → opening s ≡ Some start → IsAbove faults start device count
-
-    -- the Fault line of the item stands, which wrote
-    abbrev pub TellsFault : Who → Device → ℕ → Core D → Core D → Type 0
-    TellsFault who device count old new = new.ledger ≡ faulted who device count true old.ledger
-
-    -- a seat came from the vault, which had that and kept it
-    pub record SawVault (Had : Running D → Type 0) (s : Sat D) : Type 0 where
-      pub before : Sat D
-      pub archive : Running D
-      pub visited : VisitedVault is_honest state faults z before s archive archive
-      pub had : Had archive
-
-    -- the journal tells this as the first fault of a write, or the vault has stopped at it
-    abbrev pub SawStop : Device → ℕ → Sat D → Type 0
-    SawStop device count s = (first_stop (seen s) ≡ Some (record { device = device; count = count }))
-        ⊎ SawVault (λ archive. archive.first_fault ≡ Some (device, count)) s
-
-    -- Why a round was refused, in whatever visit: a call of a device failed, which is new, and the Fault line of the
-    -- item stands; the desk or the vault had stopped; or memory ran out. The last two leave nothing.
-    abbrev pub RoundRefused : Who → Refusal → Sat D → Sat D → Type 0
-    RoundRefused who (DiskFault device count) old new = Reaches (TellsFault who device count) old new × IsNewSince device count new
-    RoundRefused who (Stopped device count) old new = Passes z old new × SawStop device count new
-    RoundRefused who OutOfMemory old new = Passes z old new
-    RoundRefused who why old new = ⊥
-
-    abbrev pub RoundEnds : {T : Type 0} → Who → Result T Refusal → Sat D → Sat D → Type 0
-    RoundEnds who result old new = MatchResult result (λ _. Passes z old new) (λ why. RoundRefused who why old new)
-
+  module _ (faults : D → ℕ) (z : TableId) (remembers : Type 0) (clock : D → Clock) where
     -- ---- a copy round
 
-    -- What one visit to the vault did to a batch, and why it was refused; a fault of a device was told to the seat, and
-    -- is new.
-    abbrev pub IsCarriedAt : Batch → Sat D → Carried → Type 0
-    IsCarriedAt batch s There = SawVault (λ archive. batch.first < archive.side.held) s
-    IsCarriedAt batch s Laid = Unit {0}
-    IsCarriedAt batch s (Entered count) = (count ≡ batch_end batch) × (held s ≡ batch_end batch)
+    -- In one visit to the vault a call with the batch did that.
+    pub record CarriesIn (batch : Batch) (result : Result Carried Fault) (old new : Sat D) : Type 0 where
+      pub before : Running D
+      pub after : Running D
+      pub visited : VisitedVault is_honest state faults z old new before after
+      pub carries : Carries is_honest state faults remembers clock batch result before after
 
-    abbrev pub IsVaultRefusal : Sat D → Refusal → Type 0
-    IsVaultRefusal s (DiskFault device count) = (0 < fault_times device count (mine s).faults) × IsNewSince device count s
-    IsVaultRefusal s (Stopped device count) = SawVault (λ archive. archive.first_fault ≡ Some (device, count)) s
-    IsVaultRefusal s OutOfMemory = Unit {0}
-    IsVaultRefusal s why = ⊥
+    -- Visits to the vault with a batch: the last did that to it, and each before it laid the batch.
+    pub data CarriesAtLast (batch : Batch) (result : Result Carried Fault) : Sat D → Sat D → Type 0 where
+      Done : (old new : Sat D) → CarriesIn batch result old new → IsDone result → CarriesAtLast batch result old new
+      LaidFirst : (old laid new : Sat D) → CarriesIn batch (Ok Laid) old laid → CarriesAtLast batch result laid new →
+          CarriesAtLast batch result old new
 
-    -- what the visits with a batch did to it in the end
-    abbrev pub IsCopied : Batch → Sat D → Carried → Type 0
-    IsCopied batch s Laid = ⊥
-    IsCopied batch s carried = IsCarriedAt batch s carried
+    -- It was entered at last, and the desk told so in the next visit; or more than its first number was found held.
+    pub data HasCopied (batch : Batch) (old new : Sat D) : Type 0 where
+      EnteredIt : (count : ℕ) (middle : Sat D) → CarriesAtLast batch (Ok (Entered count)) old middle →
+          Visits is_honest state faults z (AckDoes is_honest state (batch_end batch)) middle new → HasCopied batch old new
+      WasThere : CarriesAtLast batch (Ok There) old new → HasCopied batch old new
 
-    -- The batch was entered, and the desk told so; or the seat saw that another round had entered it.
-    abbrev pub HasCopied : Batch → Sat D → Sat D → Type 0
-    HasCopied batch old new =
-        Reaches (AckDoes is_honest state (batch_end batch)) old new ⊎ SawVault (λ archive. batch.first < archive.side.held) new
+    -- the line of a fault of a device was recorded in the next visit to the desk; else nothing followed
+    abbrev pub IsNoted : Who → Refusal → Sat D → Sat D → Type 0
+    IsNoted who (DiskFault device count) old new =
+        Visits is_honest state faults z (NoteDoes is_honest state who device count Write) old new
+    IsNoted who why old new = new ≡ old
+
+    -- The last visit with the batch was refused so.
+    pub record CopyRefused (who : Who) (batch : Batch) (why : Refusal) (old new : Sat D) : Type 0 where
+      pub fault : Fault
+      pub is : fault.why ≡ why
+      pub middle : Sat D
+      pub carries : CarriesAtLast batch (Err fault) old middle
+      pub noted : IsNoted who why middle new
 
     -- The desk was asked for a batch. The round answers false exactly where it offered none.
     pub record CopiesRound (who : Who) (before batch : Batch) (result : Result Bool Refusal) (old new : Sat D) : Type 0 where
@@ -126,12 +115,12 @@ module _ {D : Type 0} (is_honest : D → Type 0) (state : D → State) where
       pub middle : Sat D
       pub asks : Visits is_honest state faults z (Offers before batch asked) old middle
       pub none : asked ≡ false → (result ≡ Ok false) × (new ≡ middle)
-      pub some : asked ≡ true → IfOk result (λ more. (more ≡ true) × HasCopied batch middle new × (batch.first < held new))
-      pub ends : RoundEnds who result old new
+      pub some : asked ≡ true → MatchResult result (λ more. (more ≡ true) × HasCopied batch middle new)
+          (λ why. CopyRefused who batch why middle new)
 
     -- ---- a write round
 
-    module _ (remembers : Type 0) (clock : D → Clock) (who : Who) where
+    module _ (who : Who) where
       -- so many pages were written back, each in a visit of its own
       pub data HasWritten : ℕ → Sat D → Sat D → Type 0 where
         Nothing : (s : Sat D) → HasWritten 0 s s
@@ -139,23 +128,37 @@ module _ {D : Type 0} (is_honest : D → Type 0) (state : D → State) where
             Visits is_honest state faults z (WriteBackDoes is_honest state faults remembers clock who (Ok true)) middle new →
             HasWritten (count + 1) old new
 
-      -- behind the 64th page, or where the desk told that no more may be written
-      pub data HasWrittenAll (old : Sat D) : Sat D → Type 0 where
-        Many : (new : Sat D) → HasWritten (BATCH - 1) old new → HasWrittenAll old new
-        All : (count : ℕ) (middle new : Sat D) → HasWritten count old middle →
-            Visits is_honest state faults z (WriteBackDoes is_honest state faults remembers clock who (Ok false)) middle new →
-            HasWrittenAll old new
+      -- behind fewer than 63 pages the desk answered that to the next
+      pub record WritesNoMore (answer : Result Bool Refusal) (old new : Sat D) : Type 0 where
+        pub count : ℕ
+        pub few : count < BATCH - 1
+        pub middle : Sat D
+        pub written : HasWritten count old middle
+        pub answers : Visits is_honest state faults z (WriteBackDoes is_honest state faults remembers clock who answer) middle new
 
-      -- Behind the first page up to 63 more were written back; then they were settled, and the log was cut where less
-      -- than half of its half was free, if it could be.
-      pub record HasWrittenOn (old new : Sat D) : Type 0 where
+      -- 63 pages, or as many as the desk told that may be written
+      pub data HasWrittenAll (old new : Sat D) : Type 0 where
+        Many : HasWritten (BATCH - 1) old new → HasWrittenAll old new
+        All : WritesNoMore (Ok false) old new → HasWrittenAll old new
+
+      -- they were written, and then settled
+      pub record HasSettled (result : Result (Unit {0}) Refusal) (old new : Sat D) : Type 0 where
         pub all : Sat D
-        pub settled : Sat D
-        pub was_cut : Bool
         pub writes : HasWrittenAll old all
-        pub settles : Visits is_honest state faults z (SettleDoes is_honest state faults remembers clock who (Ok tt)) all settled
+        pub settles : Visits is_honest state faults z (SettleDoes is_honest state faults remembers clock who result) all new
+
+      -- and the log was cut where less than half of its half was free, if it could be
+      pub record HasCut (result : Result Bool Refusal) (old new : Sat D) : Type 0 where
+        pub middle : Sat D
+        pub settled : HasSettled (Ok tt) old middle
         pub cuts : Visits is_honest state faults z
-            (CutsBelow is_honest state faults remembers clock who (LOG_REGION_BYTES / 2) (Ok was_cut)) settled new
+            (CutsBelow is_honest state faults remembers clock who (LOG_REGION_BYTES / 2) result) middle new
+
+      -- Behind the first page the next one was refused so; or, behind them all, the settling; or, behind that, the cut.
+      pub data WriteRefused (why : Refusal) (old new : Sat D) : Type 0 where
+        Writing : WritesNoMore (Err why) old new → WriteRefused why old new
+        Settling : HasSettled (Err why) old new → WriteRefused why old new
+        Cutting : HasCut (Err why) old new → WriteRefused why old new
 
       -- The desk was asked to write a page back. The round answers false exactly where it told that none may be.
       pub record WritesRound (result : Result Bool Refusal) (old new : Sat D) : Type 0 where
@@ -164,37 +167,41 @@ module _ {D : Type 0} (is_honest : D → Type 0) (state : D → State) where
         pub asks : Visits is_honest state faults z (WriteBackDoes is_honest state faults remembers clock who asked) old middle
         pub none : asked ≡ Ok false → (result ≡ Ok false) × (new ≡ middle)
         pub refused : (why : Refusal) → asked ≡ Err why → (result ≡ Err why) × (new ≡ middle)
-        pub some : asked ≡ Ok true → IfOk result (λ more. (more ≡ true) × HasWrittenOn middle new)
-        pub ends : RoundEnds who result old new
+        pub some : asked ≡ Ok true → MatchResult result
+            (λ more. (more ≡ true) × (was_cut : Bool) × HasCut (Ok was_cut) middle new) (λ why. WriteRefused why middle new)
 
       -- ---- a commit and a drop, for which room is made
 
-      abbrev pub IsNoRoom : {T : Type 0} → Result T Refusal → Type 0
-      IsNoRoom (Err why) = IsRoom why
-      IsNoRoom _ = ⊥
+      -- A copy round was made, then a write round, and then the log was cut, if it could be; the first of them that was
+      -- refused is the last. Where there was no memory for a batch, nothing was done.
+      pub data MakesRoom (result : Result (Unit {0}) Refusal) (old new : Sat D) : Type 0 where
+        NoBatch : result ≡ Err OutOfMemory → new ≡ old → MakesRoom result old new
+        NoCopy : (batch : Batch) (why : Refusal) → result ≡ Err why →
+            CopiesRound who no_batch batch (Err why) old new → MakesRoom result old new
+        NoWrite : (batch : Batch) (more : Bool) (why : Refusal) (copied : Sat D) → result ≡ Err why →
+            CopiesRound who no_batch batch (Ok more) old copied → WritesRound (Err why) copied new → MakesRoom result old new
+        Cut : (batch : Batch) (more wrote : Bool) (copied written : Sat D) (was_cut : Result Bool Refusal) →
+            CopiesRound who no_batch batch (Ok more) old copied → WritesRound (Ok wrote) copied written →
+            Visits is_honest state faults z (CutDoes is_honest state faults remembers clock who was_cut) written new →
+            MatchResult was_cut (λ _. result ≡ Ok tt) (λ why. result ≡ Err why) → MakesRoom result old new
 
-      -- a round that was to make room was refused, not for a stop
-      abbrev pub RoomRefused : Refusal → Sat D → Sat D → Type 0
-      RoomRefused (Stopped device count) old new = ⊥
-      RoomRefused why old new = RoundRefused who why old new
+      -- The desk was asked. Its answer is the last, unless the log had no room. Then room was made: where that was
+      -- refused, and not since the store has stopped, the refusal is the answer; else the desk was asked again, and so on.
+      pub data AnswersAtLast {T : Type 0} (Does : Result T Refusal → Core D → Core D → Type 0)
+          (result : Result T Refusal) : Sat D → Sat D → Type 0 where
+        Answered : (old new : Sat D) → Visits is_honest state faults z (Does result) old new → (IsNoRoom result → ⊥) →
+            AnswersAtLast Does result old new
+        NoRoomMade : (full why : Refusal) (old asked new : Sat D) → IsRoom full →
+            Visits is_honest state faults z (Does (Err full)) old asked → MakesRoom (Err why) asked new →
+            (MayAskAgain (Err why) → ⊥) → result ≡ Err why → AnswersAtLast Does result old new
+        AskedAgain : (full : Refusal) (made : Result (Unit {0}) Refusal) (old asked roomy new : Sat D) → IsRoom full →
+            Visits is_honest state faults z (Does (Err full)) old asked → MakesRoom made asked roomy → MayAskAgain made →
+            AnswersAtLast Does result roomy new → AnswersAtLast Does result old new
 
-      -- The desk was asked, once or more, and room made between; what it did at last, other than to refuse it for
-      -- want of room, is that. Or a round was refused.
-      abbrev pub AnswersAtLast : {T : Type 0} → (Result T Refusal → Core D → Core D → Type 0) → Result T Refusal → Sat D → Sat D → Type 0
-      AnswersAtLast Does result old new = (Reaches (Does result) old new × (IsNoRoom result → ⊥))
-          ⊎ ((why : Refusal) × (result ≡ Err why) × RoomRefused why old new)
-
-      -- The desk was asked for a drop. Where it found no room, it kept the drop's line and was asked again.
-      abbrev pub DropAsks : ℕ → Result (Unit {0}) Refusal → Sat D → Sat D → Type 0
-      DropAsks below result old new =
-          (Visits is_honest state faults z (DropDoes is_honest state faults remembers clock who below result) old new × (IsNoRoom result → ⊥))
-          ⊎ ((first : Result (Unit {0}) Refusal) × (kept : Sat D) × IsNoRoom first
-          × Visits is_honest state faults z (DropDoes is_honest state faults remembers clock who below first) old kept
-          × AnswersAtLast (DropDoes is_honest state faults remembers clock who below) result kept new)
-
-      -- A drop that no line tells gives up the line that it kept, if any, in one more visit.
+      -- The desk was asked for a drop, whose line it kept while it was asked again. A drop that no line tells gives up
+      -- the line that it kept, if any, in one more visit.
       pub record DropAnswers (below : ℕ) (result : Result (Unit {0}) Refusal) (old new : Sat D) : Type 0 where
         pub asked : Sat D
-        pub asks : DropAsks below result old asked
+        pub asks : AnswersAtLast (DropDoes is_honest state faults remembers clock who below) result old asked
         pub told : tells_drop result ≡ true → new ≡ asked
         pub gives_up : tells_drop result ≡ false → Visits is_honest state faults z (GivesUpDrop is_honest state who) asked new

@@ -8,7 +8,7 @@ use Rattle.history.specs.Lines.{lines_of}
 use Rattle.txn_set.specs.declared.ledger.Ledger.{Ledger}
 
 abbrev pub tells_fault : What → Bool
-tells_fault (Fault device count wrote) = true
+tells_fault (Fault device count call) = true
 tells_fault _ = false
 
 -- whether one of these lines tells a fault

@@ -6,7 +6,7 @@ ghost use Rattle.journal_book.specs.declared.work.Transaction.{Transaction};
 ghost use Rattle.journal_book.specs.declared.work.Work.TheVariants.{Open};
 ghost use Rattle.store.specs.Calls.{CommitDoes};
 ghost use Rattle.store.specs.RoundCalls.{DropDoes, GivesUpDrop};
-ghost use Rattle.store.specs.Rounds.{AnswersAtLast, DropAnswers, DropAsks, IsRoom, MayServe, RoundEnds, tells_drop};
+ghost use Rattle.store.specs.Rounds.{AnswersAtLast, DropAnswers, IsRoom, MakesRoom, MayServe, tells_drop};
 ghost use Rattle.store.specs.Seats.{IsOpenIn, IsReady, IsWhole, Visits};
 ghost use Rattle.txn_set.specs.Ledger.{is_closed, keeps_drop};
 ghost use Rattle.turn.specs.Seats.{IsSame, mine};
@@ -35,13 +35,15 @@ fn tells_drop(answer: &Result<(), Refusal>) -> bool
 }
 
 impl<D: Disk + Drop> Store<D> {
-    // Makes a copy round and a write round, and cuts the log where nothing is left to copy or to write back.
+    // Makes a copy round and a write round, and cuts the log where nothing is left to copy or to write back; what is
+    // refused ends it.
     fn make_room<R: Wait>(&self, rt: &R, seat: &mut Seat<D>, who: Who) -> Result<(), Refusal>
         requires ready { IsReady (table_of self.now.turn) seat.old × IsWhole seat.old }
         requires own { who.session ≡ seat.old.number }
         requires serve { MayServe seat.old who }
         ensures ready { IsReady (table_of self.now.turn) seat.new × IsWhole seat.new }
-        ensures ends { RoundEnds D.is_honest D.state D.faults (table_of self.now.turn) who result seat.old seat.new }
+        ensures makes { MakesRoom D.is_honest D.state D.faults (table_of self.now.turn) D.remembers D.clock who
+            result seat.old seat.new }
     {
         let mut batch = match Batch::new(self.alloc) {
             Ok(batch) => batch,
@@ -126,43 +128,7 @@ impl<D: Disk + Drop> Store<D> {
         answer
     }
 
-    // Asks again for a drop whose line is kept, once there is more room.
-    fn drop_kept<R: Wait>(
-        &self,
-        rt: &R,
-        seat: &mut Seat<D>,
-        who: Who,
-        below: u64,
-    ) -> Result<(), Refusal>
-        requires ready { IsReady (table_of self.now.turn) seat.old × IsWhole seat.old }
-        requires own { who.session ≡ seat.old.number }
-        requires kept { keeps_drop who (mine seat.old).work ≡ true }
-        ensures ready { IsReady (table_of self.now.turn) seat.new × IsWhole seat.new }
-        ensures is_closed { is_closed (mine seat.new).work ≡ true }
-        ensures same { IsSame seat.old seat.new }
-        ensures answers { AnswersAtLast D.is_honest D.state D.faults (table_of self.now.turn) D.remembers D.clock who
-            (DropDoes D.is_honest D.state D.faults D.remembers D.clock who below) result seat.old seat.new }
-    {
-        'ask: for _ in rt.forever() {
-            match self.make_room(rt, seat, who) {
-                Ok(()) => {}
-                Err(why) => match why {
-                    Refusal::Stopped { .. } => {}
-                    _ => return Err(why),
-                },
-            }
-            match self.ask_drop(rt, seat, who, below) {
-                Ok(()) => return Ok(()),
-                Err(why) => match why {
-                    Refusal::NoRoom { .. } => {}
-                    _ => return Err(why),
-                },
-            }
-        }
-        unreachable!()
-    }
-
-    // Asks for a drop, which may keep its line: once, or until the log has room.
+    // Asks for a drop until the log has room for it; its line is kept while room is made.
     fn asked_drop<R: Wait>(
         &self,
         rt: &R,
@@ -176,16 +142,26 @@ impl<D: Disk + Drop> Store<D> {
         ensures ready { IsReady (table_of self.now.turn) seat.new × IsWhole seat.new }
         ensures is_closed { is_closed (mine seat.new).work ≡ true }
         ensures same { IsSame seat.old seat.new }
-        ensures asks { DropAsks D.is_honest D.state D.faults (table_of self.now.turn) D.remembers D.clock who
-            below result seat.old seat.new }
+        ensures answers { AnswersAtLast D.is_honest D.state D.faults (table_of self.now.turn) D.remembers D.clock who
+            (DropDoes D.is_honest D.state D.faults D.remembers D.clock who below) result seat.old seat.new }
     {
-        match self.ask_drop(rt, seat, who, below) {
-            Ok(()) => Ok(()),
-            Err(why) => match why {
-                Refusal::NoRoom { .. } => self.drop_kept(rt, seat, who, below),
-                _ => Err(why),
-            },
+        'ask: for _ in rt.forever() {
+            match self.ask_drop(rt, seat, who, below) {
+                Ok(()) => return Ok(()),
+                Err(why) => match why {
+                    Refusal::NoRoom { .. } => {}
+                    _ => return Err(why),
+                },
+            }
+            match self.make_room(rt, seat, who) {
+                Ok(()) => {}
+                Err(why) => match why {
+                    Refusal::Stopped { .. } => {}
+                    _ => return Err(why),
+                },
+            }
         }
+        unreachable!()
     }
 
     // Gives up the line that the session keeps for a drop, if any.

@@ -1,11 +1,12 @@
 //! Rounds: pending captures go to the vault, pages are written back, and the log is cut.
 
-ghost use Rattle.std.specs.Prelude.{◌≡◌, ◌<◌, ◌≤◌, ◌/◌, true, IfOk, MatchResult, OnOk};
-ghost use Rattle.retro_base.specs.declared.limits.TheConstants.{LOG_REGION_BYTES};
+ghost use Rattle.std.specs.Prelude.{◌≡◌, ◌<◌, ◌≤◌, true, Err, MatchResult};
+ghost use Rattle.history.specs.declared.journal.FailedCall.TheVariants.{Write};
 ghost use Rattle.race_model.specs.Vault.{batch_end};
 ghost use Rattle.store.specs.RoundCalls.{AckDoes, CutsBelow, NoteDoes, Offers, SettleDoes, WriteBackDoes};
-ghost use Rattle.store.specs.Rounds.{CopiesRound, HasWrittenAll, IsBatchAt, IsCarriedAt, IsCopied, IsVaultRefusal, MayServe, Passes, RoundEnds, WritesRound};
-ghost use Rattle.store.specs.Seats.{IsReady, IsWhole, Visits};
+ghost use Rattle.store.specs.Rounds.{CarriesAtLast, CarriesIn, CopiesRound, HasWrittenAll, IsBatchAt, MayServe, Passes};
+ghost use Rattle.store.specs.Rounds.{WritesNoMore, WritesRound};
+ghost use Rattle.store.specs.Seats.{FaultFits, IsReady, IsWhole, Visits};
 ghost use Rattle.turn.specs.Faults.{fault_times};
 ghost use Rattle.turn.specs.Seats.{IsSame, held, mine};
 ghost use Rattle.turn.specs.Tables.{table_of};
@@ -14,6 +15,7 @@ use crate::carrying::{Carried, carry};
 use crate::desk_calls::{count_fits, fault_fits};
 use crate::shared::{Seat, Store};
 use disk_model::Disk;
+use history::FailedCall;
 use race_model::{Batch, Fault, Receipt};
 use retro_base::{BATCH, Device, LOG_REGION_BYTES, Refusal, Who};
 use std::sync::Wait;
@@ -42,9 +44,9 @@ impl<D: Disk + Drop> Store<D> {
         requires batch { IsBatchAt D.is_honest D.state seat.old batch.now }
         ensures passes { Passes (table_of self.now.turn) seat.old seat.new }
         ensures batch { IsBatchAt D.is_honest D.state seat.new batch.now }
-        ensures carried { MatchResult result
-            (IsCarriedAt D.is_honest D.state D.faults (table_of self.now.turn) batch.now seat.new)
-            (λ fault. IsVaultRefusal D.is_honest D.state D.faults (table_of self.now.turn) seat.new fault.why) }
+        ensures fits { FaultFits result }
+        ensures carries { CarriesIn D.is_honest D.state D.faults (table_of self.now.turn) D.remembers D.clock
+            batch.now result seat.old seat.new }
     {
         let mut archive = self.enter_vault(rt, seat);
         let answer = carry(&mut archive, batch);
@@ -53,15 +55,15 @@ impl<D: Disk + Drop> Store<D> {
         answer
     }
 
-    // Visits the vault with a batch until it is entered, by this round or by another.
+    // Visits the vault with a batch until it is more than laid: entered, by this round or by another, or refused.
     fn copied<R: Wait>(&self, rt: &R, seat: &mut Seat<D>, batch: &Batch) -> Result<Carried, Fault>
         requires ready { IsReady (table_of self.now.turn) seat.old }
         requires batch { IsBatchAt D.is_honest D.state seat.old batch.now }
         ensures passes { Passes (table_of self.now.turn) seat.old seat.new }
         ensures batch { IsBatchAt D.is_honest D.state seat.new batch.now }
-        ensures copied { MatchResult result
-            (IsCopied D.is_honest D.state D.faults (table_of self.now.turn) batch.now seat.new)
-            (λ fault. IsVaultRefusal D.is_honest D.state D.faults (table_of self.now.turn) seat.new fault.why) }
+        ensures fits { FaultFits result }
+        ensures carries { CarriesAtLast D.is_honest D.state D.faults (table_of self.now.turn) D.remembers D.clock
+            batch.now result seat.old seat.new }
     {
         'visit: for _ in rt.forever() {
             match self.carried(rt, seat, batch) {
@@ -95,10 +97,10 @@ impl<D: Disk + Drop> Store<D> {
         requires told { 0 < fault_times device count (mine seat.old).faults }
         ensures ready { IsReady (table_of self.now.turn) seat.new × IsWhole seat.new }
         ensures notes { Visits D.is_honest D.state D.faults (table_of self.now.turn)
-            (NoteDoes D.is_honest D.state who device count true) seat.old seat.new }
+            (NoteDoes D.is_honest D.state who device count Write) seat.old seat.new }
     {
         let mut side = self.enter(rt, seat);
-        side.core.note(who, device, count, true);
+        side.core.note(who, device, count, FailedCall::Write);
         self.leave(seat, side);
     }
 
@@ -118,7 +120,7 @@ impl<D: Disk + Drop> Store<D> {
         requires serve { MayServe seat.old who }
         ensures ready { IsReady (table_of self.now.turn) seat.new × IsWhole seat.new }
         ensures same { IsSame seat.old seat.new }
-        ensures round { CopiesRound D.is_honest D.state D.faults (table_of self.now.turn)
+        ensures round { CopiesRound D.is_honest D.state D.faults (table_of self.now.turn) D.remembers D.clock
             who batch.old batch.new result seat.old seat.new }
     {
         if !self.offered(rt, seat, batch) {
@@ -204,9 +206,11 @@ impl<D: Disk + Drop> Store<D> {
         requires own { who.session ≡ seat.old.number }
         requires serve { MayServe seat.old who }
         ensures ready { IsReady (table_of self.now.turn) seat.new × IsWhole seat.new }
-        ensures all { OnOk result (HasWrittenAll D.is_honest D.state D.faults (table_of self.now.turn)
-            D.remembers D.clock who seat.old seat.new) }
-        ensures ends { RoundEnds D.is_honest D.state D.faults (table_of self.now.turn) who result seat.old seat.new }
+        ensures all { MatchResult result
+            (λ _. HasWrittenAll D.is_honest D.state D.faults (table_of self.now.turn) D.remembers D.clock who
+            seat.old seat.new)
+            (λ why. WritesNoMore D.is_honest D.state D.faults (table_of self.now.turn) D.remembers D.clock who
+            (Err why) seat.old seat.new) }
     {
         'pages: for _count in 0..BATCH - 1 {
             match self.write_back(rt, seat, who) {

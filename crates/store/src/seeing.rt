@@ -21,7 +21,8 @@ impl<D: Disk + Drop> Store<D> {
         ensures whole { IsWhole seat.old → IsWhole seat.new }
         ensures work { (mine seat.new).work ≡ (mine seat.old).work }
         ensures waits { Waits seat.old seat.new }
-        ensures sizes { IfSome (opening seat.old) (λ start. result.pages ≡ (opened_base start).page_count) }
+        ensures pages { IfSome (opening seat.old) (λ start. result.pages ≡ (opened_base start).page_count) }
+        ensures capacity { IfSome (opening seat.old) (λ start. result.capacity ≡ (opened_base start).capacity) }
         ensures inside { (page : ℕ) → page < result.pages → IsPage seat.new page }
     {
         let side = self.enter(rt, seat);

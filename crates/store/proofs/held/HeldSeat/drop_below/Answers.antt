@@ -22,4 +22,4 @@ pub returns : goal.returns
 returns g c =
     let h = c.args.self.now in
     let none = idle_is h.who h.asked h.told.items h.seat h.seated c.requires.idle in
-    record { gives = drop_gives g.D.Disk.is_honest g.D.Disk.state g.D.Disk.faults _ g.D.Disk.remembers g.D.Disk.clock c.args.who c.args.below h.seat c.drop_below.new.seat h.asked h.told.items (h.seated.quiet none) none c.drop_below.ensures.none c.drop_below.result c.drop_below.ensures.answers; goes = record { store = refl; same = c.drop_below.ensures.same } }
+    record { gives = drop_gives g.D.Disk.is_honest g.D.Disk.state g.D.Disk.faults _ g.D.Disk.remembers g.D.Disk.clock c.args.who c.args.below h.seat c.drop_below.new.seat h.asked h.told.items (h.seated.quiet none) none c.drop_below.ensures.none h.ready c.requires.own c.drop_below.result c.drop_below.ensures.answers; goes = record { store = refl; same = c.drop_below.ensures.same } }

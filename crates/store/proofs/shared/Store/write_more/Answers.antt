@@ -1,7 +1,8 @@
-use Rattle.std.proofs.Common.{true, false, Ok, Err, subst, arith}
+use Rattle.std.proofs.Common.{true, Ok, subst, arith}
 use Rattle.turn.specs.Tables.{table_of}
+use Rattle.store.specs.Rounds.{All}
 use Rattle.store.proofs.Passing.{passes_none, passes_on, passes_whole, serve_on}
-use Rattle.store.proofs.Writing.{Writes, all_written, ends_after, many_written, none_written, one_written, wrote_ends}
+use Rattle.store.proofs.Writing.{Writes, many_written, none_written, one_written, wrote_ends}
 use Rattle.store.proofs.shared.Store.write_more.Goals as goal
 
 pub pages-init : goal.pages-init
@@ -14,14 +15,10 @@ pub write_back-requires-clause-serve : goal.write_back-requires-clause-serve
 write_back-requires-clause-serve g c = serve_on (table_of c.args.self.now.turn) c.args.seat.now c.pages.seat c.pages.invariant.passes c.args.who c.requires.serve
 
 pub returns-in-Ok-false-clause-all : goal.returns-in-Ok-false-clause-all
-returns-in-Ok-false-clause-all g c = all_written g.D.Disk.is_honest g.D.Disk.state g.D.Disk.faults (table_of c.args.self.now.turn) g.D.Disk.remembers g.D.Disk.clock c.args.who c.pages._count c.args.seat.now c.pages.seat c.write_back.new.seat c.pages.invariant.written (subst (λ b. Writes g.D.Disk.is_honest g.D.Disk.state g.D.Disk.faults (table_of c.args.self.now.turn) g.D.Disk.remembers g.D.Disk.clock c.args.who (Ok b) c.pages.seat c.write_back.new.seat) c.in-Ok-false.field-0-test c.in-Ok-false.ensures.writes)
+returns-in-Ok-false-clause-all g c = All (record { count = c.pages._count; few = let t = c.pages-test.true in omega (arith, t); middle = c.pages.seat; written = c.pages.invariant.written; answers = (subst (λ b. Writes g.D.Disk.is_honest g.D.Disk.state g.D.Disk.faults (table_of c.args.self.now.turn) g.D.Disk.remembers g.D.Disk.clock c.args.who (Ok b) c.pages.seat c.write_back.new.seat) c.in-Ok-false.field-0-test c.in-Ok-false.ensures.writes) })
 
-pub returns-in-Ok-false-clause-ends : goal.returns-in-Ok-false-clause-ends
-returns-in-Ok-false-clause-ends g c = let p = c.pages.invariant.passes in passes_on (table_of c.args.self.now.turn) c.args.seat.now c.pages.seat p c.write_back.new.seat (wrote_ends g.D.Disk.is_honest g.D.Disk.state g.D.Disk.faults (table_of c.args.self.now.turn) c.args.who g.D.Disk.remembers g.D.Disk.clock c.pages.seat c.write_back.new.seat p.ready (Ok false) (subst (λ b. Writes g.D.Disk.is_honest g.D.Disk.state g.D.Disk.faults (table_of c.args.self.now.turn) g.D.Disk.remembers g.D.Disk.clock c.args.who (Ok b) c.pages.seat c.write_back.new.seat) c.in-Ok-false.field-0-test c.in-Ok-false.ensures.writes))
-
-pub returns-in-Err-clause-ends : goal.returns-in-Err-clause-ends
-returns-in-Err-clause-ends g c = let p = c.pages.invariant.passes in
-    ends_after g.D.Disk.is_honest g.D.Disk.state g.D.Disk.faults (table_of c.args.self.now.turn) c.args.who {T = Unit {0}} (Err c.in-Err.why) c.args.seat.now c.pages.seat c.write_back.new.seat p (wrote_ends g.D.Disk.is_honest g.D.Disk.state g.D.Disk.faults (table_of c.args.self.now.turn) c.args.who g.D.Disk.remembers g.D.Disk.clock c.pages.seat c.write_back.new.seat p.ready (Err c.in-Err.why) c.in-Err.ensures.writes)
+pub returns-in-Err-clause-all : goal.returns-in-Err-clause-all
+returns-in-Err-clause-all g c = record { count = c.pages._count; few = let t = c.pages-test.true in omega (arith, t); middle = c.pages.seat; written = c.pages.invariant.written; answers = c.in-Err.ensures.writes }
 
 pub pages-preserved : goal.pages-preserved
 pages-preserved g c = let p = c.pages.invariant.passes in record {
