@@ -3,6 +3,5 @@ pub mod Limits
 pub mod Numbers
 pub mod Page
 pub mod Plain
-pub mod Tests
 pub mod Turns
 pub mod Work

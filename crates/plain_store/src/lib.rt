@@ -12,8 +12,6 @@ mod page;
 mod pages;
 mod seat;
 mod store;
-#[cfg(test)]
-mod tests;
 mod work;
 
 pub use laws::laws_of_turns;

@@ -6,7 +6,7 @@ ghost use Rattle.journal_law.specs.Seats.{closing, unlooking};
 ghost use Rattle.plain_store.specs.Limits.{IsNoRoom};
 ghost use Rattle.plain_store.specs.Plain.{kept_of};
 
-use history::{Line, What};
+use history::{FailedCall, Line, What};
 use journal_book::Book;
 use journal_law::Ending;
 use retro_base::{EDITED_PAGES, Refusal};
@@ -54,7 +54,7 @@ pub fn unlooking(why: Ending) -> What
         Ending::Failed { device, count } => What::Fault {
             device,
             count,
-            wrote: false,
+            call: FailedCall::Read,
         },
     }
 }

@@ -5,6 +5,8 @@ use Rattle.retro_base.specs.declared.device.Device.{Device}
 use Rattle.retro_base.specs.declared.refusal.Refusal.{Refusal}
 use Rattle.retro_base.specs.declared.refusal.Refusal.TheVariants as refusal
 use Rattle.retro_base.specs.declared.who.Who.{Who}
+use Rattle.history.specs.declared.journal.FailedCall.{FailedCall}
+use Rattle.history.specs.declared.journal.FailedCall.TheVariants.{Read}
 use Rattle.history.specs.declared.journal.Line.{Line}
 use Rattle.history.specs.declared.journal.What.{What}
 use Rattle.history.specs.declared.journal.What.TheVariants.{Began, Done, Fault, Refused, RolledBack}
@@ -14,7 +16,7 @@ use Rattle.journal_law.specs.Facts.{Fits}
 use Rattle.journal_law.specs.Fates.{IsReply}
 use Rattle.journal_law.specs.Language.{Commit, End, Language, Rollback, Transaction}
 use Rattle.journal_law.specs.Lawful.{Ground, IsLimit, IsOverlapBy}
-use Rattle.journal_law.specs.LinesFit.{IsAbove}
+use Rattle.journal_law.specs.LinesFit.{IsAbove, LeavesCommit}
 use Rattle.journal_law.specs.Own.{SinceBegan, line, own}
 use Rattle.journal_law.specs.Pages.{Pages, page_world}
 use Rattle.journal_law.specs.Seating.{Makes, Sane}
@@ -47,6 +49,11 @@ first_stop_on (l ∷ xs) ys stop is = by_first (stop_of l.what) is (first_stop_o
     by_first (Some s) is rest = is
 
 module _ (L : Language) (items : Who → Option L.Item) where
+  -- a call that was to read leaves nothing in doubt
+  reads_leave_none : (pages : Pages) (item : L.Item) (end : End) → LeavesCommit L pages item end Read
+  reads_leave_none pages item (Commit label) = tt
+  reads_leave_none pages item Rollback = tt
+
   -- a limit that was met stays one while others add lines
   limit_on : (ground : Ground) (who : Who) (item : L.Item) (end : End) (why : Refusal) (before more : List Line) → own who more ≡ [] → IsLimit L ground who before item end why → IsLimit L ground who (before ++ more) item end why
   limit_on ground who item end refusal.OutOfMemory before more none is = tt
@@ -85,14 +92,14 @@ module _ (L : Language) (items : Who → Option L.Item) where
     refusal_fits front others since rest (refusal.Overlap session number) none at is =
         overlaps_fit ground (front ++ others) who item end session number is_item is_kind (overlap_on who front others session number none is)
     refusal_fits front others since rest (refusal.DiskFault device count) none at is =
-        (lines_fit L).transactions.failed items ground (front ++ others) who item is_item end is_kind since (rest ++ others) (since_stays who Began front since rest others at none) device count false is
+        (lines_fit L).transactions.failed items ground (front ++ others) who item is_item end is_kind since (rest ++ others) (since_stays who Began front since rest others at none) device count Read is (reads_leave_none (page_world ground.pages (front ++ others)).current item end)
     refusal_fits front others since rest why none at is =
         limit_fits (front ++ others) since (rest ++ others) why (since_stays who Began front since rest others at none) (λ tables stored. limit_on ground who item end why front others none (is tables stored))
 
   -- its reply
   refusal_told : (pages : World Pages) (who : Who) (item : L.Item) (before : List Line) (why : Refusal) → IsReply L items pages who item (before ++ one who (line_of why)) ((L.words item).refused why)
   refusal_told pages who item before (refusal.Overlap session number) = (replies_told L).overlapped items pages who item before session number
-  refusal_told pages who item before (refusal.DiskFault device count) = (replies_told L).failed items pages who item before device count false
+  refusal_told pages who item before (refusal.DiskFault device count) = (replies_told L).failed items pages who item before device count Read
   refusal_told pages who item before why = (replies_told L).refused items pages who item before why
 
   -- what was told behind a line is told at the front that it leaves
@@ -124,16 +131,16 @@ module _ (L : Language) (items : Who → Option L.Item) where
         (refusal_fits overlaps_fit view.opened a.who item end is_item is_kind view.front adds.moves.others since rest why none at is)
         (refusal_told view.opened.pages a.who item (lines_before view new adds.moves) why)
 
-    -- a device failed in a commit
-    pub failed_ends : (new : View) (since rest : List Line) (device : Device) (count : ℕ) → SinceBegan a.who view.front since rest → Adds view new a.who (Fault device count true) Idle → IsNew new device count
-        → Ends new (Fault device count true) ((L.words item).refused (refusal.DiskFault device count))
-    failed_ends new since rest device count at adds is =
+    -- a device failed in a commit, or while room was made for it
+    pub failed_ends : (new : View) (since rest : List Line) (device : Device) (count : ℕ) (call : FailedCall) → SinceBegan a.who view.front since rest → (adds : Adds view new a.who (Fault device count call) Idle) → IsNew new device count
+        → LeavesCommit L (place view new adds.moves).current item end call → Ends new (Fault device count call) ((L.words item).refused (refusal.DiskFault device count))
+    failed_ends new since rest device count call at adds is leaves =
         let none = none_mine a.who view.session adds.moves.others mine adds.moves.apart in
         let above : IsAbove view.opened device count = subst (λ (ground : Ground). count < 2 ^ 64 - 1 → ground.faults device < count) adds.moves.opened is in
-        by_line new (Fault device count true) ((L.words item).refused (refusal.DiskFault device count)) adds
+        by_line new (Fault device count call) ((L.words item).refused (refusal.DiskFault device count)) adds
         ((lines_fit L).transactions.failed items view.opened (lines_before view new adds.moves) a.who item is_item end is_kind since (rest ++ adds.moves.others)
-        (since_stays a.who Began view.front since rest adds.moves.others at none) device count true above)
-        ((replies_told L).failed items view.opened.pages a.who item (lines_before view new adds.moves) device count true)
+        (since_stays a.who Began view.front since rest adds.moves.others at none) device count call above leaves)
+        ((replies_told L).failed items view.opened.pages a.who item (lines_before view new adds.moves) device count call)
 
   -- a commit: the edits make of pages that hold tables those that hold the tables behind the statements, and the text has the statements' replies, whatever pages agree with those read
   pub done_ends : (view : View) (a : Attempt) (item : L.Item) (label : Option (List ℕ)) → a.who.session ≡ view.session → items a.who ≡ Some item → L.kind item ≡ Transaction (Commit label) → Sane L items view

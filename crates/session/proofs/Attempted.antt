@@ -13,6 +13,9 @@ use Rattle.script.specs.declared.structure.Transaction.{Transaction as Transacti
 use Rattle.sql_exec.specs.Stored.{IsStored}
 use Rattle.history.specs.Lines.{base_of}
 use Rattle.history.specs.Writes.{is_among, pages_of, rises}
+use Rattle.history.specs.declared.entry.Change.TheVariants as change
+use Rattle.history.specs.declared.journal.FailedCall.{FailedCall}
+use Rattle.history.specs.declared.journal.FailedCall.TheVariants.{Append, Write}
 use Rattle.history.specs.declared.journal.Line.{Line}
 use Rattle.history.specs.declared.journal.What.{What}
 use Rattle.history.specs.declared.journal.What.TheVariants as said
@@ -21,11 +24,12 @@ use Rattle.journal_law.specs.Fates.{IsReply}
 use Rattle.journal_law.specs.Language.{Commit, End, Language, Rollback}
 use Rattle.journal_law.specs.Language as law
 use Rattle.journal_law.specs.Lawful.{Ground, IsCommitRefused, IsLimit, IsOverlapBy, MeetsLimit}
+use Rattle.journal_law.specs.LinesFit.{LeavesCommit}
 use Rattle.journal_law.specs.Own.{SinceBegan}
 use Rattle.pager.specs.Pages as pager
 use Rattle.journal_law.specs.Pages.{Pages as Bytes}
 use Rattle.journal_law.specs.Seating.{Makes}
-use Rattle.journal_law.specs.Seats.{Agree, Attempt, CommitGives, CommitWaits, Moves, Open, RollbackGives, View, at_began, is_open, keeps, number_of, place}
+use Rattle.journal_law.specs.Seats.{Adds, Agree, Attempt, CommitGives, CommitWaits, Idle, IsNew, Moves, Open, RollbackGives, View, at_began, is_open, keeps, number_of, place}
 use Rattle.journal_law.specs.World.{World, newest}
 use Rattle.journal_law.specs.declared.seat.Ending.TheVariants as ending
 use Rattle.journal_law.proofs.Lasts.{since_stays}
@@ -96,7 +100,10 @@ some_none k why none some = differ (sym none ∙ some)
 pub faulted : (why : Refusal) (label : Option (List ℕ)) (view mid : View) (a : Attempt) → is_fault why ≡ true → a.kept ≡ None → CommitGives label view mid a (Err why) → HasEnded view mid
 faulted (refusal.DiskFault device count) label view mid a is none gives = elim gives [
   | inl kept ↦ absurd (some_none a.kept (refusal.DiskFault device count) none kept.0)
-  | inr ended ↦ record { idle = ended.0.work_is; session = ended.0.moves.session }
+  | inr ended ↦ elim ended.0 [
+    | inl adds ↦ record { idle = adds.work_is; session = adds.moves.session }
+    | inr ends ↦ record { idle = ends.adds.work_is; session = ends.adds.moves.session }
+  ]
 ]
 faulted why label view mid a is none gives = cc
 
@@ -309,11 +316,18 @@ module _ (size : ℕ) (items : Who → Option Item) (who : Who) (names : List (L
         → IsRefused names why result → AttemptEnds size items who it view new result
     commit_failed new label (refusal.DiskFault device count) result is_end is gives told = elim (gives tries h.trying.is_open) [
       | inl kept ↦ absurd (some_none tries.kept (refusal.DiskFault device count) keeps_none kept.0)
-      | inr ended ↦
-          tried_so view new (said.Fault device count true) (refusal_text names (refusal.DiskFault device count)) result
-          (of_who tries.who view new (said.Fault device count true) (refusal_text names (refusal.DiskFault device count)) h.trying.is_who
-          (failed_ends (sql size) items view tries it (Commit label) its_session its_item (ap (λ (e : ScriptEnd). law.Transaction (end_of e)) is_end) h.stands.fits new tries.since h.trying.rest device count its_began ended.0 ended.1)) tt told
+      | inr ended ↦ elim ended.0 [
+        | inl adds ↦ failed_so Write adds ended.1 tt
+        | inr ends ↦ failed_so (Append (change.Commit label tries.edits)) ends.adds ended.1 (refl, λ tables stored. makes (place view new ends.adds.moves).current tables ends.agree stored)
+      ]
     ]
+      where
+        failed_so : (call : FailedCall) → (adds : Adds view new tries.who (said.Fault device count call) Idle) → IsNew new device count → LeavesCommit (sql size) (place view new adds.moves).current it (Commit label) call
+            → AttemptEnds size items who it view new result
+        failed_so call adds above leaves =
+            tried_so view new (said.Fault device count call) (refusal_text names (refusal.DiskFault device count)) result
+            (of_who tries.who view new (said.Fault device count call) (refusal_text names (refusal.DiskFault device count)) h.trying.is_who
+            (failed_ends (sql size) items view tries it (Commit label) its_session its_item (ap (λ (e : ScriptEnd). law.Transaction (end_of e)) is_end) h.stands.fits new tries.since h.trying.rest device count call its_began adds above leaves)) tt told
     commit_failed new label why result is_end is gives told = cc
 
     pub rolled_so : (new : View) (result : Tried) → t.end ≡ script_end.Rollback → ((a : Attempt) → view.work ≡ Open a → RollbackGives ending.Asked view new a) → IsText (text ++ rolled_back_text) result

@@ -5,8 +5,6 @@ pub mod Keeping
 pub mod Order
 pub mod Planned
 pub mod Steps
-pub mod Coming
-pub mod Turning
 pub mod Adding
 pub mod AsOf
 pub mod AttemptClosing

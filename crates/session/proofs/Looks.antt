@@ -6,6 +6,8 @@ use Rattle.retro_base.specs.declared.refusal.Refusal.TheVariants.{OutOfMemory}
 use Rattle.retro_base.specs.declared.refusal.Refusal.TheVariants as refusal
 use Rattle.retro_base.specs.declared.who.Who.{Who}
 use Rattle.history.specs.declared.entry.Mark.{Mark as MarkOf}
+use Rattle.history.specs.declared.journal.FailedCall.{FailedCall}
+use Rattle.history.specs.declared.journal.FailedCall.TheVariants.{Read}
 use Rattle.history.specs.declared.journal.Line.{Line}
 use Rattle.history.specs.declared.journal.What.{What}
 use Rattle.history.specs.declared.journal.What.TheVariants.{Dropped, Fault, Looked, LookedAll, Refused, Unlooked}
@@ -13,8 +15,8 @@ use Rattle.history.specs.Lines.{begins}
 use Rattle.journal_law.specs.Fates.{IsReply, answer_text}
 use Rattle.journal_law.specs.Facts.{AreOthers, Fits}
 use Rattle.journal_law.specs.Language.{AsOf, DropBelow, Language, OverAll}
-use Rattle.journal_law.specs.Lawful.{Ground}
-use Rattle.journal_law.specs.LinesFit.{Answers, At, All, IsAbove, LookAt, kind_at, opened_by}
+use Rattle.journal_law.specs.Lawful.{Ground, at_drop}
+use Rattle.journal_law.specs.LinesFit.{Answers, At, All, IsAbove, LeavesDrop, LookAt, kind_at, opened_by}
 use Rattle.journal_law.specs.Own.{SinceLine, is_looked, is_looking, last_behind, line, own}
 use Rattle.journal_law.specs.Seating.{IsOwn, Sane}
 use Rattle.journal_law.specs.Seats.{Adds, DropGives, DropRefusedThere, Idle, LookAllGives, LookGives, Looking, Moves, View, Waits, lines_before, place}
@@ -141,13 +143,13 @@ module _ (L : Language) (items : Who → Option L.Item) where
 
   -- by a fault
   pub failed : (who : Who) (item : L.Item) (look : LookAt) (since : List Line) (device : Device) (count : ℕ) (old now new : View) → IsFresh who item old → L.kind item ≡ kind_at look → (open_now : IsOpen who look since old now)
-      → IsAbove now.opened device count → Adds now new who (Fault device count false) Idle
-      → HasEnded who item old new (opened_by look ∷ Fault device count false ∷ []) ((L.words item).refused (refusal.DiskFault device count))
+      → IsAbove now.opened device count → Adds now new who (Fault device count Read) Idle
+      → HasEnded who item old new (opened_by look ∷ Fault device count Read ∷ []) ((L.words item).refused (refusal.DiskFault device count))
   failed who item look since device count old now new fresh e open_now above added =
       let before = lines_before now new added.moves in
-      ends who item (Fault device count false) (opened_by look ∷ []) ((L.words item).refused (refusal.DiskFault device count)) old now new fresh open_now.gone added
+      ends who item (Fault device count Read) (opened_by look ∷ []) ((L.words item).refused (refusal.DiskFault device count)) old now new fresh open_now.gone added
       ((lines_fit L).looks.failed items now.opened before who item fresh.is look e device count above)
-      ((replies_told L).failed items new.opened.pages who item before device count false)
+      ((replies_told L).failed items new.opened.pages who item before device count Read)
 
   -- ---- without a look
 
@@ -180,13 +182,14 @@ module _ (L : Language) (items : Who → Option L.Item) where
       ((lines_fit L).drops.refused items old.opened before who item fresh.is below e why is)
       ((replies_told L).refused items new.opened.pages who item before why)
 
-  pub drop_failed : (who : Who) (item : L.Item) (below : ℕ) (device : Device) (count : ℕ) (wrote : Bool) (old new : View) → IsFresh who item old → L.kind item ≡ DropBelow below
-      → IsAbove old.opened device count → Adds old new who (Fault device count wrote) Idle → HasEnded who item old new (Fault device count wrote ∷ []) ((L.words item).refused (refusal.DiskFault device count))
-  drop_failed who item below device count wrote old new fresh e above added =
+  pub drop_failed : (who : Who) (item : L.Item) (below : ℕ) (device : Device) (count : ℕ) (call : FailedCall) (old new : View) → IsFresh who item old → L.kind item ≡ DropBelow below
+      → IsAbove old.opened device count → (added : Adds old new who (Fault device count call) Idle) → LeavesDrop (at_drop old.opened.pages (place old new added.moves) (lines_before old new added.moves)) below call
+      → HasEnded who item old new (Fault device count call ∷ []) ((L.words item).refused (refusal.DiskFault device count))
+  drop_failed who item below device count call old new fresh e above added leaves =
       let before = lines_before old new added.moves in
-      ends who item (Fault device count wrote) [] ((L.words item).refused (refusal.DiskFault device count)) old old new fresh (begun who item old fresh) added
-      ((lines_fit L).drops.failed items old.opened before who item fresh.is below e device count wrote (not_open who item old new fresh added.moves) above)
-      ((replies_told L).failed items new.opened.pages who item before device count wrote)
+      ends who item (Fault device count call) [] ((L.words item).refused (refusal.DiskFault device count)) old old new fresh (begun who item old fresh) added
+      ((lines_fit L).drops.failed items old.opened before who item fresh.is below e device count call (not_open who item old new fresh added.moves) above leaves)
+      ((replies_told L).failed items new.opened.pages who item before device count call)
 
   -- cut short: no line
   pub cut_short : (who : Who) (item : L.Item) (old new : View) → IsFresh who item old → Waits old new Idle → HasGone L items who old new []

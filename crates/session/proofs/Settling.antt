@@ -4,6 +4,7 @@ use Rattle.std.specs.Prelude.{IfOk}
 use Rattle.retro_base.specs.declared.refusal.Refusal.{Refusal}
 use Rattle.retro_base.specs.declared.refusal.Refusal.TheVariants as refusal
 use Rattle.retro_base.specs.declared.who.Who.{Who}
+use Rattle.history.specs.declared.journal.FailedCall.TheVariants.{Read}
 use Rattle.history.specs.declared.journal.Line.{Line}
 use Rattle.history.specs.declared.journal.What.{What}
 use Rattle.history.specs.declared.journal.What.TheVariants.{Fault, Refused, Unlooked}
@@ -120,9 +121,9 @@ look_finished size plan who item look since Answered old between new (Ok words) 
   ended = answered (sql size) (item_of plan) who item look since words old between new fresh e is_now (answers (Ok words) concludes) gives;
 }
 look_finished size plan who item look since Answered old between new (Err (refusal.DiskFault device count)) fresh e is_now answers concludes gives = record {
-  whats = opened_by look ∷ Fault device count false ∷ [];
-  run = look_run look (kind_of item.task) (Fault device count false) e tt;
-  uncut = look_uncut look (kind_of item.task) (Fault device count false) e refl;
+  whats = opened_by look ∷ Fault device count Read ∷ [];
+  run = look_run look (kind_of item.task) (Fault device count Read) e tt;
+  uncut = look_uncut look (kind_of item.task) (Fault device count Read) e refl;
   ended = failed (sql size) (item_of plan) who item look since device count old between new fresh e is_now concludes.1 gives;
 }
 look_finished size plan who item look since Answered old between new (Err (refusal.Overlap session other)) fresh e is_now answers concludes gives = absurd concludes

@@ -25,7 +25,7 @@ last_end : (what : What) → IsLastEnd what → AreAttempts (Began ∷ what ∷ 
 last_end (Done label writes) is = tt
 last_end RolledBack is = tt
 last_end (Refused why) is = tt
-last_end (Fault device count wrote) is = tt
+last_end (Fault device count call) is = tt
 last_end what is = absurd is
 
 pub ended_are : (n : ℕ) (whats : List What) (what : What) → AreOverlaps n whats → IsLastEnd what → AreAttempts (whats ++ Began ∷ what ∷ [])

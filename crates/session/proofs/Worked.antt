@@ -6,6 +6,7 @@ use Rattle.retro_base.specs.declared.device.Device.TheVariants.{Maplog}
 use Rattle.retro_base.specs.declared.refusal.Refusal.TheVariants.{Pinned}
 use Rattle.retro_base.specs.declared.who.Who.{Who}
 use Rattle.tables.specs.Tables.{Tables, no_tables}
+use Rattle.history.specs.declared.journal.FailedCall.TheVariants.{Write}
 use Rattle.history.specs.declared.journal.Line.{Line}
 use Rattle.history.specs.declared.journal.What.TheVariants.{Dropped, Refused, Fault}
 use Rattle.journal_law.specs.World.{World}
@@ -19,7 +20,7 @@ two_sessions = (record { name = codes "a"; tasks = DropBelow 2 ∷ DropBelow 3 �
 
 abbrev pub lines : List Line
 lines =
-    record { who = who_is 1 0 1; what = Dropped 2 } ∷ record { who = who_is 1 0 2; what = Refused (Pinned 2 1) } ∷ record { who = who_is 1 16 0; what = Fault Maplog 7 true } ∷ []
+    record { who = who_is 1 0 1; what = Dropped 2 } ∷ record { who = who_is 1 0 2; what = Refused (Pinned 2 1) } ∷ record { who = who_is 1 16 0; what = Fault Maplog 7 Write } ∷ []
 
 abbrev pub opening : World Tables
 opening = record { current = no_tables; marks = [] }

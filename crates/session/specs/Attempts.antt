@@ -4,6 +4,7 @@ use Rattle.std.specs.List.{AllByRecursion}
 use Rattle.retro_base.specs.declared.refusal.Refusal.{Refusal}
 use Rattle.retro_base.specs.declared.refusal.Refusal.TheVariants as refusal
 use Rattle.retro_base.specs.declared.who.Who.{Who}
+use Rattle.history.specs.declared.journal.FailedCall.TheVariants.{Read}
 use Rattle.history.specs.declared.journal.Line.{Line}
 use Rattle.history.specs.declared.journal.What.{What}
 use Rattle.history.specs.declared.journal.What.TheVariants.{Began, Done, Overlapped, RolledBack, Refused, Fault}
@@ -25,7 +26,7 @@ use Rattle.session.specs.OneItem.{OfItem}
 -- the line of an attempt that ends by this refusal
 abbrev pub line_of : Refusal → What
 line_of (refusal.Overlap session item) = Overlapped session item
-line_of (refusal.DiskFault device count) = Fault device count false
+line_of (refusal.DiskFault device count) = Fault device count Read
 line_of why = Refused why
 
 -- what a rollback is asked for so that the attempt ends so: an overlap is kept, and goes before what is asked
@@ -38,7 +39,7 @@ abbrev pub IsLastEnd : What → Type 0
 IsLastEnd (Done label writes) = Unit {0}
 IsLastEnd RolledBack = Unit {0}
 IsLastEnd (Refused why) = Unit {0}
-IsLastEnd (Fault device count wrote) = Unit {0}
+IsLastEnd (Fault device count call) = Unit {0}
 IsLastEnd what = ⊥
 
 -- so many attempts that overlapped

@@ -13,7 +13,6 @@ pub mod Visible
 pub mod Wording
 pub mod OneTask
 pub mod SoFar
-pub mod Turns
 pub mod Asking
 pub mod Attempts
 pub mod Calls

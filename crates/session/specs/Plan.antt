@@ -1,5 +1,5 @@
 -- What a script asks for. A call has its arguments read; a line that the grammar refuses, or a call with an argument outside its form, has the place of the refusal.
-use Rattle.std.specs.Prelude.{◌≡◌, ◌≤◌, ℕ, zero, suc, List, [], ◌∷◌, length, map, Option, None, slice_get}
+use Rattle.std.specs.Prelude.{◌≡◌, ◌≤◌, ℕ, zero, suc, List, [], ◌∷◌, length, map, Option, None, Some, slice_get}
 use Rattle.std.specs.List.{AllByRecursion}
 use Rattle.std.specs.Option.{option_and_then, option_map, option_map_or}
 use Rattle.retro_base.specs.declared.limits.TheConstants.{ITEMS, PHASES, SESSIONS}
@@ -104,3 +104,11 @@ session_at plan phase place = option_and_then (λ (sessions : List SessionPlan).
 
 abbrev pub tasks_at : Plan → ℕ → ℕ → List Task
 tasks_at plan phase place = option_map_or (λ (session : SessionPlan). session.tasks) (session_at plan phase place) []
+
+-- these are the sessions of a phase
+abbrev pub IsPhaseOf : Plan → ℕ → List SessionPlan → Type 0
+IsPhaseOf plan phase sessions = numbered plan phase ≡ Some sessions
+
+-- how many sessions the phase of this number has
+abbrev pub EndsAt : Plan → ℕ → ℕ → Type 0
+EndsAt plan phase place = (sessions : List SessionPlan) → numbered plan phase ≡ Some sessions → length sessions ≤ place

@@ -77,6 +77,10 @@ pub record HasKept (size : ℕ) (plan : Plan) (wanting : Who → Bool) (ground :
   pub later : AllByRecursion (IsBehind phase session) rest
   pub is_kept : IsKept size plan wanting ground phase session front kept
 
+-- what was kept of a session in a phase, which says for which of its items memory was wanting
+abbrev pub WasKept : ℕ → Plan → Ground → List Line → ℕ → ℕ → List Kept → Type 0
+WasKept size plan ground journal phase session kept = (wanting : Who → Bool) → SaysWanting wanting phase session kept → HasKept size plan wanting ground journal phase session kept
+
 -- A run has ended with this journal: what each session knows of its lines, what the store and the driver tell of the whole, and what was kept of each session of each phase.
 pub record HasRun (size : ℕ) (plan : Plan) (wanting : Who → Bool) (ground : Ground) (ending : Device → ℕ) (journal : List Line) (kept : ℕ → ℕ → List Kept) : Type 0 where
   pub fit : AllFit (sql size) (item_of plan) ground journal

@@ -33,7 +33,7 @@ what_text newest LookedAll = Some (codes "looked all")
 what_text newest Unlooked = Some (codes "unlooked")
 what_text newest (Dropped below) = Some (codes "dropped below " ++ decimal below)
 what_text newest (Refused why) = Some (codes "refused " ++ decimal (number_of why))
-what_text newest (Fault device count wrote) = Some (codes "fault " ++ device_name device ++ value_text count)
+what_text newest (Fault device count call) = Some (codes "fault " ++ device_name device ++ value_text count)
 
 -- a visible line: phase, name, item, and what it says
 abbrev pub shown_line : Plan → Who → Option (List ℕ) → List ℕ

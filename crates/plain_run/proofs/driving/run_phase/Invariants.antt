@@ -2,10 +2,10 @@ use Rattle.std.proofs.Common.{◌≡◌, ◌+◌, ◌++◌, ◌∷◌, [], List,
 use Rattle.journal_law.specs.Lawful.{Ground}
 use Rattle.journal_law.specs.Seats as seat
 use Rattle.plain_store.specs.Plain.{view_of}
-use Rattle.session.specs.Plan.{Plan}
+use Rattle.session.specs.Plan.{IsPhaseOf, Plan}
 use Rattle.session.specs.declared.kept.Kept.{Kept}
-use Rattle.session.specs.Turns.{CameThrough, IsPhaseOf}
-use Rattle.session.proofs.driving.run_phase.Given as goal
+use Rattle.plain_run.specs.Turns.{CameThrough}
+use Rattle.plain_run.proofs.driving.run_phase.Given as goal
 
 abbrev pub invariant-loop-place : goal.invariant-loop-place
 invariant-loop-place g l = record {

@@ -1,5 +1,5 @@
 use Rattle.std.proofs.Common.{◌∙◌}
-use Rattle.plain_store.proofs.tests.number_now.Goals as goal
+use Rattle.plain_run.proofs.seats.number_now.Goals as goal
 
 pub returns : goal.returns
 returns g c =

@@ -10,21 +10,16 @@ use Rattle.journal_law.specs.Lawful.{Ground, HasRuns, IsFault, Opening, PhasesRi
 use Rattle.journal_law.specs.Seats.{Idle, View}
 use Rattle.plain_store.specs.Plain.{Plain, ground_of, view_of, zero_ground}
 use Rattle.plain_store.specs.Turns.{OwnTurn}
-use Rattle.session.specs.Plan.{Plan, item_of, numbered}
-use Rattle.session.specs.Replies.{SaysWanting, kept_by_place, wanting_by}
-use Rattle.session.specs.Run.{AreKept, HasKept, HasRun, IsBefore, IsReady, RunIsLawful, SessionLeft}
+use Rattle.session.specs.Plan.{EndsAt, IsPhaseOf, Plan, item_of}
+use Rattle.session.specs.Replies.{kept_by_place, wanting_by}
+use Rattle.session.specs.Run.{AreKept, HasRun, IsBefore, IsReady, RunIsLawful, SessionLeft, WasKept}
 use Rattle.session.specs.Sql.{sql}
 use Rattle.session.specs.declared.kept.Kept.{Kept}
-use Rattle.session.specs.declared.plan.SessionPlan.{SessionPlan}
 use Rattle.tables.specs.Tables.{no_tables}
 
 -- the session of a phase that stands before this place
 abbrev pub IsDone : ℕ → ℕ → ℕ → ℕ → Type 0
 IsDone earlier session phase place = (earlier < phase) ⊎ ((earlier ≡ phase) × (session < place))
-
--- what was kept of a session in a phase, which says for which of its items memory was wanting
-abbrev pub WasKept : ℕ → Plan → Ground → List Line → ℕ → ℕ → List Kept → Type 0
-WasKept size plan ground journal phase session kept = (wanting : Who → Bool) → SaysWanting wanting phase session kept → HasKept size plan wanting ground journal phase session kept
 
 -- The sessions before this place of this phase have run: their lines fit and are those of a run, those of the sessions to come are of earlier phases, no line tells a fault, and this was kept of each.
 pub record HasCome (size : ℕ) (plan : Plan) (ground : Ground) (journal : List Line) (kept : ℕ → ℕ → List Kept) (phase place : ℕ) : Type 0 where
@@ -39,10 +34,6 @@ pub record HasCome (size : ℕ) (plan : Plan) (ground : Ground) (journal : List 
 -- the same is kept of the sessions that have run
 abbrev pub KeepsDone : ℕ → ℕ → (ℕ → ℕ → List Kept) → (ℕ → ℕ → List Kept) → Type 0
 KeepsDone phase place old new = (earlier session : ℕ) → IsDone earlier session phase place → new earlier session ≡ old earlier session
-
--- how many sessions the phase of this number has
-abbrev pub EndsAt : Plan → ℕ → ℕ → Type 0
-EndsAt plan phase place = (sessions : List SessionPlan) → numbered plan phase ≡ Some sessions → length sessions ≤ place
 
 pub record TurnsMakeRuns (size : ℕ) : Type 0 where
   -- at the beginning
@@ -81,10 +72,6 @@ pub record CameThrough (plan : Plan) (ground : Ground) (store : Plain) (done : L
   pub idle : (view_of store).work ≡ Idle
   pub opened : ground_of store ≡ ground
   pub come : HasCome ground.base.page_count plan ground store.book.lines (kept_by_place done) phase place
-
--- these are the sessions of a phase
-abbrev pub IsPhaseOf : Plan → ℕ → List SessionPlan → Type 0
-IsPhaseOf plan phase sessions = numbered plan phase ≡ Some sessions
 
 -- a phase has run, of whose sessions this is kept
 abbrev pub PhaseRan : Plan → ℕ → Plain → Plain → List (List Kept) → Type 0

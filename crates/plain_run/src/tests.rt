@@ -1,6 +1,6 @@
 //! What no clause says: a plan and a transcript written out by hand, and that calls succeed.
 
-use history::{Label, Line, What, Writes};
+use history::{FailedCall, Label, Line, What, Writes};
 use retro_base::{Device, Refusal, Who};
 use script::read;
 use session::{Kept, Plan, Task, plan_of, print};
@@ -86,7 +86,7 @@ fn lines(alloc: Global) -> Result<Seq<Line>, AllocError> {
         What::Fault {
             device,
             count: 7,
-            wrote: true,
+            call: FailedCall::Write,
         },
     )?;
     Ok(journal)

@@ -4,10 +4,10 @@ ghost use Rattle.std.specs.Prelude.{◌≡◌, ◌<◌, IfSome, IsTrue, OnOk};
 ghost use Rattle.history.specs.Label.{is_label};
 ghost use Rattle.journal_law.specs.Seats.{Idle};
 ghost use Rattle.plain_store.specs.Plain.{view_of};
-ghost use Rattle.plain_store.specs.Tests.{IsStill};
+ghost use Rattle.plain_run.specs.Still.{IsStill};
 
-use super::*;
 use journal_law::{Ending, Seat};
+use plain_store::PlainStore;
 use retro_base::{Page, Refusal, Who, get_u32};
 use std::test::Fail;
 

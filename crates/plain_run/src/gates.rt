@@ -1,9 +1,10 @@
 //! The points of a run at which its gate is told.
 
+use crate::run_plan;
 use fold_kit::{Combiner, FoldSet, How};
 use retro_base::Refusal;
 use script::read;
-use session::{Gate, Items, Point, plan_of, run_plan};
+use session::{Gate, Items, Point, plan_of};
 use std::alloc::Global;
 use std::cell::Cell;
 use std::test::Fail;

@@ -1,8 +1,8 @@
 use Rattle.std.proofs.Common.{◌≡◌, ◌+◌, length}
 use Rattle.retro_base.specs.declared.limits.TheConstants.{DEFAULT_CAPACITY, MEMORY_PAGES}
 use Rattle.plain_store.specs.Plain.{zero_ground}
-use Rattle.session.specs.Turns.{CameThrough}
-use Rattle.session.proofs.driving.run_plan.Given as goal
+use Rattle.plain_run.specs.Turns.{CameThrough}
+use Rattle.plain_run.proofs.driving.run_plan.Given as goal
 
 abbrev pub invariant-loop-index : goal.invariant-loop-index
 invariant-loop-index g l = record {

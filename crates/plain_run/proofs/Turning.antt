@@ -13,15 +13,15 @@ use Rattle.plain_store.specs.Turns.{GoesOn, OwnTurn}
 use Rattle.plain_store.specs.declared.work.Work.{Work}
 use Rattle.plain_store.specs.declared.work.Work.TheVariants as work
 use Rattle.relation_laws.specs.Laws.{StoreLaw}
-use Rattle.session.specs.Plan.{Plan, names_of, numbered}
+use Rattle.session.specs.Plan.{IsPhaseOf, Plan, names_of, numbered}
 use Rattle.session.specs.Replies.{kept_at_place, kept_by_place, printed, wanting_by}
 use Rattle.session.specs.Run.{AreKept, IsSessionOf, RunIsLawful, RunsSession, SessionLeft}
 use Rattle.session.specs.Sql.{sql}
 use Rattle.session.specs.declared.kept.Kept.{Kept}
 use Rattle.session.specs.declared.plan.SessionPlan.{SessionPlan}
 use Rattle.session.proofs.Runs.{law_of_runs}
-use Rattle.session.specs.Turns.{CameThrough, HasCome, IsPhaseOf, KeepsDone, RanPlainly, TookTurn, empty_store}
-use Rattle.session.proofs.Coming.{ends, none_at, phases, ready, same, starts, turns}
+use Rattle.plain_run.specs.Turns.{CameThrough, HasCome, KeepsDone, RanPlainly, TookTurn, empty_store}
+use Rattle.plain_run.proofs.Coming.{ends, none_at, phases, ready, same, starts, turns}
 
 -- ---- lists
 

@@ -19,14 +19,14 @@ use Rattle.journal_law.specs.World.{World}
 use Rattle.journal_law.proofs.Journal.{lines_of_seen, own_lines}
 use Rattle.journal_law.proofs.Seating.{waits}
 use Rattle.plain_store.specs.Turns.{OwnTurn}
-use Rattle.session.specs.Plan.{Plan, item_of, names_at, numbered, tasks_at}
+use Rattle.session.specs.Plan.{EndsAt, Plan, item_of, names_at, numbered, tasks_at}
 use Rattle.session.specs.Replies.{SaysWanting, kept_by, kept_in, known_by, starting, wanting_by, who_is}
-use Rattle.session.specs.Run.{AreKept, HasKept, HasRun, IsBefore, IsBehind, IsReady, OfPhase, SessionLeft}
+use Rattle.session.specs.Run.{AreKept, HasKept, HasRun, IsBefore, IsBehind, IsReady, OfPhase, SessionLeft, WasKept}
 use Rattle.session.specs.Sql.{sql}
 use Rattle.session.specs.declared.kept.Kept.{Kept}
 use Rattle.session.specs.declared.plan.SessionPlan.{SessionPlan}
 use Rattle.session.specs.declared.plan.Task.{Task}
-use Rattle.session.specs.Turns.{EndsAt, HasCome, IsDone, KeepsDone, TurnsMakeRuns, WasKept}
+use Rattle.plain_run.specs.Turns.{HasCome, IsDone, KeepsDone, TurnsMakeRuns}
 
 -- ---- lists of lines
 
@@ -56,7 +56,7 @@ rise_append phase (x ∷ xs) ys rise upto at = (
 -- ---- lines without a fault
 
 no_fault_of : (device : Device) (who : Who) (what : What) → (IsFault what → ⊥) → fault_of device who what ≡ []
-no_fault_of device who (Fault other count wrote) none = absurd (none tt)
+no_fault_of device who (Fault other count call) none = absurd (none tt)
 no_fault_of device who what none = refl
 
 no_faults : (device : Device) (lines : List Line) → AllByRecursion (λ (line : Line). IsFault line.what → ⊥) lines → faults_of device lines ≡ []
@@ -64,7 +64,7 @@ no_faults device [] none = refl
 no_faults device (line ∷ lines) none = rw (no_fault_of device line.who line.what none.0) (no_faults device lines none.1)
 
 is_counted : (ending : Device → ℕ) (who : Who) (what : What) → (IsFault what → ⊥) → IsCounted ending (record { who = who; what = what })
-is_counted ending who (Fault other count wrote) none = absurd (none tt)
+is_counted ending who (Fault other count call) none = absurd (none tt)
 is_counted ending who what none = tt
 
 module _ (size : ℕ) (plan : Plan) (ground : Ground) where

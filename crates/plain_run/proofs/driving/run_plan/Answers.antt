@@ -3,13 +3,13 @@ use Rattle.std.proofs.lemmas.Option.{slice_get_read}
 use Rattle.history.specs.declared.journal.Line.{Line}
 use Rattle.retro_base.specs.declared.limits.TheConstants.{DEFAULT_CAPACITY, MEMORY_PAGES}
 use Rattle.plain_store.specs.Plain.{zero_ground}
-use Rattle.session.specs.Plan.{Plan}
+use Rattle.session.specs.Plan.{IsPhaseOf, Plan}
 use Rattle.session.specs.Replies.{kept_by_place, printed}
 use Rattle.session.specs.declared.kept.Kept.{Kept}
 use Rattle.session.specs.declared.plan.SessionPlan.{SessionPlan}
-use Rattle.session.specs.Turns.{CameThrough, IsPhaseOf, RanPlainly}
-use Rattle.session.proofs.Turning.{phase_at, run_ends}
-use Rattle.session.proofs.driving.run_plan.Goals as goal
+use Rattle.plain_run.specs.Turns.{CameThrough, RanPlainly}
+use Rattle.plain_run.proofs.Turning.{phase_at, run_ends}
+use Rattle.plain_run.proofs.driving.run_plan.Goals as goal
 
 pub loop-index-preserved : goal.loop-index-preserved
 loop-index-preserved g c =

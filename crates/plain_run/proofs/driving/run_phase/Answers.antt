@@ -2,9 +2,9 @@ use Rattle.std.proofs.lemmas.Option.{slice_get_read}
 use Rattle.std.proofs.Common.{◌≡◌, ◌+◌, ◌++◌, ◌∷◌, [], List, ap, arith, length, length-append, refl, subst, sym, ◌∙◌}
 use Rattle.plain_store.specs.Plain.{Plain, view_of}
 use Rattle.session.specs.declared.kept.Kept.{Kept}
-use Rattle.session.specs.Turns.{CameThrough}
-use Rattle.session.proofs.Turning.{phase_begins, phase_ends, session_of, turned}
-use Rattle.session.proofs.driving.run_phase.Goals as goal
+use Rattle.plain_run.specs.Turns.{CameThrough}
+use Rattle.plain_run.proofs.Turning.{phase_begins, phase_ends, session_of, turned}
+use Rattle.plain_run.proofs.driving.run_phase.Goals as goal
 
 pub loop-place-init : goal.loop-place-init
 loop-place-init g c =

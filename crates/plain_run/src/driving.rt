@@ -4,20 +4,16 @@ ghost use Rattle.std.specs.Prelude.{◌≡◌, ◌≤◌, ◌+◌, IfOk, length}
 ghost use Rattle.std.specs.List.{AllByRecursion};
 ghost use Rattle.journal_law.specs.Seats as seat;
 ghost use Rattle.plain_store.specs.Plain.{view_of};
-ghost use Rattle.session.specs.Plan.{Plan as PlanOf, PlanFits, SessionFits, SessionsFit, names_of};
+ghost use Rattle.session.specs.Plan.{IsPhaseOf, Plan as PlanOf, PlanFits, SessionFits, SessionsFit, names_of};
 ghost use Rattle.session.specs.Run.{IsSessionOf};
-ghost use Rattle.session.specs.Turns.{CameThrough, IsPhaseOf, PhaseRan, RanPlainly, TookTurn};
+ghost use Rattle.plain_run.specs.Turns.{CameThrough, PhaseRan, RanPlainly, TookTurn};
 
-use crate::item::RunItems;
-use crate::kept::Kept;
-use crate::passing::run_session;
-use crate::plan::{Plan, SessionPlan, names_of};
-use crate::printing::print;
 use history::Journal;
 use plain_store::PlainStore;
 use relation_laws::store_law;
 use retro_base::{DEFAULT_CAPACITY, MEMORY_PAGES};
 use script::SessionName;
+use session::{Kept, Plan, RunItems, SessionPlan, names_of, print, run_session};
 use std::alloc::{AllocError, Global};
 use values::Seq;
 

@@ -1,7 +1,7 @@
 use Rattle.std.proofs.Common.{◌∙◌, ◌<◌, refl, sym, ap, subst}
 use Rattle.retro_base.specs.declared.who.Who.{Who}
 use Rattle.journal_law.specs.Lawful.{Ground}
-use Rattle.plain_store.proofs.tests.change_often.Goals as goal
+use Rattle.plain_run.proofs.seats.change_often.Goals as goal
 
 pub change-requires-clause-idle : goal.change-requires-clause-idle
 change-requires-clause-idle g c = c.loop-number.invariant.idle
