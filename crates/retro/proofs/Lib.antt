@@ -1,5 +1,6 @@
 pub mod Ends
 pub mod Faulted
+pub mod FromEmpty
 pub mod Front
 pub mod Numbers
 pub mod Phased

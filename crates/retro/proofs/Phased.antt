@@ -21,11 +21,10 @@ use Rattle.journal_law.specs.Shows.{MarksShow, Shows, ShowsAlong}
 use Rattle.journal_law.specs.World.{Mark, World, newest, newest_behind}
 use Rattle.journal_law.proofs.Journal.{law, lines_of_seen, own_lines}
 use Rattle.journal_law.proofs.Seating.{waits}
-use Rattle.session.specs.Plan.{Plan, item_of, names_at, numbered, tasks_at}
+use Rattle.session.specs.Plan.{EndsAt, Plan, item_of, names_at, numbered, tasks_at}
 use Rattle.session.specs.Replies.{SaysWanting, kept_by, kept_by_place, kept_in, known_by, printed, starting, wanting_by, who_is}
-use Rattle.session.specs.Run.{AreKept, HasKept, HasRun, IsBefore, IsBehind, OfPhase, RunIsLawful, SessionLeft}
+use Rattle.session.specs.Run.{AreKept, HasKept, HasRun, IsBefore, IsBehind, OfPhase, RunIsLawful, SessionLeft, WasKept}
 use Rattle.session.specs.Sql.{sql}
-use Rattle.session.specs.Turns.{EndsAt, WasKept}
 use Rattle.session.specs.declared.kept.Kept.{Kept}
 use Rattle.session.specs.declared.plan.SessionPlan.{SessionPlan}
 use Rattle.session.specs.declared.plan.Task.{Task}

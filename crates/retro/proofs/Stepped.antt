@@ -6,10 +6,9 @@ use Rattle.std.specs.Option.{option_map_or}
 use Rattle.history.specs.declared.journal.Line.{Line}
 use Rattle.journal_law.specs.Lawful.{Ground}
 use Rattle.journal_law.specs.Seats.{View}
-use Rattle.session.specs.Plan.{Plan, names_of, numbered}
+use Rattle.session.specs.Plan.{IsPhaseOf, Plan, names_of, numbered}
 use Rattle.session.specs.Replies.{kept_at_place, kept_by_place}
-use Rattle.session.specs.Run.{AreKept, IsReady, IsSessionOf, RunsSession, SessionLeft}
-use Rattle.session.specs.Turns.{IsPhaseOf, WasKept}
+use Rattle.session.specs.Run.{AreKept, IsReady, IsSessionOf, RunsSession, SessionLeft, WasKept}
 use Rattle.session.specs.declared.kept.Kept.{Kept}
 use Rattle.session.specs.declared.plan.SessionPlan.{SessionPlan}
 use Rattle.session.specs.declared.plan.Task.{Task}

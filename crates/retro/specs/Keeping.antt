@@ -39,7 +39,7 @@ RunsOnStore faults is_out tells store extent device_faults is_honest remembers s
 -- ---- how it ends
 
 abbrev pub is_fault : What → Bool
-is_fault (Fault device count wrote) = true
+is_fault (Fault device count call) = true
 is_fault what = false
 
 -- a line of the journal tells a fault of a device

@@ -1,6 +1,7 @@
 pub mod Formats
 pub mod Keeping
 pub mod Meeting
+pub mod Memory
 pub mod Phases
 pub mod Program
 pub mod Says

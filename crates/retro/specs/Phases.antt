@@ -13,9 +13,8 @@ use Rattle.journal_law.specs.Shows.{Shows, ShowsAlong}
 use Rattle.journal_law.specs.World.{newest}
 use Rattle.session.specs.Plan.{Plan, item_of, tasks_at}
 use Rattle.session.specs.Replies.{kept_by_place, printed, wanting_by}
-use Rattle.session.specs.Run.{AreKept, HasRun, IsReady, RunIsLawful, SessionLeft}
+use Rattle.session.specs.Run.{AreKept, HasRun, IsReady, RunIsLawful, SessionLeft, WasKept}
 use Rattle.session.specs.Sql.{sql}
-use Rattle.session.specs.Turns.{WasKept}
 use Rattle.session.specs.declared.kept.Kept.{Kept}
 use Rattle.session.specs.declared.plan.SessionPlan.{SessionPlan}
 

@@ -8,7 +8,7 @@ use Rattle.script.specs.Script.{ReadsAs, IsOnlyReading}
 use Rattle.script.specs.declared.structure.Script.{Script}
 use Rattle.history.specs.declared.journal.Line.{Line}
 use Rattle.session.specs.Plan.{IsPlan, Plan}
-use Rattle.session.specs.Turns.{RanPlainly}
+use Rattle.retro.specs.Memory.{RanInMemory}
 use Rattle.retro.specs.Says.{HoldsFront, Says, bad_script_line, out_of_memory_line, source_fault_line}
 
 -- the bytes are this script, and nothing else
@@ -32,7 +32,7 @@ pub record IsTranscript (left : Option (List ℕ)) (text : List ℕ) : Type 0 wh
   pub journal : List Line
   pub read : IfSome left (IsTheScript script)
   pub asks : IsPlan script plan
-  pub ran : RanPlainly plan journal text
+  pub ran : RanInMemory plan journal text
 
 -- the source was read to its end
 abbrev pub ReadToEnd : Option (List ℕ) → Option (List ℕ) → Type 0

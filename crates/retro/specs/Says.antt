@@ -28,7 +28,7 @@ number_of statuses.BadSizes = 9
 abbrev pub IsStatus : ℕ → Type 0
 IsStatus number = IsTrue (list_any (λ one. one == number) (0 ∷ 2 ∷ 3 ∷ 4 ∷ 5 ∷ 6 ∷ 7 ∷ 8 ∷ 9 ∷ []))
 
--- a run of a script over a plain store may end so
+-- a run of a script over a store in memory may end so
 abbrev pub IsOfRuns : Status → Type 0
 IsOfRuns statuses.BadWords = ⊥
 IsOfRuns statuses.DiskFault = ⊥

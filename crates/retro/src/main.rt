@@ -11,6 +11,7 @@ mod drops;
 mod formatting;
 mod keeping;
 mod laws;
+mod memory;
 mod phases;
 mod program;
 #[cfg(test)]
@@ -22,6 +23,8 @@ mod scripts;
 mod seats;
 mod showing;
 #[cfg(test)]
+mod store_runs;
+#[cfg(test)]
 mod stores;
 mod storing;
 #[cfg(test)]
@@ -32,24 +35,32 @@ use disk_file::FileCabinet;
 use feeds::{StdSink, StdSource};
 use fold_kit::{Combiner, FoldSet, How};
 use program::retro;
+use saying::lack_memory;
+use std::alloc::AllocError;
 use std::env;
 use std::env::Env;
+use std::io::ErrorKind;
 use std::process::ExitCode;
 
-// The words behind the program's own name; none where they are not all text, or memory runs out.
-fn given_words(rt: &(impl Env + AllocGlobal)) -> Vec<String> {
-    if let Ok(words) = env::args(rt)
-        && let Ok(words) = words.skip(1).collect(rt.alloc())
-    {
-        return words;
+// The words behind the program's own name; none where they are not all text.
+fn given_words(rt: &(impl Env + AllocGlobal)) -> Result<Vec<String>, AllocError> {
+    match env::args(rt) {
+        Ok(words) => words.skip(1).collect(rt.alloc()),
+        Err(error) => {
+            if error.kind() == ErrorKind::OutOfMemory {
+                return Err(AllocError);
+            }
+            Ok(Vec::new(rt.alloc()))
+        }
     }
-    Vec::new(rt.alloc())
 }
 
 fn main(rt: HostRuntime) -> ExitCode {
-    let words = given_words(&rt);
     let mut source = StdSource::new(rt.stdin());
     let mut sink = StdSink::new(rt.stdout());
+    let Ok(words) = given_words(&rt) else {
+        return ExitCode::from(lack_memory(&mut sink).number());
+    };
     let mut cabinet = FileCabinet::new(rt.alloc(), &rt);
     let folds = FoldSet::new(
         Combiner::new(How::Min, |a: i128, b: i128| a.min(b)),

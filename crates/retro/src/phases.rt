@@ -7,8 +7,7 @@ ghost use Rattle.journal_law.specs.Lawful.{Ground};
 ghost use Rattle.retro.specs.Phases.{HaveSeats, StandTogether};
 ghost use Rattle.retro.specs.Slots.{AllCome, AreHonest, AreSeated, AreTogether, IsSetAt, SitsAt, view_at};
 ghost use Rattle.retro.specs.Steps.{HasMetEach, MetAll, PairMet, PhaseRuns, RanAt, RanThrough, RunsPhases};
-ghost use Rattle.session.specs.Plan.{Plan as PlanOf, PlanFits, SessionFits, SessionsFit};
-ghost use Rattle.session.specs.Turns.{IsPhaseOf};
+ghost use Rattle.session.specs.Plan.{IsPhaseOf, Plan as PlanOf, PlanFits, SessionFits, SessionsFit};
 
 use crate::seats::Meets;
 use journal_law::Seat;

@@ -38,10 +38,10 @@ fn refuse<K: Sink>(sink: &mut K, mistake: Mistake) -> u8
 /// Runs the program, and answers the exit status. Status 2 is exactly where the words are none of the good ones, and 9
 /// where a size is out of its range. The other words are:
 ///
-/// - `run`: reads a script from the source, runs it over a store without tables, and writes the transcript of every reply
-///   to the sink, or one line that says why there is none. The status is 4 where the source failed; else 3 where the
-///   script has a bad line; else 5 where the sink failed; 8 where memory ran out; else 0. The transcript is that of one
-///   journal, which a run of the script may leave.
+/// - `run`: reads a script from the source, runs it over an empty store in memory, which holds no tables, and writes the
+///   transcript of every reply to the sink, or one line that says why there is none. The status is 4 where the source
+///   failed; else 3 where the script has a bad line; else 5 where the sink failed; 8 where memory ran out; else 0. The
+///   transcript is that of one journal, which a run of the script may leave.
 /// - `format DIR PAGES CAPACITY`: makes a store in the cabinet, in the place of one that stood there.
 /// - `show DIR`: writes what the store in the cabinet shows of itself, and writes nothing on it.
 /// - `run DIR`: reads a script first, as `run` does, and runs it over the store in the cabinet, at which each session has
@@ -86,7 +86,7 @@ pub fn retro<R: Wait, S: Source, K: Sink, C: Cabinet, F: Folds>(
         sink.old sink.new result }
 {
     match command_of(words) {
-        Ok(Command::Run { dir: None }) => run(alloc, source, sink, folds),
+        Ok(Command::Run { dir: None }) => run(alloc, rt, source, sink, folds),
         Ok(Command::Run { dir: Some(dir) }) => keep(alloc, rt, source, sink, cabinet, dir, folds),
         Ok(Command::Format { dir, sizes }) => format(alloc, sink, cabinet, dir, sizes),
         Ok(Command::Show { dir }) => show(alloc, sink, cabinet, dir),

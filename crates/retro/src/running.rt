@@ -11,13 +11,15 @@ ghost use Rattle.retro.specs.Program.{AsksFor, IsTheBadLine, IsTranscript, ReadT
 ghost use Rattle.retro.specs.Keeping.{RefusesScript};
 ghost use Rattle.retro.specs.Says.{HoldsFront, IsOfRuns, IsStatus, number_of, Says, bad_script_line as bad_script_text, out_of_memory_line, source_fault_line};
 
+use crate::memory::run_in_memory;
 use crate::saying::{Status, say, write};
 use feeds::{Sink, Source, read_front};
 use fold_kit::Folds;
 use retro_base::Refusal;
 use script::{SCRIPT_BYTES, front_law};
-use session::{Items, NoGate, Plan, plan_of, run_plan};
+use session::{Items, NoGate, Plan, plan_of};
 use std::alloc::{AllocError, Global};
+use std::sync::Wait;
 
 /// What the script that the source gives asks for, or why it asks for nothing.
 pub fn plan_from<S: Source>(alloc: Global, source: &mut S) -> Result<Plan, Refusal>
@@ -37,8 +39,9 @@ pub fn plan_from<S: Source>(alloc: Global, source: &mut S) -> Result<Plan, Refus
 }
 
 // The transcript of the script that the source gives, or why there is none.
-fn transcript<S: Source, F: Folds>(
+fn transcript<R: Wait, S: Source, F: Folds>(
     alloc: Global,
+    rt: &R,
     source: &mut S,
     folds: &F,
 ) -> Result<Vec<u8>, Refusal>
@@ -50,8 +53,8 @@ fn transcript<S: Source, F: Folds>(
 {
     let plan = plan_from(alloc, source)?;
     let gate = &NoGate;
-    let finished = run_plan(alloc, &Items { gate, folds }, &plan)?;
-    Ok(finished.transcript)
+    let text = run_in_memory(alloc, rt, &Items { gate, folds }, &plan)?;
+    Ok(text)
 }
 
 fn bad_script_line(alloc: Global, line: u64) -> Result<String, AllocError>
@@ -84,8 +87,9 @@ pub fn refuse<K: Sink>(alloc: Global, sink: &mut K, refusal: Refusal) -> Status
 }
 
 // Reads and runs the script and writes its transcript, or the line that stands in its place.
-fn perform<S: Source, K: Sink, F: Folds>(
+fn perform<R: Wait, S: Source, K: Sink, F: Folds>(
     alloc: Global,
+    rt: &R,
     source: &mut S,
     sink: &mut K,
     folds: &F,
@@ -110,16 +114,17 @@ fn perform<S: Source, K: Sink, F: Folds>(
     ensures good_script { (bytes : List ℕ) (script : Script) → S.left source.old ≡ Some bytes
         → ReadsAs bytes (Ok script) → result ≢ Status.BadScript }
 {
-    match transcript(alloc, source, folds) {
+    match transcript(alloc, rt, source, folds) {
         Ok(text) => write(sink, text.as_slice()),
         Err(refusal) => refuse(alloc, sink, refusal),
     }
 }
 
-/// Reads a script from the source, runs it over a store without tables, and writes the transcript of every reply to the
+/// Reads a script from the source, runs it over an empty store in memory, and writes the transcript of every reply to the
 /// sink, or one line that says why there is none. Answers the exit status.
-pub fn run<S: Source, K: Sink, F: Folds>(
+pub fn run<R: Wait, S: Source, K: Sink, F: Folds>(
     alloc: Global,
+    rt: &R,
     source: &mut S,
     sink: &mut K,
     folds: &F,
@@ -142,5 +147,5 @@ pub fn run<S: Source, K: Sink, F: Folds>(
         → S.faults source.new ≡ S.faults source.old → S.faults source.old < 2 ^ 64 - 1
         → K.faults sink.new ≡ K.faults sink.old → K.faults sink.old < 2 ^ 64 - 1 → (result ≡ 0) ⊎ (result ≡ 8) }
 {
-    perform(alloc, source, sink, folds) as u8
+    perform(alloc, rt, source, sink, folds) as u8
 }

@@ -82,8 +82,8 @@ fn device_line(
     Ok(text)
 }
 
-// Says that memory ran out.
-fn lack_memory<K: Sink>(sink: &mut K) -> Status
+/// Says that memory ran out.
+pub fn lack_memory<K: Sink>(sink: &mut K) -> Status
     ensures said { LacksMemory K.held sink.old sink.new (number_of result) }
     ensures status { result ≡ Status.OutOfMemory }
 {

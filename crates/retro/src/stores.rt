@@ -10,7 +10,7 @@ use std::sync::Wait;
 use std::test::Fail;
 
 // Words, the script, a status, and the text.
-type Row = (&'static [&'static str], &'static [u8], u8, &'static [u8]);
+pub type Row = (&'static [&'static str], &'static [u8], u8, &'static [u8]);
 
 const BAD_WORDS: &[u8] = b"retro: bad words\n";
 
@@ -79,26 +79,27 @@ const ROWS: [Row; 34] = [
     ),
 ];
 
-// Runs the program with these words over a cabinet, and answers whether it ends so.
-fn ends_so<R: Wait>(
+// Runs the program with these words over a cabinet, into a sink of which the listed calls fail: the status, and the text.
+pub fn told<R: Wait>(
     rt: &R,
     alloc: Global,
     cabinet: &mut MemCabinet,
-    row: &Row,
-) -> Result<bool, AllocError> {
-    let (words, script, status, text) = row;
+    words: &[&str],
+    script: &[u8],
+    failing_writes: &[u64],
+) -> Result<(u8, Vec<u8>), AllocError> {
     let mut all = Vec::new(alloc);
-    for word in *words {
+    for word in words {
         all.push(String::from_str(alloc, word)?)?;
     }
     let mut source = MemSource::new(script.to_vec(alloc)?, Vec::new(alloc));
-    let mut sink = MemSink::new(alloc, Vec::new(alloc));
+    let mut sink = MemSink::new(alloc, failing_writes.to_vec(alloc)?);
     let folds = FoldSet::new(
         Combiner::new(How::Min, |a: i128, b: i128| a.min(b)),
         Combiner::new(How::Max, |a: i128, b: i128| a.max(b)),
         Combiner::new(How::Add, |a: i128, b: i128| a.wrapping_add(b)),
     );
-    let ended = retro(
+    let status = retro(
         rt,
         alloc,
         all.as_slice(),
@@ -107,11 +108,23 @@ fn ends_so<R: Wait>(
         cabinet,
         &folds,
     );
-    Ok(ended == *status && sink.bytes() == *text)
+    Ok((status, sink.bytes().to_vec(alloc)?))
+}
+
+// Whether the program ends so with the words of the row.
+fn ends_so<R: Wait>(
+    rt: &R,
+    alloc: Global,
+    cabinet: &mut MemCabinet,
+    row: &Row,
+) -> Result<bool, AllocError> {
+    let (words, script, status, text) = row;
+    let (ended, written) = told(rt, alloc, cabinet, words, script, &[])?;
+    Ok(ended == *status && written.as_slice() == *text)
 }
 
 // The number of the first row that ends in another way.
-fn first_wrong<R: Wait>(
+pub fn first_wrong<R: Wait>(
     rt: &R,
     alloc: Global,
     cabinet: &mut MemCabinet,
@@ -164,7 +177,15 @@ fn bytes_of_no_store_are_told(rt: HostRuntime) -> Result<(), Fail> {
         &rt,
         rt.alloc(),
         &mut cabinet,
-        &[(&["show", "d"], b"", 7, b"retro: not a store, log at 0\n")],
+        &[
+            (&["show", "d"], b"", 7, b"retro: not a store, log at 0\n"),
+            (
+                &["run", "d"],
+                b"SESSION a\n",
+                7,
+                b"retro: not a store, log at 0\n",
+            ),
+        ],
     )?;
     assert!(rt; made.is_none() && told.is_none());
     Ok(())

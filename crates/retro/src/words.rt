@@ -10,7 +10,7 @@ use retro_base::{MAX_CAPACITY, MAX_PAGES, MIN_CAPACITY, MIN_PAGES};
 
 /// What the words ask for.
 pub enum Command<Dir> {
-    /// To run a script, over a plain store in memory where no folder is named.
+    /// To run a script, over an empty store in memory where no folder is named.
     Run { dir: Option<Dir> },
     /// To make a store of these sizes in a folder.
     Format { dir: Dir, sizes: Sizes },

@@ -1,9 +1,8 @@
 use Rattle.std.proofs.Common.{◌≡◌, ◌+◌, ◌∷◌, [], ℕ, List, Ok, Some, ap, arith, length, length-append, refl, slice_get, sym, subst, ◌∙◌}
 use Rattle.std.specs.declared.alloc.AllocError.{AllocError}
 use Rattle.std.proofs.lemmas.Option.{slice_get_read}
-use Rattle.session.specs.Plan.{Plan}
+use Rattle.session.specs.Plan.{IsPhaseOf, Plan}
 use Rattle.session.specs.Replies.{kept_by_place}
-use Rattle.session.specs.Turns.{IsPhaseOf}
 use Rattle.session.specs.declared.kept.Kept.{Kept}
 use Rattle.session.specs.declared.plan.SessionPlan.{SessionPlan}
 use Rattle.retro.specs.Phases.{HasComeTo}

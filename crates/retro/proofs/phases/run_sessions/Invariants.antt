@@ -1,6 +1,5 @@
 use Rattle.std.proofs.Common.{◌≡◌, length}
-use Rattle.session.specs.Plan.{Plan}
-use Rattle.session.specs.Turns.{IsPhaseOf}
+use Rattle.session.specs.Plan.{IsPhaseOf, Plan}
 use Rattle.retro.specs.Slots.{AllCome, AreHonest, view_at}
 use Rattle.retro.proofs.Stepped.{SoFar}
 use Rattle.retro.proofs.phases.run_sessions.Given as goal

@@ -6,8 +6,8 @@ returns-clause-written g c =
     record {
       script = asked.script;
       plan = c.in_ok-plan.plan;
-      journal = c.in_ok-finished.finished.journal;
+      journal = c.in_ok-text.ensures.ran.0;
       read = asked.read;
       asks = asked.asks;
-      ran = c.in_ok-finished.ensures;
+      ran = c.in_ok-text.ensures.ran.1;
     }

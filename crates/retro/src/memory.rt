@@ -1,0 +1,94 @@
+//! Runs a plan over an empty store that is made for it, in memory.
+
+ghost use Rattle.std.specs.Prelude.{◌≡◌, List, IfErr, IfOk};
+ghost use Rattle.disk_model.specs.Cabinet.{AreSized, Each, IsBlank};
+ghost use Rattle.history.specs.declared.journal.Line.{Line};
+ghost use Rattle.opening.specs.Devices.{IsUnopened, of_each};
+ghost use Rattle.session.specs.Plan.{PlanFits};
+ghost use Rattle.store_format.specs.Empty.{AreInRange};
+ghost use Rattle.retro.specs.Memory.{RanFromEmpty, RanInMemory};
+
+use crate::storing::{Ended, run_on};
+use disk_mem::RamDisk;
+use disk_model::{Disk, Four, Sizes};
+use history::Version;
+use opening::devices_are_read_one_way;
+use relation_laws::store_law;
+use retro_base::{DEFAULT_CAPACITY, MEMORY_PAGES, Refusal};
+use session::{Plan, RunItems};
+use std::alloc::Global;
+use std::sync::Wait;
+use store_format::format;
+
+// Makes an empty store on four devices of zeros, and runs a plan over it. They come back. It is refused exactly where a call
+// of a device failed, and for want of memory.
+fn run_from_empty<R: Wait, D: Disk + Drop, I: RunItems>(
+    alloc: Global,
+    rt: &R,
+    disks: Four<D>,
+    sizes: Sizes,
+    runner: &I,
+    plan: &Plan,
+) -> (Four<D>, Result<Ended, Refusal>)
+    requires fits { PlanFits plan.now }
+    requires range { AreInRange sizes }
+    requires sized { AreSized D.extent sizes disks }
+    requires blank { Each (IsBlank D.extent D.is_honest D.state) disks }
+    ensures cause { IfErr result.1 (IsUnopened (λ _ _. ⊥) (of_each D.faults disks) (of_each D.faults result.0)) }
+    ensures ran { IfOk result.1 (λ ended. IfOk ended.text (λ text. RanFromEmpty sizes plan.now (of_each D.faults disks)
+        (of_each D.faults result.0) ended.journal text.items)) }
+{
+    // Laws for the proof: pages of zeros hold no tables, and bytes that hold a store are not refused as those of none.
+    store_law();
+    devices_are_read_one_way();
+    match format(alloc, Version::One, disks, sizes) {
+        Ok(disks) => run_on(alloc, rt, disks, runner, plan),
+        Err((disks, why)) => (disks, Err(why)),
+    }
+}
+
+// A device of that many zeros in memory.
+fn zero_disk(alloc: Global, size: u64) -> Result<RamDisk, Refusal>
+    ensures size { IfOk result (λ disk. ⟦<RamDisk as Disk>⟧.extent disk ≡ size) }
+    ensures blank { IfOk result (IsBlank ⟦<RamDisk as Disk>⟧.extent ⟦<RamDisk as Disk>⟧.is_honest
+        ⟦<RamDisk as Disk>⟧.state) }
+    ensures wanting { IfErr result (λ why. why ≡ Refusal.OutOfMemory) }
+{
+    RamDisk::new(alloc, size)
+}
+
+// Four of them, for a store of these sizes.
+fn zero_disks(alloc: Global, sizes: Sizes) -> Result<Four<RamDisk>, Refusal>
+    ensures sized { IfOk result (AreSized ⟦<RamDisk as Disk>⟧.extent sizes) }
+    ensures blank { IfOk result (Each (IsBlank ⟦<RamDisk as Disk>⟧.extent ⟦<RamDisk as Disk>⟧.is_honest
+        ⟦<RamDisk as Disk>⟧.state)) }
+    ensures wanting { IfErr result (λ why. why ≡ Refusal.OutOfMemory) }
+{
+    Ok(Four {
+        log: zero_disk(alloc, sizes.log_bytes())?,
+        pages: zero_disk(alloc, sizes.pages_bytes())?,
+        pagelog: zero_disk(alloc, sizes.pagelog_bytes())?,
+        maplog: zero_disk(alloc, sizes.maplog_bytes())?,
+    })
+}
+
+/// Runs a plan over an empty store in memory, which is gone behind the run, and gives the transcript. It is refused for want
+/// of memory alone.
+pub fn run_in_memory<R: Wait, I: RunItems>(
+    alloc: Global,
+    rt: &R,
+    runner: &I,
+    plan: &Plan,
+) -> Result<Vec<u8>, Refusal>
+    requires { PlanFits plan.now }
+    ensures ran { IfOk result (λ text. (journal : List Line) × RanInMemory plan.now journal text.items) }
+    ensures wanting { IfErr result (λ why. why ≡ Refusal.OutOfMemory) }
+{
+    let sizes = Sizes {
+        pages: MEMORY_PAGES,
+        capacity: DEFAULT_CAPACITY,
+    };
+    let disks = zero_disks(alloc, sizes)?;
+    let (_, ended) = run_from_empty(alloc, rt, disks, sizes, runner, plan);
+    Ok(ended?.text?)
+}
