@@ -1,7 +1,6 @@
 -- What the first page of a chain holds while an entry goes to the end of the chain.
-use Rattle.std.proofs.Common.{◌≡◌, ◌≢◌, ◌<◌, ◌^◌, ◌++◌, ◌∷◌, ◌∙◌, ℕ, List, [], Result, Ok, Err, true, false, eqb, inl, inr, refl, sym, subst, ap, arith}
+use Rattle.std.proofs.Common.{◌≡◌, ◌≢◌, ◌<◌, ◌++◌, ◌∷◌, ◌∙◌, ℕ, List, [], Result, Ok, Err, true, false, eqb, inr, refl, sym, subst, ap, arith}
 use Rattle.std.proofs.lemmas.Bool.{eq-eqb, ne_eqb}
-use Rattle.retro_base.specs.Gives.{◌>>=◌}
 use Rattle.retro_base.specs.declared.refusal.Refusal.{Refusal}
 use Rattle.pager.specs.Pages.{Pages, broken, written}
 use Rattle.pager.specs.Root.{next_page, root_bytes, root_in, taken}
@@ -9,17 +8,11 @@ use Rattle.pager.specs.declared.root.Root.{Root}
 use Rattle.heap_file.specs.declared.page.HeapPage.{HeapPage}
 use Rattle.heap_file.specs.declared.page.Entry.{Entry}
 use Rattle.heap_file.specs.Chain.{IsAt, last_page}
-use Rattle.heap_file.specs.HeapPage.{Holds, IsHeapPage, page_bytes}
+use Rattle.heap_file.specs.HeapPage.{IsHeapPage, IsNarrow, page_bytes}
 use Rattle.heap_file.specs.Work.{appended, fits, lengthened, with_head}
 use Rattle.heap_file.proofs.Ones.{differ}
 use Rattle.heap_file.proofs.Packing.{written_holds}
 use Rattle.heap_file.proofs.Ways.{appended_long}
-
--- each field fits its width
-pub record IsNarrow (held : HeapPage) : Type 0 where
-  pub next : held.next < 2 ^ 32
-  pub next_number : held.next_number < 2 ^ 64
-  pub last : held.last < 2 ^ 32
 
 -- a page that was written holds what was written
 pub at-own : (size : ℕ) (pages : Pages) (page : ℕ) (held : HeapPage) → 0 < page → page < size → IsNarrow held → IsHeapPage held → IsAt size (written pages page (page_bytes held)) page held

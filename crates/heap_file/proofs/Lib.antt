@@ -2,3 +2,4 @@ pub mod Ones
 pub mod Heads
 pub mod Packing
 pub mod Ways
+pub mod Routes

@@ -59,13 +59,6 @@ abbrev pub linked : ℕ → Pages → ℕ → Result Link Refusal → Type 0
 linked size pages page (Ok link) = (link.page ≡ page) × IsAt size pages link.page link.held
 linked size pages page (Err why) = heap_page size pages page (Err why)
 
--- the place of a page among links, or none where it is none of them
-abbrev pub IsPlaceOf : ℕ → List Link → Option ℕ → Type 0
-IsPlaceOf page links None = (k : ℕ) (d : Link) → k < length links → (slice_index_or links k d).page ≡ page → ⊥
-IsPlaceOf page links (Some i) =
-    (i < length links) × ((d : Link) → (slice_index_or links i d).page ≡ page)
-    × ((k : ℕ) (d : Link) → k < i → (slice_index_or links k d).page ≡ page → ⊥)
-
 -- a page stands in a chain, behind the previous one (0 where it is the first), and holds this
 pub record StandsIn (links : List Link) (page previous : ℕ) (held : HeapPage) : Type 0 where
   pub place : ℕ

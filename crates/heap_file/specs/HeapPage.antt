@@ -61,6 +61,12 @@ pub record IsHeapPage (page : HeapPage) : Type 0 where
   pub lawful : AllByRecursion IsEntry page.entries
   pub fits : Fits page.entries
 
+-- each number fits its field
+pub record IsNarrow (page : HeapPage) : Type 0 where
+  pub next : page.next < 2 ^ 32
+  pub next_number : page.next_number < 2 ^ 64
+  pub last : page.last < 2 ^ 32
+
 -- a page without entries, the last of its chain
 abbrev pub empty_page : HeapPage
 empty_page = record { next = 0; next_number = 0; last = 0; entries = [] }

@@ -1,4 +1,5 @@
 pub mod Chain
 pub mod HeapPage
 pub mod Laws
+pub mod Route
 pub mod Work

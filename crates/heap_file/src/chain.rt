@@ -2,11 +2,11 @@
 
 ghost use Rattle.std.specs.Prelude.{◌≡◌, ◌<◌, ◌++◌, All, IfErr, IfOk, OnOk};
 ghost use Rattle.retro_base.specs.declared.refusal.Refusal.TheVariants.{OutOfMemory};
-ghost use Rattle.heap_file.specs.HeapPage.{IsHeapPage, page_bytes};
+ghost use Rattle.heap_file.specs.HeapPage.{IsHeapPage, IsNarrow, page_bytes};
 ghost use Rattle.pager.specs.Draft.{Reads, drafted};
 ghost use Rattle.pager.specs.Pages.{Pages, written};
 ghost use Rattle.pager.specs.Stop.{OnlyReads};
-ghost use Rattle.heap_file.specs.Chain.{IsPlaceOf, IsWritable, chain, heap_page, met, rows_of, rows_on};
+ghost use Rattle.heap_file.specs.Chain.{IsWritable, chain, heap_page, rows_of, rows_on};
 
 use crate::page::{HeapPage, held, page_of};
 use pager::{Draft, Pager, Stop, broken};
@@ -42,6 +42,7 @@ pub fn load<P: Pager>(
     ensures only_reads { OnlyReads P.tells P.goes P.size P.faults pager.old pager.new result }
     ensures there { OnOk result (page < draft.now.size) }
     ensures lawful { IfOk result IsHeapPage }
+    ensures narrow { IfOk result IsNarrow }
 {
     if page == 0 {
         return Err(Stop::Refused(broken(page)));
@@ -119,35 +120,4 @@ fn push_rows(alloc: Global, link: &Link, rows: &mut Vec<Placed>) -> Result<(), R
         rows.push(Placed { number, page, row })?;
     }
     Ok(())
-}
-
-/// The page before that one in the chain (0 where it is the first), and what the page holds.
-pub fn meet<P: Pager>(
-    alloc: Global,
-    pager: &mut P,
-    draft: &Draft,
-    first: u32,
-    page: u32,
-) -> Result<(u32, HeapPage), Stop<P::Fault>>
-    requires { draft.now.size ≡ P.size pager.old }
-    ensures met { Reads (λ found. found) (P.tells pager.new) draft.now.list
-        (λ pages. met draft.now.size pages first page) result }
-    ensures only_reads { OnlyReads P.tells P.goes P.size P.faults pager.old pager.new result }
-    ensures there { OnOk result (page < draft.now.size) }
-    ensures lawful { IfOk result (λ found. IsHeapPage found.1) }
-{
-    let mut links = chain(alloc, pager, draft, first)?;
-    let Some(place) = place_of(&links, page) else {
-        return Err(Stop::Refused(broken(page)));
-    };
-    let previous = if place == 0 { 0 } else { links[place - 1].page };
-    let link = links.remove(place);
-    Ok((previous, link.held))
-}
-
-// The place of a page in a chain.
-fn place_of(links: &[Link], page: u32) -> Option<usize>
-    ensures { IsPlaceOf page links.now result }
-{
-    links.iter().position(|link| link.page == page)
 }

@@ -11,9 +11,10 @@ ghost use Rattle.std.specs.List.{insert};
 ghost use Rattle.heap_file.specs.Work.{added, appended, changed, fits, IsPlace, got, last_field, leaving_head, lengthened, made, next_of, on_link, page_with, removed, renamed, unlinked, without};
 
 use crate::appending::{append, append_with_head};
-use crate::chain::{Link, Placed, chain, load, meet, rows_of, store};
+use crate::chain::{Link, Placed, chain, load, rows_of, store};
 use crate::page::{Entry, HeapPage, has_room};
-use pager::{Draft, Pager, Stop, broken, free, take};
+pub use crate::removing::{Cursor, remove, remove_at};
+use pager::{Draft, Pager, Stop, broken, take};
 use retro_base::Refusal;
 use std::alloc::{AllocFailed, Global};
 use values::{Duplicate, Row, Seq};
@@ -107,8 +108,8 @@ pub fn get<P: Pager>(
     }
 }
 
-// The place of the entry of that number.
-fn place_of(entries: &[Entry], number: u64) -> Option<usize>
+/// The place of the entry of that number.
+pub(crate) fn place_of(entries: &[Entry], number: u64) -> Option<usize>
     ensures { IsPlace number entries.now result }
 {
     entries.iter().position(|entry| entry.number == number)
@@ -132,49 +133,8 @@ pub fn scan<P: Pager>(
     Ok(rows)
 }
 
-/// Drafts that a row is taken out of its page.
-pub fn remove<P: Pager>(
-    alloc: Global,
-    pager: &mut P,
-    draft: &mut Draft,
-    first: u32,
-    page: u32,
-    number: u64,
-) -> Result<(), Stop<P::Fault>>
-    requires { draft.old.size ≡ P.size pager.old }
-    ensures removed { Drafts (λ u. u) (P.tells pager.new) draft.old.list draft.new.list
-        (λ pages. removed draft.old.size pages first page number) result }
-    ensures only_reads { OnlyDrafts P.tells P.goes P.size P.faults pager.old pager.new result }
-    ensures size { draft.new.size ≡ draft.old.size }
-{
-    let held = load(alloc, pager, draft, page)?;
-    let Some(place) = place_of(held.entries.as_slice(), number) else {
-        return Err(Stop::Refused(broken(page)));
-    };
-    let rest = without(held, place);
-    if leaves_chain(first, page, &rest) {
-        let (previous, _) = meet(alloc, pager, draft, first, page)?;
-        return unlink(alloc, pager, draft, first, previous, page, rest.next);
-    }
-    Ok(store(alloc, draft, page, &rest)?)
-}
-
-// Whether a page that holds this leaves the chain that begins with the first.
-fn leaves_chain(first: u32, page: u32, held: &HeapPage) -> bool
-    ensures { result ≡ (not (page == first) && (length held.now.entries == 0)) }
-{
-    page != first && held.entries.is_empty()
-}
-
-// How the first page names the last one.
-fn last_field(first: u32, last: u32) -> u32
-    ensures { result ≡ last_field first last }
-{
-    if first == last { 0 } else { last }
-}
-
-// A page without the entry at that place.
-fn without(held: HeapPage, place: usize) -> HeapPage
+/// A page without the entry at that place.
+pub(crate) fn without(held: HeapPage, place: usize) -> HeapPage
     requires place { place < length held.entries }
     requires held { IsHeapPage held }
     ensures without { result ≡ without held place }
@@ -194,55 +154,6 @@ fn without(held: HeapPage, place: usize) -> HeapPage
         last,
         entries: Seq::from(entries),
     }
-}
-
-// Drafts that a page is taken out of its chain, and freed: the previous page names the next one.
-fn unlink<P: Pager>(
-    alloc: Global,
-    pager: &mut P,
-    draft: &mut Draft,
-    first: u32,
-    previous: u32,
-    page: u32,
-    next: u32,
-) -> Result<(), Stop<P::Fault>>
-    requires { draft.old.size ≡ P.size pager.old }
-    ensures unlinked { Drafts (λ u. u) (P.tells pager.new) draft.old.list draft.new.list
-        (λ pages. unlinked draft.old.size pages first previous page next) result }
-    ensures only_reads { OnlyDrafts P.tells P.goes P.size P.faults pager.old pager.new result }
-    ensures size { draft.new.size ≡ draft.old.size }
-{
-    let before = load(alloc, pager, draft, previous)?;
-    let linked = HeapPage { next, ..before };
-    store(alloc, draft, previous, &linked)?;
-    rename_last(alloc, pager, draft, first, previous, next)?;
-    free(pager, draft, page)
-}
-
-// Drafts that the first page names another last page, where there is no next one.
-fn rename_last<P: Pager>(
-    alloc: Global,
-    pager: &mut P,
-    draft: &mut Draft,
-    first: u32,
-    last: u32,
-    next: u32,
-) -> Result<(), Stop<P::Fault>>
-    requires { draft.old.size ≡ P.size pager.old }
-    ensures renamed { Drafts (λ u. u) (P.tells pager.new) draft.old.list draft.new.list
-        (λ pages. renamed draft.old.size pages first last next) result }
-    ensures only_reads { OnlyDrafts P.tells P.goes P.size P.faults pager.old pager.new result }
-    ensures size { draft.new.size ≡ draft.old.size }
-{
-    if next != 0 {
-        return Ok(());
-    }
-    let head = load(alloc, pager, draft, first)?;
-    let named = HeapPage {
-        last: last_field(first, last),
-        ..head
-    };
-    Ok(store(alloc, draft, first, &named)?)
 }
 
 /// Drafts that a row changes, under its number, and answers the page where it then stands.

@@ -8,8 +8,7 @@ pub mod drafting;
 mod entries;
 mod laws;
 mod page;
-#[cfg(test)]
-mod tests;
+mod removing;
 
 pub use calls::{add, change, get, make, next_number, remove, scan};
 pub use chain::{Link, Placed};

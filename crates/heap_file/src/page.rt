@@ -3,7 +3,7 @@
 ghost use Rattle.std.specs.Prelude.{◌≡◌, ◌≤◌, ◌++◌, ◌∷◌, [], IfErr, IfOk, IfSome, OnOk, length};
 ghost use Rattle.retro_base.specs.declared.refusal.Refusal.TheVariants.{OutOfMemory};
 ghost use Rattle.heap_file.specs.Work.{fits};
-ghost use Rattle.heap_file.specs.HeapPage.{Fits, IsEntry, IsHeapPage, IsHeld, IsShort, entry_bytes, entry_code, page_bytes};
+ghost use Rattle.heap_file.specs.HeapPage.{Fits, IsEntry, IsHeapPage, IsHeld, IsNarrow, IsShort, entry_bytes, entry_code, page_bytes};
 ghost use Rattle.std.specs.List.{AllByRecursion};
 ghost use Rattle.row_codec.specs.RowCode.{IsRow};
 
@@ -39,6 +39,7 @@ pub struct HeapPage {
 pub fn held(alloc: Global, page: &Page) -> Result<Option<HeapPage>, Refusal>
     ensures held { IfOk result (IsHeld page.now) }
     ensures lawful { IfOk result (λ found. IfSome found IsHeapPage) }
+    ensures narrow { IfOk result (λ found. IfSome found IsNarrow) }
     ensures memory { IfErr result (λ why. why ≡ OutOfMemory) }
 {
     let bytes = page.bytes();

@@ -3,7 +3,7 @@ use Rattle.std.proofs.lemmas.Bool.{eq-eqb, ne_eqb, leb-true}
 use Rattle.std.proofs.lemmas.Result.{err_from_is_err_and}
 use Rattle.pager.specs.Draft.{drafted}
 use Rattle.pager.specs.Pages.{Pages, broken}
-use Rattle.heap_file.specs.Chain.{IsAt, last_page}
+use Rattle.heap_file.specs.Chain.{IsAt}
 use Rattle.heap_file.specs.Work.{appended, fits, leaving_head, lengthened}
 use Rattle.heap_file.proofs.Heads.{at-other, ended, fitted, head_on, long}
 use Rattle.heap_file.proofs.Packing.{entry_is, pushed_fits}

@@ -3,9 +3,9 @@ use Rattle.pager.specs.Draft.{drafted}
 use Rattle.pager.specs.Pages.{Pages, written}
 use Rattle.heap_file.specs.declared.page.HeapPage.{HeapPage}
 use Rattle.heap_file.specs.Chain.{IsAt}
-use Rattle.heap_file.specs.HeapPage.{IsHeapPage, page_bytes}
+use Rattle.heap_file.specs.HeapPage.{IsHeapPage, IsNarrow, page_bytes}
 use Rattle.heap_file.specs.Work.{page_with}
-use Rattle.heap_file.proofs.Heads.{IsNarrow, at-other, at-own, at-taken}
+use Rattle.heap_file.proofs.Heads.{at-other, at-own, at-taken}
 use Rattle.heap_file.proofs.Packing.{one_entry}
 use Rattle.heap_file.proofs.appending.lengthen.Goals.{then-next-first, else-next-first}
 use Rattle.heap_file.proofs.appending.lengthen.Goals as goal

@@ -5,9 +5,9 @@ use Rattle.pager.specs.Draft.{drafted}
 use Rattle.pager.specs.Pages.{Pages, written}
 use Rattle.heap_file.specs.declared.page.Entry.{Entry}
 use Rattle.heap_file.specs.Chain.{IsAt}
-use Rattle.heap_file.specs.HeapPage.{IsShort, page_bytes}
+use Rattle.heap_file.specs.HeapPage.{IsNarrow, IsShort, page_bytes}
 use Rattle.heap_file.specs.Work.{appended, fits, without}
-use Rattle.heap_file.proofs.Heads.{IsNarrow, at-own}
+use Rattle.heap_file.proofs.Heads.{at-own}
 use Rattle.heap_file.proofs.Packing.{entry_is}
 use Rattle.heap_file.proofs.Ways.{allowed_stop, appended_at, changed_moved}
 use Rattle.heap_file.proofs.drafting.change_on.Goals as goal
