@@ -8,5 +8,5 @@ valgrind --tool=callgrind --callgrind-out-file="$out/count" --dump-after='relati
 for part in 1 2; do
     echo "part $part"
     callgrind_annotate --inclusive=yes --threshold=100 "$out/count.$part" |
-        sed -nE 's/^ *([0-9,]+) .*relation_bench::(insert_rows|scan|update_one|update_rows|delete_half|read_catalog)[: ].*/\2 \1/p'
+        sed -nE 's/^ *([0-9,]+) .*relation_bench::(insert_rows|scan|update_one|update_rows|delete_half|delete_latter_half|read_catalog)[: ].*/\2 \1/p'
 done

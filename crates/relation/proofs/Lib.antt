@@ -2,3 +2,4 @@ pub mod Fitting
 pub mod Steps
 pub mod Finding
 pub mod Told
+pub mod Naming

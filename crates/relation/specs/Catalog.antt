@@ -90,12 +90,14 @@ abbrev pub AreColumnsOf : List ColumnRow → Option (List TableColumn) → Type 
 AreColumnsOf rows None = (columns : List TableColumn) → AreColumns rows columns → ⊥
 AreColumnsOf rows (Some columns) = AreColumns rows columns
 
--- a table with its columns; one whose rows do not tell them breaks the page of its own row
+-- a table with the columns that these rows tell; one whose rows do not tell them breaks the page of its own row
+abbrev pub table_with : List ColumnRow → ℕ × TableRow → Result StoredTable Refusal → Type 0
+table_with columns row (Ok table) =
+    (table.name ≡ row.1.name) × (table.first ≡ row.1.first) × AreColumnsOf columns (Some table.columns)
+table_with columns row (Err why) = (why ≡ broken row.0) × AreColumnsOf columns None
+
 abbrev pub table_told : List Told → ℕ × TableRow → Result StoredTable Refusal → Type 0
-table_told rows row (Ok table) =
-    (table.name ≡ row.1.name) × (table.first ≡ row.1.first)
-    × AreColumnsOf (column_rows row.1.name rows) (Some table.columns)
-table_told rows row (Err why) = (why ≡ broken row.0) × AreColumnsOf (column_rows row.1.name rows) None
+table_told rows row = table_with (column_rows row.1.name rows) row
 
 -- the table of that name
 abbrev pub table_named : List ℕ → List StoredTable → Option StoredTable

@@ -1,4 +1,5 @@
 pub mod Catalog
 pub mod CatalogRow
 pub mod Each
+pub mod Named
 pub mod Work

@@ -3,9 +3,11 @@
 ghost use Rattle.std.specs.Prelude.{◌≡◌, None, Some, MatchOption, IfOk};
 ghost use Rattle.pager.specs.Draft.{Reads};
 ghost use Rattle.pager.specs.Stop.{OnlyReads};
-ghost use Rattle.relation.specs.Catalog.{AreColumnsOf, as_column, as_index, as_table, IsPlaceNamed, IsPlaceTold, HaveFewColumns, catalog, catalog_rows, column_rows, index_rows, index_told, schema_of, table_named, table_rows, table_told, told};
+ghost use Rattle.relation.specs.Catalog.{AreColumnsOf, as_index, as_table, IsPlaceNamed, IsPlaceTold, HaveFewColumns, catalog, catalog_rows, index_rows, index_told, schema_of, table_named, table_rows, table_told, table_with, told};
 ghost use Rattle.relation.specs.Each.{each, Tells};
+ghost use Rattle.relation.specs.Named.{ArePlaces, rows_under};
 
+use crate::named::{ColumnRows, Places, columns_by_table, places_of};
 use crate::row::{CatalogRow, ColumnRow, IndexRow, TableRow, row_of};
 use heap_file::{Placed, drafting};
 use pager::{Draft, Pager, Stop, broken};
@@ -139,9 +141,10 @@ fn tables_told(alloc: Global, rows: &[Told]) -> Result<Vec<StoredTable>, Refusal
     ensures { Tells (λ tables. tables.items) (each (table_told rows.now) (table_rows rows.now)) result }
 {
     let mut tables = Vec::new(alloc);
+    let columns = columns_by_table(alloc, rows)?;
     for told in rows {
         if let Some(row) = table_row(told) {
-            tables.push(table_told(alloc, rows, told.page, row)?)?;
+            tables.push(table_told(alloc, &columns, told.page, row)?)?;
         }
     }
     Ok(tables)
@@ -162,14 +165,13 @@ fn table_row(told: &Told) -> Option<&TableRow>
 // The table of a row that stands on that page.
 fn table_told(
     alloc: Global,
-    rows: &[Told],
+    columns: &ColumnRows,
     page: u32,
     row: &TableRow,
 ) -> Result<StoredTable, Refusal>
-    ensures { Tells (λ table. table) (table_told rows.now (page, row.now)) result }
+    ensures { Tells (λ table. table) (table_with (rows_under columns.now row.now.name) (page, row.now)) result }
 {
-    let told = column_rows(alloc, rows, &row.name)?;
-    let Some(columns) = columns_of(alloc, &told)? else {
+    let Some(columns) = columns_under(alloc, columns, &row.name)? else {
         return Err(broken(page));
     };
     Ok(StoredTable {
@@ -179,29 +181,17 @@ fn table_told(
     })
 }
 
-// The rows of the columns of that table.
-fn column_rows(alloc: Global, rows: &[Told], table: &Name) -> Result<Vec<ColumnRow>, AllocError>
-    ensures { IfOk result (λ told. told.items ≡ column_rows table.now rows.now) }
+// The columns of that table. None where their rows tell no table's columns.
+fn columns_under(
+    alloc: Global,
+    columns: &ColumnRows,
+    table: &Name,
+) -> Result<Option<Seq<Column>>, AllocError>
+    ensures { IfOk result (AreColumnsOf (rows_under columns.now table.now)) }
 {
-    let mut columns = Vec::new(alloc);
-    for told in rows {
-        if let Some(row) = column_row(told, table) {
-            columns.push(row.copy(alloc)?)?;
-        }
-    }
-    Ok(columns)
-}
-
-// The row of a column of that table.
-fn column_row<'a>(told: &'a Told, table: &Name) -> Option<&'a ColumnRow>
-    ensures { MatchOption result (as_column table.now told.now.row ≡ None)
-        (λ row. as_column table.now told.now.row ≡ Some row.now) }
-{
-    match &told.row {
-        CatalogRow::Column(row) if row.table == *table => Some(row),
-        CatalogRow::Column(_) => None,
-        CatalogRow::Table(_) => None,
-        CatalogRow::Index(_) => None,
+    match columns.get(table) {
+        Some(rows) => columns_of(alloc, rows.as_slice()),
+        None => Ok(None),
     }
 }
 
@@ -238,9 +228,10 @@ fn indexes_told(
     ensures { Tells (λ indexes. indexes.items) (each (index_told tables.now) (index_rows rows.now)) result }
 {
     let mut indexes = Vec::new(alloc);
+    let places = places_of(alloc, tables)?;
     for told in rows {
         if let Some(row) = index_row(told) {
-            indexes.push(index_told(alloc, tables, told.page, row)?)?;
+            indexes.push(index_told(alloc, tables, &places, told.page, row)?)?;
         }
     }
     Ok(indexes)
@@ -262,15 +253,17 @@ fn index_row(told: &Told) -> Option<&IndexRow>
 fn index_told(
     alloc: Global,
     tables: &[StoredTable],
+    places: &Places,
     page: u32,
     row: &IndexRow,
 ) -> Result<IndexSchema, Refusal>
+    requires { ArePlaces tables.now places.now }
     ensures { Tells (λ index. index) (index_told tables.now (page, row.now)) result }
 {
-    let Some(table) = find(tables, &row.table) else {
+    let Some(table) = places.get(&row.table) else {
         return Err(broken(page));
     };
-    let Some(column) = tables[table].columns.as_slice().get(row.place as usize) else {
+    let Some(column) = tables[*table].columns.as_slice().get(row.place as usize) else {
         return Err(broken(page));
     };
     Ok(IndexSchema {

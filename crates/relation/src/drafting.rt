@@ -12,7 +12,8 @@ ghost use Rattle.relation.specs.Work.{AllFit, all_added, all_changed, all_remove
 
 use crate::catalog::{CATALOG, StoredTable};
 use crate::row::{column_values, index_values, table_values};
-use heap_file::{Placed, drafting};
+use heap_file::Placed;
+use heap_file::drafting::{self, Cursor};
 use pager::{Draft, Pager, Stop, broken};
 use retro_base::Refusal;
 use sql_tree::{Column, Name};
@@ -190,8 +191,20 @@ pub fn delete<P: Pager>(
     ensures only_drafts { OnlyDrafts P.tells P.goes P.size P.faults pager.old pager.new result }
     ensures size { draft.new.size ≡ draft.old.size }
 {
+    let mut cursor = Cursor {
+        page: None,
+        route: None,
+    };
     for placed in rows {
-        drafting::remove(alloc, pager, draft, first, placed.page, placed.number)?;
+        cursor = drafting::remove_at(
+            alloc,
+            pager,
+            draft,
+            first,
+            cursor,
+            placed.page,
+            placed.number,
+        )?;
     }
     Ok(())
 }

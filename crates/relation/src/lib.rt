@@ -4,9 +4,8 @@
 mod calls;
 mod catalog;
 mod drafting;
+mod named;
 mod row;
-#[cfg(test)]
-mod tests;
 
 pub use calls::{create_index, create_table, delete, insert, next_number, open, rows, update};
 pub use catalog::{Catalog, StoredTable};

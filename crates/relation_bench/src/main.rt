@@ -22,6 +22,7 @@ struct Told {
     inserted: usize,
     changed: usize,
     left: usize,
+    former: usize,
     tables: usize,
 }
 
@@ -142,6 +143,16 @@ fn delete_half(
     delete(alloc, pager, table, &rows)
 }
 
+#[inline(never)]
+fn delete_latter_half(
+    alloc: Global,
+    pager: &mut MemPager,
+    table: &StoredTable,
+    rows: &[Placed],
+) -> Result<(), Stop<Failed>> {
+    delete(alloc, pager, table, &rows[rows.len() / 2..])
+}
+
 // Makes a table for each pair of letters, until there are so many, and counts those of the catalog.
 #[inline(never)]
 fn catalog_of(alloc: Global, tables: usize) -> Result<usize, Stop<Failed>> {
@@ -173,10 +184,13 @@ fn told_of(alloc: Global, count: u32, tables: usize) -> Result<Told, Stop<Failed
     let changed = update_rows(alloc, &mut pager, table, &all)?;
     let inserted = all.len();
     delete_half(alloc, &mut pager, table, all)?;
+    let left = scan(alloc, &mut pager, table)?;
+    delete_latter_half(alloc, &mut pager, table, &left)?;
     Ok(Told {
         inserted,
         changed,
-        left: scan(alloc, &mut pager, table)?.len(),
+        left: left.len(),
+        former: scan(alloc, &mut pager, table)?.len(),
         tables: catalog_of(alloc, tables)?,
     })
 }
@@ -190,10 +204,11 @@ fn main(rt: HostRuntime) -> ExitCode {
             inserted,
             changed,
             left,
+            former,
             tables,
         } = told;
         let shown = println!(rt;
-            "{inserted} rows inserted, {changed} changed, {left} left; {tables} tables"
+            "{inserted} rows inserted, {changed} changed, {left} left, then {former}; {tables} tables"
         );
         if shown.is_err() {
             return ExitCode::FAILURE;

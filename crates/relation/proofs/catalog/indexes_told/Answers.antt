@@ -7,7 +7,7 @@ use Rattle.relation.proofs.catalog.indexes_told.Goals.{in-Some+in_ok-index_told+
 
 pub returns-in_err-index_told : goal.returns-in_err-index_told
 returns-in_err-index_told c =
-    let p = err_from_is_err_and c.from_residual.result c.from_residual.ensures.1 in
+    let p = err_from_is_err_and c.from_residual-in_err-index_told.result c.from_residual-in_err-index_told.ensures.1 in
     rw (p.1, p.2)
     (handed_on (λ h. some-ended (λ (told : Told). as_index told.page told.row) (index_told c.args.tables.now) c.args.rows.now c.loop-told.told-index c.told-item.result (c.told-item.result.page, c.in-Some.row.now) c.loop-told.indexes.items _ c.loop-told-test.true c.told-item.is c.in-Some.ensures c.loop-told.invariant h)
     c.in_err-index_told.ensures)

@@ -1,0 +1,122 @@
+-- What is found by name.
+use Rattle.std.proofs.Common.{◌≡◌, ◌∙◌, ◌<◌, ◌+◌, ◌++◌, ℕ, Bool, true, false, List, [], ◌∷◌, length, get_or, take, Option, Some, None, Ordering, Result, cond, refl, sym, ap, subst, arith, inl, inr, eqb-true, eq-eqb}
+use Rattle.std.specs.Prelude.{is_some}
+use Rattle.std.specs.BTreeMap.{BTreeMap, get, is_at}
+use Rattle.std.specs.Cmp.Lexicographic.{pointwise_decides, slice_cmp}
+use Rattle.std.specs.List.{cons_option}
+use Rattle.std.specs.Ordering.{is_eq, nat_cmp}
+use Rattle.std.proofs.lemmas.Bool.{cases_lt}
+use Rattle.std.proofs.lemmas.Bool.Decides.{nat_tests}
+use Rattle.std.proofs.lemmas.Cmp.{same_from_slice_cmp}
+use Rattle.std.proofs.lemmas.List.{append-nil, get_or_default}
+use Rattle.retro_base.specs.declared.refusal.Refusal.{Refusal}
+use Rattle.relation.specs.declared.catalog.StoredTable.{StoredTable}
+use Rattle.relation.specs.declared.catalog.Told.{Told}
+use Rattle.relation.specs.declared.row.CatalogRow.TheVariants.{Column}
+use Rattle.relation.specs.declared.row.ColumnRow.{ColumnRow}
+use Rattle.relation.specs.declared.row.TableRow.{TableRow}
+use Rattle.relation.specs.Catalog.{as_column, column_rows, same_name, table_told, table_with}
+use Rattle.relation.specs.Named.{place_under, rows_under}
+use Rattle.relation.proofs.Steps.{filter_map-next, filter_map-none}
+
+-- names that compare alike
+pub names_alike : (a b : List ℕ) (o : Ordering) → o ≡ slice_cmp nat_cmp a b → is_eq o ≡ same_name a b
+names_alike = same_from_slice_cmp nat_cmp is_eq same_name refl (λ _ _. refl) (λ _ _. refl) (λ x y xs ys o h. grind (arith, nat_tests))
+
+pub at_name : (a b : List ℕ) → is_at (slice_cmp nat_cmp a) b ≡ same_name a b
+at_name a b = names_alike a b (slice_cmp nat_cmp a b) refl
+
+pub name_is : (a b : List ℕ) → same_name a b ≡ true → a ≡ b
+name_is a b h = (pointwise_decides (λ (x y : ℕ). (eqb-true x y, eq-eqb x y)) a b).0 h
+
+-- the rows of each table, where one is added to those of its table
+pub row_added : (old mid new : BTreeMap (List ℕ) (List ColumnRow)) (key named table : List ℕ) (row : ColumnRow) (rows : List ColumnRow)
+    → ((q : List ℕ) → get (slice_cmp nat_cmp) mid q ≡ cond (is_at (slice_cmp nat_cmp key) q) None (get (slice_cmp nat_cmp) old q))
+    → ((q : List ℕ) → get (slice_cmp nat_cmp) new q ≡ cond (is_at (slice_cmp nat_cmp named) q) (Some rows) (get (slice_cmp nat_cmp) mid q))
+    → named ≡ key → rows ≡ rows_under old key ++ row ∷ [] → rows_under new table ≡ rows_under old table ++ cond (same_name key table) (row ∷ []) []
+row_added old mid new key named table row rows removed inserted one are = go (same_name key table) refl
+  where
+    go : (b : Bool) → same_name key table ≡ b → rows_under new table ≡ rows_under old table ++ cond b (row ∷ []) []
+    go true e =
+        let same : key ≡ table = name_is key table e in
+        rw (inserted table, one, at_name key table, e) (are ∙ ap (λ (name : List ℕ). rows_under old name ++ row ∷ []) same)
+    go false e = rw (inserted table, removed table, one, at_name key table, e, append-nil) refl
+
+-- one row of the catalog more
+pub columns-more : (columns after : BTreeMap (List ℕ) (List ColumnRow)) (rows : List Told) (i : ℕ) (told : Told) (row : ColumnRow) → i < length rows → told ≡ get_or rows i told → told.row ≡ Column row
+    → ((table : List ℕ) → rows_under columns table ≡ column_rows table (take i rows))
+    → ((table : List ℕ) → rows_under after table ≡ rows_under columns table ++ cond (same_name row.table table) (row ∷ []) [])
+    → (table : List ℕ) → rows_under after table ≡ column_rows table (take (i + 1) rows)
+columns-more columns after rows i told row lt is column so_far added table =
+    let next : column_rows table (take (i + 1) rows) ≡ column_rows table (take i rows) ++ cons_option (as_column table told.row) [] = filter_map-next (λ (told : Told). as_column table told.row) rows i told lt is in
+    let one : cons_option (as_column table told.row) [] ≡ cond (same_name row.table table) (row ∷ []) [] = rw column (chosen (same_name row.table table)) in
+    added table ∙ ap (λ (l : List ColumnRow). l ++ cond (same_name row.table table) (row ∷ []) []) (so_far table) ∙ ap (λ (l : List ColumnRow). column_rows table (take i rows) ++ l) (sym one) ∙ sym next
+  where
+    chosen : (b : Bool) → cons_option (cond b (Some row) None) [] ≡ cond b (row ∷ []) []
+    chosen true = refl
+    chosen false = refl
+
+pub columns-other : (columns : BTreeMap (List ℕ) (List ColumnRow)) (rows : List Told) (i : ℕ) (told : Told) → i < length rows → told ≡ get_or rows i told → ((table : List ℕ) → as_column table told.row ≡ None)
+    → ((table : List ℕ) → rows_under columns table ≡ column_rows table (take i rows))
+    → (table : List ℕ) → rows_under columns table ≡ column_rows table (take (i + 1) rows)
+columns-other columns rows i told lt is none so_far table =
+    so_far table ∙ sym (filter_map-none (λ (told : Told). as_column table told.row) rows i told lt is (none table))
+
+-- the table of a row, by the rows of its columns
+pub told-under : (rows : List Told) (columns : List ColumnRow) (row : ℕ × TableRow) (r : Result StoredTable Refusal) → columns ≡ column_rows row.1.name rows → table_with columns row r → table_told rows row r
+told-under rows columns row r same h = subst (λ (cs : List ColumnRow). table_with cs row r) same h
+
+-- the place of the first table of a name, among so many
+abbrev pub IsPlaceBelow : ℕ → List ℕ → List StoredTable → Option ℕ → Type 0
+IsPlaceBelow count name tables None = (k : ℕ) (d : StoredTable) → k < count → same_name (get_or tables k d).name name ≡ false
+IsPlaceBelow count name tables (Some i) =
+    (i < count) × ((d : StoredTable) → same_name (get_or tables i d).name name ≡ true)
+    × ((k : ℕ) (d : StoredTable) → k < i → same_name (get_or tables k d).name name ≡ false)
+
+-- one table more, of another name
+further : (name : List ℕ) (tables : List StoredTable) (count : ℕ) (table : StoredTable) (o : Option ℕ) → count < length tables → table ≡ get_or tables count table → same_name table.name name ≡ false → IsPlaceBelow count name tables o → IsPlaceBelow (count + 1) name tables o
+further name tables count table None lt is apart h = λ k d below.
+    elim (cases_lt k count) [
+      | inl less ↦ h k d less
+      | inr above ↦
+          let same : k ≡ count = omega arith in
+          rw (same, get_or_default tables count d table lt, ← is) apart
+    ]
+further name tables count table (Some i) lt is apart h = (omega (arith, h.0), h.1, h.2)
+
+-- one table more, of a name that was there
+pub place-there : (places : BTreeMap (List ℕ) ℕ) (tables : List StoredTable) (count : ℕ) (table : StoredTable) → count < length tables → table ≡ get_or tables count table → is_some (place_under places table.name) ≡ true
+    → ((name : List ℕ) → IsPlaceBelow count name tables (place_under places name)) → (name : List ℕ) → IsPlaceBelow (count + 1) name tables (place_under places name)
+place-there places tables count table lt is some so_far name = go (same_name table.name name) refl (place_under places name) refl
+  where
+    clash : is_some {T = ℕ} None ≡ true → ⊥
+    clash e = absurd cc
+
+    go : (b : Bool) → same_name table.name name ≡ b → (o : Option ℕ) → place_under places name ≡ o → IsPlaceBelow (count + 1) name tables o
+    go false e o f = further name tables count table o lt is e (subst (IsPlaceBelow count name tables) f (so_far name))
+    go true e None f =
+        let same : table.name ≡ name = name_is table.name name e in
+        absurd (clash (sym (ap (λ (p : Option ℕ). is_some p) f) ∙ ap (λ (n : List ℕ). is_some (place_under places n)) (sym same) ∙ some))
+    go true e (Some i) f =
+        let h = subst (IsPlaceBelow count name tables) f (so_far name) in
+        (omega (arith, h.0), h.1, h.2)
+
+-- one table more, of a new name
+pub place-new : (places after : BTreeMap (List ℕ) ℕ) (tables : List StoredTable) (count : ℕ) (table : StoredTable) (named : List ℕ) → named ≡ table.name → count < length tables → table ≡ get_or tables count table → is_some (place_under places table.name) ≡ false
+    → ((q : List ℕ) → get (slice_cmp nat_cmp) after q ≡ cond (is_at (slice_cmp nat_cmp named) q) (Some count) (get (slice_cmp nat_cmp) places q))
+    → ((name : List ℕ) → IsPlaceBelow count name tables (place_under places name)) → (name : List ℕ) → IsPlaceBelow (count + 1) name tables (place_under after name)
+place-new places after tables count table named one lt is none inserted so_far name = go (same_name table.name name) refl
+  where
+    clash : (i : ℕ) → is_some (Some i) ≡ false → ⊥
+    clash i e = absurd cc
+
+    here : (o : Option ℕ) → place_under places name ≡ o → table.name ≡ name → same_name table.name name ≡ true → IsPlaceBelow (count + 1) name tables (Some count)
+    here None f same e =
+        let h = subst (IsPlaceBelow count name tables) f (so_far name) in
+        (omega arith, λ d. rw (get_or_default tables count d table lt, ← is) e, λ k d below. h k d below)
+    here (Some i) f same e =
+        absurd (clash i (sym (ap (λ (p : Option ℕ). is_some p) f) ∙ ap (λ (n : List ℕ). is_some (place_under places n)) (sym same) ∙ none))
+
+    go : (b : Bool) → same_name table.name name ≡ b → IsPlaceBelow (count + 1) name tables (place_under after name)
+    go true e = rw (inserted name, one, at_name table.name name, e) (here (place_under places name) refl (name_is table.name name e) e)
+    go false e = rw (inserted name, one, at_name table.name name, e) (further name tables count table (place_under places name) lt is e (so_far name))
