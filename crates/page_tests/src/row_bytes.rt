@@ -4,8 +4,8 @@ ghost use Rattle.std.specs.Prelude.{◌≡◌, ◌≤◌, IfOk, length};
 ghost use Rattle.std.specs.List.{AllByRecursion};
 ghost use Rattle.values.specs.Text.{IsPrintable};
 
-use super::*;
 use retro_base::Refusal;
+use row_codec::{decode, encode};
 use std::alloc::{AllocError, Global};
 use std::test::Fail;
 use values::{Row, Seq, Text, Value};

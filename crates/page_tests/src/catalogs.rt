@@ -1,0 +1,208 @@
+//! Catalogs: byte for byte by hand, full, and damaged.
+
+ghost use Rattle.std.specs.Prelude.{IfOk};
+ghost use Rattle.heap_file.specs.HeapPage.{IsShort};
+
+use crate::support::{
+    begins, edits_are, indexes_in, make_index, make_table, one_table, row_of, tables_in, text,
+    zero_pages,
+};
+use pager::{MemPager, Stop, broken};
+use retro_base::{Failed, Page, Refusal};
+use std::alloc::{AllocError, Global};
+use std::test::Fail;
+use values::{Kind, Row, Value};
+
+// The first page of the catalog after t(a INT) was made: the header, (1,'t',2) under number 0, (2,'t',0,'a',1) under number 1.
+const CATALOG_OF_T: [u8; 98] = [
+    1, 0, 0, 2, 0, 0, 0, 0, 0, 0, 0, 0, 0, 0, 0, 2, 0, 0, 0, 0, //
+    0, 30, 0, 0, 0, 0, 0, 0, 0, 0, 3, //
+    1, 0, 0, 0, 0, 0, 0, 0, 1, 2, 1, b't', 1, 0, 0, 0, 0, 0, 0, 0, 2, //
+    0, 42, 0, 0, 0, 0, 0, 0, 0, 1, 5, //
+    1, 0, 0, 0, 0, 0, 0, 0, 2, 2, 1, b't', 1, 0, 0, 0, 0, 0, 0, 0, 0, //
+    2, 1, b'a', 1, 0, 0, 0, 0, 0, 0, 0, 1, 0, 0,
+];
+
+#[test]
+fn a_table_in_bytes(rt: HostRuntime) -> Result<(), Fail> {
+    let alloc = rt.alloc();
+    let pager = one_table(alloc)?;
+    let edited = edits_are(alloc, &pager, 0, &[0, 1, 2]);
+    let pages = [
+        begins(&pager, 0, &[0, 0, 0, 1, 0, 0, 0, 0, 0, 0, 0, 0]),
+        begins(&pager, 1, &CATALOG_OF_T),
+        begins(&pager, 2, &[1, 0, 0, 0]),
+    ];
+    assert!(rt; (edited, pages) == (Ok(true), [true; 3]));
+    Ok(())
+}
+
+// What an index i over t(a) adds to it: the count of rows and the next row number are 3, and (3,'i','t',0,0,0) stands under
+// number 2.
+const ROW_OF_I: [u8; 53] = [
+    0, 51, 0, 0, 0, 0, 0, 0, 0, 2, 6, //
+    1, 0, 0, 0, 0, 0, 0, 0, 3, 2, 1, b'i', 2, 1, b't', //
+    1, 0, 0, 0, 0, 0, 0, 0, 0, 1, 0, 0, 0, 0, 0, 0, 0, 0, 1, 0, 0, 0, 0, 0, 0, 0, 0,
+];
+
+// The first page of the catalog of t(a INT) with the index i over a.
+fn catalog_with_i(alloc: Global) -> Result<Vec<u8>, AllocError> {
+    let mut page = CATALOG_OF_T[..96].to_vec(alloc)?;
+    page[3] = 3;
+    page[15] = 3;
+    for byte in ROW_OF_I {
+        page.push(byte)?;
+    }
+    Ok(page)
+}
+
+#[test]
+fn an_index_in_bytes(rt: HostRuntime) -> Result<(), Fail> {
+    let alloc = rt.alloc();
+    let mut pager = one_table(alloc)?;
+    let made = make_index(alloc, &mut pager, b"i", b"t", 0);
+    let edited = edits_are(alloc, &pager, 3, &[1]);
+    let page = begins(&pager, 1, &catalog_with_i(alloc)?);
+    let read = (tables_in(alloc, &mut pager), indexes_in(alloc, &mut pager));
+    assert!(rt; (made, edited, page) == (Ok(()), Ok(true), true));
+    assert!(rt; read == (Ok(1), Ok(1)));
+    Ok(())
+}
+
+// A store of 16 pages with thirteen tables of one column, named a to m: their rows fill the first page of the catalog, and
+// page 15 alone is free.
+fn thirteen_tables(alloc: Global) -> Result<MemPager, Stop<Failed>> {
+    let mut pager = zero_pages(alloc)?;
+    for letter in b'a'..=b'm' {
+        make_table(alloc, &mut pager, &[letter], &[Kind::Int])?;
+    }
+    Ok(pager)
+}
+
+// The same with eighteen indexes over the table m, named A to R: their rows fill page 15.
+fn eighteen_indexes(alloc: Global) -> Result<MemPager, Stop<Failed>> {
+    let mut pager = thirteen_tables(alloc)?;
+    for letter in b'A'..=b'R' {
+        make_index(alloc, &mut pager, &[letter], b"m", 0)?;
+    }
+    Ok(pager)
+}
+
+#[test]
+fn the_nineteenth_index_needs_a_page(rt: HostRuntime) -> Result<(), Fail> {
+    let alloc = rt.alloc();
+    let mut pager = eighteen_indexes(alloc)?;
+    let indexes = indexes_in(alloc, &mut pager);
+    let edits = pager.edits().len();
+    let made = make_index(alloc, &mut pager, b"S", b"m", 0);
+    let full = Refusal::PagesFull { pages: 16 };
+    assert!(rt; (indexes, made) == (Ok(18), Err(Stop::Refused(full))));
+    assert!(rt; pager.edits().len() == edits);
+    Ok(())
+}
+
+#[test]
+fn the_fourteenth_table_needs_two_pages(rt: HostRuntime) -> Result<(), Fail> {
+    let alloc = rt.alloc();
+    let mut pager = thirteen_tables(alloc)?;
+    let tables = tables_in(alloc, &mut pager);
+    let edits = pager.edits().len();
+    let made = make_table(alloc, &mut pager, b"n", &[Kind::Int]);
+    let full = Refusal::PagesFull { pages: 16 };
+    assert!(rt; (tables, made) == (Ok(13), Err(Stop::Refused(full))));
+    assert!(rt; pager.edits().len() == edits);
+    Ok(())
+}
+
+// A store of 16 pages, all of them zero but page 1, which names itself.
+fn self_named_catalog(alloc: Global) -> Result<MemPager, AllocError> {
+    let mut pages = vec![in alloc; Page::zero(); 16]?;
+    pages[1].put_u32(4, 1);
+    Ok(MemPager::new(alloc, pages, Vec::new(alloc)))
+}
+
+#[test]
+fn a_catalog_that_names_itself_is_no_chain(rt: HostRuntime) -> Result<(), Fail> {
+    let alloc = rt.alloc();
+    let mut pager = self_named_catalog(alloc)?;
+    let tables = tables_in(alloc, &mut pager);
+    assert!(rt; tables == Err(Stop::Refused(broken(1))));
+    assert!(rt; pager.edits().is_empty());
+    Ok(())
+}
+
+// Rows of a catalog behind those of t(a INT). A cell without a text is its number.
+const DAMAGED: [&[&[(i64, &[u8])]]; 8] = [
+    // Too few values, a kind of column that there is not, and a kind of row that there is not.
+    &[&[(1, b""), (0, b"u")]],
+    &[&[(2, b""), (0, b"t"), (1, b""), (0, b"b"), (3, b"")]],
+    &[&[(4, b""), (0, b"u"), (2, b"")]],
+    // A table without columns, and one whose first column is not there.
+    &[&[(1, b""), (0, b"u"), (9, b"")]],
+    &[
+        &[(1, b""), (0, b"u"), (9, b"")],
+        &[(2, b""), (0, b"u"), (1, b""), (0, b"a"), (1, b"")],
+    ],
+    // An index of a form that there is not, one over a table that is not there, and one over a column that is not there.
+    &[&[(3, b""), (0, b"i"), (0, b"t"), (0, b""), (3, b""), (0, b"")]],
+    &[&[(3, b""), (0, b"i"), (0, b"u"), (0, b""), (0, b""), (0, b"")]],
+    &[&[(3, b""), (0, b"i"), (0, b"t"), (1, b""), (0, b""), (0, b"")]],
+];
+
+// A row of these cells.
+fn row_of_cells(alloc: Global, cells: &[(i64, &[u8])]) -> Result<Row, Refusal>
+    ensures { IfOk result IsShort }
+{
+    let mut values = Vec::new(alloc);
+    for (number, text) in cells {
+        values.push(cell(alloc, *number, text)?)?;
+    }
+    row_of(alloc, values)
+}
+
+fn cell(alloc: Global, number: i64, letters: &[u8]) -> Result<Value, Refusal> {
+    if letters.is_empty() {
+        return Ok(Value::Int(number));
+    }
+    text(alloc, letters)
+}
+
+// Adds a row of these cells to the catalog.
+fn add_to_catalog(
+    alloc: Global,
+    pager: &mut MemPager,
+    cells: &[(i64, &[u8])],
+) -> Result<(), Stop<Failed>> {
+    let row = row_of_cells(alloc, cells)?;
+    heap_file::add(alloc, pager, 1, &row)?;
+    Ok(())
+}
+
+// A store with t(a INT) and these rows behind those of its catalog.
+fn damaged(alloc: Global, rows: &[&[(i64, &[u8])]]) -> Result<MemPager, Stop<Failed>> {
+    let mut pager = one_table(alloc)?;
+    for cells in rows {
+        add_to_catalog(alloc, &mut pager, cells)?;
+    }
+    Ok(pager)
+}
+
+// A store with t(a INT) without the row of its column.
+fn without_column(alloc: Global) -> Result<MemPager, Stop<Failed>> {
+    let mut pager = one_table(alloc)?;
+    heap_file::remove(alloc, &mut pager, 1, 1, 1)?;
+    Ok(pager)
+}
+
+#[test]
+fn a_damaged_catalog_is_told(rt: HostRuntime) -> Result<(), Fail> {
+    let alloc = rt.alloc();
+    let told = Err(Stop::Refused(broken(1)));
+    for rows in DAMAGED {
+        let mut pager = damaged(alloc, rows)?;
+        assert!(rt; tables_in(alloc, &mut pager) == told);
+    }
+    let mut pager = without_column(alloc)?;
+    assert!(rt; tables_in(alloc, &mut pager) == told);
+    Ok(())
+}
