@@ -4,8 +4,6 @@
 mod call;
 mod pairs;
 mod query;
-#[cfg(test)]
-mod tests;
 mod word;
 
 pub use call::{Call, Combination, call_of};

@@ -4,8 +4,6 @@
 mod keyword;
 mod lexer;
 mod sign;
-#[cfg(test)]
-mod tests;
 mod token;
 
 pub use lexer::{lex, one_reading};

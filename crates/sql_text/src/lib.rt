@@ -2,10 +2,6 @@
 #![tactic(auto)]
 
 mod reading;
-#[cfg(test)]
-mod showing;
-#[cfg(test)]
-mod tests;
 
 pub use reading::{broken_lines_say_nothing, lines_break_at_one_place, parse, parse_lexed};
 pub use sql_parts::{AsOf, Mechanism, Parsed, RqlCall};

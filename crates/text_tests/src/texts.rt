@@ -1,8 +1,8 @@
 //! What lines say, and where they break.
 
 use crate::showing::show;
-use crate::{Parsed, parse};
 use retro_base::Refusal;
+use sql_text::{Parsed, parse};
 use std::alloc::{AllocError, Global};
 use std::process::Abort;
 use std::test::Fail;

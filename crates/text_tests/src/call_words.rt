@@ -1,8 +1,8 @@
 //! Calls read, with answers worked out by hand.
 
-use crate::{Call, Combination, call_of};
 use retro_base::Refusal;
 use rql::{Function, Pair};
+use rql_arguments::{Call, Combination, call_of};
 use sql_text::{Parsed, RqlCall, parse};
 use std::alloc::{AllocError, Global};
 use std::test::Fail;

@@ -1,6 +1,6 @@
 //! Lines and their tokens.
 
-use crate::{Ending, Keyword, Sign, Token, lex};
+use sql_lexer::{Ending, Keyword, Sign, Token, lex};
 use std::alloc::{AllocError, Global};
 use std::test::Fail;
 

@@ -1,6 +1,6 @@
 //! Lines in short, for tests: expressions and conditions as their steps.
 
-use crate::{Mechanism, Parsed, RqlCall};
+use sql_text::{Mechanism, Parsed, RqlCall};
 use sql_tree::{
     Aggregate, ColumnName, Comparison, Condition, ConditionStep, Direction, Expression,
     ExpressionStep, Insert, Name, Operand, Operator, Output, OutputValue, Select, SelectList,
