@@ -8,8 +8,6 @@ mod names;
 mod outputs;
 mod rows;
 mod selects;
-#[cfg(test)]
-mod tests;
 
 pub use checking::{check, check_beside, check_select, select_scope};
 pub use laws::{conditions_are_decided, expressions_keep_their_kind};

@@ -12,8 +12,6 @@ mod output_rows;
 mod outputs;
 mod row_key;
 mod selecting;
-#[cfg(test)]
-mod tests;
 
 pub use answer::Answer;
 pub use grouping::{KeyedRow, groups};

@@ -9,8 +9,6 @@ mod schema;
 mod scope;
 mod select;
 mod statement;
-#[cfg(test)]
-mod tests;
 
 pub use condition::{Comparison, Condition, ConditionStep, Operand};
 pub use expression::{Expression, ExpressionStep, Operator};

@@ -3,8 +3,11 @@
 ghost use Rattle.sql_tree.specs.Name.{IsName, begins_word, continues_word};
 ghost use Rattle.values.specs.Text.{IsText};
 
-use super::*;
 use retro_base::Refusal;
+use sql_tree::{
+    Column, ColumnName, Comparison, Condition, ConditionStep, Expression, ExpressionStep, Name,
+    Operand, Operator, Scope, TableSchema,
+};
 use std::alloc::{AllocError, Global};
 use std::process::Abort;
 use std::test::Fail;

@@ -1,7 +1,8 @@
 //! Selects, and the columns of their answers.
 
-use super::building::{list, refuses, table};
-use crate::answer_columns;
+use super::statements::{refuses, table};
+use crate::building::{beside, list, write};
+use sql_check::answer_columns;
 use sql_tree::{Scope, SelectList, TableSchema};
 use std::alloc::Global;
 use std::process::Abort;
@@ -111,20 +112,11 @@ fn shown(rt: &impl Abort, alloc: Global, scope: &Scope<'_>, list: &SelectList) -
     out
 }
 
-fn write(rt: &impl Abort, out: &mut Vec<u8>, bytes: &[u8]) {
-    out.extend_from_slice(bytes).expect(rt, "memory");
-}
-
 fn kind_text(kind: Kind) -> &'static [u8] {
     match kind {
         Kind::Int => b" INT",
         Kind::Text => b" TEXT",
     }
-}
-
-fn beside<'a>(rt: &impl Abort, first: &'a TableSchema, second: &'a TableSchema) -> Scope<'a> {
-    assert!(rt; first.columns.len() <= 16 && second.columns.len() <= 16);
-    Scope::of_two(first, second)
 }
 
 #[test]

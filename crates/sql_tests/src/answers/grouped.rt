@@ -1,6 +1,6 @@
 //! Aggregates and groups.
 
-use super::support::{Pair, answers};
+use super::rows::{Pair, answers};
 
 const GREATEST: i64 = 9_223_372_036_854_775_807;
 

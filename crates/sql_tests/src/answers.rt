@@ -2,4 +2,4 @@
 
 mod grouped;
 mod plain;
-mod support;
+mod rows;

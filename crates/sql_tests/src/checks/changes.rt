@@ -1,6 +1,6 @@
 //! Statements that change tables.
 
-use super::building::refuses;
+use super::statements::refuses;
 
 const CREATES: &str = "table v a INT, A INT => 0
     table t a INT => 21

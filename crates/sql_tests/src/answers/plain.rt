@@ -1,6 +1,6 @@
 //! Rows without groups: what is kept, joined, different, in order.
 
-use super::support::{Pair, answers, join_answers};
+use super::rows::{Pair, answers, join_answers};
 
 const GREATEST: i64 = 9_223_372_036_854_775_807;
 
