@@ -9,8 +9,6 @@ mod line;
 mod name;
 mod reading;
 mod structure;
-#[cfg(test)]
-mod tests;
 mod text;
 
 pub use laws::{front_law, script_law};

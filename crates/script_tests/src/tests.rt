@@ -1,7 +1,7 @@
-//! Scripts read, with answers worked out by hand.
+//! Good scripts, the first bad line of others, and scripts at the limits.
 
-use crate::{End, Item, Phase, Reading, Session, Single, Transaction, read};
 use retro_base::Refusal;
+use script::{End, Item, Phase, Reading, Session, Single, Transaction, read};
 use sql_tree::Statement;
 use std::alloc::{AllocError, Global};
 use std::test::Fail;
