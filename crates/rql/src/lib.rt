@@ -13,8 +13,6 @@ mod pair;
 mod row_set;
 mod runs;
 mod table;
-#[cfg(test)]
-mod tests;
 mod variable;
 
 pub use as_of::AsOf;

@@ -1,13 +1,15 @@
 //! The answers of the calls, by hand.
 
-use super::support::{Answers, Shown, query, text_of};
-use crate::{AsOf, Function, collate, in_variable};
+ghost use Rattle.sql_tree.specs.Statement.{IsSelect};
+
+use crate::support::{Answers, Shown, Told, Want, is, query, told};
 use fold_kit::{Combiner, FoldSet, How};
 use pager::Stop;
 use retro_base::{Failed, Refusal};
+use rql::{AsOf, Function, collate, in_variable};
+use sql_tree::Select;
+use std::alloc::Global;
 use std::test::Fail;
-
-type Want = Result<&'static [u8], Stop<Failed>>;
 
 const COLLATED: [(&[u32], Want); 11] = [
     (&[8, 9], Ok(b"k$v# a,1 b,2 a,1 b,2")),
@@ -23,19 +25,20 @@ const COLLATED: [(&[u32], Want); 11] = [
     (&[8, 0, 11], Err(Stop::Pager(Failed))),
 ];
 
+fn collated(alloc: Global, shown: &mut Shown, snapshots: &[u32], query: &Select) -> Told
+    requires { IsSelect query.now }
+{
+    told(alloc, collate(alloc, shown, snapshots, query))
+}
+
 #[test]
 fn answers_stand_one_after_the_other(rt: HostRuntime) -> Result<(), Fail> {
     let alloc = rt.alloc();
     let mut shown = Shown::new(alloc, Answers::Mixed);
     let query = query(alloc)?;
     for (snapshots, want) in COLLATED {
-        match collate(alloc, &mut shown, snapshots, &query) {
-            Ok(answer) => {
-                let text = text_of(alloc, &answer)?;
-                assert!(rt; want == Ok(text.as_slice()));
-            }
-            Err(stop) => assert!(rt; want == Err(stop)),
-        }
+        let told = collated(alloc, &mut shown, snapshots, &query);
+        assert!(rt; is(&told, want));
     }
     assert_eq!(rt; shown.faults(), 1);
     Ok(())
@@ -86,24 +89,32 @@ const IN_ONE: [(Function, &[u32], Want); 22] = [
     (Function::Max, &[1, 0], Err(Stop::Pager(Failed))),
 ];
 
-#[test]
-fn values_are_one(rt: HostRuntime) -> Result<(), Fail> {
-    let alloc = rt.alloc();
-    let mut shown = Shown::new(alloc, Answers::Mixed);
-    let query = query(alloc)?;
+fn in_one(
+    alloc: Global,
+    shown: &mut Shown,
+    snapshots: &[u32],
+    query: &Select,
+    function: Function,
+) -> Told
+    requires { IsSelect query.now }
+{
     let folds = FoldSet::new(
         Combiner::new(How::Min, |a: i128, b: i128| a.min(b)),
         Combiner::new(How::Max, |a: i128, b: i128| a.max(b)),
         Combiner::new(How::Add, |a: i128, b: i128| a.wrapping_add(b)),
     );
+    let answer = in_variable(alloc, shown, snapshots, query, &folds, function);
+    told(alloc, answer)
+}
+
+#[test]
+fn values_are_one(rt: HostRuntime) -> Result<(), Fail> {
+    let alloc = rt.alloc();
+    let mut shown = Shown::new(alloc, Answers::Mixed);
+    let query = query(alloc)?;
     for (function, snapshots, want) in IN_ONE {
-        match in_variable(alloc, &mut shown, snapshots, &query, &folds, function) {
-            Ok(answer) => {
-                let text = text_of(alloc, &answer)?;
-                assert!(rt; want == Ok(text.as_slice()));
-            }
-            Err(stop) => assert!(rt; want == Err(stop)),
-        }
+        let told = in_one(alloc, &mut shown, snapshots, &query, function);
+        assert!(rt; is(&told, want));
     }
     Ok(())
 }

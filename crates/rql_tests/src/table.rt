@@ -1,16 +1,17 @@
 //! Rows of all answers in groups, by hand.
 
-use super::support::{Answers, Named, Shown, column, query, text_of};
-use crate::{Function, Pair, in_table};
+ghost use Rattle.sql_tree.specs.Statement.{IsSelect};
+
+use crate::support::{Answers, Named, Shown, Told, Want, column, is, query, told};
 use Function::{Count, Max, Min, Sum};
 use Named::{K, V};
 use fold_kit::{Combiner, FoldSet, How};
 use pager::Stop;
 use retro_base::{Failed, Refusal};
+use rql::{Function, Pair, in_table};
+use sql_tree::Select;
 use std::alloc::{AllocError, Global};
 use std::test::Fail;
-
-type Want = Result<&'static [u8], Stop<Failed>>;
 
 const UNKNOWN_NAME: Want = Err(Stop::Refused(Refusal::UnknownName));
 
@@ -58,25 +59,33 @@ fn pairs_of(alloc: Global, pairs: &[(Named, Function)]) -> Result<Vec<Pair>, All
     Ok(found)
 }
 
-#[test]
-fn groups_are_rows(rt: HostRuntime) -> Result<(), Fail> {
-    let alloc = rt.alloc();
-    let mut shown = Shown::new(alloc, Answers::Mixed);
-    let query = query(alloc)?;
+fn in_groups(
+    alloc: Global,
+    shown: &mut Shown,
+    snapshots: &[u32],
+    query: &Select,
+    pairs: &[(Named, Function)],
+) -> Told
+    requires { IsSelect query.now }
+{
     let folds = FoldSet::new(
         Combiner::new(How::Min, |a: i128, b: i128| a.min(b)),
         Combiner::new(How::Max, |a: i128, b: i128| a.max(b)),
         Combiner::new(How::Add, |a: i128, b: i128| a.wrapping_add(b)),
     );
+    let pairs = pairs_of(alloc, pairs)?;
+    let answer = in_table(alloc, shown, snapshots, query, &folds, &pairs);
+    told(alloc, answer)
+}
+
+#[test]
+fn groups_are_rows(rt: HostRuntime) -> Result<(), Fail> {
+    let alloc = rt.alloc();
+    let mut shown = Shown::new(alloc, Answers::Mixed);
+    let query = query(alloc)?;
     for (snapshots, pairs, want) in TABLES {
-        let pairs = pairs_of(alloc, pairs)?;
-        match in_table(alloc, &mut shown, snapshots, &query, &folds, &pairs) {
-            Ok(answer) => {
-                let text = text_of(alloc, &answer)?;
-                assert!(rt; want == Ok(text.as_slice()));
-            }
-            Err(stop) => assert!(rt; want == Err(stop)),
-        }
+        let told = in_groups(alloc, &mut shown, snapshots, &query, pairs);
+        assert!(rt; is(&told, want));
     }
     Ok(())
 }

@@ -4,9 +4,9 @@ ghost use Rattle.std.specs.Prelude.{IfErr, IfOk};
 ghost use Rattle.sql_tree.specs.Statement.{IsSelect};
 ghost use Rattle.rql.specs.AsOf.{IsOfQuery};
 
-use crate::as_of::AsOf;
 use pager::Stop;
 use retro_base::{Failed, Refusal};
+use rql::AsOf;
 use sql_select::Answer;
 use sql_tree::{Column, Name, Select, SelectList};
 use std::alloc::{AllocError, Global};
@@ -201,8 +201,8 @@ fn put_row(alloc: Global, row: &[Value], out: &mut Vec<u8>) -> Result<(), AllocE
     Ok(())
 }
 
-/// The columns' names with their kinds, and the rows, each behind a blank.
-pub fn text_of(alloc: Global, answer: &Answer) -> Result<Vec<u8>, AllocError> {
+// The columns' names with their kinds, and the rows, each behind a blank.
+fn text_of(alloc: Global, answer: &Answer) -> Result<Vec<u8>, AllocError> {
     let mut out = Vec::new(alloc);
     for column in answer.columns.as_slice() {
         out.extend_from_slice(column.name.bytes())?;
@@ -216,4 +216,21 @@ pub fn text_of(alloc: Global, answer: &Answer) -> Result<Vec<u8>, AllocError> {
         put_row(alloc, row.as_slice(), &mut out)?;
     }
     Ok(out)
+}
+
+/// The text of an answer, or why there is none.
+pub type Told = Result<Vec<u8>, Stop<Failed>>;
+
+/// What is wanted of an answer.
+pub type Want = Result<&'static [u8], Stop<Failed>>;
+
+pub fn told(alloc: Global, answer: Result<Answer, Stop<Failed>>) -> Told {
+    Ok(text_of(alloc, &answer?)?)
+}
+
+pub fn is(told: &Told, want: Want) -> bool {
+    match told {
+        Ok(text) => want == Ok(text.as_slice()),
+        Err(stop) => want == Err(*stop),
+    }
 }

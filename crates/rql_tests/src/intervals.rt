@@ -1,13 +1,15 @@
 //! Intervals, by hand.
 
-use super::support::{Answers, Shown, query, text_of};
-use crate::intervals;
+ghost use Rattle.sql_tree.specs.Statement.{IsSelect};
+
+use crate::support::{Answers, Shown, Told, Want, is, query, told};
 use Answers::{Mixed, Sevens};
 use pager::Stop;
 use retro_base::{Failed, Refusal};
+use rql::intervals;
+use sql_tree::Select;
+use std::alloc::Global;
 use std::test::Fail;
-
-type Want = Result<&'static [u8], Stop<Failed>>;
 
 const INTERVALS: [(Answers, &[u32], Want); 9] = [
     (
@@ -33,19 +35,20 @@ const INTERVALS: [(Answers, &[u32], Want); 9] = [
     (Mixed, &[8, 0, 11], Err(Stop::Pager(Failed))),
 ];
 
+fn in_intervals(alloc: Global, answers: Answers, snapshots: &[u32], query: &Select) -> Told
+    requires { IsSelect query.now }
+{
+    let mut shown = Shown::new(alloc, answers);
+    told(alloc, intervals(alloc, &mut shown, snapshots, query))
+}
+
 #[test]
 fn rows_stand_in_intervals(rt: HostRuntime) -> Result<(), Fail> {
     let alloc = rt.alloc();
     let query = query(alloc)?;
     for (answers, snapshots, want) in INTERVALS {
-        let mut shown = Shown::new(alloc, answers);
-        match intervals(alloc, &mut shown, snapshots, &query) {
-            Ok(answer) => {
-                let text = text_of(alloc, &answer)?;
-                assert!(rt; want == Ok(text.as_slice()));
-            }
-            Err(stop) => assert!(rt; want == Err(stop)),
-        }
+        let told = in_intervals(alloc, answers, snapshots, &query);
+        assert!(rt; is(&told, want));
     }
     Ok(())
 }
