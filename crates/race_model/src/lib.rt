@@ -6,8 +6,6 @@ mod batch;
 mod fault;
 mod laws;
 mod receipt;
-#[cfg(test)]
-mod tests;
 
 pub use batch::Batch;
 pub use fault::Fault;

@@ -11,8 +11,6 @@ mod map_decoding;
 mod map_encoding;
 mod map_entry;
 mod maplog;
-#[cfg(test)]
-mod tests;
 mod unread;
 
 pub use decoding::{DecodeError, decode};

@@ -5,8 +5,6 @@
 mod joining;
 mod laws;
 mod opened;
-#[cfg(test)]
-mod tests;
 
 pub use joining::{holds_base, holds_changes};
 pub use laws::laws_of_the_opened;

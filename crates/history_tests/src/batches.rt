@@ -1,6 +1,6 @@
 //! What no clause says: that a batch has room for 64 captures with memory at hand.
 
-use crate::Batch;
+use race_model::Batch;
 use retro_base::{BATCH, Page};
 use std::test::Fail;
 

@@ -1,8 +1,8 @@
 //! What no clause says: the bytes of records, and lists of bodies with what they stand for, worked by hand.
 
-use crate::*;
 use gate_log::Unread;
 use history::{Base, Change, Version, is_base};
+use records::{DecodeError, Entry, decode, encode, read_log, read_maplog};
 use std::alloc::{AllocError, Global};
 use std::test::Fail;
 use values::Seq;

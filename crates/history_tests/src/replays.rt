@@ -3,8 +3,8 @@
 ghost use Rattle.std.specs.Prelude.{IsTrue, IfOk};
 ghost use Rattle.history.specs.Right.{IsBase, AreRight};
 
-use crate::*;
 use history::{Base, Change, Label, Log, PageImage, RunningBase, Version, Writes, is_base};
+use replay::{Opened, join};
 use retro_base::{PAGE_BYTES, Page};
 use skippy::Mappings;
 use std::alloc::{AllocError, Global};
