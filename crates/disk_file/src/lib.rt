@@ -4,8 +4,6 @@
 mod file_cabinet;
 mod file_disk;
 mod names;
-#[cfg(test)]
-mod tests;
 
 pub use file_cabinet::FileCabinet;
 pub use file_disk::FileDisk;

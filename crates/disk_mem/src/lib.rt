@@ -7,8 +7,6 @@ mod mem_disk;
 mod ram_disk;
 mod recording;
 mod schedule;
-#[cfg(test)]
-mod tests;
 
 pub use mem_disk::MemDisk;
 pub use ram_disk::RamDisk;

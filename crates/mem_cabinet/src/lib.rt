@@ -2,7 +2,5 @@
 #![tactic(auto)]
 
 mod cabinet;
-#[cfg(test)]
-mod tests;
 
 pub use cabinet::MemCabinet;

@@ -1,6 +1,6 @@
 //! What no clause says: that calls succeed, and what crashes leave, byte for byte.
 
-use crate::{Call, MemDisk, RamDisk};
+use disk_mem::{Call, MemDisk, RamDisk};
 use disk_model::{Disk, Failed};
 use retro_base::Refusal;
 use std::alloc::Global;

@@ -1,7 +1,7 @@
 //! What no clause says: that calls succeed where they should, and which of them fail.
 
-use crate::MemCabinet;
 use disk_model::{Cabinet, Disk, Four, Sizes};
+use mem_cabinet::MemCabinet;
 use std::test::Fail;
 
 const SIZES: Sizes = Sizes {

@@ -1,6 +1,6 @@
 //! A store made in a folder and opened again.
 
-use crate::FileCabinet;
+use disk_file::FileCabinet;
 use disk_model::{Cabinet, Disk, Failed, Four, Sizes};
 use std::fs;
 use std::test::Fail;

@@ -1,6 +1,5 @@
 //! What no clause says: the first bytes of a new store, worked by hand, and that its making succeeds.
 
-use crate::format;
 use disk_mem::RamDisk;
 use disk_model::{Disk, Four, Sizes};
 use history::Version;
@@ -9,6 +8,7 @@ use replay::Opened;
 use retro_base::{PAGE_BYTES, Page, Refusal};
 use std::alloc::Global;
 use std::test::Fail;
+use store_format::format;
 
 // A region of generation 1; a base of sixteen pages and capacity 64, no snapshot, the oldest 1 and the newest 0; and
 // the closed gate.
