@@ -9,8 +9,6 @@ mod fetch;
 mod laws;
 mod reading;
 mod telling;
-#[cfg(test)]
-mod tests;
 mod writing;
 
 pub use desk::RunningDesk;

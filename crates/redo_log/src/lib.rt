@@ -4,8 +4,6 @@
 mod fits;
 mod log;
 mod side;
-#[cfg(test)]
-mod tests;
 
 pub use fits::{change_fits, fitting_bases_stay};
 pub use log::RedoLog;

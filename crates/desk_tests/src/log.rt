@@ -3,11 +3,11 @@
 ghost use Rattle.history.specs.declared.log.Version.TheVariants.{One};
 ghost use Rattle.redo_log.specs.Laws.{IsWithinRecord};
 
-use super::{LogSide, RedoLog, change_fits};
 use disk_mem::RamDisk;
 use disk_model::{Disk, Failed};
 use history::{Change, Label, Version, Writes, is_label};
 use records::Entry;
+use redo_log::{LogSide, RedoLog, change_fits};
 use retro_base::{Device, LOG_REGION_BYTES, Refusal};
 use std::alloc::Global;
 use std::test::Fail;

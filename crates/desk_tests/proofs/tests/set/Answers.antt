@@ -1,7 +1,7 @@
 use Rattle.std.proofs.Common.{◌≡◌, ◌∙◌, ◌||◌, Bool, true, false, List, sym, subst, refl}
 use Rattle.page_pool.specs.Side.{held}
 use Rattle.desk.specs.Steps.{AreHeld}
-use Rattle.desk.proofs.tests.set.Goals as goal
+use Rattle.desk_tests.proofs.tests.set.Goals as goal
 
 or_true : (b : Bool) → b || true ≡ true
 or_true true = refl

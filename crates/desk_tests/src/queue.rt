@@ -1,6 +1,6 @@
 //! What no clause says: that calls succeed, at full size.
 
-use super::CopyQueue;
+use copy_queue::CopyQueue;
 use history::PageImage;
 use retro_base::{Page, Refusal};
 use std::alloc::Global;

@@ -4,7 +4,7 @@ ghost use Rattle.std.specs.Prelude.{◌≡◌, IfOk};
 ghost use Rattle.history.specs.Marks.{is_retained};
 ghost use Rattle.desk.specs.Desk.{IsWhole};
 
-use crate::RunningDesk;
+use desk::RunningDesk;
 use disk_mem::RamDisk;
 use disk_model::Disk;
 use history::{Base, Change, Label, Mark, PageImage, Version, Writes, is_label};
