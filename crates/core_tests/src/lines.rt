@@ -1,6 +1,6 @@
 //! The lines of a journal as data.
 
-use history::{Line, What};
+use history::{FailedCall, Line, What};
 use retro_base::{Device, Refusal, Who};
 
 /// What a line of the journal says.
@@ -16,7 +16,10 @@ pub enum Said {
     Unlooked,
     Dropped(u32),
     Refused(Refusal),
+    /// A fault, and whether the call was to write.
     Fault(Device, u64, bool),
+    /// A fault of the append of a change.
+    InDoubt(Device, u64),
 }
 
 fn told_by(what: &What) -> Said {
@@ -36,8 +39,13 @@ fn told_by(what: &What) -> Said {
         What::Fault {
             device,
             count,
-            wrote,
-        } => Said::Fault(*device, *count, *wrote),
+            call: FailedCall::Append(_),
+        } => Said::InDoubt(*device, *count),
+        What::Fault {
+            device,
+            count,
+            call,
+        } => Said::Fault(*device, *count, call.is_write()),
     }
 }
 
