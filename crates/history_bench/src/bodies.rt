@@ -104,13 +104,18 @@ pub fn commits_of(alloc: Global, pages: u32, capacity: u32) -> Result<Vec<Vec<u8
     Ok(bodies)
 }
 
-// A run of mappings of the pages from 0 on.
-fn run(alloc: Global, first: u64, count: u64) -> Result<Vec<u8>, AllocError> {
+/// A run of mappings of the pages from 0 on.
+pub fn run(alloc: Global, first: u64, count: u64) -> Result<Vec<u8>, AllocError> {
     let mut out = numbers(alloc, &[(1, 2), (8, first), (4, count)])?;
     for page in 0..count {
         put_numbers(&mut out, &[(2, page)])?;
     }
     Ok(out)
+}
+
+/// A low mark: the mappings below that number are forgotten.
+pub fn low_mark(alloc: Global, low: u64) -> Result<Vec<u8>, AllocError> {
+    numbers(alloc, &[(1, 3), (8, low)])
 }
 
 /// A Maplog of that many mappings in long runs, and then so often a low mark and a run of one.
@@ -124,7 +129,7 @@ pub fn maplog_of(alloc: Global, mappings: u64, pairs: u64) -> Result<Vec<Vec<u8>
     }
     let mut end = mappings;
     for low in 1..pairs.saturating_add(1) {
-        bodies.push(numbers(alloc, &[(1, 3), (8, low)])?)?;
+        bodies.push(low_mark(alloc, low)?)?;
         bodies.push(run(alloc, end, 1)?)?;
         end = end.saturating_add(1);
     }
