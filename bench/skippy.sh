@@ -1,9 +1,10 @@
 #!/bin/sh
 # Instructions to push 1,048,576 mappings into the levels batch by batch, and those of the push that completes a segment of
-# each level; then, by the length of the history, the entries that a scan from its beginning and from its middle reads,
-# plain and by the levels, and the instructions of both scans from the beginning; the entries by the number from which a
-# skewed history of 262,144 is scanned; and the most bytes that are taken at once for 1,048,576 mappings, the history's
-# own among them. It needs valgrind.
+# each level; to map two for each one that is forgotten, until 65,536 and 1,048,576 are kept; then, by the length of the
+# history, the entries that a scan from its beginning and from its middle reads, plain and by the levels, and the
+# instructions of both scans from the beginning; the entries by the number from which a skewed history of 262,144 is
+# scanned; and the most bytes that are taken at once for 1,048,576 mappings, the history's own among them. It needs
+# valgrind.
 cd "$(dirname "$0")/../crates/skippy_bench" && rt run > /dev/null 2>&1 || exit 1
 
 count() {
@@ -18,6 +19,9 @@ scan() {
 for history in different repeated skewed; do
     echo "$history 1048576: $(count "$history" 1048576) instructions to push"
     echo "$history 262144: $(($(count "$history" 262144) - $(count "$history" 262080))) instructions for the last push"
+done
+for kept in 65536 1048576; do
+    echo "growing $kept: $(count growing "$kept") instructions"
 done
 for history in different repeated skewed; do
     for length in 1024 8192 65536 262144 1048576; do
