@@ -1,0 +1,47 @@
+-- What a copier's rounds leave.
+use Rattle.std.proofs.Common.{◌≡◌, ℕ, Bool, false, List, Result, Ok, subst, sym}
+use Rattle.atomic_table.specs.Seated.{TableId}
+use Rattle.disk_model.specs.Disk.{State}
+use Rattle.disk_model.specs.Moments.{Clock}
+use Rattle.retro_base.specs.declared.refusal.Refusal.{Refusal}
+use Rattle.history.specs.declared.journal.Line.{Line}
+use Rattle.race_model.specs.Vault.{Batch}
+use Rattle.turn.specs.Seats.{seen}
+use Rattle.store.specs.Rounds.{Passes}
+use Rattle.store.specs.Seats.{Sat}
+use Rattle.store.proofs.Copying.{copy_ends}
+use Rattle.store.proofs.Reaching.{RoundEnds, ends_after}
+use Rattle.flusher.specs.Working.{AreAnswered, Copies, EndsWith, IsHeld, MayWork, last_answer, worker}
+use Rattle.flusher.proofs.Captures.{front_held, idle_held}
+use Rattle.flusher.proofs.Leaving.{Leaves, leaves}
+
+module _ {D : Type 0} (is_honest : D → Type 0) (state : D → State) (faults : D → ℕ) (z : TableId) (remembers : Type 0) (clock : D → Clock) (phase n : ℕ) (b0 b1 b2 : Batch) (s0 s1 s2 : Sat D) (passes : Passes z s0 s1) where
+  abbrev pub Round : Result Bool Refusal → Batch × Sat D → Batch × Sat D → Type 0
+  Round = Copies is_honest state faults z remembers clock (worker phase n)
+
+  abbrev Ends : Result Bool Refusal → Type 0
+  Ends r = RoundEnds is_honest state faults z (worker phase n) r s0 s2
+
+  ends : (r : Result Bool Refusal) → Round r (b1, s1) (b2, s2) → Ends r
+  ends r round = ends_after is_honest state faults z (worker phase n) r s0 s1 s2 passes (copy_ends is_honest state faults z remembers clock (worker phase n) b1 b2 r s1 s2 passes.ready round)
+
+  pub passes_more : (more : Bool) → Round (Ok more) (b1, s1) (b2, s2) → Passes z s0 s2
+  passes_more more round = ends (Ok more) round
+
+  -- the vault holds what stood captured, then and at the start
+  pub holds_all : Round (Ok false) (b1, s1) (b2, s2) → IsHeld s2 (seen s2)
+  holds_all round = idle_held is_honest state faults z remembers clock (worker phase n) b1 b2 s1 s2 round
+
+  pub holds : Round (Ok false) (b1, s1) (b2, s2) → IsHeld s2 (seen s0)
+  holds round =
+      let waits = (passes_more false round).waits in
+      front_held s2 (seen s0) waits.others (subst (λ (l : List Line). IsHeld s2 l) (sym waits.front) (holds_all round))
+
+  module _ (own : n ≡ s0.number) (result : Result (Unit {0}) Refusal) (round : Round (last_answer result) (b1, s1) (b2, s2)) where
+    pub ends_with : AreAnswered Round (b0, s0) (b1, s1) → EndsWith (Copies is_honest state faults z remembers clock (worker phase s0.number)) (last_answer result) (b0, s0) (b2, s2)
+    ends_with answered = subst (λ (k : ℕ). EndsWith (Copies is_honest state faults z remembers clock (worker phase k)) (last_answer result) (b0, s0) (b2, s2)) own
+        (record { middle = (b1, s1); answered = answered; ends = round })
+
+    pub left : (may : MayWork s0) → Leaves is_honest state faults z (worker phase s0.number) s0 s2 (λ i. s0.number) may result
+    left may = leaves is_honest state faults z (worker phase s0.number) s0 s2 (λ i. s0.number) may result
+        (subst (λ (k : ℕ). RoundEnds is_honest state faults z (worker phase k) (last_answer result) s0 s2) own (ends (last_answer result) round))

@@ -1,0 +1,31 @@
+-- What a flusher's rounds leave.
+use Rattle.std.proofs.Common.{◌≡◌, ℕ, Bool, Result, Ok, subst}
+use Rattle.atomic_table.specs.Seated.{TableId}
+use Rattle.disk_model.specs.Disk.{State}
+use Rattle.disk_model.specs.Moments.{Clock}
+use Rattle.retro_base.specs.declared.refusal.Refusal.{Refusal}
+use Rattle.store.specs.Rounds.{Passes, WritesRound}
+use Rattle.store.specs.Seats.{Sat}
+use Rattle.store.proofs.Reaching.{RoundEnds, ends_after}
+use Rattle.store.proofs.Writing.{round_ends}
+use Rattle.flusher.specs.Working.{AreAnswered, EndsWith, MayWork, last_answer, worker}
+use Rattle.flusher.proofs.Leaving.{Leaves, leaves}
+
+module _ {D : Type 0} (is_honest : D → Type 0) (state : D → State) (faults : D → ℕ) (z : TableId) (remembers : Type 0) (clock : D → Clock) (phase n : ℕ) (s0 s1 s2 : Sat D) (passes : Passes z s0 s1) where
+  abbrev pub Round : Result Bool Refusal → Sat D → Sat D → Type 0
+  Round = WritesRound is_honest state faults z remembers clock (worker phase n)
+
+  ends : (r : Result Bool Refusal) → Round r s1 s2 → RoundEnds is_honest state faults z (worker phase n) r s0 s2
+  ends r round = ends_after is_honest state faults z (worker phase n) r s0 s1 s2 passes (round_ends is_honest state faults z remembers clock (worker phase n) r s1 s2 passes.ready round)
+
+  pub passes_more : (more : Bool) → Round (Ok more) s1 s2 → Passes z s0 s2
+  passes_more more round = ends (Ok more) round
+
+  module _ (own : n ≡ s0.number) (result : Result (Unit {0}) Refusal) (round : Round (last_answer result) s1 s2) where
+    pub ends_with : AreAnswered Round s0 s1 → EndsWith (WritesRound is_honest state faults z remembers clock (worker phase s0.number)) (last_answer result) s0 s2
+    ends_with answered = subst (λ (k : ℕ). EndsWith (WritesRound is_honest state faults z remembers clock (worker phase k)) (last_answer result) s0 s2) own
+        (record { middle = s1; answered = answered; ends = round })
+
+    pub left : (may : MayWork s0) → Leaves is_honest state faults z (worker phase s0.number) s0 s2 (λ i. s0.number) may result
+    left may = leaves is_honest state faults z (worker phase s0.number) s0 s2 (λ i. s0.number) may result
+        (subst (λ (k : ℕ). RoundEnds is_honest state faults z (worker phase k) (last_answer result) s0 s2) own (ends (last_answer result) round))

@@ -1,0 +1,67 @@
+-- What a worker leaves, whose rounds come one behind the other.
+use Rattle.std.specs.Prelude.{◌≡◌, ◌≤◌, ℕ, Bool, false, List, [], ◌∷◌, None, Result, Ok, Err, IfSome}
+use Rattle.atomic_table.specs.Seated.{TableId}
+use Rattle.disk_model.specs.Disk.{State}
+use Rattle.disk_model.specs.Moments.{Clock}
+use Rattle.retro_base.specs.declared.refusal.Refusal.{Refusal}
+use Rattle.retro_base.specs.declared.refusal.Refusal.TheVariants.{DiskFault, OutOfMemory, Stopped}
+use Rattle.retro_base.specs.declared.who.Who.{Who}
+use Rattle.history.specs.declared.journal.FailedCall.TheVariants.{Write}
+use Rattle.history.specs.declared.journal.Line.{Line}
+use Rattle.history.specs.declared.journal.What.TheVariants.{Fault}
+use Rattle.history.specs.Lines.{base_of}
+use Rattle.race_model.specs.Vault.{Batch}
+use Rattle.turn.specs.Seats.{held, mine, opening, seen}
+use Rattle.store.specs.Rounds.{CopiesRound}
+use Rattle.store.specs.Seats.{Sat}
+use Rattle.store.specs.Start.{opened_base}
+use Rattle.store.specs.Workers.{IsFreshWorker}
+
+-- the name of a worker's rounds in a phase
+abbrev pub worker : ℕ → ℕ → Who
+worker phase number = record { phase = phase; session = number; item = 0 }
+
+-- a worker's seat, which has nothing open, and told no fault as yet
+pub record MayWork {D : Type 0} (s : Sat D) : Type 0 where
+  pub idle : (mine s).work ≡ None
+  pub fresh : IsFreshWorker s.number (seen s)
+
+-- what the last round answered: Ok comes only where that found nothing to do, a refusal only where it was refused so
+abbrev pub last_answer : Result (Unit {0}) Refusal → Result Bool Refusal
+last_answer (Ok x) = Ok false
+last_answer (Err why) = Err why
+
+-- the lines that a worker leaves: that of the fault which ended it, if one did
+abbrev pub lines_left : Who → Result (Unit {0}) Refusal → List Line
+lines_left who (Err (DiskFault device count)) = record { who = who; what = Fault device count Write } ∷ []
+lines_left who result = []
+
+-- a round is refused for want of memory, where a call of a device failed, and where the store has stopped
+abbrev pub IsRoundRefusal : Refusal → Type 0
+IsRoundRefusal OutOfMemory = Unit {0}
+IsRoundRefusal (DiskFault device count) = Unit {0}
+IsRoundRefusal (Stopped device count) = Unit {0}
+IsRoundRefusal why = ⊥
+
+-- the seat has seen the vault hold all that stands captured behind these lines
+abbrev pub IsHeld : {D : Type 0} → Sat D → List Line → Type 0
+IsHeld s lines = IfSome (opening s) (λ start. (base_of (opened_base start) lines).captures ≤ held s)
+
+module _ {S : Type 0} (Round : Result Bool Refusal → S → S → Type 0) where
+  -- rounds that were answered, one behind the other
+  pub data AreAnswered : S → S → Type 0 where
+    NoneYet : (s : S) → AreAnswered s s
+    OneMore : (more : Bool) (old middle new : S) → AreAnswered old middle → Round (Ok more) middle new →
+        AreAnswered old new
+
+  -- and a last one behind them, which ended so
+  pub record EndsWith (last : Result Bool Refusal) (old new : S) : Type 0 where
+    pub middle : S
+    pub answered : AreAnswered old middle
+    pub ends : Round last middle new
+
+-- a copy round, with the batch that it works in
+abbrev pub Copies : {D : Type 0} → (D → Type 0) → (D → State) → (D → ℕ) → TableId → Type 0 → (D → Clock) → Who →
+    Result Bool Refusal → Batch × Sat D → Batch × Sat D → Type 0
+Copies is_honest state faults z remembers clock who result old new =
+    CopiesRound is_honest state faults z remembers clock who old.0 new.0 result old.1 new.1
