@@ -1,17 +1,14 @@
 //! Catalogs: byte for byte by hand, full, and damaged.
 
-ghost use Rattle.std.specs.Prelude.{IfOk};
-ghost use Rattle.heap_file.specs.HeapPage.{IsShort};
-
+use crate::chains::{add_row, take_out};
 use crate::support::{
-    begins, edits_are, indexes_in, make_index, make_table, one_table, row_of, tables_in, text,
-    zero_pages,
+    begins, edits_are, make_index, make_table, one_table, tables_and_indexes, text, zero_pages,
 };
-use pager::{MemPager, Stop, broken};
+use pager::{EditPager, MemPager, Stop, broken};
 use retro_base::{Failed, Page, Refusal};
 use std::alloc::{AllocError, Global};
 use std::test::Fail;
-use values::{Kind, Row, Value};
+use values::{Kind, Row, Seq, Value};
 
 // The first page of the catalog after t(a INT) was made: the header, (1,'t',2) under number 0, (2,'t',0,'a',1) under number 1.
 const CATALOG_OF_T: [u8; 98] = [
@@ -63,16 +60,16 @@ fn an_index_in_bytes(rt: HostRuntime) -> Result<(), Fail> {
     let made = make_index(alloc, &mut pager, b"i", b"t", 0);
     let edited = edits_are(alloc, &pager, 3, &[1]);
     let page = begins(&pager, 1, &catalog_with_i(alloc)?);
-    let read = (tables_in(alloc, &mut pager), indexes_in(alloc, &mut pager));
+    let read = tables_and_indexes(alloc, &mut pager);
     assert!(rt; (made, edited, page) == (Ok(()), Ok(true), true));
-    assert!(rt; read == (Ok(1), Ok(1)));
+    assert!(rt; read == Ok((1, 1)));
     Ok(())
 }
 
 // A store of 16 pages with thirteen tables of one column, named a to m: their rows fill the first page of the catalog, and
 // page 15 alone is free.
 fn thirteen_tables(alloc: Global) -> Result<MemPager, Stop<Failed>> {
-    let mut pager = zero_pages(alloc)?;
+    let mut pager = zero_pages(alloc, 16, &[])?;
     for letter in b'a'..=b'm' {
         make_table(alloc, &mut pager, &[letter], &[Kind::Int])?;
     }
@@ -92,11 +89,11 @@ fn eighteen_indexes(alloc: Global) -> Result<MemPager, Stop<Failed>> {
 fn the_nineteenth_index_needs_a_page(rt: HostRuntime) -> Result<(), Fail> {
     let alloc = rt.alloc();
     let mut pager = eighteen_indexes(alloc)?;
-    let indexes = indexes_in(alloc, &mut pager);
+    let told = tables_and_indexes(alloc, &mut pager);
     let edits = pager.edits().len();
     let made = make_index(alloc, &mut pager, b"S", b"m", 0);
     let full = Refusal::PagesFull { pages: 16 };
-    assert!(rt; (indexes, made) == (Ok(18), Err(Stop::Refused(full))));
+    assert!(rt; (told, made) == (Ok((13, 18)), Err(Stop::Refused(full))));
     assert!(rt; pager.edits().len() == edits);
     Ok(())
 }
@@ -105,13 +102,18 @@ fn the_nineteenth_index_needs_a_page(rt: HostRuntime) -> Result<(), Fail> {
 fn the_fourteenth_table_needs_two_pages(rt: HostRuntime) -> Result<(), Fail> {
     let alloc = rt.alloc();
     let mut pager = thirteen_tables(alloc)?;
-    let tables = tables_in(alloc, &mut pager);
+    let told = tables_and_indexes(alloc, &mut pager);
     let edits = pager.edits().len();
     let made = make_table(alloc, &mut pager, b"n", &[Kind::Int]);
     let full = Refusal::PagesFull { pages: 16 };
-    assert!(rt; (tables, made) == (Ok(13), Err(Stop::Refused(full))));
+    assert!(rt; (told, made) == (Ok((13, 0)), Err(Stop::Refused(full))));
     assert!(rt; pager.edits().len() == edits);
     Ok(())
+}
+
+// Whether the catalog is refused by the place of its first page.
+fn catalog_is_broken(alloc: Global, pager: &mut MemPager) -> bool {
+    tables_and_indexes(alloc, pager) == Err(Stop::Refused(broken(1)))
 }
 
 // A store of 16 pages, all of them zero but page 1, which names itself.
@@ -125,9 +127,8 @@ fn self_named_catalog(alloc: Global) -> Result<MemPager, AllocError> {
 fn a_catalog_that_names_itself_is_no_chain(rt: HostRuntime) -> Result<(), Fail> {
     let alloc = rt.alloc();
     let mut pager = self_named_catalog(alloc)?;
-    let tables = tables_in(alloc, &mut pager);
-    assert!(rt; tables == Err(Stop::Refused(broken(1))));
-    assert!(rt; pager.edits().is_empty());
+    let told = catalog_is_broken(alloc, &mut pager);
+    assert!(rt; (told, pager.edits().is_empty()) == (true, true));
     Ok(())
 }
 
@@ -150,14 +151,12 @@ const DAMAGED: [&[&[(i64, &[u8])]]; 8] = [
 ];
 
 // A row of these cells.
-fn row_of_cells(alloc: Global, cells: &[(i64, &[u8])]) -> Result<Row, Refusal>
-    ensures { IfOk result IsShort }
-{
-    let mut values = Vec::new(alloc);
+fn row_of_cells(alloc: Global, cells: &[(i64, &[u8])]) -> Result<Row, Refusal> {
+    let mut row = Seq::new(alloc);
     for (number, text) in cells {
-        values.push(cell(alloc, *number, text)?)?;
+        row.push(cell(alloc, *number, text)?)?;
     }
-    row_of(alloc, values)
+    Ok(row)
 }
 
 fn cell(alloc: Global, number: i64, letters: &[u8]) -> Result<Value, Refusal> {
@@ -168,41 +167,38 @@ fn cell(alloc: Global, number: i64, letters: &[u8]) -> Result<Value, Refusal> {
 }
 
 // Adds a row of these cells to the catalog.
-fn add_to_catalog(
+fn add_to_catalog<P: EditPager>(
     alloc: Global,
-    pager: &mut MemPager,
+    pager: &mut P,
     cells: &[(i64, &[u8])],
-) -> Result<(), Stop<Failed>> {
+) -> Result<(), Stop<P::Fault>> {
     let row = row_of_cells(alloc, cells)?;
-    heap_file::add(alloc, pager, 1, &row)?;
+    add_row(alloc, pager, 1, &row)?;
     Ok(())
 }
 
-// A store with t(a INT) and these rows behind those of its catalog.
-fn damaged(alloc: Global, rows: &[&[(i64, &[u8])]]) -> Result<MemPager, Stop<Failed>> {
+// Whether the catalog of t(a INT) with these rows behind its own is refused.
+fn is_refused_with(alloc: Global, rows: &[&[(i64, &[u8])]]) -> Result<bool, Stop<Failed>> {
     let mut pager = one_table(alloc)?;
     for cells in rows {
         add_to_catalog(alloc, &mut pager, cells)?;
     }
-    Ok(pager)
+    Ok(catalog_is_broken(alloc, &mut pager))
 }
 
-// A store with t(a INT) without the row of its column.
-fn without_column(alloc: Global) -> Result<MemPager, Stop<Failed>> {
+// Whether the catalog of t(a INT) without the row of its column is refused.
+fn is_refused_without_column(alloc: Global) -> Result<bool, Stop<Failed>> {
     let mut pager = one_table(alloc)?;
-    heap_file::remove(alloc, &mut pager, 1, 1, 1)?;
-    Ok(pager)
+    take_out(alloc, &mut pager, 1, 1, 1)?;
+    Ok(catalog_is_broken(alloc, &mut pager))
 }
 
 #[test]
 fn a_damaged_catalog_is_told(rt: HostRuntime) -> Result<(), Fail> {
     let alloc = rt.alloc();
-    let told = Err(Stop::Refused(broken(1)));
     for rows in DAMAGED {
-        let mut pager = damaged(alloc, rows)?;
-        assert!(rt; tables_in(alloc, &mut pager) == told);
+        assert!(rt; is_refused_with(alloc, rows) == Ok(true));
     }
-    let mut pager = without_column(alloc)?;
-    assert!(rt; tables_in(alloc, &mut pager) == told);
+    assert!(rt; is_refused_without_column(alloc) == Ok(true));
     Ok(())
 }

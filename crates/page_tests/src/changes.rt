@@ -1,8 +1,8 @@
 //! Rows that are added, changed and taken out, and faults on the way.
 
 use crate::support::{
-    count, delete_rows, edits_are, five_texts, insert_integer, insert_texts, make_table, next_in_t,
-    one_table, rows_are, update_integer, zero_pages,
+    bytes_of_texts, count, delete_numbers, edits_are, insert_integer, insert_texts, make_table,
+    next_in_t, one_table, rows_are, update_integer, zero_pages,
 };
 use pager::{MemPager, Stop};
 use retro_base::{Failed, Refusal};
@@ -27,7 +27,7 @@ fn rows_are_added_under_the_next_numbers(rt: HostRuntime) -> Result<(), Fail> {
     let alloc = rt.alloc();
     let mut pager = three_rows(alloc)?;
     let three = edits_are(alloc, &pager, 3, &[2, 2, 2]);
-    let deleted = delete_rows(alloc, &mut pager, &[0, 2]);
+    let deleted = delete_numbers(alloc, &mut pager, &[0, 2]);
     let one = edits_are(alloc, &pager, 6, &[2]);
     let inserted = insert_integer(alloc, &mut pager, 7);
     let next = next_in_t(alloc, &mut pager);
@@ -51,19 +51,19 @@ fn a_changed_row_keeps_its_number(rt: HostRuntime) -> Result<(), Fail> {
 #[test]
 fn the_second_longest_row_opens_a_page(rt: HostRuntime) -> Result<(), Fail> {
     let alloc = rt.alloc();
-    let mut pager = zero_pages(alloc)?;
+    let mut pager = zero_pages(alloc, 16, &[])?;
     let made = make_table(alloc, &mut pager, b"t", &[Kind::Text; 5]);
     let first = insert_texts(alloc, &mut pager, 81);
     let one = edits_are(alloc, &pager, 3, &[2]);
     let second = insert_texts(alloc, &mut pager, 81);
     let opened = edits_are(alloc, &pager, 4, &[0, 2, 3]);
-    let long = five_texts(alloc, 82).err();
-    let deleted = delete_rows(alloc, &mut pager, &[1]);
+    let long = bytes_of_texts(alloc, 82);
+    let deleted = delete_numbers(alloc, &mut pager, &[1]);
     let closed = edits_are(alloc, &pager, 7, &[0, 2, 3]);
     let rows = count(alloc, &mut pager);
     assert!(rt; [made, first, second, deleted] == [Ok(()); 4]);
     assert!(rt; ([one, opened, closed], rows) == ([Ok(true); 3], Ok(1)));
-    assert!(rt; long == Some(Refusal::RowTooLong { bytes: 901 }));
+    assert!(rt; long == Err(Refusal::RowTooLong { bytes: 901 }));
     Ok(())
 }
 

@@ -1,16 +1,18 @@
-//! A store with the table t, and the calls on it.
+//! A store with the table t, and the calls on it: each call of a tested crate stands in a function without clauses, over any
+//! pager.
 
-ghost use Rattle.std.specs.Prelude.{◌≤◌, All, IfOk, IsTrue};
+ghost use Rattle.std.specs.Prelude.{◌≤◌, ◌<◌, All, IsTrue};
 ghost use Rattle.std.specs.List.{AllByRecursion};
 ghost use Rattle.values.specs.Text.{IsPrintable};
 ghost use Rattle.heap_file.specs.HeapPage.{IsShort};
+ghost use Rattle.heap_file.specs.declared.chain.Placed.{Placed};
 
-use pager::{MemPager, Stop};
+use pager::{EditPager, MemPager, Pager, Stop};
 use relation::{
     Catalog, Placed, StoredTable, create_index, create_table, delete, insert, is_name, next_number,
     open, rows, update,
 };
-use retro_base::{Failed, Page, Refusal};
+use retro_base::{Failed, Page, ROW_BYTES, Refusal};
 use sql_tree::{Column, Name};
 use std::alloc::{AllocError, Global};
 use values::{Kind, Row, Seq, Text, Value};
@@ -44,44 +46,80 @@ pub fn text(alloc: Global, bytes: &[u8]) -> Result<Value, Refusal> {
     Ok(Value::Text(Text::new(Seq::from(bytes.to_vec(alloc)?))))
 }
 
-// A row of these values.
-pub fn row_of(alloc: Global, values: Vec<Value>) -> Result<Row, Refusal>
-    ensures { IfOk result IsShort }
+// Whether a row can be put into a page.
+pub fn is_short(row: &Row) -> bool
+    ensures { IsTrue result → IsShort row.now }
 {
-    let row = Seq::from(values);
+    !row.is_empty() && row.len() <= 16 && row_codec::encoded_length(row) <= ROW_BYTES
+}
+
+// Whether each row can.
+fn are_short(rows: &[Row]) -> bool
+    ensures { IsTrue result → All IsShort rows.now }
+{
+    rows.iter().all(|row| is_short(row))
+}
+
+// Whether each row can that a row becomes.
+fn become_short(changes: &[Placed]) -> bool
+    ensures { IsTrue result → All (λ (placed : Placed). IsShort placed.row) changes.now }
+{
+    changes.iter().all(|placed| is_short(&placed.row))
+}
+
+// The encoding of a row under its number. A row without values is refused, and one of more than sixteen.
+pub fn encoding(alloc: Global, number: u64, row: &Row) -> Result<Vec<u8>, Refusal> {
     if row.is_empty() || row.len() > 16 {
         return Err(Refusal::BadSizes);
     }
-    row_codec::encode(alloc, 0, &row)?;
-    Ok(row)
+    row_codec::encode(alloc, number, row)
 }
 
 // A row of one integer.
-pub fn integer(alloc: Global, number: i64) -> Result<Row, Refusal>
-    ensures { IfOk result IsShort }
-{
-    let mut values = Vec::new(alloc);
-    values.push(Value::Int(number))?;
-    row_of(alloc, values)
+pub fn integer(alloc: Global, number: i64) -> Result<Row, AllocError> {
+    let mut row = Seq::new(alloc);
+    row.push(Value::Int(number))?;
+    Ok(row)
 }
 
 // A row of five texts: four of 200 letters and one of so many.
-pub fn five_texts(alloc: Global, last: usize) -> Result<Row, Refusal>
+pub fn five_texts(alloc: Global, last: usize) -> Result<Row, AllocError>
     requires { last ≤ 200 }
-    ensures { IfOk result IsShort }
 {
-    let mut values = Vec::new(alloc);
+    let mut row = Seq::new(alloc);
     for _ in 0..4 {
-        values.push(letters(alloc, 200)?)?;
+        row.push(letters(alloc, 200)?)?;
     }
-    values.push(letters(alloc, last)?)?;
-    row_of(alloc, values)
+    row.push(letters(alloc, last)?)?;
+    Ok(row)
 }
 
-// A store of 16 zero pages.
-pub fn zero_pages(alloc: Global) -> Result<MemPager, AllocError> {
-    let pages = vec![in alloc; Page::zero(); 16]?;
-    Ok(MemPager::new(alloc, pages, Vec::new(alloc)))
+// How many bytes the encoding of such a row takes.
+pub fn bytes_of_texts(alloc: Global, last: usize) -> Result<usize, Refusal>
+    requires { last ≤ 200 }
+{
+    Ok(encoding(alloc, 7, &five_texts(alloc, last)?)?.len())
+}
+
+// A row of sixteen values that takes 900 bytes: twelve integers from this one on, three texts of 200 letters and one of 175.
+pub fn sixteen_values(alloc: Global, first: i64) -> Result<Row, AllocError> {
+    let mut row = Seq::new(alloc);
+    for more in 0..12 {
+        row.push(Value::Int(first.saturating_add(more)))?;
+    }
+    for _ in 0..3 {
+        row.push(letters(alloc, 200)?)?;
+    }
+    row.push(letters(alloc, 175)?)?;
+    Ok(row)
+}
+
+// A store of so many zero pages. The listed calls fail.
+pub fn zero_pages(alloc: Global, count: usize, failing: &[u64]) -> Result<MemPager, AllocError>
+    requires { count < 1000 }
+{
+    let pages = vec![in alloc; Page::zero(); count]?;
+    Ok(MemPager::new(alloc, pages, failing.to_vec(alloc)?))
 }
 
 // Columns of these kinds, named a, b and on.
@@ -96,50 +134,59 @@ pub fn columns_of(alloc: Global, kinds: &[Kind]) -> Result<Vec<Column>, Refusal>
     Ok(columns)
 }
 
-// Makes a table of that name with columns of these kinds.
-pub fn make_table(
+// Makes a table of that name with these columns.
+pub fn make_table_of<P: EditPager>(
     alloc: Global,
-    pager: &mut MemPager,
+    pager: &mut P,
     table: &[u8],
-    kinds: &[Kind],
-) -> Result<(), Stop<Failed>> {
-    let columns = columns_of(alloc, kinds)?;
+    columns: &[Column],
+) -> Result<(), Stop<P::Fault>> {
     let table = name(alloc, table)?;
     if columns.len() > 16 {
         return Err(Stop::Refused(Refusal::BadSizes));
     }
-    create_table(alloc, pager, &table, &columns)
+    create_table(alloc, pager, &table, columns)
 }
 
-// A store with t(a INT).
+// Makes a table of that name with columns of these kinds.
+pub fn make_table<P: EditPager>(
+    alloc: Global,
+    pager: &mut P,
+    table: &[u8],
+    kinds: &[Kind],
+) -> Result<(), Stop<P::Fault>> {
+    let columns = columns_of(alloc, kinds)?;
+    make_table_of(alloc, pager, table, &columns)
+}
+
+// A store of 16 pages with t(a INT).
 pub fn one_table(alloc: Global) -> Result<MemPager, Stop<Failed>> {
-    let mut pager = zero_pages(alloc)?;
+    let mut pager = zero_pages(alloc, 16, &[])?;
     make_table(alloc, &mut pager, b"t", &[Kind::Int])?;
     Ok(pager)
 }
 
 // Makes an index of that name over the column at that place of the table of that name.
-pub fn make_index(
+pub fn make_index<P: EditPager>(
     alloc: Global,
-    pager: &mut MemPager,
+    pager: &mut P,
     index: &[u8],
     table: &[u8],
     place: u32,
-) -> Result<(), Stop<Failed>> {
+) -> Result<(), Stop<P::Fault>> {
     let index = name(alloc, index)?;
     let catalog = open(alloc, pager)?;
     let table = table_of(alloc, &catalog, table)?;
     create_index(alloc, pager, &index, table, place)
 }
 
-// How many tables there are.
-pub fn tables_in(alloc: Global, pager: &mut MemPager) -> Result<usize, Stop<Failed>> {
-    Ok(open(alloc, pager)?.schema(alloc)?.tables.len())
-}
-
-// How many indexes there are.
-pub fn indexes_in(alloc: Global, pager: &mut MemPager) -> Result<usize, Stop<Failed>> {
-    Ok(open(alloc, pager)?.schema(alloc)?.indexes.len())
+// How many tables there are, and how many indexes.
+pub fn tables_and_indexes<P: Pager>(
+    alloc: Global,
+    pager: &mut P,
+) -> Result<(usize, usize), Stop<P::Fault>> {
+    let schema = open(alloc, pager)?.schema(alloc)?;
+    Ok((schema.tables.len(), schema.indexes.len()))
 }
 
 // The table of that name of a catalog.
@@ -147,89 +194,110 @@ fn table_of<'a>(
     alloc: Global,
     catalog: &'a Catalog,
     table: &[u8],
-) -> Result<&'a StoredTable, Stop<Failed>> {
-    match catalog.table(&name(alloc, table)?) {
-        Some(table) => Ok(table),
-        None => Err(Stop::Refused(Refusal::BadWords)),
-    }
+) -> Result<&'a StoredTable, Refusal> {
+    catalog.table(&name(alloc, table)?).ok_or(Refusal::BadWords)
 }
 
 // The table t of a catalog.
-pub fn t(alloc: Global, catalog: &Catalog) -> Result<&StoredTable, Stop<Failed>> {
+fn t(alloc: Global, catalog: &Catalog) -> Result<&StoredTable, Refusal> {
     table_of(alloc, catalog, b"t")
 }
 
 // Adds rows to the table t.
-pub fn insert_rows(alloc: Global, pager: &mut MemPager, rows: &[Row]) -> Result<(), Stop<Failed>>
-    requires { All IsShort rows.now }
-{
+pub fn insert_rows<P: EditPager>(
+    alloc: Global,
+    pager: &mut P,
+    rows: &[Row],
+) -> Result<(), Stop<P::Fault>> {
+    if !are_short(rows) {
+        return Err(Stop::Refused(Refusal::BadSizes));
+    }
     let catalog = open(alloc, pager)?;
     insert(alloc, pager, t(alloc, &catalog)?, rows)
 }
 
 // Adds a row of one integer to the table t.
-pub fn insert_integer(
+pub fn insert_integer<P: EditPager>(
     alloc: Global,
-    pager: &mut MemPager,
+    pager: &mut P,
     number: i64,
-) -> Result<(), Stop<Failed>> {
+) -> Result<(), Stop<P::Fault>> {
     let row = integer(alloc, number)?;
     insert_rows(alloc, pager, &[row])
 }
 
 // Adds a row of five texts to the table t.
-pub fn insert_texts(alloc: Global, pager: &mut MemPager, last: usize) -> Result<(), Stop<Failed>>
+pub fn insert_texts<P: EditPager>(
+    alloc: Global,
+    pager: &mut P,
+    last: usize,
+) -> Result<(), Stop<P::Fault>>
     requires { last ≤ 200 }
 {
     let row = five_texts(alloc, last)?;
     insert_rows(alloc, pager, &[row])
 }
 
-// Changes a row of the table t, which stands on page 2, to one integer.
-pub fn update_integer(
+// Changes rows of the table t.
+pub fn update_rows<P: EditPager>(
     alloc: Global,
-    pager: &mut MemPager,
+    pager: &mut P,
+    changes: &[Placed],
+) -> Result<(), Stop<P::Fault>> {
+    if !become_short(changes) {
+        return Err(Stop::Refused(Refusal::BadSizes));
+    }
+    let catalog = open(alloc, pager)?;
+    update(alloc, pager, t(alloc, &catalog)?, changes)
+}
+
+// Changes a row of the table t, which stands on page 2, to one integer.
+pub fn update_integer<P: EditPager>(
+    alloc: Global,
+    pager: &mut P,
     number: u64,
     value: i64,
-) -> Result<(), Stop<Failed>> {
+) -> Result<(), Stop<P::Fault>> {
     let row = integer(alloc, value)?;
     let page = 2;
+    update_rows(alloc, pager, &[Placed { number, page, row }])
+}
+
+// Takes rows out of the table t.
+pub fn delete_rows<P: EditPager>(
+    alloc: Global,
+    pager: &mut P,
+    rows: &[Placed],
+) -> Result<(), Stop<P::Fault>> {
     let catalog = open(alloc, pager)?;
-    update(
-        alloc,
-        pager,
-        t(alloc, &catalog)?,
-        &[Placed { number, page, row }],
-    )
+    delete(alloc, pager, t(alloc, &catalog)?, rows)
 }
 
 // Takes the rows of these numbers out of the table t.
-pub fn delete_rows(
+pub fn delete_numbers<P: EditPager>(
     alloc: Global,
-    pager: &mut MemPager,
+    pager: &mut P,
     numbers: &[u64],
-) -> Result<(), Stop<Failed>> {
-    let catalog = open(alloc, pager)?;
-    let table = t(alloc, &catalog)?;
-    let mut rows = rows(alloc, pager, table)?;
+) -> Result<(), Stop<P::Fault>> {
+    let mut rows = rows_in_t(alloc, pager)?;
     rows.retain(|placed| numbers.contains(&placed.number));
-    delete(alloc, pager, table, &rows)
+    delete_rows(alloc, pager, &rows)
 }
 
 // The next row number of the table t.
-pub fn next_in_t(alloc: Global, pager: &mut MemPager) -> Result<u64, Stop<Failed>> {
+pub fn next_in_t<P: Pager>(alloc: Global, pager: &mut P) -> Result<u64, Stop<P::Fault>> {
     let catalog = open(alloc, pager)?;
     next_number(alloc, pager, t(alloc, &catalog)?)
 }
 
 // The rows of the table t.
-pub fn rows_in_t(alloc: Global, pager: &mut MemPager) -> Result<Vec<Placed>, Stop<Failed>> {
+pub fn rows_in_t<P: Pager>(alloc: Global, pager: &mut P) -> Result<Vec<Placed>, Stop<P::Fault>> {
     let catalog = open(alloc, pager)?;
     rows(alloc, pager, t(alloc, &catalog)?)
 }
 
 // How many rows the table t has.
-pub fn count(alloc: Global, pager: &mut MemPager) -> Result<usize, Stop<Failed>> {
+pub fn count<P: Pager>(alloc: Global, pager: &mut P) -> Result<usize, Stop<P::Fault>> {
     Ok(rows_in_t(alloc, pager)?.len())
 }
 
@@ -241,11 +309,11 @@ pub fn first_integer(row: &Row) -> Option<i64> {
 }
 
 // Whether the rows of the table t have these numbers and integers.
-pub fn rows_are(
+pub fn rows_are<P: Pager>(
     alloc: Global,
-    pager: &mut MemPager,
+    pager: &mut P,
     want: &[(u64, i64)],
-) -> Result<bool, Stop<Failed>> {
+) -> Result<bool, Stop<P::Fault>> {
     let rows = rows_in_t(alloc, pager)?;
     Ok(
         rows.len() == want.len()
@@ -257,8 +325,13 @@ pub fn rows_are(
 
 // Whether a page begins with these bytes.
 pub fn begins(pager: &MemPager, page: usize, bytes: &[u8]) -> bool {
+    holds_at(pager, page, 0, bytes)
+}
+
+// Whether these bytes stand at that place of a page.
+pub fn holds_at(pager: &MemPager, page: usize, place: usize, bytes: &[u8]) -> bool {
     match pager.pages().get(page) {
-        Some(page) => page.bytes().starts_with(bytes),
+        Some(page) => page.bytes()[place.min(1024)..].starts_with(bytes),
         None => false,
     }
 }
