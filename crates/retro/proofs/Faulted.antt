@@ -1,5 +1,5 @@
 -- The status of a run whose journal tells a fault.
-use Rattle.std.proofs.Common.{◌≡◌, ◌∙◌, ℕ, Bool, true, false, List, Result, Ok, Err, ap, if◌then◌else◌, sym}
+use Rattle.std.proofs.Common.{◌≡◌, ℕ, Bool, true, false, List, Result, Ok, Err, ap, if◌then◌else◌, sym}
 use Rattle.std.specs.Prelude.{IfErr, IfOk, Option}
 use Rattle.history.specs.declared.journal.Line.{Line}
 use Rattle.retro.specs.Keeping.{WritesText, faulty, has_fault, with_faults}

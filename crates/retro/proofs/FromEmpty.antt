@@ -1,5 +1,5 @@
 -- Runs over an empty store that was made for them.
-use Rattle.std.proofs.Common.{◌≡◌, ◌∙◌, ◌<◌, ◌≤◌, ℕ, List, [], ◌∷◌, Result, Ok, Err, refl, sym, ap, subst, length, replicate, arith}
+use Rattle.std.proofs.Common.{◌≡◌, ◌∙◌, ◌≤◌, ℕ, List, [], ◌∷◌, Result, Ok, Err, refl, sym, ap, subst, length, replicate, arith}
 use Rattle.std.specs.Prelude.{IfErr, IfOk}
 use Rattle.std.proofs.Math.Path.{fun_ext}
 use Rattle.std.proofs.lemmas.List.{get_or-replicate, length-replicate}
@@ -14,7 +14,6 @@ use Rattle.retro_base.specs.declared.refusal.Refusal.{Refusal}
 use Rattle.retro_base.specs.declared.refusal.Refusal.TheVariants.{DiskFault, NotAStore, OutOfMemory}
 use Rattle.retro_base.specs.Cause.{IsFault, Rose}
 use Rattle.history.specs.declared.entry.Base.{Base}
-use Rattle.history.specs.declared.entry.Mark.{Mark as MarkOf}
 use Rattle.history.specs.declared.log.Version.TheVariants.{One}
 use Rattle.history.specs.History.{History, now}
 use Rattle.history.specs.Replayed.{page_in}

@@ -1,14 +1,14 @@
 -- Slots with the seats of one store.
-use Rattle.std.proofs.Common.{◌≡◌, ◌≢◌, ◌⊎◌, ◌<◌, ◌+◌, ◌++◌, ℕ, zero, suc, List, [], ◌∷◌, length, Option, Some, inl, inr, refl, ap, sym, subst, ◌∙◌, arith, append-nil, append_assoc, slice_get}
+use Rattle.std.proofs.Common.{◌≡◌, ◌≢◌, ◌⊎◌, ◌<◌, ◌+◌, ◌++◌, ℕ, zero, suc, List, [], ◌∷◌, length, Some, inl, inr, refl, ap, sym, subst, ◌∙◌, arith, append-nil, append_assoc}
 use Rattle.std.proofs.lemmas.List.{append_cancel_left}
-use Rattle.std.proofs.lemmas.Option.{slice_get_within}
 use Rattle.std.specs.Prelude.{◌↔◌}
 use Rattle.history.specs.declared.journal.Line.{Line}
 use Rattle.journal_law.specs.Facts.{AreOthers}
 use Rattle.journal_law.specs.Seats.{Idle, View, Waits}
 use Rattle.retro.specs.Meeting.{HaveMet}
-use Rattle.retro.specs.Slots.{AllCome, AreHonest, AreSeated, AreTogether, IsSeated, IsSetAt, SitsAt, view_at, view_in}
+use Rattle.retro.specs.Slots.{AllCome, AreHonest, AreSeated, AreTogether, IsSeated, SitsAt, seat_at, view_at, view_in}
 use Rattle.retro.specs.Steps.{Begins, HasMetEach, MetAll, PairMet}
+use Rattle.retro.specs.declared.slots.Slot.{Slot}
 use Rattle.retro.proofs.Phased.{all_append}
 
 pub same_or_not : (a b : ℕ) → (a ≡ b) ⊎ (a ≢ b)
@@ -22,61 +22,39 @@ same_or_not (suc a) (suc b) = by_rest (same_or_not a b)
     by_rest (inr other) = inr (λ e. other (omega (arith, e)))
 
 -- a slot has one seat
-pub one_seat : (S : Type 0) (s t : S) → Some (Some s) ≡ Some (Some t) → s ≡ t
+pub one_seat : (S : Type 0) (s t : S) → Some s ≡ Some t → s ≡ t
 one_seat S s t e = cc
 
+pub seat_within : {S : Type 0} (slots : List (Slot S)) (number : ℕ) (s : S) → SitsAt slots number s → number < length slots
+seat_within [] number s sits = absurd (cc sits)
+seat_within (slot ∷ slots) zero s sits = omega arith
+seat_within (slot ∷ slots) (suc number) s sits = omega (arith, seat_within slots number s sits)
+
 module _ (S : Type 0) (view : S → View) where
-  pub sees : (slots : List (Option S)) (number : ℕ) (s : S) → SitsAt slots number s → view_at view slots number ≡ view s
+  pub sees : (slots : List (Slot S)) (number : ℕ) (s : S) → SitsAt slots number s → view_at view slots number ≡ view s
   sees slots number s sits = ap (view_in view) sits
 
-  pub seated_number : (slots : List (Option S)) (number : ℕ) (s : S) → IsSeated view slots number → SitsAt slots number s → (view s).session ≡ number
-  seated_number slots number s there sits = subst (λ (t : S). (view t).session ≡ number) (one_seat S there.seat s (sym there.sits ∙ sits)) there.number_is
-
-  pub seated_idle : (slots : List (Option S)) (number : ℕ) (s : S) → IsSeated view slots number → SitsAt slots number s → (view s).work ≡ Idle
-  seated_idle slots number s there sits = subst (λ (t : S). (view t).work ≡ Idle) (one_seat S there.seat s (sym there.sits ∙ sits)) there.idle
-
   module _ (goes : S → S → Type 0) (stays : (s : S) → goes s s) (goes_on : (s t u : S) → goes s t → goes t u → goes s u) where
-    pub come_none : (slots : List (Option S)) → AreSeated view slots → AllCome view goes slots slots
+    pub come_none : (slots : List (Slot S)) → AreSeated view slots → AllCome view goes slots slots
     come_none slots seated = record {
       count = refl;
       seated = seated;
       each = λ number s t one two. subst (goes s) (one_seat S s t (sym one ∙ two)) (stays s);
     }
 
-    pub come_on : (old between new : List (Option S)) → AllCome view goes old between → AllCome view goes between new → AllCome view goes old new
+    pub come_on : (old between new : List (Slot S)) → AllCome view goes old between → AllCome view goes between new → AllCome view goes old new
     come_on old between new one two = record {
       count = two.count ∙ one.count;
       seated = two.seated;
       each = λ number s t was is.
-          let less : number < length between = subst (λ (n : ℕ). number < n) (sym one.count) (slice_get_within old number (Some s) was) in
+          let less : number < length between = subst (λ (n : ℕ). number < n) (sym one.count) (seat_within old number s was) in
           let there = one.seated number less in
           goes_on s there.seat t (one.each number s there.seat was there.sits) (two.each number there.seat t there.sits is);
     }
 
-    -- one seat has become another
-    pub come_one : (old new : List (Option S)) (number : ℕ) (before seat : S) → AreSeated view old → SitsAt old number before → IsSetAt old new number seat → (view seat).session ≡ number → (view seat).work ≡ Idle → goes before seat
-        → AllCome view goes old new
-    come_one old new number before seat seated was is number_is idle went = record {
-      count = is.count;
-      seated = λ n less. at n less (same_or_not n number);
-      each = λ n s t one two. each n s t one two (same_or_not n number);
-    }
-      where
-        at : (n : ℕ) → n < length new → (n ≡ number) ⊎ (n ≢ number) → IsSeated view new n
-        at n less (inl same) = subst (IsSeated view new) (sym same) (record { seat = seat; sits = is.sits; number_is = number_is; idle = idle })
-        at n less (inr other) =
-            let there = seated n (subst (λ (k : ℕ). n < k) is.count less) in
-            record { seat = there.seat; sits = is.others n other ∙ there.sits; number_is = there.number_is; idle = there.idle }
-
-        each : (n : ℕ) (s t : S) → SitsAt old n s → SitsAt new n t → (n ≡ number) ⊎ (n ≢ number) → goes s t
-        each n s t one two (inl same) =
-            subst (λ (a : S). goes a t) (one_seat S before s (sym was ∙ subst (λ (k : ℕ). SitsAt old k s) same one))
-            (subst (goes before) (one_seat S seat t (sym is.sits ∙ subst (λ (k : ℕ). SitsAt new k t) same two)) went)
-        each n s t one two (inr other) = subst (goes s) (one_seat S s t (sym one ∙ sym (is.others n other) ∙ two)) (stays s)
-
     -- two seats have become others
-    pub come_two : (old new : List (Option S)) (number : ℕ) (first other first_then other_then : S) → 0 < number → AreSeated view old → SitsAt old 0 first → SitsAt old number other → length new ≡ length old →
-        SitsAt new 0 first_then → SitsAt new number other_then → ((n : ℕ) → n ≢ 0 → n ≢ number → slice_get new n ≡ slice_get old n) → HaveMet (view first) (view other) (view first_then) (view other_then) →
+    pub come_two : (old new : List (Slot S)) (number : ℕ) (first other first_then other_then : S) → 0 < number → AreSeated view old → SitsAt old 0 first → SitsAt old number other → length new ≡ length old →
+        SitsAt new 0 first_then → SitsAt new number other_then → ((n : ℕ) → n ≢ 0 → n ≢ number → seat_at new n ≡ seat_at old n) → HaveMet (view first) (view other) (view first_then) (view other_then) →
         goes first first_then → goes other other_then → AllCome view goes old new × PairMet (view_at view old) (view_at view new) number
     come_two old new number first other first_then other_then above seated was_first was_other count is_first is_other others met went_first went_other = (
       record {
@@ -90,7 +68,7 @@ module _ (S : Type 0) (view : S → View) where
       },
     )
       where
-        seat_of : (n : ℕ) (s t : S) → SitsAt old n s → n < length old → (view t).session ≡ (view s).session → (view t).work ≡ (view s).work → SitsAt new n t → IsSeated view new n
+        seat_of : (n : ℕ) (s t : S) → SitsAt old n s → n < length old → (view t).session ≡ (view s).session → (view t).work ≡ (view s).work → SitsAt new n t → IsSeated view n (seat_at new n)
         seat_of n s t was less number_same work_same is =
             let there = seated n less in
             let same : there.seat ≡ s = one_seat S there.seat s (sym there.sits ∙ was) in
@@ -101,11 +79,11 @@ module _ (S : Type 0) (view : S → View) where
               idle = work_same ∙ subst (λ (a : S). (view a).work ≡ Idle) same there.idle;
             }
 
-        at : (n : ℕ) → n < length new → (n ≡ 0) ⊎ (n ≢ 0) → (n ≡ number) ⊎ (n ≢ number) → IsSeated view new n
-        at n less (inl zeroth) test = subst (IsSeated view new) (sym zeroth)
-            (seat_of 0 first first_then was_first (slice_get_within old 0 (Some first) was_first) met.one_waits.moves.session met.one_waits.work_is is_first)
-        at n less (inr none) (inl same) = subst (IsSeated view new) (sym same)
-            (seat_of number other other_then was_other (slice_get_within old number (Some other) was_other) met.other_waits.moves.session met.other_waits.work_is is_other)
+        at : (n : ℕ) → n < length new → (n ≡ 0) ⊎ (n ≢ 0) → (n ≡ number) ⊎ (n ≢ number) → IsSeated view n (seat_at new n)
+        at n less (inl zeroth) test = subst (λ (k : ℕ). IsSeated view k (seat_at new k)) (sym zeroth)
+            (seat_of 0 first first_then was_first (seat_within old 0 first was_first) met.one_waits.moves.session met.one_waits.work_is is_first)
+        at n less (inr none) (inl same) = subst (λ (k : ℕ). IsSeated view k (seat_at new k)) (sym same)
+            (seat_of number other other_then was_other (seat_within old number other was_other) met.other_waits.moves.session met.other_waits.work_is is_other)
         at n less (inr none) (inr apart) =
             let there = seated n (subst (λ (k : ℕ). n < k) count less) in
             record { seat = there.seat; sits = others n none apart ∙ there.sits; number_is = there.number_is; idle = there.idle }
@@ -119,17 +97,17 @@ module _ (S : Type 0) (view : S → View) where
         each n s t one two (inr none) (inr apart) = subst (goes s) (one_seat S s t (sym one ∙ sym (others n none apart) ∙ two)) (stays s)
 
     -- seats of one store stay so, and honest ones
-    pub together_on : (together : S → S → Type 0) → ((s t u : S) → goes s t → together s u → together t u) → ((s t u : S) → goes s t → together u s → together u t) → (old new : List (Option S)) → AreSeated view old
+    pub together_on : (together : S → S → Type 0) → ((s t u : S) → goes s t → together s u → together t u) → ((s t u : S) → goes s t → together u s → together u t) → (old new : List (Slot S)) → AreSeated view old
         → AllCome view goes old new → AreTogether together old → AreTogether together new
     together_on together one_goes other_goes old new seated come are n m s t one two apart =
-        let a = seated n (subst (λ (k : ℕ). n < k) come.count (slice_get_within new n (Some s) one)) in
-        let b = seated m (subst (λ (k : ℕ). m < k) come.count (slice_get_within new m (Some t) two)) in
+        let a = seated n (subst (λ (k : ℕ). n < k) come.count (seat_within new n s one)) in
+        let b = seated m (subst (λ (k : ℕ). m < k) come.count (seat_within new m t two)) in
         one_goes a.seat s t (come.each n a.seat s a.sits one) (other_goes b.seat t a.seat (come.each m b.seat t b.sits two) (are n m a.seat b.seat a.sits b.sits apart))
 
-    pub honest_on : (is_honest : S → Type 0) → ((s t : S) → goes s t → is_honest s ↔ is_honest t) → (old new : List (Option S)) → AreSeated view old → AllCome view goes old new → AreHonest is_honest old
+    pub honest_on : (is_honest : S → Type 0) → ((s t : S) → goes s t → is_honest s ↔ is_honest t) → (old new : List (Slot S)) → AreSeated view old → AllCome view goes old new → AreHonest is_honest old
         → AreHonest is_honest new
     honest_on is_honest honest_stays old new seated come are n t is =
-        let a = seated n (subst (λ (k : ℕ). n < k) come.count (slice_get_within new n (Some t) is)) in
+        let a = seated n (subst (λ (k : ℕ). n < k) come.count (seat_within new n t is)) in
         (honest_stays a.seat t (come.each n a.seat t a.sits is)).0 (are n a.seat a.sits)
 
 -- ---- meetings

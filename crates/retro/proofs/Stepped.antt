@@ -1,6 +1,7 @@
 -- That a phase runs, and a run.
-use Rattle.std.proofs.Common.{◌≡◌, ◌≢◌, ◌⊎◌, ◌<◌, ◌≤◌, ◌+◌, ◌++◌, ℕ, zero, suc, List, [], ◌∷◌, length, Option, Some, Result, Ok, Err, inl, inr, refl, ap, sym, subst, ◌∙◌, arith, slice_get}
-use Rattle.std.specs.Prelude.{IsErr}
+use Rattle.std.proofs.Common.{◌≡◌, ◌⊎◌, ◌<◌, ◌≤◌, ◌+◌, ◌++◌, ℕ, zero, suc, List, [], ◌∷◌, length, length-append, Option, Some, Result, Ok, Err, inl, inr, refl, ap, sym, subst, ◌∙◌, arith, slice_get}
+use Rattle.std.specs.Prelude.{IfOk, IsErr}
+use Rattle.std.specs.declared.alloc.AllocError.{AllocError}
 use Rattle.std.proofs.lemmas.Option.{slice_get_past}
 use Rattle.std.specs.Option.{option_map_or}
 use Rattle.history.specs.declared.journal.Line.{Line}
@@ -11,12 +12,12 @@ use Rattle.session.specs.Replies.{kept_at_place, kept_by_place}
 use Rattle.session.specs.Run.{AreKept, IsReady, IsSessionOf, RunsSession, SessionLeft, WasKept}
 use Rattle.session.specs.declared.kept.Kept.{Kept}
 use Rattle.session.specs.declared.plan.SessionPlan.{SessionPlan}
-use Rattle.session.specs.declared.plan.Task.{Task}
 use Rattle.retro.specs.Phases.{HasComeTo, HaveRun, KeepsNoMore, StandTogether, WereKept}
-use Rattle.retro.specs.Slots.{AllCome, AreSeated, view_at, view_in}
-use Rattle.retro.specs.Steps.{MetAll, PhaseRuns, RanAt, RanThrough, RunsPhases}
+use Rattle.retro.specs.Slots.{AllCome, AreAnswers, AreHonest, AreSeated, IsSeated, SitsAt, answered_at, seat_at, seat_in, view_at, view_in}
+use Rattle.retro.specs.Steps.{AllRan, MetAll, PhaseRuns, RanAt, RanThrough, RunsPhases}
+use Rattle.retro.specs.declared.slots.Slot.{Slot}
 use Rattle.retro.proofs.Phased.{begins, kept_none, less_or_not, no_session, on, runs, stand_behind}
-use Rattle.retro.proofs.Seated.{come_one, same_or_not, sees}
+use Rattle.retro.proofs.Seated.{one_seat, sees}
 
 -- ---- lists
 
@@ -24,6 +25,18 @@ get_front : {A : Type 0} (xs ys : List A) (place : ℕ) → place < length xs �
 get_front [] ys place less = absurd (omega (arith, less))
 get_front (x ∷ xs) ys zero less = refl
 get_front (x ∷ xs) ys (suc place) less = get_front xs ys place (omega (arith, less))
+
+get_behind : {A : Type 0} (xs ys zs : List A) (place : ℕ) → length xs ≡ length ys → length ys ≤ place → slice_get (xs ++ zs) place ≡ slice_get (ys ++ zs) place
+get_behind [] [] zs place same past = refl
+get_behind [] (y ∷ ys) zs place same past = absurd (omega (arith, same))
+get_behind (x ∷ xs) [] zs place same past = absurd (omega (arith, same))
+get_behind (x ∷ xs) (y ∷ ys) zs zero same past = absurd (omega (arith, past))
+get_behind (x ∷ xs) (y ∷ ys) zs (suc place) same past = get_behind xs ys zs place (omega (arith, same)) (omega (arith, past))
+
+pub there_is : {A : Type 0} (xs : List A) (place : ℕ) → place < length xs → (x : A) × (slice_get xs place ≡ Some x)
+there_is [] place less = absurd (omega (arith, less))
+there_is (x ∷ xs) zero less = (x, refl)
+there_is (x ∷ xs) (suc place) less = there_is xs place (omega (arith, less))
 
 get_last : {A : Type 0} (xs : List A) (y : A) → slice_get (xs ++ y ∷ []) (length xs) ≡ Some y
 get_last [] y = refl
@@ -46,12 +59,6 @@ of_later done zero number past = refl
 of_later done (suc later) number past =
     ap (λ (found : Option (List (List Kept))). kept_at_place (option_map_or (λ (sessions : List (List Kept)). sessions) found []) number) (slice_get_past done later (omega (arith, past)))
 
-of_place : (kept : List (List Kept)) (one : List Kept) (place : ℕ) → length kept ≡ place → kept_at_place (kept ++ one ∷ []) place ≡ one
-of_place kept one place long = ap (λ (found : Option (List Kept)). option_map_or (λ (items : List Kept). items) found []) (subst (λ (n : ℕ). slice_get (kept ++ one ∷ []) n ≡ Some one) long (get_last kept one))
-
-of_before : (kept : List (List Kept)) (one : List Kept) (place : ℕ) → place < length kept → kept_at_place (kept ++ one ∷ []) place ≡ kept_at_place kept place
-of_before kept one place less = ap (λ (found : Option (List Kept)). option_map_or (λ (items : List Kept). items) found []) (get_front kept (one ∷ []) place less)
-
 of_nobody : (kept : List (List Kept)) (place : ℕ) → length kept ≤ place → kept_at_place kept place ≡ []
 of_nobody kept place past = ap (λ (found : Option (List Kept)). option_map_or (λ (items : List Kept). items) found []) (slice_get_past kept place past)
 
@@ -59,13 +66,6 @@ of_nobody kept place past = ap (λ (found : Option (List Kept)). option_map_or (
 
 abbrev pub size_of : View → ℕ
 size_of view = view.opened.base.page_count
-
--- the sessions below a number have run
-pub record SoFar (plan : Plan) (phase seats below : ℕ) (old new : ℕ → View) (kept : List (List Kept)) : Type 0 where
-  pub left : (number : ℕ) → number < seats → IsReady (size_of (old number)) plan phase (old number) → SessionLeft (size_of (old number)) plan phase (old number) (new number)
-  pub rest : (number : ℕ) → below ≤ number → new number ≡ old number
-  pub kept_each : (number : ℕ) → number < below → IsReady (size_of (old number)) plan phase (old number) →
-      AreKept {E = Unit {0}} (size_of (old number)) plan phase (new number) (Ok (kept_at_place kept number))
 
 left_none : (size : ℕ) (plan : Plan) (phase : ℕ) (view : View) → IsReady size plan phase view → SessionLeft size plan phase view view
 left_none size plan phase view ready = record {
@@ -83,77 +83,77 @@ left_none size plan phase view ready = record {
     nothing [] = refl
     nothing (line ∷ lines) = ap (λ (ls : List Line). line ∷ ls) (nothing lines)
 
-pub so_far_none : (plan : Plan) (phase seats : ℕ) (old : ℕ → View) (kept : List (List Kept)) → SoFar plan phase seats 0 old old kept
-so_far_none plan phase seats old kept = record {
-  left = λ number less ready. left_none (size_of (old number)) plan phase (old number) ready;
-  rest = λ number behind. refl;
-  kept_each = λ number less ready. absurd (omega (arith, less));
-}
-
-module _ {S E : Type 0} (view : S → View) (goes : S → S → Type 0) (is_honest : S → Type 0) (plan : Plan) (phase seats number : ℕ) (names : List (List ℕ)) (tasks : List Task) (initial old new : List (Option S)) (answered : Result (List Kept) E)
-    (kept : List (List Kept)) (ran : RanAt view goes is_honest phase number names tasks old new answered) (honest : is_honest ran.before) (of : IsSessionOf plan phase number names tasks)
-    (before : SoFar plan phase seats number (view_at view initial) (view_at view old) kept) where
-  start : view_at view initial number ≡ view ran.before
-  start = sym (before.rest number (omega arith)) ∙ sees S view old number ran.before ran.was
-
-  there : RunsSession (size_of (view_at view initial number)) plan phase (view_at view initial number) (view_at view new number) answered
-  there = subst (λ (v : View). RunsSession (size_of v) plan phase v (view_at view new number) answered) (sym start)
-      (subst (λ (v : View). RunsSession (size_of (view ran.before)) plan phase (view ran.before) v answered) (sym (sees S view new number ran.behind ran.is.sits)) (ran.ran honest plan of))
-
-  stays_at : (n : ℕ) → n ≢ number → view_at view new n ≡ view_at view old n
-  stays_at n apart = ap (view_in view) (ran.is.others n apart)
-
-  pub left_next : (n : ℕ) → n < seats → IsReady (size_of (view_at view initial n)) plan phase (view_at view initial n) → SessionLeft (size_of (view_at view initial n)) plan phase (view_at view initial n) (view_at view new n)
-  left_next n less = by_number (same_or_not n number)
-    where
-      by_number : (n ≡ number) ⊎ (n ≢ number) → IsReady (size_of (view_at view initial n)) plan phase (view_at view initial n)
-          → SessionLeft (size_of (view_at view initial n)) plan phase (view_at view initial n) (view_at view new n)
-      by_number (inl same) = subst (λ (k : ℕ). IsReady (size_of (view_at view initial k)) plan phase (view_at view initial k)
-          → SessionLeft (size_of (view_at view initial k)) plan phase (view_at view initial k) (view_at view new k)) (sym same) (λ ready. (there ready).0)
-      by_number (inr apart) = λ ready. subst (SessionLeft (size_of (view_at view initial n)) plan phase (view_at view initial n)) (sym (stays_at n apart)) (before.left n less ready)
-
-pub so_far_next : {S E : Type 0} (view : S → View) (goes : S → S → Type 0) (is_honest : S → Type 0) (plan : Plan) (phase seats number : ℕ) (names : List (List ℕ)) (tasks : List Task) (initial old new : List (Option S)) (one : List Kept)
-    (kept : List (List Kept)) (ran : RanAt {S = S} {E = E} view goes is_honest phase number names tasks old new (Ok one)) → is_honest ran.before → IsSessionOf plan phase number names tasks → length kept ≡ number →
-    SoFar plan phase seats number (view_at view initial) (view_at view old) kept → SoFar plan phase seats (number + 1) (view_at view initial) (view_at view new) (kept ++ one ∷ [])
-so_far_next {S} {E} view goes is_honest plan phase seats number names tasks initial old new one kept ran honest of long before = record {
-  left = left_next {S = S} {E = E} view goes is_honest plan phase seats number names tasks initial old new (Ok one) kept ran honest of before;
-  rest = λ n behind. ap (view_in view) (ran.is.others n (λ e. omega (arith, e, behind))) ∙ before.rest n (omega (arith, behind));
-  kept_each = λ n less. by_number n less (same_or_not n number);
-}
-  where
-    by_number : (n : ℕ) → n < number + 1 → (n ≡ number) ⊎ (n ≢ number) → IsReady (size_of (view_at view initial n)) plan phase (view_at view initial n) →
-        AreKept {E = Unit {0}} (size_of (view_at view initial n)) plan phase (view_at view new n) (Ok (kept_at_place (kept ++ one ∷ []) n))
-    by_number n less (inl same) ready = subst (λ (k : ℕ). IsReady (size_of (view_at view initial k)) plan phase (view_at view initial k) →
-        AreKept {E = Unit {0}} (size_of (view_at view initial k)) plan phase (view_at view new k) (Ok (kept_at_place (kept ++ one ∷ []) k))) (sym same)
-        (λ ready_there. subst (λ (items : List Kept). AreKept {E = Unit {0}} (size_of (view_at view initial number)) plan phase (view_at view new number) (Ok items)) (sym (of_place kept one number long))
-        (there {S = S} {E = E} view goes is_honest plan phase seats number names tasks initial old new (Ok one) kept ran honest of before ready_there).1) ready
-    by_number n less (inr apart) ready =
-        subst (λ (items : List Kept). AreKept {E = Unit {0}} (size_of (view_at view initial n)) plan phase (view_at view new n) (Ok items)) (sym (of_before kept one n (omega (arith, less, apart, long))))
-        (subst (λ (v : View). AreKept {E = Unit {0}} (size_of (view_at view initial n)) plan phase v (Ok (kept_at_place kept n))) (sym (ap (view_in view) (ran.is.others n apart)))
-        (before.kept_each n (omega (arith, less, apart)) ready))
-
--- all have run, or one could not be kept
-pub all_ran : {E : Type 0} (plan : Plan) (phase seats count : ℕ) (old new : ℕ → View) (kept : List (List Kept)) → length kept ≡ count → SoFar plan phase seats count old new kept → RanThrough {E = E} plan phase seats count old new (Ok kept)
-all_ran plan phase seats count old new kept long so = record { left = so.left; long = long; kept = so.kept_each }
-
 not_failed : {T : Type 0} (E : Type 0) (t : T) → IsErr {T = T} {E = E} (Ok t) → ⊥
 not_failed E t failed = cc
 
-pub one_failed : {E : Type 0} (plan : Plan) (phase seats count : ℕ) (old new : ℕ → View) (answered : Result (List (List Kept)) E) → IsErr answered →
-    ((n : ℕ) → n < seats → IsReady (size_of (old n)) plan phase (old n) → SessionLeft (size_of (old n)) plan phase (old n) (new n)) → RanThrough plan phase seats count old new answered
-one_failed {E} plan phase seats count old new (Ok kept) failed left = absurd (not_failed E kept failed)
-one_failed {E} plan phase seats count old new (Err why) failed left = record { left = left; long = tt; kept = tt }
+-- no session has run
+pub none_ran : {E : Type 0} (plan : Plan) (phase seats count : ℕ) (old : ℕ → View) (answered : Result (List (List Kept)) E) → IsErr answered → RanThrough plan phase seats count old old answered
+none_ran {E} plan phase seats count old (Ok kept) failed = absurd (not_failed E kept failed)
+none_ran {E} plan phase seats count old (Err why) failed = record { left = λ number less ready. left_none (size_of (old number)) plan phase (old number) ready; long = tt; kept = tt }
 
--- no seat is gone
-pub ran_come : {S E : Type 0} (view : S → View) (goes : S → S → Type 0) → ((s : S) → goes s s) → ((s t u : S) → goes s t → goes t u → goes s u) → (is_honest : S → Type 0) (phase number : ℕ) (names : List (List ℕ)) (tasks : List Task)
-    (old new : List (Option S)) (answered : Result (List Kept) E) → AreSeated view old → RanAt view goes is_honest phase number names tasks old new answered → AllCome view goes old new
-ran_come {S} view goes stays goes_on is_honest phase number names tasks old new answered seated ran =
-    come_one S view goes stays goes_on old new number ran.before ran.behind seated ran.was ran.is ran.number_is ran.idle ran.stays
-
--- what a loop over the sessions of a phase knows
-pub session_of : (plan : Plan) (phase place : ℕ) (sessions : List SessionPlan) (session : SessionPlan) (names : List (List ℕ)) → IsPhaseOf plan phase sessions → slice_get sessions place ≡ Some session → names ≡ names_of sessions
+session_of : (plan : Plan) (phase place : ℕ) (sessions : List SessionPlan) (session : SessionPlan) (names : List (List ℕ)) → IsPhaseOf plan phase sessions → slice_get sessions place ≡ Some session → names ≡ names_of sessions
     → IsSessionOf plan phase place names session.tasks
 session_of plan phase place sessions session names is there named = record { names_are = rw is (sym named); tasks_are = rw (is, there) refl }
+
+-- The slots of the sessions are the first ones. The sessions have run in them, and what they answered was taken out.
+module _ {S : Type 0} (view : S → View) (goes : S → S → Type 0) (is_honest : S → Type 0) (phase : ℕ) (sessions : List SessionPlan) (old first mid last rest : List (Slot S)) (split : old ≡ first ++ rest) (count : length first ≡ length sessions)
+    (mid_count : length mid ≡ length first) (last_count : length last ≡ length mid) (same : (n : ℕ) → seat_at last n ≡ seat_at mid n) (names : List (List ℕ)) (ran : AllRan view goes is_honest phase names sessions first mid) where
+  abbrev after : List (Slot S)
+  after = last ++ rest
+
+  ran_at : (n : ℕ) (session : SessionPlan) → n < length sessions → slice_get sessions n ≡ Some session → RanAt view goes is_honest phase n names session.tasks (seat_at old n) (seat_at after n) (answered_at mid n)
+  ran_at n session less there =
+      let was : seat_at old n ≡ seat_at first n = ap (λ (xs : List (Slot S)). seat_at xs n) split ∙ ap seat_in (get_front first rest n (omega (arith, less, count))) in
+      let is : seat_at after n ≡ seat_at mid n = ap seat_in (get_front last rest n (omega (arith, less, count, mid_count, last_count))) ∙ same n in
+      subst (λ (seat : Option S). RanAt view goes is_honest phase n names session.tasks seat (seat_at after n) (answered_at mid n)) (sym was)
+      (subst (λ (seat : Option S). RanAt view goes is_honest phase n names session.tasks (seat_at first n) seat (answered_at mid n)) (sym is) (ran n session there))
+
+  rests_at : (n : ℕ) → length sessions ≤ n → seat_at after n ≡ seat_at old n
+  rests_at n past = ap seat_in (get_behind last first rest n (last_count ∙ mid_count) (omega (arith, past, count))) ∙ sym (ap (λ (xs : List (Slot S)). seat_at xs n) split)
+
+  pub all_come : ((s : S) → goes s s) → AreSeated view old → AllCome view goes old after
+  all_come stays seated = record {
+    count = long;
+    seated = λ n less. seated_at n less (less_or_not n (length sessions));
+    each = λ n s t was is. gone n s t was is (less_or_not n (length sessions));
+  }
+    where
+      long : length after ≡ length old
+      long = length-append last rest ∙ ap (λ (n : ℕ). n + length rest) (last_count ∙ mid_count) ∙ sym (length-append first rest) ∙ sym (ap length split)
+
+      seated_at : (n : ℕ) → n < length after → (n < length sessions) ⊎ (length sessions ≤ n) → IsSeated view n (seat_at after n)
+      seated_at n less (inl has) = let one = there_is sessions n has in let at = ran_at n one.0 has one.1 in record { seat = at.behind; sits = at.is; number_is = at.number_is; idle = at.idle }
+      seated_at n less (inr past) = subst (IsSeated view n) (sym (rests_at n past)) (seated n (subst (λ (k : ℕ). n < k) long less))
+
+      gone : (n : ℕ) (s t : S) → SitsAt old n s → SitsAt after n t → (n < length sessions) ⊎ (length sessions ≤ n) → goes s t
+      gone n s t was is (inl has) =
+          let one = there_is sessions n has in
+          let at = ran_at n one.0 has one.1 in
+          subst (λ (a : S). goes a t) (one_seat S at.before s (sym at.was ∙ was)) (subst (goes at.before) (one_seat S at.behind t (sym at.is ∙ is)) at.stays)
+      gone n s t was is (inr past) = subst (goes s) (one_seat S s t (sym was ∙ sym (rests_at n past) ∙ is)) (stays s)
+
+  module _ (plan : Plan) (is : IsPhaseOf plan phase sessions) (named : names ≡ names_of sessions) (honest : AreHonest is_honest old) where
+    runs_at : (n : ℕ) → n < length sessions → RunsSession (size_of (view_at view old n)) plan phase (view_at view old n) (view_at view after n) (answered_at mid n)
+    runs_at n less =
+        let one = there_is sessions n less in
+        let at = ran_at n one.0 less one.1 in
+        subst (λ (v : View). RunsSession (size_of v) plan phase v (view_at view after n) (answered_at mid n)) (sym (sees S view old n at.before at.was))
+        (subst (λ (v : View). RunsSession (size_of (view at.before)) plan phase (view at.before) v (answered_at mid n)) (sym (sees S view after n at.behind at.is))
+        (at.ran (honest n at.before at.was) plan (session_of plan phase n sessions one.0 names is one.1 named)))
+
+    left_at : (n : ℕ) → (n < length sessions) ⊎ (length sessions ≤ n) → IsReady (size_of (view_at view old n)) plan phase (view_at view old n)
+        → SessionLeft (size_of (view_at view old n)) plan phase (view_at view old n) (view_at view after n)
+    left_at n (inl less) ready = (runs_at n less ready).0
+    left_at n (inr past) ready = subst (SessionLeft (size_of (view_at view old n)) plan phase (view_at view old n)) (sym (ap (view_in view) (rests_at n past))) (left_none (size_of (view_at view old n)) plan phase (view_at view old n) ready)
+
+    pub all_ran : (answered : Result (List (List Kept)) AllocError) → IfOk answered (AreAnswers mid) → RanThrough plan phase (length old) (length sessions) (view_at view old) (view_at view after) answered
+    all_ran (Ok kept) are = record {
+      left = λ n less. left_at n (less_or_not n (length sessions));
+      long = are.0 ∙ mid_count ∙ count;
+      kept = λ n less ready.
+          subst (AreKept {E = AllocError} (size_of (view_at view old n)) plan phase (view_at view after n)) (are.1 n (omega (arith, less, mid_count, count))) (runs_at n less ready).1;
+    }
+    all_ran (Err why) are = record { left = λ n less. left_at n (less_or_not n (length sessions)); long = tt; kept = tt }
 
 -- ---- a phase
 

@@ -1,6 +1,6 @@
 -- Runs over the store on four devices.
 use Rattle.std.proofs.Common.{◌≡◌, ◌⊎◌, ◌<◌, ◌≤◌, ◌+◌, ◌++◌, ℕ, zero, suc, Bool, true, false, List, [], ◌∷◌, drop, take, length, length-append, append-nil, append_assoc, slice_get, map, Option, Some, None, Result, Ok, Err, inl, inr, refl, sym, ap, subst, ◌∙◌, arith, if◌then◌else◌}
-use Rattle.std.specs.Prelude.{IfErr, IfOk, IfSome, nat_lt}
+use Rattle.std.specs.Prelude.{IfOk, IfSome, nat_lt}
 use Rattle.std.specs.List.{AllByRecursion}
 use Rattle.std.proofs.lemmas.Option.{slice_get_within}
 use Rattle.atomic_table.specs.Seated.{TableId}
@@ -18,7 +18,6 @@ use Rattle.history.specs.History.{now}
 use Rattle.history.specs.Lines.{FaultsDiffer, lines_of}
 use Rattle.history.specs.Marks.{newest}
 use Rattle.opening.specs.Devices.{AreHonest, SameCounts, of_each, seen_of}
-use Rattle.replay.specs.Opened.{opened}
 use Rattle.archive.specs.Archive.{Running}
 use Rattle.journal_law.specs.Facts.{HasSeen}
 use Rattle.journal_law.specs.Lawful.{Ground, IsCounted}
@@ -34,13 +33,12 @@ use Rattle.session.specs.Sql.{sql}
 use Rattle.session.specs.declared.kept.Kept.{Kept}
 use Rattle.store_core.specs.declared.desk_core.Core.{Core}
 use Rattle.turn.specs.Faults.{count_of}
-use Rattle.turn.specs.Seats.{mine, opening, seen}
-use Rattle.turn.specs.Tables.{table_of}
+use Rattle.turn.specs.Seats.{opening, seen}
 use Rattle.turn.specs.Views.{longer}
 use Rattle.store.specs.declared.closing.Closed.{Closed}
 use Rattle.store.specs.declared.start.Start.{Start}
 use Rattle.store.specs.Closing.{AreReady, Closes}
-use Rattle.store.specs.Opening.{BeginsWith, disks_of, origin_of}
+use Rattle.store.specs.Opening.{BeginsWith, disks_of}
 use Rattle.store.specs.Seats.{IsReady, IsWhole, Sat, journal}
 use Rattle.store.specs.Start.{AreJustOpened, AreOpenedTo, IsStartOf, Origin, desk_counts, vault_counts}
 use Rattle.store.specs.Recovery.{ClosedShows, CrashesShow, OpeningShows}
@@ -49,21 +47,17 @@ use Rattle.store.specs.Ground.{ground_of, past_of, world_of}
 use Rattle.store.specs.Seen.{IsHonest, ground_in}
 use Rattle.store.specs.Worlds.{IsWorldOf}
 use Rattle.store.specs.declared.held.Held.{Held}
-use Rattle.retro.specs.Phases.{HasComeTo, HaveSeats, IsFresh, LeavesJournal, LeftLawful, RanOver, StandTogether}
-use Rattle.retro.specs.Slots.{AllCome, AreHonest as AllHonest, AreSeated, AreTogether, SitsAt, view_at}
+use Rattle.retro.specs.Phases.{HaveSeats, IsFresh, LeavesJournal, LeftLawful, RanOver, StandTogether}
+use Rattle.retro.specs.Slots.{AllCome, AreHonest as AllHonest, AreSeated, AreTogether, SitsAt, seat_in, view_at}
 use Rattle.retro.specs.Steps.{RunsPhases}
-use Rattle.retro.specs.Storing.{AreFresh, AreHeld, AreIn, ComeFrom, HasRunOver, HasStood, IsAmong, IsHeld, Leaves, OpenAs, opening_with, store_of, view_held}
+use Rattle.retro.specs.Storing.{AreFresh, AreHeld, AreIn, ComeFrom, IsAmong, IsHeld, Leaves, OpenAs, opening_with, store_of, view_held}
+use Rattle.retro.specs.declared.slots.Slot.{Slot}
 use Rattle.retro.specs.declared.storing.Ended.{Ended}
 use Rattle.retro.proofs.Phased.{phases_make_runs}
-use Rattle.retro.proofs.Seated.{one_seat, sees}
+use Rattle.retro.proofs.Seated.{one_seat, seat_within, sees}
+use Rattle.retro.proofs.Stepped.{there_is}
 
 -- ---- lists by their places
-
-pub some_one : (A : Type 0) (x y : A) → Some x ≡ Some y → x ≡ y
-some_one A x y e = cc
-
-one_at : (A : Type 0) (x y : A) → Some x ≡ Some y → x ≡ y
-one_at A x y e = cc
 
 pub all_at : {A : Type 0} (P : A → Type 0) (xs : List A) → ((k : ℕ) (x : A) → slice_get xs k ≡ Some x → P x) → AllByRecursion P xs
 all_at P [] at = tt
@@ -83,11 +77,6 @@ still_at (y ∷ xs) more (suc k) x there = still_at xs more k x there
 pub none_in : {A : Type 0} (xs : List A) → length xs ≡ 0 → xs ≡ []
 none_in [] e = refl
 none_in (x ∷ xs) e = absurd (omega (arith, e))
-
-there_is : {A : Type 0} (xs : List A) (k : ℕ) → k < length xs → (x : A) × (slice_get xs k ≡ Some x)
-there_is [] k less = absurd (omega (arith, less))
-there_is (x ∷ xs) zero less = (x, refl)
-there_is (x ∷ xs) (suc k) less = there_is xs k (omega (arith, less))
 
 gone_all : {A : Type 0} (ys : List A) (n : ℕ) → length ys ≤ n → drop n ys ≡ []
 gone_all [] zero le = refl
@@ -118,28 +107,26 @@ longer_is xs ys = by_test (nat_lt (length xs) (length ys))
 -- ---- seats in their slots
 
 module _ {R D : Type 0} (state : D → State) (faults : D → ℕ) (z : TableId) where
-  pub held_on : (seats : List (Sat D)) (slots : List (Option (Held R D))) (seat : Sat D) (held : Held R D) → AreHeld state faults z seats slots → IsHeld state faults z seat held → AreHeld state faults z (seats ++ seat ∷ []) (slots ++ Some held ∷ [])
-  held_on [] [] seat held are is = (is, tt)
-  held_on (s ∷ ss) (Some h ∷ hs) seat held are is = (are.0, held_on ss hs seat held are.1 is)
-  held_on [] (h ∷ hs) seat held are is = absurd are
-  held_on (s ∷ ss) [] seat held are is = absurd are
-  held_on (s ∷ ss) (None ∷ hs) seat held are is = absurd are
+  pub held_on : (seats : List (Sat D)) (slots : List (Slot (Held R D))) (seat : Sat D) (slot : Slot (Held R D)) (held : Held R D) → AreHeld state faults z seats slots → slot.seat ≡ Some held → IsHeld state faults z seat held
+      → AreHeld state faults z (seats ++ seat ∷ []) (slots ++ slot ∷ [])
+  held_on [] [] seat slot held are there is = ((held, there, is), tt)
+  held_on (s ∷ ss) (h ∷ hs) seat slot held are there is = (are.0, held_on ss hs seat slot held are.1 there is)
+  held_on [] (h ∷ hs) seat slot held are there is = absurd are
+  held_on (s ∷ ss) [] seat slot held are there is = absurd are
 
-  pub held_long : (seats : List (Sat D)) (slots : List (Option (Held R D))) → AreHeld state faults z seats slots → length slots ≡ length seats
+  pub held_long : (seats : List (Sat D)) (slots : List (Slot (Held R D))) → AreHeld state faults z seats slots → length slots ≡ length seats
   held_long [] [] are = refl
-  held_long (s ∷ ss) (Some h ∷ hs) are = ap suc (held_long ss hs are.1)
+  held_long (s ∷ ss) (h ∷ hs) are = ap suc (held_long ss hs are.1)
   held_long [] (h ∷ hs) are = absurd are
   held_long (s ∷ ss) [] are = absurd are
-  held_long (s ∷ ss) (None ∷ hs) are = absurd are
 
-  held_at : (seats : List (Sat D)) (slots : List (Option (Held R D))) (k : ℕ) (s : Sat D) → AreHeld state faults z seats slots → slice_get seats k ≡ Some s → (held : Held R D) × SitsAt slots k held × IsHeld state faults z s held
-  held_at (s ∷ ss) (Some h ∷ hs) zero t are there = (h, refl, subst (λ (x : Sat D). IsHeld state faults z x h) (one_at (Sat D) s t there) are.0)
-  held_at (s ∷ ss) (Some h ∷ hs) (suc k) t are there = held_at ss hs k t are.1 there
+  held_at : (seats : List (Sat D)) (slots : List (Slot (Held R D))) (k : ℕ) (s : Sat D) → AreHeld state faults z seats slots → slice_get seats k ≡ Some s → (held : Held R D) × SitsAt slots k held × IsHeld state faults z s held
+  held_at (s ∷ ss) (h ∷ hs) zero t are there = (are.0.0, are.0.1, subst (λ (x : Sat D). IsHeld state faults z x are.0.0) (one_seat (Sat D) s t there) are.0.2)
+  held_at (s ∷ ss) (h ∷ hs) (suc k) t are there = held_at ss hs k t are.1 there
   held_at [] slots k t are there = absurd (cc there)
   held_at (s ∷ ss) [] k t are there = absurd are
-  held_at (s ∷ ss) (None ∷ hs) k t are there = absurd are
 
-  module _ (pages : ℕ) (seats : List (Sat D)) (slots : List (Option (Held R D))) (are : AreHeld state faults z seats slots) (fresh : AreFresh pages seats) where
+  module _ (pages : ℕ) (seats : List (Sat D)) (slots : List (Slot (Held R D))) (are : AreHeld state faults z seats slots) (fresh : AreFresh pages seats) where
     -- the seat in a slot
     pub in_slot : (k : ℕ) → k < length slots → (s : Sat D) × (held : Held R D) × (slice_get seats k ≡ Some s) × SitsAt slots k held × IsHeld state faults z s held
     in_slot k less =
@@ -154,7 +141,7 @@ module _ {R D : Type 0} (state : D → State) (faults : D → ℕ) (z : TableId)
 
     of_store : (k : ℕ) (held : Held R D) → SitsAt slots k held → store_of held ≡ z
     of_store k held sits =
-        let there = in_slot k (slice_get_within slots k (Some held) sits) in
+        let there = in_slot k (seat_within slots k held sits) in
         subst (λ (h : Held R D). store_of h ≡ z) (one_seat (Held R D) there.1 held (sym there.3 ∙ sits)) there.4.store_is
 
     pub all_together : AreTogether (λ (h k : Held R D). store_of k ≡ store_of h) slots
@@ -162,7 +149,7 @@ module _ {R D : Type 0} (state : D → State) (faults : D → ℕ) (z : TableId)
 
     pub all_honest : (is_honest : D → Type 0) → ((k : ℕ) (s : Sat D) → slice_get seats k ≡ Some s → IsHonest is_honest state s) → AllHonest (λ (h : Held R D). IsHonest is_honest state h.seat) slots
     all_honest is_honest each k held sits =
-        let there = in_slot k (slice_get_within slots k (Some held) sits) in
+        let there = in_slot k (seat_within slots k held sits) in
         subst (λ (h : Held R D). IsHonest is_honest state h.seat) (one_seat (Held R D) there.1 held (sym there.3 ∙ sits))
         (subst (λ (s : Sat D). IsHonest is_honest state s) (sym there.4.seat_is) (each k there.0 there.2))
 
@@ -180,14 +167,14 @@ module _ {R D : Type 0} (state : D → State) (faults : D → ℕ) (z : TableId)
         }))
 
     -- and come back in their slots
-    pub all_in : (new : List (Option (Held R D))) → AllCome (view_held state faults) (λ (h k : Held R D). GoesOn (store_of h) (store_of k) h.seat k.seat) slots new → AreIn z new
+    pub all_in : (new : List (Slot (Held R D))) → AllCome (view_held state faults) (λ (h k : Held R D). GoesOn (store_of h) (store_of k) h.seat k.seat) slots new → AreIn z new
     all_in new come = all_at _ new (λ k slot there.
         let less = slice_get_within new k slot there in
         let is = come.seated k less in
         let was = in_slot k (subst (λ (n : ℕ). k < n) come.count less) in
-        (is.seat, one_at (Option (Held R D)) slot (Some is.seat) (sym there ∙ is.sits), (come.each k was.1 is.seat was.3 is.sits).store ∙ was.4.store_is))
+        (is.seat, sym (ap seat_in there) ∙ is.sits, (come.each k was.1 is.seat was.3 is.sits).store ∙ was.4.store_is))
 
-    pub all_stood : {E : Type 0} (plan : Plan) (ground : Ground) (new : List (Option (Held R D))) (left : List (Sat D)) (kept : Result (List (List (List Kept))) E)
+    pub all_stood : {E : Type 0} (plan : Plan) (ground : Ground) (new : List (Slot (Held R D))) (left : List (Sat D)) (kept : Result (List (List (List Kept))) E)
         → AllCome (view_held state faults) (λ (h k : Held R D). GoesOn (store_of h) (store_of k) h.seat k.seat) slots new → ((number : ℕ) → IsAmong new left number)
         → RunsPhases plan ground (length slots) (view_at (view_held state faults) new) kept → ComeFrom plan ground (length seats) left kept
     all_stood plan ground new left kept come among runs = record {
@@ -224,14 +211,14 @@ none_stood state faults plan ground pages seats why fresh each = record {
 -- ---- seats out of their slots
 
 -- So far these came out of the slots behind, the last first.
-pub record HaveRisen {R D : Type 0} (z : TableId) (slots left gone : List (Option (Held R D))) (seats : List (Sat D)) : Type 0 where
+pub record HaveRisen {R D : Type 0} (z : TableId) (slots left gone : List (Slot (Held R D))) (seats : List (Sat D)) : Type 0 where
   pub split : slots ≡ left ++ gone
   pub ready : AreReady z seats
   pub among : (number : ℕ) → IsAmong gone seats number
   pub count : length seats ≡ length gone
 
 module _ {R D : Type 0} (z : TableId) where
-  pub none_risen : (slots : List (Option (Held R D))) (seats : List (Sat D)) → seats ≡ [] → HaveRisen z slots slots [] seats
+  pub none_risen : (slots : List (Slot (Held R D))) (seats : List (Sat D)) → seats ≡ [] → HaveRisen z slots slots [] seats
   none_risen slots seats none = subst (λ (ss : List (Sat D)). HaveRisen z slots slots [] ss) (sym none) (record {
     split = sym (append-nil slots);
     ready = λ k s there. absurd (cc there);
@@ -240,10 +227,10 @@ module _ {R D : Type 0} (z : TableId) where
   })
 
   -- the last of those that are left comes out
-  pub one_risen : (slots left next gone : List (Option (Held R D))) (held : Held R D) (seats : List (Sat D)) → HaveRisen z slots left gone seats → left ≡ next ++ Some held ∷ [] → IsReady z held.seat × IsWhole held.seat
-      → HaveRisen z slots next (Some held ∷ gone) (seats ++ held.seat ∷ [])
-  one_risen slots left next gone held seats so_far last ready = record {
-    split = so_far.split ∙ ap (λ (xs : List (Option (Held R D))). xs ++ gone) last ∙ append_assoc next (Some held ∷ []) gone;
+  pub one_risen : (slots left next gone : List (Slot (Held R D))) (slot : Slot (Held R D)) (held : Held R D) (seats : List (Sat D)) → HaveRisen z slots left gone seats → left ≡ next ++ slot ∷ [] → slot.seat ≡ Some held
+      → IsReady z held.seat × IsWhole held.seat → HaveRisen z slots next (slot ∷ gone) (seats ++ held.seat ∷ [])
+  one_risen slots left next gone slot held seats so_far last sat ready = record {
+    split = so_far.split ∙ ap (λ (xs : List (Slot (Held R D))). xs ++ gone) last ∙ append_assoc next (slot ∷ []) gone;
     ready = λ k s there. by_place k s there (last_or seats held.seat k s there);
     among = among;
     count = length-append seats (held.seat ∷ []) ∙ ap (λ (n : ℕ). n + 1) so_far.count ∙ add_one (length gone);
@@ -253,7 +240,7 @@ module _ {R D : Type 0} (z : TableId) where
       add_one n = omega arith
 
       last_or : (xs : List (Sat D)) (x : Sat D) (k : ℕ) (s : Sat D) → slice_get (xs ++ x ∷ []) k ≡ Some s → (slice_get xs k ≡ Some s) ⊎ (x ≡ s)
-      last_or [] x zero s there = inr (one_at (Sat D) x s there)
+      last_or [] x zero s there = inr (one_seat (Sat D) x s there)
       last_or [] x (suc k) s there = absurd (cc there)
       last_or (y ∷ ys) x zero s there = inl there
       last_or (y ∷ ys) x (suc k) s there = last_or ys x k s there
@@ -262,18 +249,18 @@ module _ {R D : Type 0} (z : TableId) where
       by_place k s there (inl before) = so_far.ready k s before
       by_place k s there (inr it) = subst (λ (t : Sat D). IsReady z t × IsWhole t) it ready
 
-      among : (number : ℕ) → IsAmong (Some held ∷ gone) (seats ++ held.seat ∷ []) number
-      among zero other sits = (length seats, subst (λ (h : Held R D). slice_get (seats ++ held.seat ∷ []) (length seats) ≡ Some h.seat) (one_seat (Held R D) held other sits) (next_at seats held.seat []))
+      among : (number : ℕ) → IsAmong (slot ∷ gone) (seats ++ held.seat ∷ []) number
+      among zero other sits = (length seats, subst (λ (h : Held R D). slice_get (seats ++ held.seat ∷ []) (length seats) ≡ Some h.seat) (one_seat (Held R D) held other (sym sat ∙ sits)) (next_at seats held.seat []))
       among (suc number) other sits = let there = so_far.among number other sits in (there.0, still_at seats (held.seat ∷ []) there.0 other.seat there.1)
 
-  pub seat_risen : (slots left next gone : List (Option (Held R D))) (held : Held R D) (seats : List (Sat D)) (seat : Sat D) → HaveRisen z slots left gone seats → left ≡ next ++ Some held ∷ [] → store_of held ≡ z
-      → IsReady (store_of held) seat × IsWhole seat → seat ≡ held.seat → HaveRisen z slots next (Some held ∷ gone) (seats ++ seat ∷ [])
-  seat_risen slots left next gone held seats seat so_far last store ready is =
-      subst (λ (s : Sat D). HaveRisen z slots next (Some held ∷ gone) (seats ++ s ∷ [])) (sym is)
-      (one_risen slots left next gone held seats so_far last (subst (λ (s : Sat D). IsReady z s × IsWhole s) is (subst (λ (y : TableId). IsReady y seat) store ready.0, ready.1)))
+  pub seat_risen : (slots left next gone : List (Slot (Held R D))) (slot : Slot (Held R D)) (held : Held R D) (seats : List (Sat D)) (seat : Sat D) → HaveRisen z slots left gone seats → left ≡ next ++ slot ∷ [] → slot.seat ≡ Some held
+      → store_of held ≡ z → IsReady (store_of held) seat × IsWhole seat → seat ≡ held.seat → HaveRisen z slots next (slot ∷ gone) (seats ++ seat ∷ [])
+  seat_risen slots left next gone slot held seats seat so_far last sat store ready is =
+      subst (λ (s : Sat D). HaveRisen z slots next (slot ∷ gone) (seats ++ s ∷ [])) (sym is)
+      (one_risen slots left next gone slot held seats so_far last sat (subst (λ (s : Sat D). IsReady z s × IsWhole s) is (subst (λ (y : TableId). IsReady y seat) store ready.0, ready.1)))
 
   -- there is room for one that is left
-  pub room_left : (slots left next gone : List (Option (Held R D))) (slot : Option (Held R D)) (seats : List (Sat D)) → HaveRisen z slots left gone seats → left ≡ next ++ slot ∷ [] → length seats < length slots
+  pub room_left : (slots left next gone : List (Slot (Held R D))) (slot : Slot (Held R D)) (seats : List (Sat D)) → HaveRisen z slots left gone seats → left ≡ next ++ slot ∷ [] → length seats < length slots
   room_left slots left next gone slot seats so_far last =
       let count = so_far.count in
       let whole = ap length so_far.split ∙ length-append left gone in
@@ -281,21 +268,21 @@ module _ {R D : Type 0} (z : TableId) where
       omega (arith, count, whole, one)
 
   -- none is left
-  pub all_risen : (slots left gone : List (Option (Held R D))) (seats : List (Sat D)) → HaveRisen z slots left gone seats → length left ≡ 0 → (length seats ≡ length slots) × AreReady z seats × ((number : ℕ) → IsAmong slots seats number)
+  pub all_risen : (slots left gone : List (Slot (Held R D))) (seats : List (Sat D)) → HaveRisen z slots left gone seats → length left ≡ 0 → (length seats ≡ length slots) × AreReady z seats × ((number : ℕ) → IsAmong slots seats number)
   all_risen slots [] gone seats so_far none = (
     so_far.count ∙ ap length (sym so_far.split),
     so_far.ready,
-    λ number. subst (λ (xs : List (Option (Held R D))). IsAmong xs seats number) (sym so_far.split) (so_far.among number),
+    λ number. subst (λ (xs : List (Slot (Held R D))). IsAmong xs seats number) (sym so_far.split) (so_far.among number),
   )
   all_risen slots (x ∷ left) gone seats so_far none = absurd (omega (arith, none))
 
   -- the last slot that is left has a seat of the store
-  pub last_in : (slots left next gone : List (Option (Held R D))) (slot : Option (Held R D)) (seats : List (Sat D)) → HaveRisen z slots left gone seats → left ≡ next ++ slot ∷ [] → AreIn z slots
-      → (held : Held R D) × (slot ≡ Some held) × (store_of held ≡ z)
+  pub last_in : (slots left next gone : List (Slot (Held R D))) (slot : Slot (Held R D)) (seats : List (Sat D)) → HaveRisen z slots left gone seats → left ≡ next ++ slot ∷ [] → AreIn z slots
+      → (held : Held R D) × (slot.seat ≡ Some held) × (store_of held ≡ z)
   last_in slots left next gone slot seats so_far last are =
-      among_all next (subst (AreIn z) (so_far.split ∙ ap (λ (xs : List (Option (Held R D))). xs ++ gone) last ∙ append_assoc next (slot ∷ []) gone) are)
+      among_all next (subst (AreIn z) (so_far.split ∙ ap (λ (xs : List (Slot (Held R D))). xs ++ gone) last ∙ append_assoc next (slot ∷ []) gone) are)
     where
-      among_all : (xs : List (Option (Held R D))) → AreIn z (xs ++ slot ∷ gone) → (held : Held R D) × (slot ≡ Some held) × (store_of held ≡ z)
+      among_all : (xs : List (Slot (Held R D))) → AreIn z (xs ++ slot ∷ gone) → (held : Held R D) × (slot.seat ≡ Some held) × (store_of held ≡ z)
       among_all [] all = all.0
       among_all (x ∷ xs) all = among_all xs all.1
 

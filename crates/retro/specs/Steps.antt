@@ -1,5 +1,5 @@
 -- What the driver does with the seats: a session runs at its seat; a phase runs; two seats meet; all meet.
-use Rattle.std.specs.Prelude.{◌≡◌, ◌≢◌, ◌<◌, ◌+◌, ◌++◌, ℕ, List, [], ◌∷◌, length, Option, Result, Ok, Err, IfOk}
+use Rattle.std.specs.Prelude.{◌≡◌, ◌≢◌, ◌<◌, ◌+◌, ◌++◌, ℕ, List, [], ◌∷◌, length, Option, Some, Result, Ok, Err, IfOk, slice_get}
 use Rattle.history.specs.declared.journal.Line.{Line}
 use Rattle.journal_law.specs.Lawful.{Ground}
 use Rattle.journal_law.specs.Seats.{Idle, View, Waits}
@@ -7,23 +7,30 @@ use Rattle.session.specs.Plan.{Plan}
 use Rattle.session.specs.Replies.{kept_at_place, kept_by_place}
 use Rattle.session.specs.Run.{AreKept, IsReady, IsSessionOf, RunsSession, SessionLeft}
 use Rattle.session.specs.declared.kept.Kept.{Kept}
+use Rattle.session.specs.declared.plan.SessionPlan.{SessionPlan}
 use Rattle.session.specs.declared.plan.Task.{Task}
 use Rattle.retro.specs.Meeting.{HaveMet}
 use Rattle.retro.specs.Phases.{AllMet, HasComeTo, StandTogether}
-use Rattle.retro.specs.Slots.{IsSetAt, SitsAt}
+use Rattle.retro.specs.Slots.{answered_at, seat_at}
+use Rattle.retro.specs.declared.slots.Slot.{Slot}
 
--- A session of a phase has run at the seat of its number.
+-- A session of a phase has run at the seat that was there.
 pub record RanAt {S E : Type 0} (view : S → View) (goes : S → S → Type 0) (is_honest : S → Type 0) (phase number : ℕ) (names : List (List ℕ)) (tasks : List Task)
-    (old new : List (Option S)) (answered : Result (List Kept) E) : Type 0 where
+    (old new : Option S) (answered : Result (List Kept) E) : Type 0 where
   pub before : S
   pub behind : S
-  pub was : SitsAt old number before
-  pub is : IsSetAt old new number behind
+  pub was : old ≡ Some before
+  pub is : new ≡ Some behind
   pub number_is : (view behind).session ≡ number
   pub idle : (view behind).work ≡ Idle
   pub stays : goes before behind
   pub ran : is_honest before → (plan : Plan) → IsSessionOf plan phase number names tasks →
       RunsSession (view before).opened.base.page_count plan phase (view before) (view behind) answered
+
+-- The sessions of a phase have run, each at the seat in its slot, which keeps what it answered.
+abbrev pub AllRan : {S : Type 0} → (S → View) → (S → S → Type 0) → (S → Type 0) → ℕ → List (List ℕ) → List SessionPlan → List (Slot S) → List (Slot S) → Type 0
+AllRan view goes is_honest phase names sessions old new = (number : ℕ) (session : SessionPlan) → slice_get sessions number ≡ Some session →
+    RanAt view goes is_honest phase number names session.tasks (seat_at old number) (seat_at new number) (answered_at new number)
 
 -- So many sessions of a phase have run, each at its seat, from seats that were ready; or one whose replies could not be kept ended it.
 pub record RanThrough {E : Type 0} (plan : Plan) (phase seats count : ℕ) (old new : ℕ → View) (answered : Result (List (List Kept)) E) : Type 0 where

@@ -1,5 +1,5 @@
 -- The run of a plan over the four devices of a store, at which each session has a seat of its own.
-use Rattle.std.specs.Prelude.{◌≡◌, ◌<◌, ℕ, List, [], ◌∷◌, slice_get, Option, Some, None, Result, IfErr, IfOk}
+use Rattle.std.specs.Prelude.{◌≡◌, ◌<◌, ℕ, List, [], ◌∷◌, slice_get, Some, None, Result, IfErr, IfOk}
 use Rattle.std.specs.List.{AllByRecursion}
 use Rattle.atomic_table.specs.Seated.{TableId}
 use Rattle.disk_model.specs.Disk.{State}
@@ -33,6 +33,7 @@ use Rattle.store.specs.declared.held.Held.{Held}
 use Rattle.retro.specs.Phases.{LeftLawful, RanOver}
 use Rattle.retro.specs.Slots.{SitsAt}
 use Rattle.retro.specs.Steps.{RunsPhases}
+use Rattle.retro.specs.declared.slots.Slot.{Slot}
 use Rattle.retro.specs.declared.storing.Ended.{Ended}
 
 -- ---- what a run leaves
@@ -93,17 +94,17 @@ pub record IsHeld {R D : Type 0} (state : D → State) (faults : D → ℕ) (z :
   pub idle : (view_held state faults held).work ≡ Idle
 
 -- each of these seats, in its slot
-abbrev pub AreHeld : {R D : Type 0} → (D → State) → (D → ℕ) → TableId → List (Sat D) → List (Option (Held R D)) → Type 0
+abbrev pub AreHeld : {R D : Type 0} → (D → State) → (D → ℕ) → TableId → List (Sat D) → List (Slot (Held R D)) → Type 0
 AreHeld state faults z [] [] = Unit {0}
-AreHeld state faults z (seat ∷ seats) (Some held ∷ slots) = IsHeld state faults z seat held × AreHeld state faults z seats slots
+AreHeld {R} {D} state faults z (seat ∷ seats) (slot ∷ slots) = ((held : Held R D) × (slot.seat ≡ Some held) × IsHeld state faults z seat held) × AreHeld state faults z seats slots
 AreHeld state faults z seats slots = ⊥
 
 -- No slot is free, and each seat is one of this store's.
-abbrev pub AreIn : {R D : Type 0} → TableId → List (Option (Held R D)) → Type 0
-AreIn z slots = AllByRecursion (λ slot. (held : _) × (slot ≡ Some held) × (store_of held ≡ z)) slots
+abbrev pub AreIn : {R D : Type 0} → TableId → List (Slot (Held R D)) → Type 0
+AreIn {R} {D} z slots = AllByRecursion (λ slot. (held : Held R D) × (slot.seat ≡ Some held) × (store_of held ≡ z)) slots
 
 -- the seat in the slot of this number is among these
-abbrev pub IsAmong : {R D : Type 0} → List (Option (Held R D)) → List (Sat D) → ℕ → Type 0
+abbrev pub IsAmong : {R D : Type 0} → List (Slot (Held R D)) → List (Sat D) → ℕ → Type 0
 IsAmong {R} {D} slots seats number = (held : Held R D) → SitsAt slots number held → (k : ℕ) × (slice_get seats k ≡ Some held.seat)
 
 -- the seat of this number is among these, and has seen these lines

@@ -1,6 +1,6 @@
 //! `run DIR`.
 
-ghost use Rattle.std.specs.Prelude.{◌≡◌, ◌≢◌, Ok};
+ghost use Rattle.std.specs.Prelude.{◌≡◌, ◌≢◌, ◌<◌, Ok};
 ghost use Rattle.session.specs.Plan.{PlanFits};
 ghost use Rattle.retro.specs.Keeping.{EndsRun, faulty, has_fault, is_fault, RunsIn, RunsOnStore};
 ghost use Rattle.retro.specs.Says.{IsOfKept, IsOfStores, IsStatus, number_of};
@@ -16,17 +16,20 @@ use retro_base::Refusal;
 use session::{Items, NoGate, Plan};
 use std::alloc::Global;
 use std::sync::Wait;
+use std::thread::Threads;
 
 // Runs a plan over the store in the folder.
-fn run_in<R: Wait, C: Cabinet, F: Folds>(
+fn run_in<R: Threads + Wait + Sync, C: Cabinet, F: Folds + Sync>(
     alloc: Global,
     rt: &R,
+    threads: usize,
     cabinet: &mut C,
     dir: &str,
     folds: &F,
     plan: &Plan,
 ) -> Result<Ended, Refusal>
-    requires { PlanFits plan.now }
+    requires threads { 0 < threads }
+    requires fits { PlanFits plan.now }
     ensures { RunsOnStore C.faults C.is_out C.tells C.store C.Device.extent C.Device.faults C.Device.is_honest
         C.Device.remembers C.Device.state C.Device.clock dir.now plan.now cabinet.old cabinet.new result }
 {
@@ -34,7 +37,7 @@ fn run_in<R: Wait, C: Cabinet, F: Folds>(
         return Err(cabinet_fault(cabinet));
     };
     let gate = &NoGate;
-    let (disks, ended) = run_on(alloc, rt, disks, &Items { gate, folds }, plan);
+    let (disks, ended) = run_on(alloc, rt, threads, disks, &Items { gate, folds }, plan);
     cabinet.put_back(dir, disks);
     ended
 }
@@ -77,15 +80,17 @@ fn tell<K: Sink>(sink: &mut K, ended: Ended) -> Status
 }
 
 // Reads a script, runs it over the store in the folder, and writes the transcript. Answers how it ended.
-fn kept<R: Wait, S: Source, K: Sink, C: Cabinet, F: Folds>(
+fn kept<R: Threads + Wait + Sync, S: Source, K: Sink, C: Cabinet, F: Folds + Sync>(
     alloc: Global,
     rt: &R,
+    threads: usize,
     source: &mut S,
     sink: &mut K,
     cabinet: &mut C,
     dir: &str,
     folds: &F,
 ) -> Status
+    requires threads { 0 < threads }
     ensures runs { RunsIn (S.left source.old) (S.left source.new) (S.faults source.old) (S.faults source.new) K.held K.faults
         C.faults C.is_out C.tells C.store C.Device.extent C.Device.faults C.Device.is_honest C.Device.remembers
         C.Device.state C.Device.clock dir.now sink.old sink.new cabinet.old cabinet.new (number_of result) }
@@ -95,27 +100,29 @@ fn kept<R: Wait, S: Source, K: Sink, C: Cabinet, F: Folds>(
         Ok(plan) => plan,
         Err(refusal) => return refuse_script(alloc, sink, refusal),
     };
-    match run_in(alloc, rt, cabinet, dir, folds, &plan) {
+    match run_in(alloc, rt, threads, cabinet, dir, folds, &plan) {
         Ok(ended) => tell(sink, ended),
         Err(refusal) => refuse(alloc, sink, refusal),
     }
 }
 
 /// Reads a script, runs it over the store in the folder, and writes the transcript. Answers the exit status.
-pub fn keep<R: Wait, S: Source, K: Sink, C: Cabinet, F: Folds>(
+pub fn keep<R: Threads + Wait + Sync, S: Source, K: Sink, C: Cabinet, F: Folds + Sync>(
     alloc: Global,
     rt: &R,
+    threads: usize,
     source: &mut S,
     sink: &mut K,
     cabinet: &mut C,
     dir: &str,
     folds: &F,
 ) -> u8
+    requires threads { 0 < threads }
     ensures runs { RunsIn (S.left source.old) (S.left source.new) (S.faults source.old) (S.faults source.new) K.held K.faults
         C.faults C.is_out C.tells C.store C.Device.extent C.Device.faults C.Device.is_honest C.Device.remembers
         C.Device.state C.Device.clock dir.now sink.old sink.new cabinet.old cabinet.new result }
     ensures status { IsStatus result }
     ensures words { (result ≢ 2) × (result ≢ 9) }
 {
-    kept(alloc, rt, source, sink, cabinet, dir, folds).number()
+    kept(alloc, rt, threads, source, sink, cabinet, dir, folds).number()
 }

@@ -3,6 +3,8 @@
 #![tactic(auto)]
 
 #[cfg(test)]
+mod at_once;
+#[cfg(test)]
 mod call_refusals;
 #[cfg(test)]
 mod calls;
@@ -22,6 +24,7 @@ mod saying;
 mod scripts;
 mod seats;
 mod showing;
+mod slots;
 #[cfg(test)]
 mod store_runs;
 #[cfg(test)]
@@ -35,6 +38,7 @@ use disk_file::FileCabinet;
 use feeds::{StdSink, StdSource};
 use fold_kit::{Combiner, FoldSet, How};
 use program::retro;
+use retro_base::SESSIONS;
 use saying::lack_memory;
 use std::alloc::AllocError;
 use std::env;
@@ -70,6 +74,7 @@ fn main(rt: HostRuntime) -> ExitCode {
     let status = retro(
         &rt,
         rt.alloc(),
+        SESSIONS,
         words.as_slice(),
         &mut source,
         &mut sink,

@@ -1,6 +1,6 @@
 //! Runs a plan over an empty store that is made for it, in memory.
 
-ghost use Rattle.std.specs.Prelude.{◌≡◌, List, IfErr, IfOk};
+ghost use Rattle.std.specs.Prelude.{◌≡◌, ◌<◌, List, IfErr, IfOk};
 ghost use Rattle.disk_model.specs.Cabinet.{AreSized, Each, IsBlank};
 ghost use Rattle.history.specs.declared.journal.Line.{Line};
 ghost use Rattle.opening.specs.Devices.{IsUnopened, of_each};
@@ -18,18 +18,21 @@ use retro_base::{DEFAULT_CAPACITY, MEMORY_PAGES, Refusal};
 use session::{Plan, RunItems};
 use std::alloc::Global;
 use std::sync::Wait;
+use std::thread::Threads;
 use store_format::format;
 
 // Makes an empty store on four devices of zeros, and runs a plan over it. They come back. It is refused exactly where a call
 // of a device failed, and for want of memory.
-fn run_from_empty<R: Wait, D: Disk + Drop, I: RunItems>(
+fn run_from_empty<R: Threads + Wait + Sync, D: Disk + Drop + Send, I: RunItems + Sync>(
     alloc: Global,
     rt: &R,
+    threads: usize,
     disks: Four<D>,
     sizes: Sizes,
     runner: &I,
     plan: &Plan,
 ) -> (Four<D>, Result<Ended, Refusal>)
+    requires threads { 0 < threads }
     requires fits { PlanFits plan.now }
     requires range { AreInRange sizes }
     requires sized { AreSized D.extent sizes disks }
@@ -42,7 +45,7 @@ fn run_from_empty<R: Wait, D: Disk + Drop, I: RunItems>(
     store_law();
     devices_are_read_one_way();
     match format(alloc, Version::One, disks, sizes) {
-        Ok(disks) => run_on(alloc, rt, disks, runner, plan),
+        Ok(disks) => run_on(alloc, rt, threads, disks, runner, plan),
         Err((disks, why)) => (disks, Err(why)),
     }
 }
@@ -74,13 +77,15 @@ fn zero_disks(alloc: Global, sizes: Sizes) -> Result<Four<RamDisk>, Refusal>
 
 /// Runs a plan over an empty store in memory, which is gone behind the run, and gives the transcript. It is refused for want
 /// of memory alone.
-pub fn run_in_memory<R: Wait, I: RunItems>(
+pub fn run_in_memory<R: Threads + Wait + Sync, I: RunItems + Sync>(
     alloc: Global,
     rt: &R,
+    threads: usize,
     runner: &I,
     plan: &Plan,
 ) -> Result<Vec<u8>, Refusal>
-    requires { PlanFits plan.now }
+    requires threads { 0 < threads }
+    requires fits { PlanFits plan.now }
     ensures ran { IfOk result (λ text. (journal : List Line) × RanInMemory plan.now journal text.items) }
     ensures wanting { IfErr result (λ why. why ≡ Refusal.OutOfMemory) }
 {
@@ -89,6 +94,6 @@ pub fn run_in_memory<R: Wait, I: RunItems>(
         capacity: DEFAULT_CAPACITY,
     };
     let disks = zero_disks(alloc, sizes)?;
-    let (_, ended) = run_from_empty(alloc, rt, disks, sizes, runner, plan);
+    let (_, ended) = run_from_empty(alloc, rt, threads, disks, sizes, runner, plan);
     Ok(ended?.text?)
 }

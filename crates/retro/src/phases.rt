@@ -1,78 +1,104 @@
 //! Runs the phases of a plan over one store, at which each session has a seat of its own.
 
-ghost use Rattle.std.specs.Prelude.{◌≡◌, ◌≢◌, ◌<◌, ◌≤◌, ℕ, List, Option, Some, is_some, length, slice_get, true};
-ghost use Rattle.std.specs.Option.{option_flatten};
+ghost use Rattle.std.specs.Prelude.{◌≡◌, ◌<◌, ◌≤◌, List, Some, length, slice_get};
 ghost use Rattle.history.specs.declared.journal.Line.{Line};
 ghost use Rattle.journal_law.specs.Lawful.{Ground};
 ghost use Rattle.retro.specs.Phases.{HaveSeats, StandTogether};
-ghost use Rattle.retro.specs.Slots.{AllCome, AreHonest, AreSeated, AreTogether, IsSetAt, SitsAt, view_at};
-ghost use Rattle.retro.specs.Steps.{HasMetEach, MetAll, PairMet, PhaseRuns, RanAt, RanThrough, RunsPhases};
+ghost use Rattle.retro.specs.Slots.{AllCome, AreHonest, AreSeated, AreTogether, IsSeated, view_at};
+ghost use Rattle.retro.specs.Steps.{AllRan, HasMetEach, MetAll, PairMet, PhaseRuns, RanAt, RanThrough, RunsPhases};
 ghost use Rattle.session.specs.Plan.{IsPhaseOf, Plan as PlanOf, PlanFits, SessionFits, SessionsFit};
+ghost use Rattle.session.specs.declared.plan.SessionPlan.{SessionPlan as SessionPlanOf};
 
 use crate::seats::Meets;
+use crate::slots::{Slot, answers, put, take};
 use journal_law::Seat;
 use script::SessionName;
 use session::{Kept, Plan, RunItems, SessionPlan, names_of, run_session};
 use std::alloc::{AllocError, Global};
+use std::thread;
+use std::thread::Threads;
 use values::Seq;
 
-// Takes the seat of a number out of its slot.
-fn take<S>(slots: &mut [Option<S>], number: usize) -> S
-    requires bound { number < length slots.old }
-    requires there { is_some (option_flatten (slice_get slots.old number)) ≡ true }
-    ensures seat { SitsAt slots.old number result }
-    ensures count { length slots.new ≡ length slots.old }
-    ensures others { (other : ℕ) → other ≢ number → slice_get slots.new other ≡ slice_get slots.old other }
-    ensures free { slice_get slots.new number ≡ Some Option.None }
-{
-    match slots[number].take() {
-        Some(seat) => seat,
-        None => unreachable!(),
-    }
-}
-
-// Puts a seat into a free slot.
-fn put<S>(slots: &mut [Option<S>], number: usize, seat: S)
-    requires bound { number < length slots.old }
-    requires free { slice_get slots.old number ≡ Some Option.None }
-    ensures { IsSetAt slots.old slots.new number seat }
-{
-    match slots[number].replace(seat) {
-        None => {}
-        Some(_) => unreachable!(),
-    }
-}
-
-// Runs a session of a phase at the seat of its number, and gives what is kept of its items.
+// Runs a session of a phase at the seat in its slot, which keeps what it answered.
 fn run_at<S: Seat, R: RunItems>(
     alloc: Global,
-    slots: &mut [Option<S>],
+    slot: &mut Slot<S>,
     runner: &R,
     phase: u16,
     number: u16,
     names: &[SessionName],
     session: &SessionPlan,
-) -> Result<Seq<Kept>, AllocError>
-    requires bound { number < length slots.old }
-    requires seated { AreSeated S.view slots.old }
+)
+    requires seated { IsSeated S.view number slot.old.seat }
     requires fits { SessionFits session.now }
-    ensures { RanAt S.view S.goes S.is_honest phase number names.now session.now.tasks slots.old slots.new result }
+    ensures { RanAt S.view S.goes S.is_honest phase number names.now session.now.tasks slot.old.seat slot.new.seat
+        slot.new.answered }
 {
-    let seat = take(slots, number as usize);
+    let seat = slot.take();
     let tasks = session.tasks.as_slice();
     let (seat, answered) = run_session(alloc, seat, runner, phase, number, names, tasks);
-    put(slots, number as usize, seat);
-    answered
+    slot.put(seat);
+    slot.answered = answered;
 }
 
-// Runs the sessions of a phase, each at its seat, one after the other, and gives what is kept of each.
-fn run_sessions<S: Seat, R: RunItems>(
+// Runs the session of a number.
+fn run_numbered<S: Seat, R: RunItems>(
     alloc: Global,
-    slots: &mut [Option<S>],
+    slot: &mut Slot<S>,
+    runner: &R,
+    phase: u16,
+    number: usize,
+    names: &[SessionName],
+    sessions: &[SessionPlan],
+)
+    requires bound { number < length sessions.now }
+    requires seated { IsSeated S.view number slot.old.seat }
+    requires fit { SessionsFit sessions.now }
+    ensures { (session : SessionPlanOf) → slice_get sessions.now number ≡ Some session
+        → RanAt S.view S.goes S.is_honest phase number names.now session.tasks slot.old.seat slot.new.seat
+        slot.new.answered }
+{
+    let session = &sessions[number];
+    run_at(alloc, slot, runner, phase, number as u16, names, session);
+}
+
+// Runs the sessions of a phase at once, in so many threads, each at the seat in its slot.
+fn run_all<H: Threads + Sync, S: Seat + Send, R: RunItems + Sync>(
+    alloc: Global,
+    rt: &H,
+    threads: usize,
+    slots: &mut [Slot<S>],
+    runner: &R,
+    phase: u16,
+    names: &[SessionName],
+    sessions: &[SessionPlan],
+)
+    requires threads { 0 < threads }
+    requires seated { AreSeated S.view slots.old }
+    requires count { length slots.old ≡ length sessions.now }
+    requires fit { SessionsFit sessions.now }
+    ensures count { length slots.new ≡ length slots.old }
+    ensures ran { AllRan S.view S.goes S.is_honest phase names.now sessions.now slots.old slots.new }
+{
+    thread::for_each_mut(
+        rt,
+        slots,
+        threads,
+        &|number, slot| run_numbered(alloc, slot, runner, phase, number, names, sessions),
+    );
+}
+
+// Runs the sessions of a phase at once, in so many threads, each at its seat, and gives what is kept of each.
+fn run_sessions<H: Threads + Sync, S: Seat + Send, R: RunItems + Sync>(
+    alloc: Global,
+    rt: &H,
+    threads: usize,
+    slots: &mut [Slot<S>],
     runner: &R,
     phase: u16,
     sessions: &[SessionPlan],
 ) -> Result<Seq<Seq<Kept>>, AllocError>
+    requires threads { 0 < threads }
     requires seated { AreSeated S.view slots.old }
     requires room { length sessions.now ≤ length slots.old }
     requires fit { SessionsFit sessions.now }
@@ -82,25 +108,22 @@ fn run_sessions<S: Seat, R: RunItems>(
         (view_at S.view slots.new) result }
 {
     let names = names_of(alloc, sessions)?;
-    let mut kept = Seq::new(alloc);
-    for (place, session) in sessions.iter().enumerate() {
-        let number = place as u16;
-        let one = run_at(
-            alloc,
-            slots,
-            runner,
-            phase,
-            number,
-            names.as_slice(),
-            session,
-        )?;
-        kept.push(one)?;
-    }
-    Ok(kept)
+    let (seated, _) = slots.split_at_mut(sessions.len());
+    run_all(
+        alloc,
+        rt,
+        threads,
+        seated,
+        runner,
+        phase,
+        names.as_slice(),
+        sessions,
+    );
+    answers(alloc, seated)
 }
 
 // The first seat and that of a number meet.
-fn meet_first<S: Meets>(slots: &mut [Option<S>], number: usize)
+fn meet_first<S: Meets>(slots: &mut [Slot<S>], number: usize)
     requires bound { (0 < number) × (number < length slots.old) }
     requires seated { AreSeated S.view slots.old }
     requires together { AreTogether S.together slots.old }
@@ -115,7 +138,7 @@ fn meet_first<S: Meets>(slots: &mut [Option<S>], number: usize)
 }
 
 // The first seat meets each other.
-fn meet_each<S: Meets>(slots: &mut [Option<S>])
+fn meet_each<S: Meets>(slots: &mut [Slot<S>])
     requires seated { AreSeated S.view slots.old }
     requires together { AreTogether S.together slots.old }
     ensures come { AllCome S.view S.goes slots.old slots.new }
@@ -128,7 +151,7 @@ fn meet_each<S: Meets>(slots: &mut [Option<S>])
 }
 
 // All seats meet: the first gathers what the others have seen, and spreads it then.
-fn meet_all<S: Meets>(slots: &mut [Option<S>])
+fn meet_all<S: Meets>(slots: &mut [Slot<S>])
     requires seated { AreSeated S.view slots.old }
     requires together { AreTogether S.together slots.old }
     ensures come { AllCome S.view S.goes slots.old slots.new }
@@ -139,13 +162,16 @@ fn meet_all<S: Meets>(slots: &mut [Option<S>])
 }
 
 // Runs a phase, behind which all seats have met.
-fn run_phase<S: Meets, R: RunItems>(
+fn run_phase<H: Threads + Sync, S: Meets + Send, R: RunItems + Sync>(
     alloc: Global,
-    slots: &mut [Option<S>],
+    rt: &H,
+    threads: usize,
+    slots: &mut [Slot<S>],
     runner: &R,
     phase: u16,
     sessions: &[SessionPlan],
 ) -> Result<Seq<Seq<Kept>>, AllocError>
+    requires threads { 0 < threads }
     requires seated { AreSeated S.view slots.old }
     requires together { AreTogether S.together slots.old }
     requires room { length sessions.now ≤ length slots.old }
@@ -155,20 +181,23 @@ fn run_phase<S: Meets, R: RunItems>(
         → (opened : Ground) → PhaseRuns plan opened (length slots.old) phase (view_at S.view slots.old)
         (view_at S.view slots.new) result }
 {
-    let kept = run_sessions(alloc, slots, runner, phase, sessions);
+    let kept = run_sessions(alloc, rt, threads, slots, runner, phase, sessions);
     meet_all(slots);
     kept
 }
 
-/// Runs what a script asks for over one store, at which each session has the seat in the slot of its number. All seats
-/// have met behind each phase, and at the end. AllocError where memory is wanting to keep a reply: the run ends behind
-/// that phase.
-pub fn run_phases<S: Meets, R: RunItems>(
+/// Runs what a script asks for over one store, at which each session has the seat in the slot of its number. The sessions of
+/// a phase run at once, in at most so many threads: with one they run in turn. All seats have met behind each phase, and at
+/// the end. AllocError where memory is wanting to keep a reply: the run ends behind that phase.
+pub fn run_phases<H: Threads + Sync, S: Meets + Send, R: RunItems + Sync>(
     alloc: Global,
-    slots: &mut [Option<S>],
+    rt: &H,
+    threads: usize,
+    slots: &mut [Slot<S>],
     runner: &R,
     plan: &Plan,
 ) -> Result<Seq<Seq<Seq<Kept>>>, AllocError>
+    requires threads { 0 < threads }
     requires fits { PlanFits plan.now }
     requires room { HaveSeats plan.now (length slots.old) }
     requires seated { AreSeated S.view slots.old }
@@ -181,7 +210,15 @@ pub fn run_phases<S: Meets, R: RunItems>(
     let mut kept = Seq::new(alloc);
     for (index, sessions) in plan.as_slice().iter().enumerate() {
         let phase = index as u16 + 1;
-        let one = run_phase(alloc, slots, runner, phase, sessions.as_slice())?;
+        let one = run_phase(
+            alloc,
+            rt,
+            threads,
+            slots,
+            runner,
+            phase,
+            sessions.as_slice(),
+        )?;
         kept.push(one)?;
     }
     Ok(kept)

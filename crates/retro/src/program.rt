@@ -1,6 +1,6 @@
 //! The top call.
 
-ghost use Rattle.std.specs.Prelude.{◌≡◌, ◌≢◌, ◌⊎◌, ◌↔◌, ℕ, List, Option, IsErr, Ok, Err, Some};
+ghost use Rattle.std.specs.Prelude.{◌≡◌, ◌≢◌, ◌⊎◌, ◌↔◌, ◌<◌, ℕ, List, Option, IsErr, Ok, Err, Some};
 ghost use Rattle.disk_model.specs.declared.four.Sizes.{Sizes as SizesOf};
 ghost use Rattle.retro.specs.Formats.{Formats};
 ghost use Rattle.retro.specs.Keeping.{RunsIn};
@@ -20,6 +20,7 @@ use feeds::{Sink, Source};
 use fold_kit::Folds;
 use std::alloc::Global;
 use std::sync::Wait;
+use std::thread::Threads;
 
 // Says what is wrong with the words.
 fn refuse<K: Sink>(sink: &mut K, mistake: Mistake) -> u8
@@ -48,18 +49,22 @@ fn refuse<K: Sink>(sink: &mut K, mistake: Mistake) -> u8
 ///   a seat of its own. The transcript is written whole also where its journal tells a fault of a device; the status is
 ///   then 6 in place of 0.
 ///
+/// The sessions of a phase run at once, in at most so many threads: with one they run in turn.
+///
 /// The last three end with 6 where a call of the cabinet or of a device failed; `show` and `run` with 7 where the bytes
 /// are no store's; with 5 where the sink failed; with 8 where memory ran out; else with 0. The devices are back in the
 /// cabinet.
-pub fn retro<R: Wait, S: Source, K: Sink, C: Cabinet, F: Folds>(
+pub fn retro<R: Threads + Wait + Sync, S: Source, K: Sink, C: Cabinet, F: Folds + Sync>(
     rt: &R,
     alloc: Global,
+    threads: usize,
     words: &[String],
     source: &mut S,
     sink: &mut K,
     cabinet: &mut C,
     folds: &F,
 ) -> u8
+    requires threads { 0 < threads }
     ensures status { IsStatus result }
 
     // The words that are refused, and what each command leaves alone.
@@ -86,8 +91,10 @@ pub fn retro<R: Wait, S: Source, K: Sink, C: Cabinet, F: Folds>(
         sink.old sink.new result }
 {
     match command_of(words) {
-        Ok(Command::Run { dir: None }) => run(alloc, rt, source, sink, folds),
-        Ok(Command::Run { dir: Some(dir) }) => keep(alloc, rt, source, sink, cabinet, dir, folds),
+        Ok(Command::Run { dir: None }) => run(alloc, rt, threads, source, sink, folds),
+        Ok(Command::Run { dir: Some(dir) }) => keep(
+            alloc, rt, threads, source, sink, cabinet, dir, folds,
+        ),
         Ok(Command::Format { dir, sizes }) => format(alloc, sink, cabinet, dir, sizes),
         Ok(Command::Show { dir }) => show(alloc, sink, cabinet, dir),
         Err(mistake) => refuse(sink, mistake),

@@ -20,6 +20,7 @@ use script::{SCRIPT_BYTES, front_law};
 use session::{Items, NoGate, Plan, plan_of};
 use std::alloc::{AllocError, Global};
 use std::sync::Wait;
+use std::thread::Threads;
 
 /// What the script that the source gives asks for, or why it asks for nothing.
 pub fn plan_from<S: Source>(alloc: Global, source: &mut S) -> Result<Plan, Refusal>
@@ -39,12 +40,14 @@ pub fn plan_from<S: Source>(alloc: Global, source: &mut S) -> Result<Plan, Refus
 }
 
 // The transcript of the script that the source gives, or why there is none.
-fn transcript<R: Wait, S: Source, F: Folds>(
+fn transcript<R: Threads + Wait + Sync, S: Source, F: Folds + Sync>(
     alloc: Global,
     rt: &R,
+    threads: usize,
     source: &mut S,
     folds: &F,
 ) -> Result<Vec<u8>, Refusal>
+    requires threads { 0 < threads }
     ensures source_fault { result ≡ Err Refusal.SourceFault → Rose (S.faults source.old) (S.faults source.new) }
     ensures steady { result ≢ Err Refusal.SourceFault → S.faults source.new ≡ S.faults source.old }
     ensures written { IfOk result (λ text. IsTranscript (S.left source.old) text.items) }
@@ -53,7 +56,7 @@ fn transcript<R: Wait, S: Source, F: Folds>(
 {
     let plan = plan_from(alloc, source)?;
     let gate = &NoGate;
-    let text = run_in_memory(alloc, rt, &Items { gate, folds }, &plan)?;
+    let text = run_in_memory(alloc, rt, threads, &Items { gate, folds }, &plan)?;
     Ok(text)
 }
 
@@ -87,13 +90,15 @@ pub fn refuse<K: Sink>(alloc: Global, sink: &mut K, refusal: Refusal) -> Status
 }
 
 // Reads and runs the script and writes its transcript, or the line that stands in its place.
-fn perform<R: Wait, S: Source, K: Sink, F: Folds>(
+fn perform<R: Threads + Wait + Sync, S: Source, K: Sink, F: Folds + Sync>(
     alloc: Global,
     rt: &R,
+    threads: usize,
     source: &mut S,
     sink: &mut K,
     folds: &F,
 ) -> Status
+    requires threads { 0 < threads }
     ensures status { IsOfRuns result }
     ensures source_fault { result ≡ Status.SourceFault → Rose (S.faults source.old) (S.faults source.new) }
     ensures source_steady { result ≢ Status.SourceFault → S.faults source.new ≡ S.faults source.old }
@@ -114,7 +119,7 @@ fn perform<R: Wait, S: Source, K: Sink, F: Folds>(
     ensures good_script { (bytes : List ℕ) (script : Script) → S.left source.old ≡ Some bytes
         → ReadsAs bytes (Ok script) → result ≢ Status.BadScript }
 {
-    match transcript(alloc, rt, source, folds) {
+    match transcript(alloc, rt, threads, source, folds) {
         Ok(text) => write(sink, text.as_slice()),
         Err(refusal) => refuse(alloc, sink, refusal),
     }
@@ -122,13 +127,15 @@ fn perform<R: Wait, S: Source, K: Sink, F: Folds>(
 
 /// Reads a script from the source, runs it over an empty store in memory, and writes the transcript of every reply to the
 /// sink, or one line that says why there is none. Answers the exit status.
-pub fn run<R: Wait, S: Source, K: Sink, F: Folds>(
+pub fn run<R: Threads + Wait + Sync, S: Source, K: Sink, F: Folds + Sync>(
     alloc: Global,
     rt: &R,
+    threads: usize,
     source: &mut S,
     sink: &mut K,
     folds: &F,
 ) -> u8
+    requires threads { 0 < threads }
     ensures status { IsStatus result }
     ensures words { (result ≢ 2) × (result ≢ 9) }
     ensures one_journal { WritesOneJournal (S.left source.old) (S.left source.new) K.held sink.old sink.new result }
@@ -147,5 +154,5 @@ pub fn run<R: Wait, S: Source, K: Sink, F: Folds>(
         → S.faults source.new ≡ S.faults source.old → S.faults source.old < 2 ^ 64 - 1
         → K.faults sink.new ≡ K.faults sink.old → K.faults sink.old < 2 ^ 64 - 1 → (result ≡ 0) ⊎ (result ≡ 8) }
 {
-    perform(alloc, rt, source, sink, folds) as u8
+    perform(alloc, rt, threads, source, sink, folds) as u8
 }

@@ -9,9 +9,14 @@ use retro_base::Refusal;
 use std::alloc::{AllocError, Global};
 use std::sync::Wait;
 use std::test::Fail;
+use std::thread::Threads;
 
 // Whether all rows end so on a new cabinet.
-fn all_end_so<R: Wait>(rt: &R, alloc: Global, rows: &[Row]) -> Result<bool, AllocError> {
+fn all_end_so<R: Threads + Wait + Sync>(
+    rt: &R,
+    alloc: Global,
+    rows: &[Row],
+) -> Result<bool, AllocError> {
     let mut cabinet = MemCabinet::new(alloc, Vec::new(alloc));
     Ok(first_wrong(rt, alloc, &mut cabinet, rows)?.is_none())
 }
@@ -112,7 +117,7 @@ fn raising_transcript(alloc: Global) -> Result<Vec<u8>, AllocError> {
 }
 
 // Whether that run ends so over a store, and the store shows it: each raise but the first captures the page.
-fn is_raised<R: Wait>(rt: &R, alloc: Global) -> Result<bool, AllocError> {
+fn is_raised<R: Threads + Wait + Sync>(rt: &R, alloc: Global) -> Result<bool, AllocError> {
     let mut cabinet = MemCabinet::new(alloc, Vec::new(alloc));
     told(
         rt,
@@ -242,7 +247,10 @@ fn a_fault_of_the_log_ends_the_commits(rt: HostRuntime) -> Result<(), Fail> {
 }
 
 // Whether a run whose transcript the sink does not take ends with 5, and has committed.
-fn is_committed_without_a_text<R: Wait>(rt: &R, alloc: Global) -> Result<bool, AllocError> {
+fn is_committed_without_a_text<R: Threads + Wait + Sync>(
+    rt: &R,
+    alloc: Global,
+) -> Result<bool, AllocError> {
     let mut cabinet = MemCabinet::new(alloc, Vec::new(alloc));
     let made = first_wrong(rt, alloc, &mut cabinet, &MADE)?;
     let script = b"SESSION a\nINSERT INTO t VALUES (2)\nCOMMIT WITH SNAPSHOT 'two'\n";

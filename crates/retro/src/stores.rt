@@ -8,6 +8,7 @@ use mem_cabinet::MemCabinet;
 use std::alloc::{AllocError, Global};
 use std::sync::Wait;
 use std::test::Fail;
+use std::thread::Threads;
 
 // Words, the script, a status, and the text.
 pub type Row = (&'static [&'static str], &'static [u8], u8, &'static [u8]);
@@ -80,7 +81,7 @@ const ROWS: [Row; 34] = [
 ];
 
 // Runs the program with these words over a cabinet, into a sink of which the listed calls fail: the status, and the text.
-pub fn told<R: Wait>(
+pub fn told<R: Threads + Wait + Sync>(
     rt: &R,
     alloc: Global,
     cabinet: &mut MemCabinet,
@@ -102,6 +103,7 @@ pub fn told<R: Wait>(
     let status = retro(
         rt,
         alloc,
+        1,
         all.as_slice(),
         &mut source,
         &mut sink,
@@ -112,7 +114,7 @@ pub fn told<R: Wait>(
 }
 
 // Whether the program ends so with the words of the row.
-fn ends_so<R: Wait>(
+fn ends_so<R: Threads + Wait + Sync>(
     rt: &R,
     alloc: Global,
     cabinet: &mut MemCabinet,
@@ -124,7 +126,7 @@ fn ends_so<R: Wait>(
 }
 
 // The number of the first row that ends in another way.
-pub fn first_wrong<R: Wait>(
+pub fn first_wrong<R: Threads + Wait + Sync>(
     rt: &R,
     alloc: Global,
     cabinet: &mut MemCabinet,

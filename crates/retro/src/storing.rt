@@ -1,6 +1,6 @@
 //! Runs a plan over the four devices of a store, at which each session has a seat of its own.
 
-ghost use Rattle.std.specs.Prelude.{◌≡◌, ◌≤◌, ℕ, List, [], Some, Ok, IfOk, length, slice_get, vec_capacity};
+ghost use Rattle.std.specs.Prelude.{◌≡◌, ◌<◌, ◌≤◌, ℕ, List, [], Some, Ok, IfOk, length, slice_get, vec_capacity};
 ghost use Rattle.std.proofs.Common.{◌∙◌, sym};
 ghost use Rattle.journal_law.specs.Lawful.{Ground};
 ghost use Rattle.store.specs.Seen.{IsHonest, ground_in};
@@ -16,12 +16,14 @@ ghost use Rattle.retro.specs.Storing.{AreFresh, AreHeld, AreIn, ComeFrom, IsAmon
 
 use crate::phases::run_phases;
 use crate::seats::Meets;
+use crate::slots::Slot;
 use disk_model::{Disk, Four};
 use history::{Journal, Version};
 use retro_base::{Refusal, SESSIONS};
 use session::{Kept, Plan, RunItems, print};
 use std::alloc::{AllocError, Global};
 use std::sync::Wait;
+use std::thread::Threads;
 use store::{Closed, Held, Seat, Store, laws_of_crashes};
 use values::Seq;
 
@@ -52,8 +54,8 @@ fn sit_down<'a, R: Wait, D: Disk + Drop>(
     rt: &'a R,
     store: &'a Store<D>,
     seats: Vec<Seat<D>>,
-    slots: Vec<Option<Held<'a, R, D>>>,
-) -> Vec<Option<Held<'a, R, D>>>
+    slots: Vec<Slot<Held<'a, R, D>>>,
+) -> Vec<Slot<Held<'a, R, D>>>
     requires ready { AreReady (table_of store.now.turn) seats.items }
     requires fresh { AreFresh store.now.pages seats.items }
     requires none { slots.items ≡ [] }
@@ -62,7 +64,8 @@ fn sit_down<'a, R: Wait, D: Disk + Drop>(
 {
     let mut slots = slots;
     for seat in seats {
-        slots.push_reserved(Some(Held::new(alloc, rt, store, seat)));
+        let held = Held::new(alloc, rt, store, seat);
+        slots.push_reserved(Slot::new(alloc, held));
     }
     slots
 }
@@ -70,7 +73,7 @@ fn sit_down<'a, R: Wait, D: Disk + Drop>(
 // The seats out of their slots.
 fn stand_up<'a, R: Wait, D: Disk + Drop>(
     store: &'a Store<D>,
-    slots: Vec<Option<Held<'a, R, D>>>,
+    slots: Vec<Slot<Held<'a, R, D>>>,
     seats: Vec<Seat<D>>,
 ) -> Vec<Seat<D>>
     requires held { AreIn (table_of store.now.turn) slots.items }
@@ -83,24 +86,24 @@ fn stand_up<'a, R: Wait, D: Disk + Drop>(
     let mut slots = slots;
     let mut seats = seats;
     while !slots.is_empty() {
-        match slots.take_last() {
-            Some(held) => seats.push_reserved(held.into_seat()),
-            None => unreachable!(),
-        }
+        let held = slots.take_last().into_seat();
+        seats.push_reserved(held.into_seat());
     }
     slots.destroy_empty();
     seats
 }
 
 // Runs a plan at the seats of a store that was just opened, and gives them back, and what is kept of it.
-fn run_seated<R: Wait, D: Disk + Drop, I: RunItems>(
+fn run_seated<R: Threads + Wait + Sync, D: Disk + Drop + Send, I: RunItems + Sync>(
     alloc: Global,
     rt: &R,
+    threads: usize,
     store: &Store<D>,
     seats: Vec<Seat<D>>,
     runner: &I,
     plan: &Plan,
 ) -> (Vec<Seat<D>>, Result<Seq<Seq<Seq<Kept>>>, AllocError>)
+    requires threads { 0 < threads }
     requires ready { AreReady (table_of store.now.turn) seats.items }
     requires fresh { AreFresh store.now.pages seats.items }
     requires fits { PlanFits plan.now }
@@ -119,7 +122,7 @@ fn run_seated<R: Wait, D: Disk + Drop, I: RunItems>(
         return (seats, Err(AllocError));
     };
     let mut slots = sit_down(alloc, rt, store, seats, slots);
-    let kept = run_phases(alloc, slots.as_mut_slice(), runner, plan);
+    let kept = run_phases(alloc, rt, threads, slots.as_mut_slice(), runner, plan);
     (stand_up(store, slots, back), kept)
 }
 
@@ -140,14 +143,16 @@ fn text_of(
 
 /// Runs a plan over the store on four devices, which are opened as `Store::fetch` opens them, and refused so. They come
 /// back: each session has had a seat of its own, and the store is closed behind the run.
-pub fn run_on<R: Wait, D: Disk + Drop, I: RunItems>(
+pub fn run_on<R: Threads + Wait + Sync, D: Disk + Drop + Send, I: RunItems + Sync>(
     alloc: Global,
     rt: &R,
+    threads: usize,
     disks: Four<D>,
     runner: &I,
     plan: &Plan,
 ) -> (Four<D>, Result<Ended, Refusal>)
-    requires { PlanFits plan.now }
+    requires threads { 0 < threads }
+    requires fits { PlanFits plan.now }
     ensures { RunsOn D.extent D.faults D.is_honest D.remembers D.state D.clock plan.now disks result.0 result.1 }
 {
     // A law for the proof: what readers see of the pages that a store opens with, and that it leaves.
@@ -156,7 +161,7 @@ pub fn run_on<R: Wait, D: Disk + Drop, I: RunItems>(
         Err((disks, why)) => (disks, Err(why)),
         Ok((store, seats)) => {
             let newest = store.newest();
-            let (seats, kept) = run_seated(alloc, rt, &store, seats, runner, plan);
+            let (seats, kept) = run_seated(alloc, rt, threads, &store, seats, runner, plan);
             let Closed { disks, journal } = store.close(seats);
             let text = text_of(alloc, plan, kept, newest, &journal);
             (disks, Ok(Ended { journal, text }))

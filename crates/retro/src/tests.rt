@@ -1,12 +1,16 @@
 //! Whole runs of the program, by outputs worked out by hand.
 
+ghost use Rattle.std.specs.Prelude.{◌<◌};
+
 use crate::program::retro;
 use feeds::{MemSink, MemSource};
 use fold_kit::{Combiner, FoldSet, How};
 use mem_cabinet::MemCabinet;
+use retro_base::SESSIONS;
 use std::alloc::{AllocError, Global};
 use std::sync::Wait;
 use std::test::Fail;
+use std::thread::Threads;
 
 #[derive(Drop)]
 pub struct Outcome {
@@ -14,13 +18,16 @@ pub struct Outcome {
     pub text: Vec<u8>,
 }
 
-fn run_with(
-    rt: &(impl AllocGlobal + Wait),
+fn run_in(
+    rt: &(impl AllocGlobal + Threads + Wait + Sync),
+    threads: usize,
     words: &[&str],
     script: &[u8],
     failing_reads: &[u64],
     failing_writes: &[u64],
-) -> Result<Outcome, Fail> {
+) -> Result<Outcome, Fail>
+    requires { 0 < threads }
+{
     let alloc = rt.alloc();
     let mut all = Vec::new(alloc);
     for word in words {
@@ -37,6 +44,7 @@ fn run_with(
     let status = retro(
         rt,
         alloc,
+        threads,
         all.as_slice(),
         &mut source,
         &mut sink,
@@ -47,8 +55,30 @@ fn run_with(
     Ok(Outcome { status, text })
 }
 
-pub fn run(rt: &(impl AllocGlobal + Wait), script: &[u8]) -> Result<Outcome, Fail> {
+fn run_with(
+    rt: &(impl AllocGlobal + Threads + Wait + Sync),
+    words: &[&str],
+    script: &[u8],
+    failing_reads: &[u64],
+    failing_writes: &[u64],
+) -> Result<Outcome, Fail> {
+    run_in(rt, 1, words, script, failing_reads, failing_writes)
+}
+
+/// Runs a script whose sessions of a phase run in turn.
+pub fn run(
+    rt: &(impl AllocGlobal + Threads + Wait + Sync),
+    script: &[u8],
+) -> Result<Outcome, Fail> {
     run_with(rt, &["run"], script, &[], &[])
+}
+
+/// Runs a script whose sessions of a phase run at once, each in a thread of its own.
+pub fn run_at_once(
+    rt: &(impl AllocGlobal + Threads + Wait + Sync),
+    script: &[u8],
+) -> Result<Outcome, Fail> {
+    run_in(rt, SESSIONS, &["run"], script, &[], &[])
 }
 
 #[test]

@@ -7,7 +7,8 @@ use Rattle.retro.proofs.phases.run_phase.Goals as goal
 
 pub meet_all-requires-clause-together : goal.meet_all-requires-clause-together
 meet_all-requires-clause-together g c =
-    together_on g.row.S.Denot g.S.Seat.view g.S.Seat.goes g.S.Seat.stays g.S.Seat.goes_on g.S.Meets.together g.met.S.Meets.one_goes g.met.S.Meets.other_goes c.args.slots.now c.run_sessions-kept.new.slots c.requires.seated
+    let met = g.met.S.Meets g.world.𝓛 g.world.𝓜 g.world.𝓡 ((λ s x. x), (λ x. x), (λ x. x), λ x. x) in
+    together_on g.row.S.Denot g.S.Seat.view g.S.Seat.goes g.S.Seat.stays g.S.Seat.goes_on g.S.Meets.together met.one_goes met.other_goes c.args.slots.now c.run_sessions-kept.new.slots c.requires.seated
     c.run_sessions-kept.ensures.come c.requires.together
 
 pub returns : goal.returns

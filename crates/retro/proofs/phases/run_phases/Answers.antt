@@ -13,8 +13,9 @@ use Rattle.retro.proofs.Stepped.{phase_at, phase_failed, run_begins}
 use Rattle.retro.proofs.phases.run_phases.Goals as goal
 
 pub run_phase-requires-clause-together : goal.run_phase-requires-clause-together
-run_phase-requires-clause-together g c =
-    together_on g.row.S.Denot g.S.Seat.view g.S.Seat.goes g.S.Seat.stays g.S.Seat.goes_on g.S.Meets.together g.met.S.Meets.one_goes g.met.S.Meets.other_goes c.args.slots.now c.loop-index.slots c.requires.seated
+run_phase-requires-clause-together g c κs within =
+    let met = g.met.S.Meets g.world.𝓛 g.world.𝓜 g.world.𝓡 ((λ s x. x), (λ x. x), (λ x. x), λ x. x) in
+    together_on g.row.S.Denot g.S.Seat.view g.S.Seat.goes g.S.Seat.stays g.S.Seat.goes_on g.S.Meets.together met.one_goes met.other_goes c.args.slots.now c.loop-index.slots c.requires.seated
     c.loop-index.invariant.come c.requires.together
 
 pub loop-index-init : goal.loop-index-init

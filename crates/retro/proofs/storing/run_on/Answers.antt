@@ -5,10 +5,10 @@ use Rattle.retro.proofs.Stored.{have_seats, leaves_so}
 use Rattle.retro.proofs.storing.run_on.Goals as goal
 
 pub run_seated-seats-requires-clause-fresh : goal.run_seated-seats-requires-clause-fresh
-run_seated-seats-requires-clause-fresh g c = λ k s there. let is = c.in-Ok.ensures.new k s there in (c.in-Ok.ensures.sized k s there, is.0, is.1, is.2)
+run_seated-seats-requires-clause-fresh g c κs within = λ k s there. let is = c.in-Ok.ensures.new k s there in (c.in-Ok.ensures.sized k s there, is.0, is.1, is.2)
 
 pub run_seated-seats-requires-clause-enough : goal.run_seated-seats-requires-clause-enough
-run_seated-seats-requires-clause-enough g c = subst (HaveSeats c.args.plan.now) (sym c.in-Ok.ensures.seats.1) (have_seats c.args.plan.now c.requires.1)
+run_seated-seats-requires-clause-enough g c κs within = subst (HaveSeats c.args.plan.now) (sym c.in-Ok.ensures.seats.1) (have_seats c.args.plan.now c.requires.fits.1)
 
 pub returns-in-Ok : goal.returns-in-Ok
 returns-in-Ok g c =
@@ -19,6 +19,6 @@ returns-in-Ok g c =
       unwritten = tt;
       unopened = tt;
       leaves = leaves_so disk.extent disk.faults disk.is_honest disk.remembers disk.state disk.clock c.args.disks (start_of c.in-Ok.store.turn) c.in-Ok.seats.items opened.begins c.in-Ok.store.turn.table.shared.key.seats opened.seats.0
-          c.run_seated-seats.result.0.items c.close-disks.result c.close-disks.ensures.closed laws.opening laws.closed c.args.plan.now c.requires opened.seats.1 c.run_seated-seats.result.1 c.run_seated-seats.ensures.ran c.newest-newest.result
+          c.run_seated-seats.result.0.items c.close-disks.result c.close-disks.ensures.closed laws.opening laws.closed c.args.plan.now c.requires.fits opened.seats.1 c.run_seated-seats.result.1 c.run_seated-seats.ensures.ran c.newest-newest.result
           (c.newest-newest.ensures ∙ opened.newest) (record { journal = c.close-disks.result.journal; text = c.text_of-text.result }) refl c.text_of-text.ensures;
     }

@@ -1,10 +1,11 @@
-use Rattle.std.proofs.Common.{◌≡◌, ◌∙◌, ◌++◌, ◌∷◌, ◌≤◌, [], List, Option, Some, ap, arith, length, sym, subst}
+use Rattle.std.proofs.Common.{◌≡◌, ◌∙◌, ◌∷◌, ◌≤◌, [], List, arith, length, refl, sym, subst}
 use Rattle.std.specs.Prelude.{vec_len}
 use Rattle.std.proofs.lemmas.Bool.Decides.{nat_tests}
 use Rattle.turn.specs.Tables.{table_of}
 use Rattle.store.specs.Seats.{Sat}
 use Rattle.store.specs.declared.held.Held.{Held}
-use Rattle.retro.proofs.Stored.{HaveRisen, all_risen, last_in, none_risen, room_left, seat_risen, some_one}
+use Rattle.retro.proofs.Stored.{HaveRisen, all_risen, last_in, none_risen, room_left, seat_risen}
+use Rattle.retro.proofs.Seated.{one_seat}
 use Rattle.retro.proofs.storing.stand_up.Goals as goal
 
 pub loop-slots-init : goal.loop-slots-init
@@ -18,18 +19,24 @@ push_reserved-requires g c =
     let room = before.room in
     omega (arith, len, less, room)
 
+pub into_seat-held-requires : goal.into_seat-held-requires
+into_seat-held-requires g c =
+    let before = c.loop-slots.invariant in
+    let found = last_in (table_of c.args.store.now.turn) c.args.slots.items c.loop-slots.slots.items c.take_last.new.self.items before.risen.0 c.take_last.result c.loop-slots.seats.items before.risen.1 c.take_last.ensures.items c.requires.held in
+    record { there = rw found.1 refl }
+
 pub loop-slots-preserved : goal.loop-slots-preserved
 loop-slots-preserved g c =
     let before = c.loop-slots.invariant in
     let z = table_of c.args.store.now.turn in
     let found = last_in z c.args.slots.items c.loop-slots.slots.items c.take_last.new.self.items before.risen.0 c.take_last.result c.loop-slots.seats.items before.risen.1 c.take_last.ensures.items c.requires.held in
-    let store = subst (λ (h : Held g.row.R.Denot g.row.D.Denot). table_of h.store.now.turn ≡ z) (some_one (Held g.row.R.Denot g.row.D.Denot) found.0 c.in-Some.held (sym found.1 ∙ c.in-Some.is)) found.2 in
+    let store = subst (λ (h : Held g.row.R.Denot g.row.D.Denot). table_of h.store.now.turn ≡ z) (one_seat (Held g.row.R.Denot g.row.D.Denot) found.0 c.into_seat-held.result (sym found.1 ∙ c.into_seat-held.ensures)) found.2 in
     record {
       risen = (
-        Some c.in-Some.held ∷ before.risen.0,
-        subst (λ (ss : List (Sat _)). HaveRisen z c.args.slots.items c.take_last.new.self.items (Some c.in-Some.held ∷ before.risen.0) ss) (sym c.push_reserved.ensures.items)
-            (seat_risen z c.args.slots.items c.loop-slots.slots.items c.take_last.new.self.items before.risen.0 c.in-Some.held c.loop-slots.seats.items c.into_seat.result before.risen.1
-            (c.take_last.ensures.items ∙ ap (λ (x : Option (Held g.row.R.Denot g.row.D.Denot)). c.take_last.new.self.items ++ x ∷ []) c.in-Some.is) store c.into_seat.ensures.ready c.into_seat.ensures.seat),
+        c.take_last.result ∷ before.risen.0,
+        subst (λ (ss : List (Sat _)). HaveRisen z c.args.slots.items c.take_last.new.self.items (c.take_last.result ∷ before.risen.0) ss) (sym c.push_reserved.ensures.items)
+            (seat_risen z c.args.slots.items c.loop-slots.slots.items c.take_last.new.self.items before.risen.0 c.take_last.result c.into_seat-held.result c.loop-slots.seats.items c.into_seat.result before.risen.1
+            c.take_last.ensures.items c.into_seat-held.ensures store c.into_seat.ensures.ready c.into_seat.ensures.seat),
       );
       room = subst (λ n. length c.args.slots.items ≤ n) (sym c.push_reserved.ensures.capacity) before.room;
     }
@@ -41,11 +48,3 @@ returns g c =
     let none : vec_len c.loop-slots.slots ≡ 0 = grind (arith, nat_tests, sym c.is_empty.ensures ∙ c.loop-slots-test.false) in
     let all = all_risen (table_of c.args.store.now.turn) c.args.slots.items c.loop-slots.slots.items before.risen.0 c.loop-slots.seats.items before.risen.1 (sym len ∙ none) in
     record { count = all.0; ready = all.1; among = all.2 }
-
-pub unreachable-requires : goal.unreachable-requires
-unreachable-requires g c =
-    let before = c.loop-slots.invariant in
-    let found = last_in (table_of c.args.store.now.turn) c.args.slots.items c.loop-slots.slots.items c.take_last.new.self.items before.risen.0 c.take_last.result c.loop-slots.seats.items before.risen.1 c.take_last.ensures.items c.requires.held in
-    let full = found.1 in
-    let none = c.in-None.is in
-    absurd (cc (full, none))
