@@ -15,18 +15,16 @@ def comments(total):
 
 
 def full_journal():
-    """More items than the journal has lines for, in short sessions, and then single items that need one
+    """More items than the journal has lines for, in phases of a session each, and then single items that need one
     line, two, or none."""
     out, items = [], 0
     while items < 32766:
-        out.append(b"PHASE\n")
-        for place in range(16):
-            count = min(9, 32766 - items)
-            items += count
-            out.append(b"SESSION %c\n" % b"abcdefghijklmnop"[place] + b"COMMIT\n" * count)
+        count = min(144, 32766 - items)
+        items += count
+        out.append(b"PHASE\nSESSION %c\n" % b"abcdefghijklmnop"[items % 16] + b"COMMIT\n" * count)
     out.append(b"PHASE\nSESSION a\nCOMMIT WITH SNAPSHOT\nDROP SNAPSHOTS BELOW 1\nSELECT * FROM rql_a\nCOMMIT\n")
-    out.append(b"SESSION b\nCollateData('','','')\nSELECT * FROM rql_a\nSELECT AS OF 9 * FROM t\nSELECT AS OF\n")
-    out.append(b"SESSION c\nSELECT * FROM SnapIds\nCOMMIT\n")
+    out.append(b"PHASE\nSESSION b\nCollateData('','','')\nSELECT * FROM rql_a\nSELECT AS OF 9 * FROM t\nSELECT AS OF\n")
+    out.append(b"PHASE\nSESSION c\nSELECT * FROM SnapIds\nCOMMIT\n")
     return b"".join(out)
 
 

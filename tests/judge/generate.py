@@ -226,14 +226,13 @@ class Maker:
         next(way for share, way in ways if roll < share)()
 
     def body(self):
-        for phase in range(self.dice.randint(1, 2)):
+        for phase in range(self.dice.randint(1, 4)):
             if phase or self.odds(0.9):
                 self.put(self.dice.choice((b"PHASE", b"PHASE", b"phase")))
-            names = self.dice.sample(SESSION_NAMES, self.dice.choice((1, 1, 2, 3)))
-            for place, name in enumerate(names):
+            for name in self.dice.sample(SESSION_NAMES, 1):
                 self.put(self.dice.choice((b"SESSION ", b"SESSION ", b"session\t ")) + name.encode("ascii"))
                 self.run.results = {}
-                if place == 0 and phase == 0:
+                if phase == 0:
                     self.opening()
                 if self.odds(0.2):
                     self.history()

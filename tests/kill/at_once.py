@@ -1,0 +1,74 @@
+#!/usr/bin/env python3
+"""at_once.py PROGRAM [CYCLES]: kills the program while eight sessions commit at once, and opens the store again each time.
+
+Every transaction moves a number from one row to another and declares a snapshot. So whatever was committed when a run
+ended, the sum over the table is what it was at first, now and as of each snapshot, and no snapshot that was seen is lost.
+It works in a folder of its own under the current one, and ends with status 1 at the first difference.
+"""
+import os
+import random
+import signal
+import subprocess
+import sys
+import tempfile
+import time
+
+ROWS, FIRST, SESSIONS, MOVES = 64, 1000, "abcdefgh", 60
+
+
+def moving():
+    lines = ["PHASE"]
+    for session in SESSIONS:
+        lines.append(f"SESSION {session}")
+        for _ in range(MOVES):
+            giver, taker = random.sample(range(ROWS), 2)
+            much = random.randrange(1, 50)
+            lines.append(f"UPDATE t SET v = v - {much} WHERE k = {giver}")
+            lines.append(f"UPDATE t SET v = v + {much} WHERE k = {taker}")
+            lines.append("COMMIT WITH SNAPSHOT")
+    return lines
+
+
+def run(program, lines, seconds=None):
+    """What the program wrote, or None where it was killed after so long."""
+    with tempfile.TemporaryFile() as given:
+        given.write(("\n".join(lines) + "\n").encode())
+        given.seek(0)
+        began = subprocess.Popen([program, "run", "books"], stdin=given, stdout=subprocess.PIPE)
+        try:
+            return began.communicate(timeout=seconds)[0].decode()
+        except subprocess.TimeoutExpired:
+            began.send_signal(signal.SIGKILL)
+            began.communicate()
+            return None
+
+
+def check(program, seen):
+    """The newest snapshot, behind a look at the table now and as of some snapshots."""
+    shown = subprocess.run([program, "show", "books"], capture_output=True, text=True, check=True).stdout
+    newest = next(int(line.split()[1]) for line in shown.splitlines() if line.startswith("newest"))
+    assert newest >= seen, (newest, seen)
+    some = sorted({1, newest, *random.sample(range(1, newest + 1), min(6, newest))})
+    text = run(program, ["PHASE", "SESSION a", "SELECT SUM(v) FROM t", "COMMIT", *(f"SELECT AS OF {n} SUM(v) FROM t" for n in some)])
+    lines = text.splitlines()
+    sums = [lines[at + 1] for at, line in enumerate(lines) if line == "rows 1"]
+    assert sums == [str(ROWS * FIRST)] * (1 + len(some)), (some, sums)
+    return newest
+
+
+def main():
+    program, cycles = os.path.abspath(sys.argv[1]), int(sys.argv[2]) if len(sys.argv) > 2 else 30
+    killed, seen = 0, 1
+    with tempfile.TemporaryDirectory(dir=".") as folder:
+        os.chdir(folder)
+        subprocess.run([program, "format", "books", "256", "65536"], check=True, capture_output=True)
+        made = ",".join(f"({k},{FIRST})" for k in range(ROWS))
+        run(program, ["PHASE", "SESSION a", "CREATE TABLE t(k INT, v INT)", f"INSERT INTO t VALUES {made}", "COMMIT WITH SNAPSHOT"])
+        for _ in range(cycles):
+            killed += run(program, moving(), random.uniform(0.05, 1.2)) is None
+            seen = check(program, seen)
+        os.chdir("..")
+    print(f"{cycles} runs of eight sessions, {killed} of them killed before their end; {seen} snapshots, each sum that was asked the same")
+
+
+main()
