@@ -1,9 +1,11 @@
 //! Stores at the limits, at full size.
 
+use crate::devices::goes_so;
 use crate::lines::{Said, are_lines};
-use core_trial::devices::{A, B, C, COPIER, FLUSHER, devices, empty, open};
-use core_trial::{Answer, Ask, Row, run};
-use disk_mem::Call;
+use core_trial::devices::{A, B, C, COPIER, FLUSHER, Pair, devices, empty};
+use core_trial::{Answer, Ask, Ran, Row, run};
+use disk_mem::{Call, RamDisk};
+use disk_model::Disk;
 use history::Line;
 use retro_base::{Device, Refusal, Who};
 use std::alloc::Global;
@@ -37,7 +39,7 @@ const PAGES_OF_A_COMMIT: [Row; 14] = [
     (Ask::Owed, Answer::Pair(0, 1024)),
 ];
 
-const PAGES_OF_A_COMMIT_LINES: [(Who, Said); 5] = [
+static PAGES_OF_A_COMMIT_LINES: [(Who, Said); 5] = [
     (A, Said::Began),
     (A, Said::Done(None, 1024)),
     (A, Said::Began),
@@ -45,12 +47,39 @@ const PAGES_OF_A_COMMIT_LINES: [(Who, Said); 5] = [
     (A, Said::Began),
 ];
 
+// What is left behind the tables on an empty store of so many pages and 64 slots.
+fn left(alloc: Global, pages: u32, tables: &[&[Row]]) -> Result<Ran<RamDisk>, Refusal> {
+    run(alloc, empty(alloc, pages, 64)?, tables)
+}
+
+// Whether a journal ends with these lines, behind so many.
+fn ends_with(lines: &[Line], place: usize, want: &[(Who, Said)]) -> bool {
+    match lines.get(place..) {
+        Some(lines) => are_lines(lines, want),
+        None => false,
+    }
+}
+
+// Whether all is answered so, and the journal ends with these lines, behind so many.
+fn ends_so(
+    alloc: Global,
+    pages: u32,
+    tables: &[&[Row]],
+    place: usize,
+    want: &[(Who, Said)],
+) -> Result<bool, Refusal> {
+    let ran = left(alloc, pages, tables)?;
+    Ok(ran.wrong.is_none() && ends_with(ran.journal.as_slice(), place, want))
+}
+
+fn commit_goes_so(alloc: Global) -> Result<bool, Refusal> {
+    let lines = &PAGES_OF_A_COMMIT_LINES;
+    ends_so(alloc, 2048, &[&PAGES_OF_A_COMMIT], 0, lines)
+}
+
 #[test]
 fn a_commit_writes_1024_pages(rt: HostRuntime) -> Result<(), Fail> {
-    let trial = empty(rt.alloc(), 2048, 64)?;
-    let ran = run(rt.alloc(), trial, &[&PAGES_OF_A_COMMIT])?;
-    let lines = ran.journal.as_slice();
-    assert!(rt; ran.wrong == None && are_lines(lines, &PAGES_OF_A_COMMIT_LINES));
+    assert!(rt; commit_goes_so(rt.alloc()) == Ok(true));
     Ok(())
 }
 
@@ -90,10 +119,13 @@ const ARCHIVE: [Row; 27] = [
     (Ask::Commit(A), FULL),
 ];
 
+fn archive_goes_so(alloc: Global) -> Result<bool, Refusal> {
+    Ok(left(alloc, 128, &[&ARCHIVE])?.wrong.is_none())
+}
+
 #[test]
 fn an_archive_of_64_is_full_and_freed(rt: HostRuntime) -> Result<(), Fail> {
-    let ran = run(rt.alloc(), empty(rt.alloc(), 128, 64)?, &[&ARCHIVE])?;
-    assert!(rt; ran.wrong == None);
+    assert!(rt; archive_goes_so(rt.alloc()) == Ok(true));
     Ok(())
 }
 
@@ -120,10 +152,14 @@ const LINES: [Row; 9] = [
     (Ask::Note(FLUSHER, Device::Maplog, 2, true), Answer::Done),
 ];
 
+// Whether they are answered so, and no line is behind that many.
+fn journal_goes_so(alloc: Global) -> Result<bool, Refusal> {
+    ends_so(alloc, 16, &[&LINES], 65_536, &[])
+}
+
 #[test]
 fn a_journal_has_65536_lines(rt: HostRuntime) -> Result<(), Fail> {
-    let ran = run(rt.alloc(), empty(rt.alloc(), 16, 64)?, &[&LINES])?;
-    assert!(rt; ran.wrong == None && ran.journal.as_slice().len() == 65_536);
+    assert!(rt; journal_goes_so(rt.alloc()) == Ok(true));
     Ok(())
 }
 
@@ -151,19 +187,28 @@ const THIRD_OPENING: [Row; 11] = [
     (Ask::Horizon, Answer::Pair(2, 65_537)),
 ];
 
-// What is wrong with 65,536 snapshots over three openings.
-fn wrong_snapshots(alloc: Global) -> Result<[Option<(usize, Answer)>; 3], Refusal> {
-    let first = run(alloc, empty(alloc, 16, 64)?, &[&FIRST_OPENING])?;
-    let trial = open(alloc, first.log, first.pages, &[])?;
-    let second = run(alloc, trial, &[&SECOND_OPENING])?;
-    let trial = open(alloc, second.log, second.pages, &[])?;
-    let third = run(alloc, trial, &[&THIRD_OPENING])?;
-    Ok([first.wrong, second.wrong, third.wrong])
+// Whether the first opening goes so, and what it leaves.
+fn first_opening(alloc: Global) -> Result<(bool, (RamDisk, RamDisk)), Refusal> {
+    let ran = left(alloc, 16, &[&FIRST_OPENING])?;
+    Ok((ran.wrong.is_none(), (ran.log, ran.pages)))
+}
+
+// Whether the two behind it go so.
+fn later_openings<D: Disk + Drop>(alloc: Global, devices: (D, D)) -> Result<(bool, bool), Refusal> {
+    let (second, left) = goes_so(alloc, devices, &SECOND_OPENING)?;
+    let (third, _left) = goes_so(alloc, left, &THIRD_OPENING)?;
+    Ok((second, third))
+}
+
+// Whether 65,536 snapshots over three openings go so.
+fn snapshots_go_so(alloc: Global) -> Result<(bool, (bool, bool)), Refusal> {
+    let (first, left) = first_opening(alloc)?;
+    Ok((first, later_openings(alloc, left)?))
 }
 
 #[test]
 fn three_openings_declare_65536_snapshots(rt: HostRuntime) -> Result<(), Fail> {
-    assert!(rt; wrong_snapshots(rt.alloc()) == Ok([None; 3]));
+    assert!(rt; snapshots_go_so(rt.alloc()) == Ok((true, (true, true))));
     Ok(())
 }
 
@@ -208,20 +253,32 @@ const READ_AGAIN: [Row; 5] = [
     COMMITS,
 ];
 
-// What is wrong when a store of 8,192 pages is written and when it is read, and how often the pages' device was read for
-// that.
-fn read_again(alloc: Global) -> Result<([Option<(usize, Answer)>; 2], u64), Refusal> {
-    let (log, pages) = devices(alloc, 8192, 64)?;
-    let written = run(alloc, open(alloc, log, pages, &[])?, &[&WRITTEN])?;
-    let pages = written.pages.again(alloc, Vec::new(alloc), None)?;
-    let trial = open(alloc, written.log, pages, &[])?;
-    let read = run(alloc, trial, &[&READ_AGAIN])?;
-    Ok(([written.wrong, read.wrong], read.pages.calls(Call::Read)))
+// Whether a store of 8,192 pages is written so, and what this leaves.
+fn written(alloc: Global) -> Result<(bool, Pair), Refusal> {
+    goes_so(alloc, devices(alloc, 8192, 64)?, &WRITTEN)
+}
+
+// These devices, where no call of the pages' was made yet.
+fn uncalled(alloc: Global, devices: Pair) -> Result<Pair, Refusal> {
+    let (log, pages) = devices;
+    let pages = pages.again(alloc, Vec::new(alloc), None)?;
+    Ok((log, pages))
+}
+
+// Whether it is read so, and how often the pages' device is read for that.
+fn read(alloc: Global, devices: Pair) -> Result<(bool, u64), Refusal> {
+    let (is_so, left) = goes_so(alloc, devices, &READ_AGAIN)?;
+    Ok((is_so, left.1.calls(Call::Read)))
+}
+
+fn read_again(alloc: Global) -> Result<(bool, (bool, u64)), Refusal> {
+    let (is_written, left) = written(alloc)?;
+    Ok((is_written, read(alloc, uncalled(alloc, left)?)?))
 }
 
 #[test]
 fn a_pool_of_8192_pages_keeps_4096(rt: HostRuntime) -> Result<(), Fail> {
-    assert!(rt; read_again(rt.alloc()) == Ok(([None; 2], 8192 + 4096)));
+    assert!(rt; read_again(rt.alloc()) == Ok((true, (true, 8192 + 4096))));
     Ok(())
 }
 
@@ -274,7 +331,7 @@ const ROOM: [Row; 19] = [
 ];
 
 // The lines behind those of the commits.
-const ROOM_LINES: [(Who, Said); 8] = [
+static ROOM_LINES: [(Who, Said); 8] = [
     (A, Said::Began),
     (A, Said::RolledBack),
     (C, Said::Fault(Device::Pagelog, 1, false)),
@@ -287,22 +344,17 @@ const ROOM_LINES: [(Who, Said); 8] = [
 
 const FIRST_1024: [Row; 3] = [BEGINS, (Ask::EditAll(A, 0, 1024, 5), Answer::Done), COMMITS];
 
-// Whether a journal ends with these lines, behind so many.
-fn ends_with(lines: &[Line], place: usize, want: &[(Who, Said)]) -> bool {
-    match lines.get(place..) {
-        Some(lines) => are_lines(lines, want),
-        None => false,
-    }
-}
-
-#[test]
-fn a_drop_without_room_keeps_its_line(rt: HostRuntime) -> Result<(), Fail> {
+// Behind sixteen commits and 88 snapshots.
+fn room_goes_so(alloc: Global) -> Result<bool, Refusal> {
     let first: &[Row] = &FIRST_1024;
     let mut tables = [first; 17];
     tables[15] = &FILLED;
     tables[16] = &ROOM;
-    let ran = run(rt.alloc(), empty(rt.alloc(), 1024, 64)?, &tables)?;
-    // Behind sixteen commits and 88 snapshots.
-    assert!(rt; ran.wrong == None && ends_with(ran.journal.as_slice(), 208, &ROOM_LINES));
+    ends_so(alloc, 1024, &tables, 208, &ROOM_LINES)
+}
+
+#[test]
+fn a_drop_without_room_keeps_its_line(rt: HostRuntime) -> Result<(), Fail> {
+    assert!(rt; room_goes_so(rt.alloc()) == Ok(true));
     Ok(())
 }

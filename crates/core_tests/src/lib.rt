@@ -1,9 +1,18 @@
-//! Tests of the desk: transactions, looks, captures and drops of a small store, and stores at their limits.
+//! Tests of the desk: transactions, looks, captures and drops of a small store, stores at their limits, and stores over
+//! devices that fail and stop.
 #![tactic(auto)]
 
+#[cfg(test)]
+mod devices;
+#[cfg(test)]
+mod faults;
 #[cfg(test)]
 mod full;
 #[cfg(test)]
 mod lines;
 #[cfg(test)]
+mod past;
+#[cfg(test)]
 mod rows;
+#[cfg(test)]
+mod stops;

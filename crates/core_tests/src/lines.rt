@@ -58,3 +58,14 @@ pub fn are_lines(lines: &[Line], want: &[(Who, Said)]) -> bool {
     }
     lines.len() == want.len()
 }
+
+/// The first line that tells a fault, with whose it is.
+pub fn first_fault(lines: &[Line]) -> Option<(Who, Said)> {
+    for line in lines {
+        let said = told_by(&line.what);
+        if matches!(said, Said::Fault(..) | Said::InDoubt(..)) {
+            return Some((line.who, said));
+        }
+    }
+    None
+}

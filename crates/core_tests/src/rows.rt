@@ -53,7 +53,7 @@ const LATCH: [Row; 17] = [
     (Ask::Owed, Answer::Pair(0, 1)),
 ];
 
-const LATCH_LINES: [(Who, Said); 8] = [
+static LATCH_LINES: [(Who, Said); 8] = [
     (A, Said::Began),
     (B, Said::Began),
     (B, Said::Overlapped(0, 3)),
@@ -104,7 +104,7 @@ const SECOND_LOOK: [Row; 28] = [
     (Ask::Commit(B), COMMITTED),
 ];
 
-const SECOND_LOOK_LINES: [(Who, Said); 14] = [
+static SECOND_LOOK_LINES: [(Who, Said); 14] = [
     (A, Said::Began),
     (B, Said::Began),
     (C, Said::Began),
@@ -140,7 +140,7 @@ const ONE_CAPTURE: [Row; 10] = [
     (Ask::Horizon, Answer::Pair(1, 1)),
 ];
 
-const ONE_CAPTURE_LINES: [(Who, Said); 12] = [
+static ONE_CAPTURE_LINES: [(Who, Said); 12] = [
     (A, Said::Began),
     (A, Said::Done(Some(0), 0)),
     (A, Said::Began),
@@ -197,7 +197,7 @@ const THREE_CAPTURES: [Row; 30] = [
     (Ask::Unlook(B, ASKED), Answer::Done),
 ];
 
-const THREE_CAPTURES_LINES: [(Who, Said); 16] = [
+static THREE_CAPTURES_LINES: [(Who, Said); 16] = [
     (A, Said::Began),
     (A, Said::Done(None, 1)),
     (A, Said::Began),
@@ -266,7 +266,7 @@ const TWO_SNAPSHOTS: [Row; 17] = [
     (Ask::Rollback(A, Ending::Refused(BAD_WORDS)), Answer::Done),
 ];
 
-const TWO_SNAPSHOTS_LINES: [(Who, Said); 15] = [
+static TWO_SNAPSHOTS_LINES: [(Who, Said); 15] = [
     (B, Said::Refused(NONE_YET)),
     (A, Said::Began),
     (A, Said::Done(Some(0), 0)),
@@ -318,7 +318,7 @@ const NOTED: [Row; 18] = [
     (Ask::Rollback(A, FAILED), Answer::Done),
 ];
 
-const NOTED_LINES: [(Who, Said); 9] = [
+static NOTED_LINES: [(Who, Said); 9] = [
     (A, Said::Began),
     (B, Said::Began),
     (B, Said::Fault(Device::Pagelog, 1, false)),
@@ -393,7 +393,7 @@ const DROPS: [Row; 30] = [
     (Ask::CutLog(FLUSHER), Answer::Is(true)),
 ];
 
-const DROPS_LINES: [(Who, Said); 25] = [
+static DROPS_LINES: [(Who, Said); 25] = [
     (A, Said::Began),
     (A, Said::Done(Some(3), 0)),
     (A, Said::Began),
