@@ -2,7 +2,8 @@
 
 ghost use Rattle.std.specs.Prelude.{◌≡◌, ◌≤◌, ◌++◌, ◌∷◌, [], IfOk, OnOk, map, string_bytes};
 ghost use Rattle.std.specs.List.{flat_map};
-ghost use Rattle.workload.specs.Load.{asking_lines, create_line, insert_line, load_lines, making_lines, script_text, sum_line, table_lines, table_numbers};
+ghost use Rattle.workload.specs.Load.{asking_lines, create_line, insert_line, load_lines, making_lines, script_text};
+ghost use Rattle.workload.specs.Load.{sum_line, table_lines, table_numbers};
 
 use crate::TABLES;
 use crate::rounds::write_rounds;
