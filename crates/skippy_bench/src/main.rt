@@ -1,9 +1,9 @@
 //! What a scan of a history reads, by the history's length: each mapping, or the segments of the levels; and whether
 //! both find the same.
 //! With no words small runs, and one as long as an archive keeps mappings at most; then levels that forget mappings one
-//! by one while they grow to that many, and whether segments are built of those below them. With a history and a length,
-//! as `skewed 262144`, that many mappings are pushed by batches of 64; with a third word, a number, both scans are made
-//! from it on; with a fourth, `levels` or `plain`, that one alone. With `growing` and a number levels grow to that many.
+//! by one while they grow to that many. With a history and a length, as `skewed 262144`, that many mappings are pushed
+//! by batches of 64; with a third word, a number, both scans are made from it on; with a fourth, `levels` or `plain`,
+//! that one alone. With `growing` and a number levels grow to that many.
 #![tactic(auto)]
 
 ghost use Rattle.std.specs.Prelude.{◌≡◌, ◌≤◌};
@@ -27,8 +27,7 @@ use std::env::Env;
 use std::marker::Brand;
 use std::process::ExitCode;
 use std::sync::ledger::{Blank, Ledger};
-use std::time::CpuClock;
-use upkeep::{are_built_of_segments, two_for_one};
+use upkeep::two_for_one;
 
 const BATCH: usize = 64;
 
@@ -136,20 +135,14 @@ fn found_by(alloc: Global, scan: &str, pages: &[u32], start: u32) -> Result<usiz
     Ok(usize::from(table.find(0).is_some()))
 }
 
-/// What it costs to keep mappings: levels that grow to so many while they forget others, and the building of segments.
-fn tell_upkeep(rt: &(impl Print + AllocGlobal + CpuClock), kept: u32) -> Option<()> {
+/// Levels that grow to so many mappings while they forget others.
+fn tell_upkeep(rt: &(impl Print + AllocGlobal), kept: u32) -> Option<()> {
     let (low, end) = two_for_one(rt.alloc(), kept).ok()?;
-    println!(rt; "two mapped for each forgotten: {low} to {end} kept").ok()?;
-    let built = are_built_of_segments(rt, kept / 64)?;
-    println!(rt;
-        "segments are built of {}",
-        if built { "segments" } else { "mappings" }
-    )
-    .ok()
+    println!(rt; "two mapped for each forgotten: {low} to {end} kept").ok()
 }
 
 /// What the words ask for; nothing where they ask for nothing known, or memory runs out.
-fn run(rt: &(impl Print + AllocGlobal + CpuClock), words: &[String]) -> Option<()> {
+fn run(rt: &(impl Print + AllocGlobal), words: &[String]) -> Option<()> {
     match words {
         [] => {
             for name in ["different", "repeated", "skewed"] {
