@@ -32,8 +32,8 @@ pub const RETAINED_SNAPSHOTS: u32 = 65536;
 pub const MAX_CAPTURES: u64 = 1 << 62;
 /// The most bytes of an encoded row.
 pub const ROW_BYTES: usize = 900;
-/// The most bytes of a text value.
-pub const VALUE_TEXT_BYTES: usize = 200;
+/// The most columns of a table.
+pub const COLUMNS: usize = 16;
 /// The most bytes of a label.
 pub const LABEL_BYTES: usize = 64;
 /// The most bytes of a line of a script, without its end.

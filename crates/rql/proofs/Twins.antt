@@ -2,7 +2,8 @@
 use Rattle.std.proofs.Common.{◌≡◌, ◌∙◌, ◌||◌, ℕ, Bool, true, false, List, [], ◌∷◌, ◌++◌, ap, codes, refl}
 use Rattle.std.proofs.lemmas.Cmp.{nat_list_eq_equiv}
 use Rattle.std.proofs.lemmas.List.Folds.{list_any-append}
-use Rattle.sql_check.specs.Names.{has_name, has_twins, same_name}
+use Rattle.sql_check.specs.Names.{has_name, has_twins}
+use Rattle.values.specs.Name.{same_name}
 use Rattle.sql_tree.specs.declared.statement.Column.{Column}
 use Rattle.rql.specs.Columns.{name_of}
 use Rattle.rql.specs.Intervals.{end_columns}

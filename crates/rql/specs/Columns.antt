@@ -1,7 +1,7 @@
 -- Columns, by their names and kinds.
 use Rattle.std.specs.Prelude.{◌&&◌, ◌==◌, ℕ, Bool, List}
 use Rattle.std.specs.Cmp.Lexicographic.{pointwise}
-use Rattle.sql_check.specs.Rows.{same_kind}
+use Rattle.sql_tree.specs.Rows.{same_kind}
 use Rattle.sql_tree.specs.declared.statement.Column.{Column}
 
 -- whether two columns have the same name and the same kind

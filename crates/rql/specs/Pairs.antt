@@ -2,7 +2,8 @@
 use Rattle.std.specs.Prelude.{ℕ, Bool, false, not, List, Option}
 use Rattle.std.specs.List.{find, list_any}
 use Rattle.std.specs.Option.{option_map, option_map_or}
-use Rattle.sql_check.specs.Names.{has_name, same_name}
+use Rattle.sql_check.specs.Names.{has_name}
+use Rattle.values.specs.Name.{same_name}
 use Rattle.sql_tree.specs.declared.statement.Column.{Column}
 use Rattle.rql.specs.Columns.{name_of}
 use Rattle.rql.specs.Variable.{adds_texts}

@@ -8,7 +8,8 @@ ghost use Rattle.rql.specs.Pairs.{column_name, function_of, names_unknown, sums_
 use crate::columns::has_name;
 use crate::function::Function;
 use crate::variable::adds_texts;
-use sql_tree::{Column, Name};
+use sql_tree::Column;
+use values::Name;
 
 /// A column, and the function that makes one value of its values in a group.
 #[derive(Debug, Drop)]

@@ -5,7 +5,7 @@ ghost use Rattle.std.specs.List.{AllByRecursion, prefix_len};
 ghost use Rattle.values.specs.declared.value.Kind.TheVariants as kind;
 ghost use Rattle.values.specs.declared.value.Value.TheVariants.{Int};
 ghost use Rattle.sql_check.specs.Names.{has_twins};
-ghost use Rattle.sql_tree.specs.Name.{IsName};
+ghost use Rattle.values.specs.Name.{IsName};
 ghost use Rattle.sql_tree.specs.Statement.{IsSelect};
 ghost use Rattle.rql.specs.AsOf.{IsOfCall, OnlyAsks, Tells};
 ghost use Rattle.rql.specs.Columns.{name_of};
@@ -18,9 +18,9 @@ use crate::row_set::RowSet;
 use pager::Stop;
 use retro_base::Refusal;
 use sql_select::{Answer, RowKey};
-use sql_tree::{Column, Name, Select};
+use sql_tree::{Column, Select};
 use std::alloc::{AllocError, Global};
-use values::{Duplicate, Kind, Row, Seq, Value};
+use values::{Duplicate, Kind, Name, Row, Seq, Value};
 
 const START_SNAPSHOT: &[u8] = b"start_snapshot";
 

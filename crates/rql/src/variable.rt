@@ -16,9 +16,9 @@ use fold_kit::Folds;
 use pager::Stop;
 use retro_base::Refusal;
 use sql_select::Answer;
-use sql_tree::{Column, Name, Select};
+use sql_tree::{Column, Select};
 use std::alloc::{AllocError, Global};
-use values::{Kind, Row, Seq, Value};
+use values::{Kind, Name, Row, Seq, Value};
 
 // The one item of a list of one.
 fn only<T: Drop>(mut items: Vec<T>) -> Option<T>

@@ -8,7 +8,7 @@ use Rattle.rql.specs.declared.pair.Pair.{Pair}
 use Rattle.sql_parts.specs.declared.parsed.Mechanism.{Mechanism}
 use Rattle.sql_parts.specs.declared.parsed.Mechanism.TheVariants as mechanism
 use Rattle.sql_parts.specs.declared.parsed.RqlCall.{RqlCall}
-use Rattle.sql_tree.specs.Name.{IsName, begins_word, continues_word}
+use Rattle.values.specs.Name.{IsName, begins_word, continues_word}
 use Rattle.sql_tree.specs.declared.select.Select.{Select}
 use Rattle.rql_arguments.specs.Calls.{HasForm, IsCall, IsCombination, IsFirstOutside}
 use Rattle.rql_arguments.specs.Forms.{ArePairs, IsQuery, IsSnapshotQuery, function_named, is_result_word}

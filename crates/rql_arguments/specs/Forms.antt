@@ -17,7 +17,7 @@ use Rattle.sql_lexer.specs.declared.token.Token.TheVariants as token
 use Rattle.sql_parts.specs.declared.parsed.Parsed.TheVariants as parsed
 use Rattle.sql_text.specs.Line.{Spells}
 use Rattle.sql_text.specs.Places.{tokens_of}
-use Rattle.sql_tree.specs.Name.{continues_word}
+use Rattle.values.specs.Name.{continues_word}
 use Rattle.sql_tree.specs.declared.select.Select.{Select}
 use Rattle.sql_tree.specs.declared.statement.Statement.TheVariants as statement
 

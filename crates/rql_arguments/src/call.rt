@@ -10,9 +10,9 @@ use crate::word::{function_named, is_result_word};
 use retro_base::Refusal;
 use rql::{Function, Pair};
 use sql_text::{Mechanism, RqlCall};
-use sql_tree::{Name, Select};
+use sql_tree::Select;
 use std::alloc::{AllocError, Global};
-use values::{Duplicate, Seq};
+use values::{Duplicate, Name, Seq};
 
 /// How the answers of a call are combined.
 #[derive(Debug, Drop)]

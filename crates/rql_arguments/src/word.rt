@@ -1,35 +1,16 @@
 //! The name of a result table, and the name of a function.
 
 ghost use Rattle.std.specs.Prelude.{◌≡◌};
-ghost use Rattle.std.specs.List.{list_all};
 ghost use Rattle.rql_arguments.specs.Forms.{function_named, is_result_word};
-ghost use Rattle.sql_tree.specs.Name.{begins_word, continues_word};
 
 use rql::Function;
+use values::{NAME_BYTES, all_continue};
 
 /// Whether a text is a word that begins with `rql_`.
 pub fn is_result_word(text: &[u8]) -> bool
     ensures { result ≡ is_result_word text.now }
 {
-    text.len() <= 32 && text.starts_with(b"rql_") && all_continue(text)
-}
-
-fn all_continue(text: &[u8]) -> bool
-    ensures { result ≡ list_all continues_word text.now }
-{
-    text.iter().all(|byte| continues_word(*byte))
-}
-
-fn continues_word(byte: u8) -> bool
-    ensures { result ≡ continues_word byte }
-{
-    begins_word(byte) || matches!(byte, b'0'..=b'9')
-}
-
-fn begins_word(byte: u8) -> bool
-    ensures { result ≡ begins_word byte }
-{
-    matches!(byte, b'a'..=b'z' | b'A'..=b'Z' | b'_')
+    text.len() <= NAME_BYTES && text.starts_with(b"rql_") && all_continue(text)
 }
 
 /// The function that a text names, in any case.

@@ -11,10 +11,10 @@ use pager::Stop;
 use retro_base::{Failed, Refusal};
 use rql::{Function, collate, in_table, in_variable, intervals};
 use shown::Shown;
-use sql_tree::{Name, Select, SelectList};
+use sql_tree::{Select, SelectList};
 use std::alloc::{AllocError, Global};
 use std::process::ExitCode;
-use values::{Seq, Value};
+use values::{Name, Seq, Value};
 
 const ROWS: u32 = 100;
 

@@ -4,9 +4,9 @@ use pager::Stop;
 use retro_base::Failed;
 use rql::AsOf;
 use sql_select::Answer;
-use sql_tree::{Column, Name, Select};
+use sql_tree::{Column, Select};
 use std::alloc::{AllocError, Global};
-use values::{Kind, Row, Seq, Value};
+use values::{Kind, Name, Row, Seq, Value};
 
 /// Answers any query: at each snapshot by the same number of rows, with the numbers from the snapshot's on.
 #[derive(Drop)]

@@ -8,9 +8,9 @@ use pager::Stop;
 use retro_base::{Failed, Refusal};
 use rql::AsOf;
 use sql_select::Answer;
-use sql_tree::{Column, Name, Select, SelectList};
+use sql_tree::{Column, Select, SelectList};
 use std::alloc::{AllocError, Global};
-use values::{Kind, Row, Seq, Text, Value, field};
+use values::{Kind, Name, Row, Seq, Text, Value, field};
 
 /// The column k of texts, the column v of integers, and one whose name is that of a column of intervals.
 #[derive(Clone, Copy)]

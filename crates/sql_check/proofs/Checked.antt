@@ -22,7 +22,7 @@ use Rattle.sql_tree.specs.Expression.{Literal, Column, CurrentSnapshot, Apply}
 use Rattle.sql_tree.specs.Scope.{columns_of, kind_in, place_of}
 use Rattle.sql_check.specs.Expressions.{agree, compares_apart, has_unknown, has_unknown_operand, int_if, is_int, is_unknown_operand, kind_of, operand_kind}
 use Rattle.sql_check.specs.Laws.{ConditionsAreDecided, ExpressionsKeepTheirKind, IsOfKind}
-use Rattle.sql_check.specs.Rows.{fits, same_kind}
+use Rattle.sql_tree.specs.Rows.{same_kind, fits}
 use Rattle.sql_check.proofs.Truths.{and_both, or_none}
 
 -- the value that is there, of the kind

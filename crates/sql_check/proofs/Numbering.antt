@@ -6,7 +6,7 @@ use Rattle.std.specs.List.{list_all}
 use Rattle.std.proofs.lemmas.Bool.{le-leb}
 use Rattle.std.proofs.lemmas.Fmt.{decimal_by_steps, length-decimal-le}
 use Rattle.std.proofs.lemmas.List.Folds.{list_all-append}
-use Rattle.sql_tree.specs.Name.{IsName, begins_word, continues_word}
+use Rattle.values.specs.Name.{IsName, begins_word, continues_word}
 use Rattle.sql_check.specs.Outputs.{numbered_name}
 
 or_true : (a : Bool) → a || true ≡ true

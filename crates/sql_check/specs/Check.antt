@@ -14,8 +14,9 @@ use Rattle.sql_tree.specs.declared.statement.Statement.{Statement}
 use Rattle.sql_tree.specs.declared.statement.Statement.TheVariants.{CreateTable, CreateIndex, Insert, Update, Delete, Select}
 use Rattle.sql_tree.specs.declared.statement.Update.{Update as UpdateRecord}
 use Rattle.sql_check.specs.Expressions.{agree, has_unknown, kind_of}
-use Rattle.sql_check.specs.Names.{column_named, has_name, has_twins, is_named, is_reserved, same_name, stored_table, table_named}
-use Rattle.sql_check.specs.Rows.{fits}
+use Rattle.sql_check.specs.Names.{column_named, has_name, has_twins, is_named, is_reserved, stored_table, table_named}
+use Rattle.values.specs.Name.{same_name}
+use Rattle.sql_tree.specs.Rows.{fits}
 use Rattle.sql_check.specs.Selects.{select_has_unknown, select_is_mistyped, where_compares_apart, where_has_unknown}
 
 -- the scope of one table, and of two

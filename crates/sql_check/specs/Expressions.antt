@@ -14,7 +14,7 @@ use Rattle.sql_tree.specs.declared.select.OutputValue.TheVariants as output
 use Rattle.sql_tree.specs.Condition.{ConditionTree, Compare, Not, And, Or}
 use Rattle.sql_tree.specs.Expression.{ExpressionTree, Literal, Column, CurrentSnapshot, Apply}
 use Rattle.sql_tree.specs.Scope.{kind_at}
-use Rattle.sql_check.specs.Rows.{same_kind}
+use Rattle.sql_tree.specs.Rows.{same_kind}
 
 -- whether the scope has no column, or more than one, of the name
 abbrev pub is_unknown : List TableSchema → ColumnName → Bool

@@ -3,6 +3,5 @@ pub mod Expressions
 pub mod Laws
 pub mod Names
 pub mod Outputs
-pub mod Rows
 pub mod Selects
 pub mod Steps

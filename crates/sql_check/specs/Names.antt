@@ -1,15 +1,11 @@
 -- Names that stand for something, and names that are taken.
 use Rattle.std.specs.Prelude.{◌||◌, ◌==◌, nat_eq, ℕ, Bool, false, Option, None, List, [], ◌∷◌, codes, if◌then◌else◌}
-use Rattle.std.specs.Cmp.Lexicographic.{pointwise}
 use Rattle.std.specs.List.{find, list_any, starts_with}
 use Rattle.sql_tree.specs.declared.schema.IndexSchema.{IndexSchema}
 use Rattle.sql_tree.specs.declared.schema.Schema.{Schema}
 use Rattle.sql_tree.specs.declared.schema.TableSchema.{TableSchema}
 use Rattle.sql_tree.specs.declared.statement.Column.{Column}
-
--- whether two names are the same, byte for byte
-abbrev pub same_name : List ℕ → List ℕ → Bool
-same_name = pointwise ◌==◌
+use Rattle.values.specs.Name.{same_name}
 
 -- whether an item of the list has the name
 abbrev pub has_name : {X : Type 0} → (X → List ℕ) → List ℕ → List X → Bool

@@ -17,11 +17,11 @@ use crate::selects::{
 };
 use retro_base::Refusal;
 use sql_tree::{
-    Assignment, Column, CreateIndex, Delete, Insert, Name, Schema, Scope, Select, Statement,
-    TableSchema, Update,
+    Assignment, Column, CreateIndex, Delete, Insert, Schema, Scope, Select, Statement, TableSchema,
+    Update,
 };
 use std::alloc::{AllocError, Global};
-use values::Kind;
+use values::{Kind, Name};
 
 fn scope_of_two<'a>(
     first: Option<&'a TableSchema>,

@@ -4,9 +4,9 @@ ghost use Rattle.std.specs.Prelude.{◌≡◌, ◌<◌, ◌^◌, IfOk};
 ghost use Rattle.sql_check.specs.Outputs.{answer_columns, numbered_name, output_column, output_columns, output_name, own_name};
 
 use crate::expressions::output_kind;
-use sql_tree::{Column, Name, Output, OutputValue, Scope, SelectList};
+use sql_tree::{Column, Output, OutputValue, Scope, SelectList};
 use std::alloc::{AllocError, Global};
-use values::{Duplicate, Kind, Seq};
+use values::{Duplicate, Kind, Name, Seq};
 
 // The name of an output that has none of its own: `col` and its place.
 fn numbered_name(alloc: Global, place: usize) -> Result<Name, AllocError>

@@ -7,7 +7,7 @@ use Rattle.std.specs.Str.Parse.{digits_value}
 use Rattle.std.proofs.lemmas.Bool.{cases_lt}
 use Rattle.std.proofs.lemmas.List.{append-nil}
 use Rattle.std.proofs.lemmas.Bool.Decides.{nat_tests}
-use Rattle.sql_tree.specs.Name.{begins_word, continues_word, IsName}
+use Rattle.values.specs.Name.{begins_word, continues_word, IsName}
 use Rattle.values.specs.Text.{IsPrintable}
 use Rattle.sql_lexer.specs.declared.token.Sign.{Sign}
 use Rattle.sql_lexer.specs.declared.token.Sign.TheVariants as sign

@@ -5,7 +5,7 @@ use Rattle.std.specs.List.{AllByRecursion, list_all}
 use Rattle.std.proofs.lemmas.Bool.{false≢true, and_parts, and_from}
 use Rattle.std.proofs.lemmas.Bool.Decides.{nat_tests}
 use Rattle.std.proofs.lemmas.List.{append_cancel_left, append_assoc}
-use Rattle.sql_tree.specs.Name.{begins_word, continues_word, IsName}
+use Rattle.values.specs.Name.{begins_word, continues_word, IsName}
 use Rattle.values.specs.Text.{IsPrintable}
 use Rattle.sql_lexer.specs.declared.token.Sign.{Sign}
 use Rattle.sql_lexer.specs.declared.token.Sign.TheVariants as sign

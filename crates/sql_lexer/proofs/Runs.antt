@@ -4,7 +4,7 @@ use Rattle.std.specs.List.{list_all, prefix_len}
 use Rattle.std.specs.Char.{is_ascii_digit, digit_value}
 use Rattle.std.proofs.lemmas.Bool.Decides.{nat_tests}
 use Rattle.std.proofs.lemmas.List.Sums.{prefix_len-le-length, AllPass-from_list_all}
-use Rattle.sql_tree.specs.Name.{begins_word, continues_word}
+use Rattle.values.specs.Name.{begins_word, continues_word}
 use Rattle.sql_lexer.specs.declared.token.Token.{Token}
 use Rattle.sql_lexer.specs.Front.{IsFirstToken}
 use Rattle.sql_lexer.specs.Lexes.{EndsBefore}

@@ -3,7 +3,7 @@ use Rattle.std.proofs.Common.{◌≡◌, ◌∙◌, ◌+◌, ◌-◌, ◌<◌, �
 use Rattle.std.specs.List.{AllByRecursion}
 use Rattle.std.specs.Char.{is_ascii_digit}
 use Rattle.std.proofs.lemmas.List.{take_rest, drop-drop, drop_all, length-take-le}
-use Rattle.sql_tree.specs.Name.{begins_word}
+use Rattle.values.specs.Name.{begins_word}
 use Rattle.values.specs.Text.{IsPrintable}
 use Rattle.sql_lexer.specs.declared.lexer.Front.{Front}
 use Rattle.sql_lexer.specs.declared.lexer.Front.TheVariants.{Blank, Token as TokenFront, BadByte as BadFront, Unclosed as UnclosedFront}

@@ -4,7 +4,7 @@ use Rattle.std.specs.Char.{is_ascii_digit}
 use Rattle.std.specs.List.{list_all, AllByRecursion}
 use Rattle.std.specs.Str.{str_to_ascii_uppercase}
 use Rattle.std.specs.Str.Parse.{digits_value}
-use Rattle.sql_tree.specs.Name.{begins_word, continues_word, IsName}
+use Rattle.values.specs.Name.{begins_word, continues_word, IsName}
 use Rattle.values.specs.Text.{IsPrintable, IsText}
 use Rattle.sql_lexer.specs.declared.token.Keyword.{Keyword}
 use Rattle.sql_lexer.specs.declared.token.Keyword.TheVariants as keyword

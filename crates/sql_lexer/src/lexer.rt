@@ -4,7 +4,7 @@ ghost use Rattle.std.specs.Prelude.{◌≡◌, ◌<◌, ◌≤◌, ◌-◌, ◌^
 ghost use Rattle.std.specs.Char.{is_ascii_digit};
 ghost use Rattle.std.specs.List.{AllByRecursion, prefix_len};
 ghost use Rattle.std.specs.Str.Parse.{digits_value};
-ghost use Rattle.sql_tree.specs.Name.{begins_word, continues_word};
+ghost use Rattle.values.specs.Name.{begins_word, continues_word};
 ghost use Rattle.sql_lexer.specs.Front.{IsFront, IsFirstToken};
 ghost use Rattle.sql_lexer.specs.Lexes.{EveryLineLexes, HasOneReading, Lexes, is_blank};
 ghost use Rattle.sql_lexer.specs.Token.{IsWord, IsNumber, Spells, quote, quoted, sign_bytes, goes_on};
@@ -12,9 +12,8 @@ ghost use Rattle.values.specs.Text.{IsPrintable};
 
 use crate::keyword::keyword_of;
 use crate::token::{Ending, Lexed, Placed, Sign, Token};
-use sql_tree::Name;
 use std::alloc::{AllocError, Global};
-use values::{Seq, Text};
+use values::{NAME_BYTES, Name, Seq, TEXT_BYTES, Text, begins_word, continues_word, is_printable};
 
 const QUOTE: u8 = b'\'';
 
@@ -100,18 +99,6 @@ fn is_blank(byte: u8) -> bool
     byte == b' ' || byte == b'\t'
 }
 
-fn begins_word(byte: u8) -> bool
-    ensures { result ≡ begins_word byte }
-{
-    byte.is_ascii_alphabetic() || byte == b'_'
-}
-
-fn continues_word(byte: u8) -> bool
-    ensures { result ≡ continues_word byte }
-{
-    begins_word(byte) || byte.is_ascii_digit()
-}
-
 fn word_at(alloc: Global, bytes: &[u8]) -> Result<Front, AllocError>
     requires some { 0 < length bytes.now }
     requires word { IsTrue (begins_word (slice_index bytes.now 0)) }
@@ -136,7 +123,7 @@ fn word_token(alloc: Global, word: &[u8]) -> Result<Token, AllocError>
     ensures spelt { IfOk result (Spells word.now) }
     ensures word { IfOk result (λ t. goes_on t ≡ continues_word) }
 {
-    if word.len() > 32 {
+    if word.len() > NAME_BYTES {
         return Ok(Token::LongWord);
     }
     if let Some(keyword) = keyword_of(word) {
@@ -212,17 +199,11 @@ fn text_at(alloc: Global, bytes: &[u8]) -> Result<Front, AllocError>
     Ok(Front::Unclosed)
 }
 
-fn is_printable(byte: u8) -> bool
-    ensures { IsTrue result ↔ IsPrintable byte }
-{
-    (b' '..=b'~').contains(&byte)
-}
-
 fn text_token(text: Vec<u8>) -> Token
     requires { AllByRecursion IsPrintable text.items }
     ensures { Spells (quoted text.items) result }
 {
-    if text.len() > 200 {
+    if text.len() > TEXT_BYTES {
         Token::LongText(Seq::from(text))
     } else {
         Token::Text(Text::new(Seq::from(text)))

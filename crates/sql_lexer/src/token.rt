@@ -1,7 +1,6 @@
 //! The tokens of a line.
 
-use sql_tree::Name;
-use values::{Seq, Text};
+use values::{Name, Seq, Text};
 
 /// A word that the language keeps for itself, read in any case.
 #[derive(Clone, Copy, Debug, PartialEq, Eq)]

@@ -1,7 +1,7 @@
 //! What a sentence puts out.
 
-use sql_tree::{Comparison, Direction, Name, Operator};
-use values::{Kind, Seq, Text};
+use sql_tree::{Comparison, Direction, Operator};
+use values::{Kind, Name, Seq, Text};
 
 /// What a sentence puts out beside the contents of its tokens: the parts before it, the last first, are put together.
 #[derive(Clone, Copy)]

@@ -5,12 +5,12 @@ ghost use Rattle.sql_parts.specs.Taking.{a_column, a_column_name, a_condition, a
 
 use crate::parsed::Parsed;
 use sql_tree::{
-    Assignment, Column, ColumnName, Condition, CreateTable, Expression, Insert, Name, Operand,
-    Output, OutputValue, Select, Update,
+    Assignment, Column, ColumnName, Condition, CreateTable, Expression, Insert, Operand, Output,
+    OutputValue, Select, Update,
 };
 use std::alloc::{AllocError, Global};
 use std::marker::Model;
-use values::{Row, Seq, Text, Value};
+use values::{Name, Row, Seq, Text, Value};
 
 /// A part of a sentence.
 #[derive(Drop)]

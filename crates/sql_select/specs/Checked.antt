@@ -8,7 +8,7 @@ use Rattle.sql_tree.specs.declared.schema.TableSchema.{TableSchema}
 use Rattle.sql_tree.specs.declared.select.Select.{Select}
 use Rattle.sql_tree.specs.declared.statement.Column.{Column}
 use Rattle.sql_check.specs.Outputs.{answer_columns}
-use Rattle.sql_check.specs.Rows.{fits}
+use Rattle.sql_tree.specs.Rows.{fits}
 use Rattle.sql_check.specs.Selects.{select_has_unknown, select_is_mistyped}
 use Rattle.sql_select.specs.Select.{answer}
 use Rattle.sql_select.specs.declared.answer.Answer.{Answer}

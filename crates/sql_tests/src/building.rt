@@ -2,40 +2,15 @@
 
 ghost use Rattle.std.specs.Prelude.{◌≡◌, ◌≤◌, length, IsTrue};
 ghost use Rattle.std.specs.List.{AllByRecursion, list_all};
-ghost use Rattle.values.specs.Text.{IsPrintable};
-ghost use Rattle.sql_tree.specs.Name.{IsName, begins_word, continues_word};
 
 use sql_tree::{
     Aggregate, ColumnName, Comparison, Condition, ConditionStep, Direction, Expression,
-    ExpressionStep, Name, Operand, Operator, OrderKey, Output, OutputValue, Scope, Select,
-    SelectList, TableSchema,
+    ExpressionStep, Operand, Operator, OrderKey, Output, OutputValue, Scope, Select, SelectList,
+    TableSchema,
 };
 use std::alloc::Global;
 use std::process::Abort;
-use values::{Seq, Text, Value};
-
-fn begins_word(byte: u8) -> bool
-    ensures { result ≡ begins_word byte }
-{
-    (97 <= byte && byte <= 122) || (65 <= byte && byte <= 90) || byte == 95
-}
-
-fn continue_word(bytes: &[u8]) -> bool
-    ensures { result ≡ list_all continues_word bytes.now }
-{
-    bytes
-        .iter()
-        .all(|byte| begins_word(*byte) || (48 <= *byte && *byte <= 57))
-}
-
-fn is_name(bytes: &[u8]) -> bool
-    ensures { IsTrue result → IsName bytes.now }
-{
-    match bytes {
-        [] => false,
-        [first, rest @ ..] => begins_word(*first) && continue_word(rest) && rest.len() <= 31,
-    }
-}
+use values::{Name, Seq, Text, Value, is_name, is_text};
 
 pub fn push<T: Drop>(rt: &impl Abort, list: &mut Seq<T>, item: T) {
     if list.push(item).is_err() {
@@ -49,16 +24,9 @@ pub fn name(rt: &impl Abort, alloc: Global, of: &str) -> Name {
     Name::new(Seq::from(bytes))
 }
 
-fn are_printable(bytes: &[u8]) -> bool
-    ensures { IsTrue result → AllByRecursion IsPrintable bytes.now }
-{
-    bytes.iter().all(|byte| 32 <= *byte && *byte <= 126)
-}
-
 pub fn text(rt: &impl Abort, alloc: Global, of: &str) -> Text {
     let bytes = Vec::from_slice(alloc, of.as_bytes()).expect(rt, "memory");
-    assert!(rt; bytes.len() <= 200);
-    assert!(rt; are_printable(&bytes));
+    assert!(rt; is_text(&bytes));
     Text::new(Seq::from(bytes))
 }
 

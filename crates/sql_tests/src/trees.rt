@@ -1,17 +1,17 @@
 //! Values and truths worked out by hand, and places of columns.
 
-ghost use Rattle.sql_tree.specs.Name.{IsName, begins_word, continues_word};
+ghost use Rattle.values.specs.Name.{IsName, begins_word, continues_word};
 ghost use Rattle.values.specs.Text.{IsText};
 
 use retro_base::Refusal;
 use sql_tree::{
-    Column, ColumnName, Comparison, Condition, ConditionStep, Expression, ExpressionStep, Name,
-    Operand, Operator, Scope, TableSchema,
+    Column, ColumnName, Comparison, Condition, ConditionStep, Expression, ExpressionStep, Operand,
+    Operator, Scope, TableSchema,
 };
 use std::alloc::{AllocError, Global};
 use std::process::Abort;
 use std::test::Fail;
-use values::{Duplicate, Kind, Seq, Text, Value};
+use values::{Duplicate, Kind, Name, Seq, Text, Value};
 
 // A name of one letter.
 fn name(alloc: Global, letter: u8) -> Result<Name, AllocError> {

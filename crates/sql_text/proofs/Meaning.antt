@@ -9,7 +9,7 @@ use Rattle.sql_lexer.specs.declared.token.Keyword.TheVariants as keyword
 use Rattle.sql_lexer.specs.declared.token.Sign.TheVariants as sign
 use Rattle.sql_lexer.specs.declared.token.Token.{Token}
 use Rattle.sql_lexer.specs.declared.token.Token.TheVariants as token
-use Rattle.sql_build.specs.declared.draft.Draft.{Draft}
+use Rattle.sql_build.specs.declared.draft.Assembly.{Assembly}
 use Rattle.sql_parts.specs.declared.action.Action.{Action}
 use Rattle.sql_parts.specs.declared.action.Action.TheVariants as action
 use Rattle.sql_grammar.specs.declared.grammar.Class.{Class}
@@ -43,15 +43,15 @@ use Rattle.sql_text.proofs.Balance.{Balanced, balanced, class_cells, effect, eff
 use Rattle.sql_grammar.proofs.Steps.{done, emitted, nothing_taken, replaced, taken as token_taken}
 
 -- operations one behind the other
-goes_assoc : (x : Option Draft) (f g : Draft → Option Draft) → goes_on (goes_on x f) g ≡ goes_on x (λ d. goes_on (f d) g)
+goes_assoc : (x : Option Assembly) (f g : Assembly → Option Assembly) → goes_on (goes_on x f) g ≡ goes_on x (λ d. goes_on (f d) g)
 goes_assoc None f g = refl
 goes_assoc (Some d) f g = refl
 
-goes_same : (x : Option Draft) (f g : Draft → Option Draft) → ((d : Draft) → f d ≡ g d) → goes_on x f ≡ goes_on x g
+goes_same : (x : Option Assembly) (f g : Assembly → Option Assembly) → ((d : Assembly) → f d ≡ g d) → goes_on x f ≡ goes_on x g
 goes_same None f g h = refl
 goes_same (Some d) f g h = h d
 
-pub all_taken-append : (xs ys : List Op) (d : Draft) → all_taken (xs ++ ys) d ≡ goes_on (all_taken xs d) (all_taken ys)
+pub all_taken-append : (xs ys : List Op) (d : Assembly) → all_taken (xs ++ ys) d ≡ goes_on (all_taken xs d) (all_taken ys)
 all_taken-append [] ys d = refl
 all_taken-append (x ∷ xs) ys d =
     goes_same (taken x d) (all_taken (xs ++ ys)) (λ e. goes_on (all_taken xs e) (all_taken ys)) (all_taken-append xs ys) ∙ sym (goes_assoc (taken x d) (all_taken xs) (all_taken ys))
@@ -61,7 +61,7 @@ text_cells : (b : Bool) → (sort.Text, 0) ∷ [] ≡ class_cells (if b then cla
 text_cells true = refl
 text_cells false = refl
 
-token_made : (t : Token) (d : Draft) (k : Shape) → Has d k → Leaves (all_taken (content_of t) d) (shown (class_cells (class_of t)) k)
+token_made : (t : Token) (d : Assembly) (k : Shape) → Has d k → Leaves (all_taken (content_of t) d) (shown (class_cells (class_of t)) k)
 token_made (token.Keyword w) d k h = (d, refl, record { parts = h.parts; expressions = h.expressions; conditions = h.conditions })
 token_made (token.Name n) d k h = (with_parts (part.Name n ∷ d.parts) d, refl, record { parts = name h.parts; expressions = h.expressions; conditions = h.conditions })
 token_made token.LongWord d k h = (d, refl, record { parts = h.parts; expressions = h.expressions; conditions = h.conditions })
@@ -77,7 +77,7 @@ on_split : {X Y : Type 0} (x : Option X) (f : X → Option Y) (y : Y) → balanc
 on_split None f y e = cc
 on_split (Some x) f y e = (x, refl, e)
 
-leaves_on : (x : Option Draft) (os : List Op) (k l : Shape) → Leaves x k → ((d : Draft) → Has d k → Leaves (all_taken os d) l) → Leaves (goes_on x (all_taken os)) l
+leaves_on : (x : Option Assembly) (os : List Op) (k l : Shape) → Leaves x k → ((d : Assembly) → Has d k → Leaves (all_taken os d) l) → Leaves (goes_on x (all_taken os)) l
 leaves_on x os k l h f =
     let r = f h.0 h.2 in
     (r.0, ap (λ y. goes_on y (all_taken os)) h.1 ∙ r.1, r.2)
@@ -94,13 +94,13 @@ side_balanced (Some g) f all m side q b i =
     subst P (some_injective q) (among all g m side b i)
 
 -- what a derivation puts out leaves a draft of the shape that the symbols say
-leaves : {ss : List Symbol} {ts : List Token} {os : List Op} → Derives ss ts os → (d : Draft) (k l : Shape) → effect ss k ≡ Some l → Has d k → Leaves (all_taken os d) l
+leaves : {ss : List Symbol} {ts : List Token} {os : List Op} → Derives ss ts os → (d : Assembly) (k l : Shape) → effect ss k ≡ Some l → Has d k → Leaves (all_taken os d) l
 leaves Done d v l e h = let P : Shape → Type 0 = λ x. Has d x in (d, refl, subst P (some_injective e) h)
 leaves (Taken {k} {ss} {t} {ts} {os} q o r) d v l e h =
     let P : Class → Type 0 = λ x. Leaves (all_taken (content_of t) d) (shown (class_cells x) v) in
     let m = subst P q (token_made t d v h) in
     let R : List Op → Type 0 = λ x. Leaves (all_taken x d) l in
-    let S : Option Draft → Type 0 = λ x. Leaves x l in
+    let S : Option Assembly → Type 0 = λ x. Leaves x l in
     subst R (sym o) (subst S (sym (all_taken-append (content_of t) os d)) (leaves_on (all_taken (content_of t) d) os (shown (class_cells k) v) l m (λ d g. leaves r d (shown (class_cells k) v) l e g)))
 leaves (Emitted {a} {ss} {ts} {os} r) d v l e h =
     let s = on_split (balance.goes_on (put_effect (columns v.cells) a) (λ x. worked x v)) (effect ss) l e in
@@ -125,7 +125,7 @@ bare = shape [] 0 0
 bare_has : Has empty bare
 bare_has = record { parts = none; expressions = ([], refl, refl); conditions = ([], refl, refl) }
 
-built_by : (os : List Op) (d : Draft) (ps : List Part) → all_taken os empty ≡ Some d → d.parts ≡ ps → built os ≡ said ps
+built_by : (os : List Op) (d : Assembly) (ps : List Part) → all_taken os empty ≡ Some d → d.parts ≡ ps → built os ≡ said ps
 built_by os d ps e p = ap finished e ∙ ap said p
 
 plain_alone : (ps : List Part) → Fits ps ((sort.Plain, 0) ∷ []) → (s : Statement) × (ps ≡ part.Parsed (parsed.Plain s) ∷ []) × IsStatement s

@@ -3,7 +3,7 @@ use Rattle.std.proofs.Common.{◌≡◌, ◌≢◌, ◌∙◌, ℕ, Option, Some
 use Rattle.std.specs.Option.{option_map}
 use Rattle.sql_tree.specs.declared.condition.ConditionStep.{ConditionStep}
 use Rattle.sql_tree.specs.declared.condition.ConditionStep.TheVariants as step
-use Rattle.sql_tree.specs.Condition.{ConditionTree, And, Or, condition_of, goes_on, grown, known, only, postfix, told, tree_of}
+use Rattle.sql_tree.specs.Condition.{ConditionTree, And, Or, condition_of, goes_on, grown, only, or_any, postfix, told, tree_of}
 use Rattle.sql_tree.specs.Steps.{all_conditions, counted, conditions_behind, conditions_of}
 
 abbrev spelled : List ConditionTree → List ConditionStep
@@ -57,7 +57,7 @@ counts : (ss : List ConditionStep) (ts : List ConditionTree) → option_map leng
 counts [] ts = refl
 counts (s ∷ ss) ts = counts_on (grown s ts) (told ss) (all_conditions ss) (counts ss) ∙ ap (λ x. counted x (all_conditions ss)) (counts_step s ts)
 
-one : (x : Option (List ConditionTree)) → option_map length x ≡ Some 1 → x ≡ Some (known (only x) ∷ [])
+one : (x : Option (List ConditionTree)) → option_map length x ≡ Some 1 → x ≡ Some (or_any (only x) ∷ [])
 one None e = cc
 one (Some []) e = cc
 one (Some (t ∷ [])) e = refl

@@ -3,7 +3,7 @@ use Rattle.std.proofs.Common.{◌≡◌, ◌≢◌, ◌∙◌, ℕ, Option, Some
 use Rattle.std.specs.Option.{option_map}
 use Rattle.sql_tree.specs.declared.expression.ExpressionStep.{ExpressionStep}
 use Rattle.sql_tree.specs.declared.expression.ExpressionStep.TheVariants as step
-use Rattle.sql_tree.specs.Expression.{ExpressionTree, expression_of, goes_on, grown, known, only, postfix, told, tree_of}
+use Rattle.sql_tree.specs.Expression.{ExpressionTree, expression_of, goes_on, grown, only, or_any, postfix, told, tree_of}
 use Rattle.sql_tree.specs.Steps.{all_trees, counted, trees_behind, trees_of}
 
 abbrev spelled : List ExpressionTree → List ExpressionStep
@@ -48,7 +48,7 @@ counts : (ss : List ExpressionStep) (ts : List ExpressionTree) → option_map le
 counts [] ts = refl
 counts (s ∷ ss) ts = counts_on (grown s ts) (told ss) (all_trees ss) (counts ss) ∙ ap (λ x. counted x (all_trees ss)) (counts_step s ts)
 
-one : (x : Option (List ExpressionTree)) → option_map length x ≡ Some 1 → x ≡ Some (known (only x) ∷ [])
+one : (x : Option (List ExpressionTree)) → option_map length x ≡ Some 1 → x ≡ Some (or_any (only x) ∷ [])
 one None e = cc
 one (Some []) e = cc
 one (Some (t ∷ [])) e = refl

@@ -3,3 +3,4 @@ mod Expressions
 mod Narrow
 mod Places
 mod Running
+pub mod Fitting

@@ -46,10 +46,10 @@ only _ = None
 abbrev pub tree_of : List ConditionStep → Option ConditionTree
 tree_of ss = only (told ss [])
 
-abbrev pub known : Option ConditionTree → ConditionTree
-known (Some t) = t
-known None = Compare operand.CurrentSnapshot comparison.Equal operand.CurrentSnapshot
+abbrev pub or_any : Option ConditionTree → ConditionTree
+or_any (Some t) = t
+or_any None = Compare operand.CurrentSnapshot comparison.Equal operand.CurrentSnapshot
 
 -- the same of steps that tell one
 abbrev pub condition_of : List ConditionStep → ConditionTree
-condition_of ss = known (tree_of ss)
+condition_of ss = or_any (tree_of ss)

@@ -5,7 +5,7 @@ use Rattle.std.proofs.Common.{◌∙◌, sym, ap, append_assoc, append-nil}
 use Rattle.sql_tree.specs.contracts.condition.ConditionStep as the_step
 use Rattle.sql_tree.specs.declared.condition.ConditionStep.{ConditionStep}
 use Rattle.sql_tree.specs.declared.condition.ConditionStep.TheVariants as step
-use Rattle.sql_tree.specs.Condition.{ConditionTree, Compare, Not, And, Or, condition_of, goes_on, grown, known, only, postfix, told, tree_of}
+use Rattle.sql_tree.specs.Condition.{ConditionTree, Compare, Not, And, Or, condition_of, goes_on, grown, only, or_any, postfix, told, tree_of}
 
 tells_two : (a b : ConditionTree) (s : ConditionStep) (ss : List ConditionStep) (ts : List ConditionTree)
     → ((ss : List ConditionStep) (ts : List ConditionTree) → told (postfix a ++ ss) ts ≡ told ss (a ∷ ts)) → ((ss : List ConditionStep) (ts : List ConditionTree) → told (postfix b ++ ss) ts ≡ told ss (b ∷ ts))
@@ -25,4 +25,4 @@ tree_is t = ap tree_of (sym (append-nil (postfix t))) ∙ ap only (tells t [] []
 
 -- a condition is stored as its steps
 abbrev pub condition_code : Coded ConditionTree
-condition_code = code_by (List ConditionStep) (coded_list the_step.the_row.coded) postfix condition_of (λ t. ap known (tree_is t))
+condition_code = code_by (List ConditionStep) (coded_list the_step.the_row.coded) postfix condition_of (λ t. ap or_any (tree_is t))

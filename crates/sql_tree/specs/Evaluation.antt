@@ -39,12 +39,12 @@ snapshot_value None = Err UnknownName
 snapshot_value (Some number) = Ok (Int (pos number))
 
 -- whether an i64 can hold the number
-abbrev pub fits : ℤ → Bool
-fits (pos n) = nat_lt n (2 ^ 63)
-fits (negsuc n) = nat_lt n (2 ^ 63)
+abbrev pub is_i64 : ℤ → Bool
+is_i64 (pos n) = nat_lt n (2 ^ 63)
+is_i64 (negsuc n) = nat_lt n (2 ^ 63)
 
 abbrev pub narrow : ℤ → Option ℤ
-narrow z = if fits z then Some z else None
+narrow z = if is_i64 z then Some z else None
 
 abbrev pub in_range : Option ℤ → Result Value Refusal
 in_range None = Err Overflow

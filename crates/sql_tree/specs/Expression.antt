@@ -45,13 +45,13 @@ only _ = None
 abbrev pub tree_of : List ExpressionStep → Option ExpressionTree
 tree_of ss = only (told ss [])
 
-abbrev pub known : Option ExpressionTree → ExpressionTree
-known (Some t) = t
-known None = CurrentSnapshot
+abbrev pub or_any : Option ExpressionTree → ExpressionTree
+or_any (Some t) = t
+or_any None = CurrentSnapshot
 
 -- the same of steps that tell one
 abbrev pub expression_of : List ExpressionStep → ExpressionTree
-expression_of ss = known (tree_of ss)
+expression_of ss = or_any (tree_of ss)
 
 -- the column that the whole expression is
 abbrev pub column_of : ExpressionTree → Option ColumnName

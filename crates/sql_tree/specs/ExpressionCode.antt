@@ -5,7 +5,7 @@ use Rattle.std.proofs.Common.{◌∙◌, sym, ap, append_assoc, append-nil}
 use Rattle.sql_tree.specs.contracts.expression.ExpressionStep as the_step
 use Rattle.sql_tree.specs.declared.expression.ExpressionStep.{ExpressionStep}
 use Rattle.sql_tree.specs.declared.expression.ExpressionStep.TheVariants as step
-use Rattle.sql_tree.specs.Expression.{ExpressionTree, Literal, Column, CurrentSnapshot, Apply, expression_of, known, only, postfix, told, tree_of}
+use Rattle.sql_tree.specs.Expression.{ExpressionTree, Literal, Column, CurrentSnapshot, Apply, expression_of, only, or_any, postfix, told, tree_of}
 
 pub tells : (t : ExpressionTree) (ss : List ExpressionStep) (ts : List ExpressionTree) → told (postfix t ++ ss) ts ≡ told ss (t ∷ ts)
 tells (Literal v) ss ts = refl
@@ -20,4 +20,4 @@ tree_is t = ap tree_of (sym (append-nil (postfix t))) ∙ ap only (tells t [] []
 
 -- an expression is stored as its steps
 abbrev pub expression_code : Coded ExpressionTree
-expression_code = code_by (List ExpressionStep) (coded_list the_step.the_row.coded) postfix expression_of (λ t. ap known (tree_is t))
+expression_code = code_by (List ExpressionStep) (coded_list the_step.the_row.coded) postfix expression_of (λ t. ap or_any (tree_is t))

@@ -3,7 +3,7 @@ pub mod ConditionCode
 pub mod Evaluation
 pub mod Expression
 pub mod ExpressionCode
-pub mod Name
+pub mod Rows
 pub mod Scope
 pub mod Statement
 pub mod Steps

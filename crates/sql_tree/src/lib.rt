@@ -5,6 +5,7 @@ mod condition;
 mod evaluation;
 mod expression;
 mod name;
+mod rows;
 mod schema;
 mod scope;
 mod select;
@@ -12,7 +13,8 @@ mod statement;
 
 pub use condition::{Comparison, Condition, ConditionStep, Operand};
 pub use expression::{Expression, ExpressionStep, Operator};
-pub use name::{ColumnName, Name};
+pub use name::ColumnName;
+pub use rows::fits;
 pub use schema::{IndexSchema, Schema, TableSchema};
 pub use scope::{Scope, column_place};
 pub use select::{Aggregate, Direction, OrderKey, Output, OutputValue, Select, SelectList};

@@ -1,9 +1,8 @@
 //! What tables and indexes there are.
 
-use crate::name::Name;
 use crate::statement::Column;
 use std::alloc::{AllocError, Global};
-use values::{Duplicate, Seq};
+use values::{Duplicate, Name, Seq};
 
 /// A table: its name and its columns in order.
 #[derive(Debug, Drop)]

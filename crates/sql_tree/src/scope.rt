@@ -4,12 +4,12 @@ ghost use Rattle.std.specs.Option.{option_copied, option_map, option_to_list};
 ghost use Rattle.std.specs.Prelude.{◌≡◌, ◌++◌, ◌+◌, ◌<◌, ◌^◌, ◌∷◌, [], IfOk, IfSome, OnOk, length, slice_get};
 ghost use Rattle.sql_tree.specs.Scope.{chosen, column_place, columns_of, IsNarrow, kind_at, may_be_of, place_of, place_within, places};
 
-use crate::name::{ColumnName, Name};
+use crate::name::ColumnName;
 use crate::schema::TableSchema;
 use crate::statement::Column;
 use std::alloc::{AllocError, Global};
 use std::marker::Model;
-use values::{Duplicate, Kind, Seq};
+use values::{Duplicate, Kind, Name, Seq};
 
 /// The columns of one table, or of two side by side. Contracts see the list of the tables.
 #[derive(Debug, Drop)]

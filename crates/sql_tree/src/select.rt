@@ -2,9 +2,9 @@
 
 use crate::condition::Condition;
 use crate::expression::Expression;
-use crate::name::{ColumnName, Name, copy_optional};
+use crate::name::{ColumnName, copy_optional};
 use std::alloc::{AllocError, Global};
-use values::{Duplicate, Seq};
+use values::{Duplicate, Name, Seq};
 
 /// A value over all rows of a group.
 #[derive(Debug, Drop)]

@@ -2,10 +2,10 @@
 
 use crate::condition::Condition;
 use crate::expression::Expression;
-use crate::name::{Name, copy_optional};
+use crate::name::copy_optional;
 use crate::select::Select;
 use std::alloc::{AllocError, Global};
-use values::{Duplicate, Kind, Row, Seq};
+use values::{Duplicate, Kind, Name, Row, Seq};
 
 /// A column of a table.
 #[derive(Debug, Drop)]

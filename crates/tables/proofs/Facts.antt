@@ -11,9 +11,10 @@ use Rattle.sql_tree.specs.declared.statement.Statement.{Statement}
 use Rattle.sql_tree.specs.declared.statement.Statement.TheVariants.{Insert, Update, Select}
 use Rattle.sql_tree.specs.declared.statement.Update.{Update as UpdateRecord}
 use Rattle.sql_check.specs.Check.{checked, finds, first_refusal, has_unknown_name, has_wrong_type, lacks, scope_of_one, scope_of_two, select_scope, tables_of, takes_taken_name, update_has_unknown, update_is_mistyped}
-use Rattle.sql_check.specs.Names.{is_reserved, same_name, stored_table}
+use Rattle.sql_check.specs.Names.{is_reserved, stored_table}
+use Rattle.values.specs.Name.{same_name}
 use Rattle.sql_check.specs.Names as names
-use Rattle.sql_check.specs.Rows.{fits}
+use Rattle.sql_tree.specs.Rows.{fits}
 use Rattle.sql_check.specs.Selects.{select_has_unknown, select_is_mistyped}
 use Rattle.tables.specs.declared.contents.Contents.{Contents}
 use Rattle.tables.specs.Tables.{Found, Tables, found_with, place_named, table_named}

@@ -17,7 +17,8 @@ use Rattle.sql_tree.specs.declared.statement.Insert.{Insert as InsertRecord}
 use Rattle.sql_tree.specs.declared.statement.Statement.{Statement}
 use Rattle.sql_tree.specs.declared.statement.Statement.TheVariants.{CreateTable, CreateIndex, Insert, Update, Delete, Select}
 use Rattle.sql_check.specs.Check.{checked, finds, first_refusal, lacks, scope_of_one}
-use Rattle.sql_check.specs.Names.{has_name, has_twins, is_named, is_reserved, same_name}
+use Rattle.sql_check.specs.Names.{has_name, has_twins, is_named, is_reserved}
+use Rattle.values.specs.Name.{same_name}
 use Rattle.sql_check.specs.Names as names
 use Rattle.sql_check.specs.Selects.{select_has_unknown, select_is_mistyped}
 use Rattle.sql_check.proofs.Truths.{or_none}

@@ -6,7 +6,7 @@ use Rattle.retro_base.specs.declared.refusal.Refusal.{Refusal}
 use Rattle.retro_base.specs.declared.refusal.Refusal.TheVariants.{OutOfMemory}
 use Rattle.values.specs.declared.value.Value.{Value}
 use Rattle.sql_check.specs.Check.{checked}
-use Rattle.sql_check.specs.Rows.{fits}
+use Rattle.sql_tree.specs.Rows.{fits}
 use Rattle.sql_tree.specs.declared.schema.TableSchema.{TableSchema}
 use Rattle.sql_tree.specs.declared.statement.Column.{Column}
 use Rattle.sql_tree.specs.declared.statement.Insert.{Insert as InsertRecord}

@@ -23,8 +23,9 @@ use Rattle.sql_tree.specs.Scope.{column_place}
 use Rattle.sql_check.specs.Check.{assigns_other_kind, assigns_unknown, column_kind, has_column, update_has_unknown, update_is_mistyped}
 use Rattle.sql_check.specs.Expressions.{agree, has_unknown, kind_of}
 use Rattle.sql_check.specs.Laws.{IsOfKind}
-use Rattle.sql_check.specs.Names.{column_named, same_name}
-use Rattle.sql_check.specs.Rows.{fits, same_kind}
+use Rattle.sql_check.specs.Names.{column_named}
+use Rattle.values.specs.Name.{same_name}
+use Rattle.sql_tree.specs.Rows.{same_kind, fits}
 use Rattle.sql_check.specs.Selects.{where_compares_apart, where_has_unknown}
 use Rattle.sql_check.proofs.Checked.{expressions_keep_their_kind}
 use Rattle.sql_check.proofs.Truths.{and_both, or_none}
@@ -32,7 +33,8 @@ use Rattle.sql_select.specs.Rows.{holds_at}
 use Rattle.tables.specs.declared.contents.Contents.{Contents}
 use Rattle.tables.specs.declared.contents.NumberedRow.{NumberedRow}
 use Rattle.tables.specs.Meaning.{assigned, check, check_lengths, inserted, known, remaining, remaining_row, reworked, set_row, updated, updated_row}
-use Rattle.tables.specs.Rows.{numbered, row_bytes, rows_of}
+use Rattle.tables.specs.Rows.{numbered, rows_of}
+use Rattle.values.specs.Row.{row_bytes}
 use Rattle.tables.specs.Tables.{AllFit, AllShort, IsTable, NumbersRise}
 
 -- what a step that goes on went on with

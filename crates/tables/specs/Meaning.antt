@@ -23,7 +23,8 @@ use Rattle.tables.specs.declared.contents.Contents.{Contents}
 use Rattle.tables.specs.declared.contents.NumberedRow.{NumberedRow}
 use Rattle.tables.specs.declared.reply.Reply.{Reply}
 use Rattle.tables.specs.declared.reply.Reply.TheVariants.{Plain, Count, Rows}
-use Rattle.tables.specs.Rows.{row_bytes, numbered, rows_of}
+use Rattle.tables.specs.Rows.{numbered, rows_of}
+use Rattle.values.specs.Row.{row_bytes}
 use Rattle.tables.specs.Tables.{Tables, Found, table_named, with_contents, with_index, with_table}
 
 -- goes on where the test holds, and is refused where it does not

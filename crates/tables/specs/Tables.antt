@@ -9,10 +9,11 @@ use Rattle.sql_tree.specs.declared.schema.IndexSchema.{IndexSchema}
 use Rattle.sql_tree.specs.declared.schema.Schema.{Schema}
 use Rattle.sql_tree.specs.declared.schema.TableSchema.{TableSchema}
 use Rattle.sql_tree.specs.declared.statement.Column.{Column}
-use Rattle.sql_check.specs.Rows.{fits}
+use Rattle.sql_tree.specs.Rows.{fits}
 use Rattle.tables.specs.declared.contents.Contents.{Contents}
 use Rattle.tables.specs.declared.contents.NumberedRow.{NumberedRow}
-use Rattle.tables.specs.Rows.{row_bytes, rows_of}
+use Rattle.tables.specs.Rows.{rows_of}
+use Rattle.values.specs.Row.{row_bytes}
 
 pub record Tables : Type 0 where
   pub schema : Schema

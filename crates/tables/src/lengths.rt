@@ -4,32 +4,12 @@ ghost use Rattle.std.specs.Prelude.{◌≡◌, ◌≤◌, ◌∷◌, [], List, l
 ghost use Rattle.std.specs.List.{AllByRecursion};
 ghost use Rattle.values.specs.declared.value.Value.{Value as ValueOf};
 ghost use Rattle.tables.specs.Meaning.{check_lengths};
-ghost use Rattle.tables.specs.Rows.{row_bytes, rows_of, value_bytes};
+ghost use Rattle.tables.specs.Rows.{rows_of};
+ghost use Rattle.values.specs.Row.{value_bytes, row_bytes};
 
 use crate::contents::NumberedRow;
 use retro_base::{ROW_BYTES, Refusal};
-use values::{Row, Value};
-
-fn value_bytes(value: &Value) -> u32
-    ensures value { result ≡ value_bytes value.now }
-    ensures bound { result ≤ 202 }
-{
-    match value {
-        Value::Int(_) => 9,
-        Value::Text(text) => 2 + text.bytes().len() as u32,
-    }
-}
-
-fn row_bytes(row: &[Value]) -> u32
-    requires { length row.now ≤ 16 }
-    ensures { result ≡ row_bytes row.now }
-{
-    let mut bytes = 9;
-    for value in row {
-        bytes += value_bytes(value);
-    }
-    bytes
-}
+use values::{Row, Value, row_bytes};
 
 // Refused where the encoded row takes more than 900 bytes.
 fn check_length(row: &[Value]) -> Result<(), Refusal>

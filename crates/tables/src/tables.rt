@@ -21,12 +21,12 @@ use retro_base::Refusal;
 use sql_check::answer_columns;
 use sql_select::{Answer, select};
 use sql_tree::{
-    CreateIndex, CreateTable, Delete, IndexSchema, Insert, Name, Schema, Scope, Select, Statement,
+    CreateIndex, CreateTable, Delete, IndexSchema, Insert, Schema, Scope, Select, Statement,
     TableSchema, Update,
 };
 use std::alloc::{AllocError, Global};
 use std::marker::Model;
-use values::{Duplicate, Row, Seq};
+use values::{Duplicate, Name, Row, Seq};
 
 /// Tables by name. Contracts see their schema, and what each table holds, in the order of the schema.
 #[derive(Debug, Drop)]

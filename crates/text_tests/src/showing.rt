@@ -3,11 +3,11 @@
 use sql_text::{Mechanism, Parsed, RqlCall};
 use sql_tree::{
     Aggregate, ColumnName, Comparison, Condition, ConditionStep, Direction, Expression,
-    ExpressionStep, Insert, Name, Operand, Operator, Output, OutputValue, Select, SelectList,
-    Statement, Update,
+    ExpressionStep, Insert, Operand, Operator, Output, OutputValue, Select, SelectList, Statement,
+    Update,
 };
 use std::alloc::{AllocError, Global};
-use values::{Kind, Seq, Value, field};
+use values::{Kind, Name, Seq, Value, field};
 
 fn words(out: &mut Vec<u8>, words: &str) -> Result<(), AllocError> {
     out.extend_from_slice(words.as_bytes())

@@ -1,2 +1,4 @@
+pub mod Name
+pub mod Row
 pub mod Text
 pub mod Value

@@ -1,11 +1,15 @@
 //! The bytes of a text.
 
-ghost use Rattle.std.specs.Prelude.{◌≡◌, ◌≤◌, length};
-ghost use Rattle.values.specs.Text.{IsText};
+ghost use Rattle.std.specs.Prelude.{◌↔◌, ◌≡◌, ◌≤◌, IsTrue, length};
+ghost use Rattle.std.specs.List.{AllByRecursion};
+ghost use Rattle.values.specs.Text.{IsPrintable, IsText};
 
 use crate::list::{Duplicate, Seq};
 use std::alloc::{AllocError, Global};
 use std::marker::Model;
+
+/// The most bytes of a text.
+pub const TEXT_BYTES: usize = 200;
 
 /// A text: up to 200 bytes of printable ASCII. Contracts see the bytes.
 #[derive(Debug, Drop)]
@@ -46,4 +50,18 @@ impl Duplicate for Text {
             bytes: self.bytes.copy(alloc)?,
         })
     }
+}
+
+/// Whether the bytes are those of a text.
+pub fn is_text(bytes: &[u8]) -> bool
+    ensures { IsTrue result ↔ IsText bytes.now }
+{
+    bytes.len() <= TEXT_BYTES && bytes.iter().all(|byte| is_printable(*byte))
+}
+
+/// Whether a byte is printable ASCII.
+pub fn is_printable(byte: u8) -> bool
+    ensures { IsTrue result ↔ IsPrintable byte }
+{
+    (b' '..=b'~').contains(&byte)
 }

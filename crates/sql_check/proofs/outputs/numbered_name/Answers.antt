@@ -1,6 +1,6 @@
 use Rattle.std.proofs.Common.{◌≡◌, ◌∙◌, ℕ, List, ◌++◌, sym, ap, subst, arith}
 use Rattle.std.specs.Prelude.{codes}
-use Rattle.sql_tree.specs.Name.{IsName}
+use Rattle.values.specs.Name.{IsName}
 use Rattle.sql_check.specs.Outputs.{numbered_name}
 use Rattle.sql_check.proofs.Numbering.{IsName-numbered}
 use Rattle.sql_check.proofs.outputs.numbered_name.Goals as goal

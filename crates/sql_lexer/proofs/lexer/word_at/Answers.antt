@@ -1,5 +1,5 @@
 use Rattle.std.proofs.Common.{get_or}
-use Rattle.sql_tree.specs.Name.{continues_word}
+use Rattle.values.specs.Name.{continues_word}
 use Rattle.sql_lexer.proofs.Runs.{word_run, first_run, continues_from_begins}
 use Rattle.sql_lexer.proofs.lexer.word_at.Goals as goal
 

@@ -3,7 +3,7 @@ use Rattle.std.proofs.Common.{◌≡◌, List, [], ◌∷◌, Bool, true, false,
 use Rattle.values.specs.declared.value.Value.{Value}
 use Rattle.values.specs.Value.{kind_of}
 use Rattle.sql_tree.specs.declared.statement.Column.{Column}
-use Rattle.sql_check.specs.Rows.{fits, same_kind}
+use Rattle.sql_tree.specs.Rows.{same_kind, fits}
 
 -- a row of another length does not fit
 pub fits_apart : (columns : List Column) (row : List Value) → (length row ≡ length columns → ⊥) → fits columns row ≡ false

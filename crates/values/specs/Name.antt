@@ -1,4 +1,5 @@
 use Rattle.std.specs.Prelude.{◌≤◌, ◌&&◌, ◌||◌, ◌==◌, ℕ, Bool, IsTrue, List, [], ◌∷◌, length, nat_le}
+use Rattle.std.specs.Cmp.Lexicographic.{pointwise}
 use Rattle.std.specs.List.{list_all}
 
 -- a letter or an underscore
@@ -13,3 +14,7 @@ continues_word b = begins_word b || (nat_le 48 b && nat_le b 57)
 abbrev pub IsName : List ℕ → Type 0
 IsName [] = ⊥
 IsName (b ∷ bs) = IsTrue (begins_word b) × IsTrue (list_all continues_word bs) × (length bs ≤ 31)
+
+-- whether two names are the same
+abbrev pub same_name : List ℕ → List ℕ → Bool
+same_name = pointwise ◌==◌
