@@ -8,8 +8,8 @@ use Rattle.pager.specs.declared.root.Root.{Root}
 use Rattle.heap_file.specs.declared.page.HeapPage.{HeapPage}
 use Rattle.heap_file.specs.declared.page.Entry.{Entry}
 use Rattle.heap_file.specs.Chain.{IsAt, last_page}
-use Rattle.heap_file.specs.HeapPage.{IsHeapPage, IsNarrow, page_bytes}
-use Rattle.heap_file.specs.Work.{appended, fits, lengthened, with_head}
+use Rattle.heap_file.specs.HeapPage.{IsHeapPage, IsNarrow, page_bytes, have_room}
+use Rattle.heap_file.specs.Work.{appended, lengthened, with_head}
 use Rattle.heap_file.proofs.Ones.{differ}
 use Rattle.heap_file.proofs.Packing.{written_holds}
 use Rattle.heap_file.proofs.Ways.{appended_long}
@@ -65,14 +65,14 @@ ended size pages first entry head tail why one last end is =
     inr (head, one, inr (tail, last, rw end (ap (λ (w : Refusal). Err w) (sym is))))
 
 -- an entry that fits in the last page
-pub fitted : (size : ℕ) (pages after : Pages) (first last : ℕ) (entry : Entry) (head tail : HeapPage) → last_page first head ≡ last → IsAt size pages first head → IsAt size pages last tail → eqb 0 tail.next ≡ true → fits (tail.entries ++ entry ∷ []) ≡ true → after ≡ written pages last (page_bytes (record tail { entries = tail.entries ++ entry ∷ [] })) → appended size pages first entry (Ok (last, after))
+pub fitted : (size : ℕ) (pages after : Pages) (first last : ℕ) (entry : Entry) (head tail : HeapPage) → last_page first head ≡ last → IsAt size pages first head → IsAt size pages last tail → eqb 0 tail.next ≡ true → have_room (tail.entries ++ entry ∷ []) ≡ true → after ≡ written pages last (page_bytes (record tail { entries = tail.entries ++ entry ∷ [] })) → appended size pages first entry (Ok (last, after))
 fitted size pages after first last entry head tail named one at end room stored =
     subst (λ (l : ℕ). IsAt size pages l tail → after ≡ written pages l (page_bytes (record tail { entries = tail.entries ++ entry ∷ [] })) → appended size pages first entry (Ok (l, after))) named
     (λ at stored. (head, one, (tail, at, rw (end, room) (ap (λ (p : Pages). Ok (last_page first head, p)) (sym stored)))))
     at stored
 
 -- an entry that does not
-pub long : (size : ℕ) (pages : Pages) (first last : ℕ) (entry : Entry) (head tail : HeapPage) → last_page first head ≡ last → IsAt size pages first head → IsAt size pages last tail → eqb 0 tail.next ≡ true → fits (tail.entries ++ entry ∷ []) ≡ false → (a : Result (ℕ × Pages) Refusal) → lengthened size pages first last tail entry a → appended size pages first entry a
+pub long : (size : ℕ) (pages : Pages) (first last : ℕ) (entry : Entry) (head tail : HeapPage) → last_page first head ≡ last → IsAt size pages first head → IsAt size pages last tail → eqb 0 tail.next ≡ true → have_room (tail.entries ++ entry ∷ []) ≡ false → (a : Result (ℕ × Pages) Refusal) → lengthened size pages first last tail entry a → appended size pages first entry a
 long size pages first last entry head tail named one at end room a =
     subst (λ (l : ℕ). IsAt size pages l tail → lengthened size pages first l tail entry a → appended size pages first entry a) named
     (λ at h. appended_long size pages first entry head tail one at end room a h)

@@ -1,7 +1,7 @@
 -- Entries that stand first in bytes, and what a page holds.
 use Rattle.std.proofs.Common.{◌⊎◌, ◌≡◌, ◌<◌, ◌≤◌, ◌^◌, ◌+◌, ◌-◌, ◌*◌, ◌++◌, ◌∙◌, ℕ, suc, List, [], ◌∷◌, length, get_or, take, drop, replicate, Some, None, Ok, Err, inl, inr, refl, sym, ap, subst, arith, append_assoc}
 use Rattle.std.specs.List.{flat_map, AllByRecursion}
-use Rattle.std.proofs.lemmas.Bool.{cases_lt, le-leb}
+use Rattle.std.proofs.lemmas.Bool.{cases_lt, le-leb, leb-true}
 use Rattle.std.proofs.lemmas.List.{take_at, drop_at, drop-drop, drop-replicate, drop_more, take-append-drop, take-take, get_or-take, get_or_past, length-append, length-drop, length-take-le, append-nil}
 use Rattle.std.proofs.lemmas.List.Concat.{flat_map-cons, flat_map-append}
 use Rattle.std.proofs.lemmas.List.Elements.{All-from_recursion, recursion_from_All, All-append, All-cons, All-take, All-drop}
@@ -11,11 +11,12 @@ use Rattle.retro_base.proofs.FieldLaws.{length-field_bytes, number_at-field, num
 use Rattle.values.specs.declared.value.Value.{Value}
 use Rattle.retro_base.specs.declared.refusal.Refusal.{Refusal}
 use Rattle.retro_base.specs.declared.refusal.Refusal.TheVariants.{OutOfMemory}
+use Rattle.values.specs.Row.{row_bytes}
 use Rattle.row_codec.specs.RowCode.{row_code, value_code, encoded, IsEncoded, IsDecoded, IsRow}
-use Rattle.row_codec.proofs.Codes.{same_parts, one_row}
+use Rattle.row_codec.proofs.Codes.{same_parts, one_row, row_size}
 use Rattle.heap_file.specs.declared.page.Entry.{Entry}
 use Rattle.heap_file.specs.declared.page.HeapPage.{HeapPage}
-use Rattle.heap_file.specs.HeapPage.{entry_code, entry_bytes, IsEntry, IsShort, IsFirstEntry, Holds, HoldsOne, ZeroIsEmpty, WrittenHolds, IsHeapPage, page_bytes, header}
+use Rattle.heap_file.specs.HeapPage.{HaveRoom, entry_code, entry_bytes, IsEntry, IsShort, IsFirstEntry, Holds, HoldsOne, ZeroIsEmpty, WrittenHolds, IsHeapPage, page_bytes, header}
 use Rattle.heap_file.specs.Work.{page_with, without}
 
 -- two bytes are the field of their number
@@ -173,7 +174,7 @@ written_holds page next number last is =
     let body : List ℕ = entry_bytes page.entries in
     let zeros : List ℕ = replicate (1004 - length body) 0 in
     let rest : List ℕ = body ++ zeros in
-    let few : length page.entries < 256 ^ 2 = omega (arith, entries-few page.entries, is.fits) in
+    let few : length page.entries < 256 ^ 2 = omega (arith, entries-few page.entries, leb-true _ _ is.fits) in
     let a : page_bytes page ≡ (1 ∷ 0 ∷ []) ++ (f2 ++ (f4 ++ (f8 ++ (g4 ++ rest)))) = simp append_assoc in
     let b : page_bytes page ≡ (1 ∷ 0 ∷ f2) ++ (f4 ++ (f8 ++ (g4 ++ rest))) = simp append_assoc in
     let c : page_bytes page ≡ ((1 ∷ 0 ∷ f2) ++ f4) ++ (f8 ++ (g4 ++ rest)) = simp append_assoc in
@@ -214,16 +215,10 @@ pub behind_header : (page : HeapPage) → take 20 (header page ++ replicate 1004
 unfolding page_bytes
 behind_header page = put_behind (header page) (entry_bytes page.entries) (length-header page)
 
--- the bytes of a row are as many under each number
-row_length : (m n : ℕ) (row : List Value) → length (row_code m row) ≡ length (row_code n row)
-row_length m n row =
-    let rest : List ℕ = length row ∷ flat_map value_code row in
-    length-append (field_bytes 8 m) rest ∙ ap (λ (k : ℕ). k + length rest) (length-field_bytes 8 m ∙ sym (length-field_bytes 8 n)) ∙ sym (length-append (field_bytes 8 n) rest)
-
 -- a short row is encoded
 pub short_encoded : (number : ℕ) (row : List Value) → IsShort row → encoded number row ≡ Ok (row_code number row)
 short_encoded number row is =
-    rw (le-leb (length (row_code number row)) 900 (omega (arith, row_length number 0 row, is.short))) refl
+    rw (le-leb (row_bytes row) 900 is.short) refl
 
 -- the only refusal of its encoding
 pub short_refused : (number : ℕ) (row : List Value) (why : Refusal) → IsShort row → (why ≡ OutOfMemory) ⊎ (encoded number row ≡ Err why) → why ≡ OutOfMemory
@@ -238,15 +233,15 @@ pub short_entry : (entry : Entry) → IsEntry entry → IsShort entry.row
 short_entry entry is = record {
   some = is.lawful.some;
   few = is.lawful.few;
-  short = omega (arith, row_length entry.number 0 entry.row, is.short);
+  short = omega (arith, row_size entry.number entry.row, is.short);
 }
 
 -- a row that can be stored, under a number
 pub entry_is : (entry : Entry) → entry.number < 2 ^ 64 → IsRow entry.row → IsShort entry.row → IsEntry entry
-entry_is entry fits row is = record { fits = fits; lawful = row; code = refl; short = omega (arith, row_length entry.number 0 entry.row, is.short) }
+entry_is entry fits row is = record { fits = fits; lawful = row; code = refl; short = omega (arith, row_size entry.number entry.row, is.short) }
 
 -- a page with one more entry at its end can be written where it fits
-pub pushed_fits : (page : HeapPage) (entry : Entry) → IsHeapPage page → IsEntry entry → length (entry_bytes (page.entries ++ entry ∷ [])) ≤ 1004 → IsHeapPage (record page { entries = page.entries ++ entry ∷ [] })
+pub pushed_fits : (page : HeapPage) (entry : Entry) → IsHeapPage page → IsEntry entry → HaveRoom (page.entries ++ entry ∷ []) → IsHeapPage (record page { entries = page.entries ++ entry ∷ [] })
 pushed_fits page entry is one room = record {
   lawful = recursion_from_All IsEntry (page.entries ++ entry ∷ []) (All-append IsEntry page.entries (entry ∷ []) (All-from_recursion IsEntry page.entries is.lawful) (All-from_recursion IsEntry (entry ∷ []) (one, tt)));
   fits = room;
@@ -263,14 +258,14 @@ one_entry entry is =
     let code = row_code entry.number entry.row in
     record {
       lawful = (is, tt);
-      fits = rw (flat_map-cons entry_code entry []) (omega (arith, is.short, length-append (entry_code entry) [], length-append (field_bytes 2 (length code)) code, length-field_bytes 2 (length code)));
+      fits = rw (flat_map-cons entry_code entry []) (le-leb _ _ (omega (arith, is.short, length-append (entry_code entry) [], length-append (field_bytes 2 (length code)) code, length-field_bytes 2 (length code))));
     }
 
 -- what the bytes of a page hold can be written
 pub held_fits : (bytes : List ℕ) (page : HeapPage) → length bytes ≡ 1024 → Holds bytes page → IsHeapPage page
 held_fits bytes page long is = record {
   lawful = is.lawful;
-  fits = omega (arith, ap length is.packed, length-drop 20 bytes, length-append (entry_bytes page.entries) is.behind);
+  fits = le-leb _ _ (omega (arith, ap length is.packed, length-drop 20 bytes, length-append (entry_bytes page.entries) is.behind));
 }
 
 -- a page without one of its entries can be written
@@ -285,11 +280,11 @@ without_fits page place lt is =
     let same : length (entry_bytes (drop (place + 1) page.entries)) ≡ length (entry_bytes (drop (suc place) page.entries)) = ap (λ (n : ℕ). length (entry_bytes (drop n page.entries))) one in
     record {
       lawful = recursion_from_All IsEntry (without page place).entries (All-append IsEntry (take place page.entries) (drop (suc place) page.entries) (All-take IsEntry place page.entries (All-from_recursion IsEntry page.entries is.lawful)) (All-drop IsEntry (suc place) page.entries (All-from_recursion IsEntry page.entries is.lawful)));
-      fits = rw (flat_map-append entry_code (take place page.entries) (drop (suc place) page.entries), length-append (entry_bytes (take place page.entries)) (entry_bytes (drop (suc place) page.entries))) (omega (arith, more, same, is.fits));
+      fits = rw (flat_map-append entry_code (take place page.entries) (drop (suc place) page.entries), length-append (entry_bytes (take place page.entries)) (entry_bytes (drop (suc place) page.entries))) (le-leb _ _ (omega (arith, more, same, leb-true _ _ is.fits)));
     }
 
 -- a page with one more entry can be written where it fits
-pub with_fits : (page : HeapPage) (place : ℕ) (entry : Entry) → IsHeapPage page → IsEntry entry → length (entry_bytes (page.entries ++ entry ∷ [])) ≤ 1004 → IsHeapPage (record page { entries = take place page.entries ++ entry ∷ drop place page.entries })
+pub with_fits : (page : HeapPage) (place : ℕ) (entry : Entry) → IsHeapPage page → IsEntry entry → HaveRoom (page.entries ++ entry ∷ []) → IsHeapPage (record page { entries = take place page.entries ++ entry ∷ drop place page.entries })
 with_fits page place entry is one room =
     let front = take place page.entries in
     let rest = drop place page.entries in
@@ -302,5 +297,5 @@ with_fits page place entry is one room =
     let lawful = All-from_recursion IsEntry page.entries is.lawful in
     record {
       lawful = recursion_from_All IsEntry (front ++ entry ∷ rest) (All-append IsEntry front (entry ∷ rest) (All-take IsEntry place page.entries lawful) (All-cons IsEntry entry rest one (All-drop IsEntry place page.entries lawful)));
-      fits = omega arith;
+      fits = le-leb _ _ (omega (arith, leb-true _ _ room));
     }

@@ -11,8 +11,8 @@ use Rattle.heap_file.specs.declared.page.HeapPage.{HeapPage}
 use Rattle.heap_file.specs.declared.chain.Link.{Link}
 use Rattle.heap_file.specs.declared.page.Entry.{Entry}
 use Rattle.heap_file.specs.Chain.{IsAt, Leads, GoesOn, last_page, met}
-use Rattle.heap_file.specs.Work.{appended, lengthened, fits, row_of, renamed, unlinked, removed, changed, without, IsPlace}
-use Rattle.heap_file.specs.HeapPage.{page_bytes}
+use Rattle.heap_file.specs.Work.{appended, lengthened, row_of, renamed, unlinked, removed, changed, without, IsPlace}
+use Rattle.heap_file.specs.HeapPage.{have_room, page_bytes}
 
 -- a refusal that is handed on is allowed where it was
 pub allowed_stop : {F : Type 0} {P Q : Refusal → Type 0} (e : Stop F) → ((why : Refusal) → P why → Q why) → AllowedStop P e → AllowedStop Q e
@@ -43,7 +43,7 @@ allowed_on view P Q (Ok x) go allowed = go (Ok (view x)) allowed
 allowed_on view P Q (Err e) go allowed = allowed_stop e (λ why h. go (Err why) h) allowed
 
 -- an entry that does not fit in the last page
-pub appended_long : (size : ℕ) (pages : Pages) (first : ℕ) (entry : Entry) (head tail : HeapPage) → IsAt size pages first head → IsAt size pages (last_page first head) tail → eqb 0 tail.next ≡ true → fits (tail.entries ++ entry ∷ []) ≡ false → (a : Result (ℕ × Pages) Refusal) → lengthened size pages first (last_page first head) tail entry a → appended size pages first entry a
+pub appended_long : (size : ℕ) (pages : Pages) (first : ℕ) (entry : Entry) (head tail : HeapPage) → IsAt size pages first head → IsAt size pages (last_page first head) tail → eqb 0 tail.next ≡ true → have_room (tail.entries ++ entry ∷ []) ≡ false → (a : Result (ℕ × Pages) Refusal) → lengthened size pages first (last_page first head) tail entry a → appended size pages first entry a
 appended_long size pages first entry head tail one last end room (Ok y) h = (head, one, (tail, last, rw (end, room) h))
 appended_long size pages first entry head tail one last end room (Err why) h = inr (head, one, inr (tail, last, rw (end, room) h))
 
@@ -78,7 +78,7 @@ renamed_at size width pages shown first last next a e f h =
     subst (λ (s : ℕ). renamed s pages first last next a) e (subst (λ (p : Pages). renamed width p first last next a) f h)
 
 -- a row that moves to the end of its chain
-pub changed_moved : (size : ℕ) (pages : Pages) (first page place : ℕ) (held : HeapPage) (entry : Entry) → IsAt size pages page held → IsPlace entry.number held.entries (Some place) → fits ((without held place).entries ++ entry ∷ []) ≡ false → (a : Result (ℕ × Pages) Refusal) → appended size (written pages page (page_bytes (without held place))) first entry a → changed size pages first page entry a
+pub changed_moved : (size : ℕ) (pages : Pages) (first page place : ℕ) (held : HeapPage) (entry : Entry) → IsAt size pages page held → IsPlace entry.number held.entries (Some place) → have_room ((without held place).entries ++ entry ∷ []) ≡ false → (a : Result (ℕ × Pages) Refusal) → appended size (written pages page (page_bytes (without held place))) first entry a → changed size pages first page entry a
 changed_moved size pages first page place held entry at is room (Ok y) h = (held, at, (place, is, rw room h))
 changed_moved size pages first page place held entry at is room (Err why) h = inr (held, at, inr (place, is, rw room h))
 

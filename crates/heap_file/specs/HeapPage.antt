@@ -1,9 +1,10 @@
 -- Pages that hold rows.
-use Rattle.std.specs.Prelude.{◌≡◌, ◌<◌, ◌≤◌, ◌-◌, ◌^◌, ◌++◌, ℕ, List, [], ◌∷◌, length, drop, replicate, slice_index, Option, Some, None}
+use Rattle.std.specs.Prelude.{◌≡◌, ◌<◌, ◌≤◌, ◌-◌, ◌^◌, ◌++◌, ℕ, Bool, IsTrue, List, [], ◌∷◌, length, drop, replicate, nat_le, slice_index, Option, Some, None}
 use Rattle.std.specs.List.{flat_map, AllByRecursion}
 use Rattle.retro_base.specs.Fields.{number_at, field_bytes}
 use Rattle.retro_base.specs.declared.limits.TheConstants.{ROW_BYTES}
 use Rattle.values.specs.declared.value.Value.{Value}
+use Rattle.values.specs.Row.{row_bytes}
 use Rattle.row_codec.specs.RowCode.{row_code, IsEncoded}
 use Rattle.heap_file.specs.declared.page.Entry.{Entry}
 use Rattle.heap_file.specs.declared.page.HeapPage.{HeapPage}
@@ -16,11 +17,11 @@ entry_code entry = field_bytes 2 (length (row_code entry.number entry.row)) ++ r
 abbrev pub IsEntry : Entry → Type 0
 IsEntry entry = IsEncoded (row_code entry.number entry.row) entry.number entry.row
 
--- what a row may be that is put into a page: one to sixteen values, and at most 900 bytes encoded, whatever its number
+-- what a row may be that is put into a page: one to sixteen values, and at most 900 bytes encoded
 pub record IsShort (row : List Value) : Type 0 where
   pub some : 1 ≤ length row
   pub few : length row ≤ 16
-  pub short : length (row_code 0 row) ≤ ROW_BYTES
+  pub short : row_bytes row ≤ ROW_BYTES
 
 -- the bytes that entries take
 abbrev pub entry_bytes : List Entry → List ℕ
@@ -52,14 +53,17 @@ header page =
 unfoldable pub page_bytes : HeapPage → List ℕ
 page_bytes page = header page ++ entry_bytes page.entries ++ replicate (1004 - length (entry_bytes page.entries)) 0
 
--- the entries fit in a page
-abbrev pub Fits : List Entry → Type 0
-Fits entries = length (entry_bytes entries) ≤ 1004
+-- whether entries have room on one page
+abbrev pub have_room : List Entry → Bool
+have_room entries = nat_le (length (entry_bytes entries)) 1004
+
+abbrev pub HaveRoom : List Entry → Type 0
+HaveRoom entries = IsTrue (have_room entries)
 
 -- what can be written
 pub record IsHeapPage (page : HeapPage) : Type 0 where
   pub lawful : AllByRecursion IsEntry page.entries
-  pub fits : Fits page.entries
+  pub fits : HaveRoom page.entries
 
 -- each number fits its field
 pub record IsNarrow (page : HeapPage) : Type 0 where

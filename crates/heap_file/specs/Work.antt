@@ -10,11 +10,7 @@ use Rattle.heap_file.specs.declared.page.HeapPage.{HeapPage}
 use Rattle.pager.specs.Allows.{◌>>=◌, only, either}
 use Rattle.heap_file.specs.declared.chain.Link.{Link}
 use Rattle.heap_file.specs.Chain.{IsAt, IsKnown, heap_page, last_page, met}
-use Rattle.heap_file.specs.HeapPage.{empty_page, entry_bytes, page_bytes}
-
--- whether entries fit in a page
-abbrev pub fits : List Entry → Bool
-fits entries = nat_le (length (entry_bytes entries)) 1004
+use Rattle.heap_file.specs.HeapPage.{empty_page, have_room, page_bytes}
 
 -- a page is taken for a table without rows
 abbrev pub made : ℕ → Pages → Result (ℕ × Pages) Refusal → Type 0
@@ -77,7 +73,7 @@ appended size pages first entry = do
   let last = last_page first head
   tail ← heap_page size pages last
   either (0 == tail.next)
-      (either (fits (tail.entries ++ entry ∷ []))
+      (either (have_room (tail.entries ++ entry ∷ []))
       (only (Ok (last, written pages last (page_bytes (record tail { entries = tail.entries ++ entry ∷ [] })))))
       (lengthened size pages first last tail entry))
       (only (Err (broken last)))
@@ -155,6 +151,6 @@ changed size pages first page entry = do
   held ← heap_page size pages page
   place ← place_in page entry.number held.entries
   let rest = without held place
-  either (fits (rest.entries ++ entry ∷ []))
+  either (have_room (rest.entries ++ entry ∷ []))
       (only (Ok (page, written pages page (page_bytes (record rest { entries = insert rest.entries place entry })))))
       (appended size (written pages page (page_bytes rest)) first entry)

@@ -6,9 +6,9 @@ ghost use Rattle.pager.specs.Draft.{drafted, Drafts, Reads};
 ghost use Rattle.pager.specs.Pages.{Pages, written};
 ghost use Rattle.pager.specs.Stop.{OnlyDrafts, OnlyReads};
 ghost use Rattle.heap_file.specs.Chain.{IsKnown, IsWritable, last_page, linked, scanned};
-ghost use Rattle.heap_file.specs.HeapPage.{IsEntry, IsHeapPage, IsShort, page_bytes};
+ghost use Rattle.heap_file.specs.HeapPage.{IsEntry, IsHeapPage, IsShort, page_bytes, have_room};
 ghost use Rattle.std.specs.List.{insert};
-ghost use Rattle.heap_file.specs.Work.{added, appended, changed, fits, IsPlace, got, last_field, leaving_head, lengthened, made, next_of, on_link, page_with, removed, renamed, unlinked, without};
+ghost use Rattle.heap_file.specs.Work.{added, appended, changed, IsPlace, got, last_field, leaving_head, lengthened, made, next_of, on_link, page_with, removed, renamed, unlinked, without};
 
 use crate::chain::{Link, load, store};
 use crate::page::{Entry, HeapPage, has_room};

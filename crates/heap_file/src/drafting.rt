@@ -6,9 +6,9 @@ ghost use Rattle.pager.specs.Draft.{drafted, Drafts, Reads};
 ghost use Rattle.pager.specs.Pages.{Pages, written};
 ghost use Rattle.pager.specs.Stop.{OnlyDrafts, OnlyReads};
 ghost use Rattle.heap_file.specs.Chain.{IsKnown, IsWritable, last_page, linked, scanned};
-ghost use Rattle.heap_file.specs.HeapPage.{IsEntry, IsHeapPage, IsShort, page_bytes};
+ghost use Rattle.heap_file.specs.HeapPage.{IsEntry, IsHeapPage, IsShort, page_bytes, have_room};
 ghost use Rattle.std.specs.List.{insert};
-ghost use Rattle.heap_file.specs.Work.{added, appended, changed, fits, IsPlace, got, last_field, leaving_head, lengthened, made, next_of, on_link, page_with, removed, renamed, unlinked, without};
+ghost use Rattle.heap_file.specs.Work.{added, appended, changed, IsPlace, got, last_field, leaving_head, lengthened, made, next_of, on_link, page_with, removed, renamed, unlinked, without};
 
 use crate::appending::{append, append_with_head};
 use crate::chain::{Link, Placed, chain, load, rows_of, store};
@@ -246,7 +246,7 @@ fn with_entry(held: HeapPage, place: usize, entry: Entry) -> Result<HeapPage, Al
     requires place { place ≤ length held.entries }
     requires held { IsHeapPage held }
     requires entry { IsEntry entry }
-    requires room { IsTrue (fits (held.entries ++ entry ∷ [])) }
+    requires room { IsTrue (have_room (held.entries ++ entry ∷ [])) }
     ensures { IfOk result
         (λ page. (page ≡ record held { entries = insert held.entries place entry }) × IsHeapPage page) }
 {

@@ -2,8 +2,7 @@
 
 ghost use Rattle.std.specs.Prelude.{◌≡◌, ◌≤◌, ◌++◌, ◌∷◌, [], IfErr, IfOk, IfSome, OnOk, length};
 ghost use Rattle.retro_base.specs.declared.refusal.Refusal.TheVariants.{OutOfMemory};
-ghost use Rattle.heap_file.specs.Work.{fits};
-ghost use Rattle.heap_file.specs.HeapPage.{Fits, IsEntry, IsHeapPage, IsHeld, IsNarrow, IsShort, entry_bytes, entry_code, page_bytes};
+ghost use Rattle.heap_file.specs.HeapPage.{have_room, HaveRoom, IsEntry, IsHeapPage, IsHeld, IsNarrow, IsShort, entry_bytes, entry_code, page_bytes};
 ghost use Rattle.std.specs.List.{AllByRecursion};
 ghost use Rattle.row_codec.specs.RowCode.{IsRow};
 
@@ -78,9 +77,9 @@ pub fn page_of(alloc: Global, held: &HeapPage) -> Result<Page, Refusal>
 /// Whether one more entry fits in a page with these.
 pub fn has_room(entries: &[Entry], entry: &Entry) -> bool
     requires entries { AllByRecursion IsEntry entries.now }
-    requires fits { Fits entries.now }
+    requires fits { HaveRoom entries.now }
     requires short { IsShort entry.now.row }
-    ensures room { result ≡ fits (entries.now ++ entry.now ∷ []) }
+    ensures room { result ≡ have_room (entries.now ++ entry.now ∷ []) }
     ensures row { IsRow entry.now.row }
 {
     entries_length(entries) + entry_length(entry) <= PAGE_BYTES - HEADER_BYTES
@@ -89,7 +88,7 @@ pub fn has_room(entries: &[Entry], entry: &Entry) -> bool
 // How many bytes entries take.
 fn entries_length(entries: &[Entry]) -> usize
     requires entries { AllByRecursion IsEntry entries.now }
-    requires fits { Fits entries.now }
+    requires fits { HaveRoom entries.now }
     ensures { length (entry_bytes entries.now) ≡ result }
 {
     let mut length = 0;

@@ -1,6 +1,5 @@
 -- An entry at the end of a chain.
 use Rattle.std.proofs.Common.{◌≡◌, ◌≢◌, ◌<◌, ◌≤◌, ◌+◌, ◌^◌, ◌++◌, ◌∙◌, ◌⊎◌, ℕ, true, false, cond, eqb, List, [], ◌∷◌, length, map, flat_map, inl, inr, refl, sym, ap, arith, subst, eq-eqb, ne_eqb, append_assoc, append-nil, length-append}
-use Rattle.std.proofs.lemmas.Bool.{leb-true}
 use Rattle.std.proofs.lemmas.Bool.Decides.{eqb_tells}
 use Rattle.std.proofs.lemmas.List.{map-append}
 use Rattle.retro_base.specs.Fields.{field_bytes}
@@ -13,8 +12,8 @@ use Rattle.heap_file.specs.declared.page.HeapPage.{HeapPage}
 use Rattle.heap_file.specs.declared.chain.Link.{Link}
 use Rattle.heap_file.specs.declared.chain.Placed.{Placed}
 use Rattle.heap_file.specs.Chain.{IsAt, Leads, last_page, rows_of, rows_on}
-use Rattle.heap_file.specs.HeapPage.{IsEntry, page_bytes}
-use Rattle.heap_file.specs.Work.{fits, page_with}
+use Rattle.heap_file.specs.HeapPage.{IsEntry, page_bytes, have_room}
+use Rattle.heap_file.specs.Work.{page_with}
 use Rattle.heap_file.proofs.Packing.{one_entry}
 use Rattle.heap_laws.specs.Store.{IsSized, end_of, times}
 use Rattle.heap_laws.specs.Table.{IsStorable}
@@ -39,9 +38,9 @@ pub one-sized : (entry : Entry) → IsEntry entry → IsSized (page_with entry)
 one-sized entry is = record { page = one_entry entry is; next = omega arith; next_number = omega arith; last = omega arith }
 
 -- a page with one more entry can be written where it fits
-pub more-sized : (held : HeapPage) (entry : Entry) → IsSized held → IsEntry entry → fits (held.entries ++ entry ∷ []) ≡ true → IsSized (record held { entries = held.entries ++ entry ∷ [] })
+pub more-sized : (held : HeapPage) (entry : Entry) → IsSized held → IsEntry entry → have_room (held.entries ++ entry ∷ []) ≡ true → IsSized (record held { entries = held.entries ++ entry ∷ [] })
 more-sized held entry sized is room = record {
-  page = record { lawful = all-join IsEntry held.entries (entry ∷ []) sized.page.lawful (is, tt); fits = leb-true _ _ room };
+  page = record { lawful = all-join IsEntry held.entries (entry ∷ []) sized.page.lawful (is, tt); fits = room };
   next = sized.next;
   next_number = sized.next_number;
   last = sized.last;
@@ -142,7 +141,7 @@ pub record Appended (size : ℕ) (pages after : Pages) (first : ℕ) (links : Li
 
 -- on the last page
 pub put-last : (size : ℕ) (pages : Pages) (first last : ℕ) (links : List Link) (head tail : HeapPage) (entry : Entry) → IsRoute size pages first links → IsAt size pages first head → IsAt size pages last tail
-    → last_page first head ≡ last → end_of first links ≡ last → IsEntry entry → fits (tail.entries ++ entry ∷ []) ≡ true
+    → last_page first head ≡ last → end_of first links ≡ last → IsEntry entry → have_room (tail.entries ++ entry ∷ []) ≡ true
     → Appended size pages (written pages last (page_bytes (record tail { entries = tail.entries ++ entry ∷ [] }))) first links head [] last entry
 put-last size pages first last links head tail entry route at at_last named ends is room =
     let split = end_link size pages first last links head tail route at at_last ends in

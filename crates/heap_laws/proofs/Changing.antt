@@ -2,7 +2,6 @@
 use Rattle.std.proofs.Common.{◌≡◌, ◌≢◌, ◌<◌, ◌≤◌, ◌+◌, ◌++◌, ◌∙◌, ◌⊎◌, ◌||◌, ℕ, zero, suc, Bool, true, false, cond, eqb, List, [], ◌∷◌, length, map, get_or, Some, Result, Ok, Err, inl, inr, refl, sym, ap, arith, subst, eq-eqb, append_assoc}
 use Rattle.std.specs.List.{Contains, insert, list_any}
 use Rattle.std.specs.List.Sorted.{IsPermutation, IsNonDecreasingBy}
-use Rattle.std.proofs.lemmas.Bool.{leb-true}
 use Rattle.std.proofs.lemmas.Bool.Decides.{eqb_tells}
 use Rattle.std.proofs.lemmas.List.{map-append}
 use Rattle.std.proofs.lemmas.List.Sorted.{Contains-permutation, IsNonDecreasingBy-from_default, IsPermutation-append_left, IsPermutation-append_right, IsPermutation-map, IsPermutation-sym, IsPermutation-to_front, IsPermutation-trans}
@@ -115,7 +114,7 @@ change-here size pages firsts indexes first table page number previous row held 
     let kept : HeapPage = record left { entries = insert left.entries place entry } in
     let lt = place-there links page number previous held place it in
     let sized : IsSized kept = record {
-      page = with_fits left place entry (without_fits held place lt here.sized_here.page) is (leb-true _ _ room);
+      page = with_fits left place entry (without_fits held place lt here.sized_here.page) is room;
       next = here.sized_here.next;
       next_number = here.sized_here.next_number;
       last = here.sized_here.last;

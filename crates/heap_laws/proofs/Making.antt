@@ -18,7 +18,7 @@ use Rattle.heap_laws.proofs.Stores.{all-join, all-stay, chains-same, frees-same,
 
 -- a page without entries can be written
 pub empty-sized : IsSized empty_page
-empty-sized = record { page = record { lawful = tt; fits = omega arith }; next = omega arith; next_number = omega arith; last = omega arith }
+empty-sized = record { page = record { lawful = tt; fits = refl }; next = omega arith; next_number = omega arith; last = omega arith }
 
 pub no-rows : (page : ℕ) → rows_of (link_of page empty_page ∷ []) ≡ []
 no-rows page = rows-cons (link_of page empty_page) []

@@ -10,8 +10,8 @@ use Rattle.heap_file.specs.declared.page.HeapPage.{HeapPage}
 use Rattle.heap_file.specs.declared.chain.Link.{Link}
 use Rattle.heap_file.specs.declared.chain.Placed.{Placed}
 use Rattle.heap_file.specs.Chain.{IsAt, met}
-use Rattle.heap_file.specs.HeapPage.{page_bytes}
-use Rattle.heap_file.specs.Work.{appended, changed, fits, place_in, without}
+use Rattle.heap_file.specs.HeapPage.{page_bytes, have_room}
+use Rattle.heap_file.specs.Work.{appended, changed, place_in, without}
 use Rattle.heap_laws.specs.Store.{times}
 use Rattle.heap_laws.proofs.Counts.{keyed, keyed-map}
 use Rattle.heap_laws.proofs.Routes.{around, at-one, IsRoute, link_of, pages_on}
@@ -66,7 +66,7 @@ meets size pages first links placed route few stands =
 abbrev pub changed_on : ℕ → Pages → ℕ → ℕ → Entry → HeapPage → Result (ℕ × Pages) Refusal → Type 0
 changed_on size pages first page entry held =
     place_in page entry.number held.entries >>= λ place.
-    either (fits ((without held place).entries ++ entry ∷ []))
+    either (have_room ((without held place).entries ++ entry ∷ []))
     (only (Ok (page, written pages page (page_bytes (record (without held place) { entries = insert (without held place).entries place entry })))))
     (appended size (written pages page (page_bytes (without held place))) first entry)
 

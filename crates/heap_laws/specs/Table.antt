@@ -8,8 +8,8 @@ use Rattle.heap_file.specs.declared.page.Entry.{Entry}
 use Rattle.heap_file.specs.declared.page.HeapPage.{HeapPage}
 use Rattle.heap_file.specs.declared.chain.Placed.{Placed}
 use Rattle.heap_file.specs.Chain.{IsAt, last_page, met, scanned}
-use Rattle.heap_file.specs.HeapPage.{page_bytes}
-use Rattle.heap_file.specs.Work.{fits, next_of, without, IsPlace}
+use Rattle.heap_file.specs.HeapPage.{page_bytes, have_room}
+use Rattle.heap_file.specs.Work.{next_of, without, IsPlace}
 use Rattle.heap_laws.specs.Store.{WellFormed, free_pages, next_free, root_at}
 
 -- what a table has: the next row number, and the rows in rising number, each with the page where it stands
@@ -88,7 +88,7 @@ pub record EndsAt (size : ℕ) (pages : Pages) (first last : ℕ) (tail : HeapPa
 
 -- whether an entry fits on a page behind the entries that stand there
 abbrev pub has_room : HeapPage → Entry → Bool
-has_room held entry = fits (held.entries ++ entry ∷ [])
+has_room held entry = have_room (held.entries ++ entry ∷ [])
 
 -- an added row goes to the last page where it has room, else to a page that is taken
 abbrev pub IsAdded : Bool → ℕ → Pages → Pages → ℕ → ℕ → ℕ → Type 0

@@ -2,7 +2,7 @@
 use Rattle.std.proofs.Common.{◌⊎◌, ◌≡◌, ◌<◌, ◌≤◌, ◌^◌, ◌+◌, ◌-◌, ◌*◌, ◌++◌, ◌∙◌, ℕ, List, [], ◌∷◌, length, get_or, take, drop, replicate, Some, None, Ok, Err, inl, inr, refl, sym, ap, subst, arith, append_assoc}
 use Rattle.std.specs.Int.{w64, cast_unsigned}
 use Rattle.std.specs.List.{AllByRecursion}
-use Rattle.std.proofs.lemmas.Bool.{cases_lt, le-leb, lt-ltb}
+use Rattle.std.proofs.lemmas.Bool.{cases_lt, lt-ltb}
 use Rattle.std.proofs.lemmas.List.{take_at, drop_at, drop-drop, drop-replicate, take-append-drop, take-take, get_or-take, get_or-drop, get_or_past, length-append, length-drop, length-take-le, append-nil}
 use Rattle.std.proofs.lemmas.List.Concat.{flat_map-cons, flat_map-append}
 use Rattle.std.proofs.lemmas.Nat.{be_bytes_2, be_bytes_4}
@@ -13,7 +13,7 @@ use Rattle.retro_base.specs.declared.refusal.Refusal.TheVariants.{OutOfMemory}
 use Rattle.values.specs.declared.value.Value.{Value}
 use Rattle.values.specs.declared.value.Value.TheVariants.{Int, Text}
 use Rattle.row_codec.specs.RowCode.{row_code, value_code, encoded, IsEncoded, IsDecoded, IsValue}
-use Rattle.row_codec.proofs.Codes.{same_parts, one_row}
+use Rattle.row_codec.proofs.Codes.{encoded_whole, same_parts, one_row}
 use Rattle.pager.specs.Index.{IsFound, IsIndexed}
 use Rattle.pager.specs.Pages.{Pages}
 use Rattle.pager.specs.Root.{page_in}
@@ -299,7 +299,7 @@ row-refused entry why is (inr refused) = absurd (differ (sym taken ∙ refused))
     code = row_code entry.number (entry.value ∷ [])
 
     taken : encoded entry.number (entry.value ∷ []) ≡ Ok (row_code entry.number (entry.value ∷ []))
-    taken = rw (le-leb (length (row_code entry.number (entry.value ∷ []))) 900 (row-encoded entry is).short) refl
+    taken = encoded_whole entry.number (entry.value ∷ []) code refl (row-encoded entry is).short
 
     differ : Ok (row_code entry.number (entry.value ∷ [])) ≡ Err why → ⊥
     differ e = cc

@@ -3,19 +3,18 @@
 
 ghost use Rattle.std.specs.Prelude.{◌≤◌, ◌<◌, All, IsTrue};
 ghost use Rattle.std.specs.List.{AllByRecursion};
-ghost use Rattle.values.specs.Text.{IsPrintable};
 ghost use Rattle.heap_file.specs.HeapPage.{IsShort};
 ghost use Rattle.heap_file.specs.declared.chain.Placed.{Placed};
 
 use pager::{EditPager, MemPager, Pager, Stop};
 use relation::{
-    Catalog, Placed, StoredTable, create_index, create_table, delete, insert, is_name, next_number,
-    open, rows, update,
+    Catalog, Placed, StoredTable, create_index, create_table, delete, insert, next_number, open,
+    rows, update,
 };
 use retro_base::{Failed, Page, ROW_BYTES, Refusal};
-use sql_tree::{Column, Name};
+use sql_tree::Column;
 use std::alloc::{AllocError, Global};
-use values::{Kind, Row, Seq, Text, Value};
+use values::{Kind, Name, Row, Seq, Text, Value, is_name, is_text};
 
 pub fn name(alloc: Global, bytes: &[u8]) -> Result<Name, Refusal> {
     if !is_name(bytes) {
@@ -32,15 +31,9 @@ pub fn letters(alloc: Global, count: usize) -> Result<Value, AllocError>
     Ok(Value::Text(Text::new(Seq::from(bytes))))
 }
 
-fn are_printable(bytes: &[u8]) -> bool
-    ensures { IsTrue result → AllByRecursion IsPrintable bytes.now }
-{
-    bytes.iter().all(|byte| 32 <= *byte && *byte <= 126)
-}
-
 // The text of these bytes.
 pub fn text(alloc: Global, bytes: &[u8]) -> Result<Value, Refusal> {
-    if bytes.len() > 200 || !are_printable(bytes) {
+    if !is_text(bytes) {
         return Err(Refusal::BadWords);
     }
     Ok(Value::Text(Text::new(Seq::from(bytes.to_vec(alloc)?))))

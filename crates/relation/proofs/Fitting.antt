@@ -11,24 +11,14 @@ use Rattle.values.specs.declared.value.Value.{Value}
 use Rattle.values.specs.declared.value.Value.TheVariants.{Int, Text}
 use Rattle.values.specs.Value.{kind_of}
 use Rattle.row_codec.specs.RowCode.{row_code, value_code}
-use Rattle.sql_tree.specs.Name.{IsName, begins_word, continues_word}
+use Rattle.values.specs.Name.{IsName, begins_word, continues_word}
 use Rattle.sql_tree.specs.declared.statement.Column.{Column as TableColumn}
 use Rattle.heap_file.specs.HeapPage.{IsShort}
 use Rattle.relation.specs.declared.row.CatalogRow.{CatalogRow}
 use Rattle.relation.specs.declared.row.CatalogRow.TheVariants.{Table, Column}
 use Rattle.relation.specs.CatalogRow.{kind_number, row_values}
-use Rattle.relation.specs.Work.{fits, same_kind, row_of_index, rows_of_columns, rows_of_table}
-
--- a row of another length does not fit
-pub fits_apart : (columns : List TableColumn) (row : List Value) → (length row ≡ length columns → ⊥) → fits columns row ≡ false
-fits_apart [] [] apart = absurd (apart refl)
-fits_apart [] (value ∷ values) apart = refl
-fits_apart (column ∷ columns) [] apart = refl
-fits_apart (column ∷ columns) (value ∷ values) apart = and_false (same_kind column.kind (kind_of value)) _ (fits_apart columns values (λ e. apart (omega (arith, e))))
-  where
-    and_false : (a b : Bool) → b ≡ false → a && b ≡ false
-    and_false true b e = e
-    and_false false b e = refl
+use Rattle.relation.specs.Work.{row_of_index, rows_of_columns, rows_of_table}
+use Rattle.sql_tree.specs.Rows.{same_kind, fits}
 
 -- the rows of one column more
 pub rows_of_columns-push : (table : List ℕ) (place : ℕ) (columns : List TableColumn) (column : TableColumn) → rows_of_columns table place (columns ++ column ∷ []) ≡ rows_of_columns table place columns ++ Column (record { table = table; place = place + length columns; column = column }) ∷ []
@@ -96,50 +86,25 @@ pub name-short : (bytes : List ℕ) → IsName bytes → length bytes ≤ 32
 name-short [] h = absurd h
 name-short (b ∷ bytes) h = omega (arith, h.2)
 
-pub int-length : (n : ℤ) → length (value_code (Int n)) ≡ 9
-int-length n = ap suc (length-field_bytes 8 _)
-
--- the bytes of a row, value by value
-pub row-length : (row : List Value) → length (row_code 0 row) ≡ 9 + length (flat_map value_code row)
-row-length row = omega (arith, length-append (field_bytes 8 0) (length row ∷ flat_map value_code row), length-field_bytes 8 0)
-
-pub codes-cons : (value : Value) (row : List Value) → length (flat_map value_code (value ∷ row)) ≡ length (value_code value) + length (flat_map value_code row)
-codes-cons value row = ap length (flat_map-cons value_code value row) ∙ length-append (value_code value) (flat_map value_code row)
-
 -- the row of a table is short
 pub table_short : (name : List ℕ) (first : ℕ) → IsName name → IsShort (row_values (Table (record { name = name; first = first })))
-table_short name first h =
-    let rest : List Value = Int (pos first) ∷ [] in
-    record {
-      some = omega arith;
-      few = omega arith;
-      short = omega (arith, row-length (Int (pos 1) ∷ Text name ∷ rest), codes-cons (Int (pos 1)) (Text name ∷ rest), codes-cons (Text name) rest, codes-cons (Int (pos first)) [], int-length (pos 1), int-length (pos first), name-short name h);
-    }
+table_short name first h = record { some = omega arith; few = omega arith; short = omega (arith, name-short name h) }
 
 -- the row of a column is short
 pub column_short : (table : List ℕ) (place : ℕ) (column : TableColumn) → IsName table → IsName column.name → IsShort (row_values (Column (record { table = table; place = place; column = column })))
-column_short table place column h n =
-    let kind : ℤ = pos (kind_number column.kind) in
-    let last : List Value = Int kind ∷ [] in
-    let behind : List Value = Text column.name ∷ last in
-    let rest : List Value = Int (pos place) ∷ behind in
-    record {
-      some = omega arith;
-      few = omega arith;
-      short = omega (arith, row-length (Int (pos 2) ∷ Text table ∷ rest), codes-cons (Int (pos 2)) (Text table ∷ rest), codes-cons (Text table) rest, codes-cons (Int (pos place)) behind, codes-cons (Text column.name) last, codes-cons (Int kind) [], int-length (pos 2), int-length (pos place), int-length kind, name-short table h, name-short column.name n);
-    }
+column_short table place column h n = record {
+  some = omega arith;
+  few = omega arith;
+  short = omega (arith, name-short table h, name-short column.name n);
+}
 
 -- the row of an index is short
 pub index_short : (name table : List ℕ) (place : ℕ) → IsName name → IsName table → IsShort (row_values (row_of_index name table place))
-index_short name table place h n =
-    let last : List Value = Int (pos 0) ∷ [] in
-    let form : List Value = Int (pos 0) ∷ last in
-    let rest : List Value = Int (pos place) ∷ form in
-    record {
-      some = omega arith;
-      few = omega arith;
-      short = omega (arith, row-length (Int (pos 3) ∷ Text name ∷ Text table ∷ rest), codes-cons (Int (pos 3)) (Text name ∷ Text table ∷ rest), codes-cons (Text name) (Text table ∷ rest), codes-cons (Text table) rest, codes-cons (Int (pos place)) form, codes-cons (Int (pos 0)) last, codes-cons (Int (pos 0)) [], int-length (pos 3), int-length (pos place), int-length (pos 0), name-short name h, name-short table n);
-    }
+index_short name table place h n = record {
+  some = omega arith;
+  few = omega arith;
+  short = omega (arith, name-short name h, name-short table n);
+}
 
 -- a list of so many items, item by item
 pub two : {A : Type 0} (xs : List A) (d a b : A) → length xs ≡ 2 → get_or xs 0 d ≡ a → get_or xs 1 d ≡ b → xs ≡ a ∷ b ∷ []

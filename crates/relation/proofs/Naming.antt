@@ -11,11 +11,12 @@ use Rattle.std.proofs.lemmas.Cmp.{same_from_slice_cmp}
 use Rattle.std.proofs.lemmas.List.{append-nil, get_or_default}
 use Rattle.retro_base.specs.declared.refusal.Refusal.{Refusal}
 use Rattle.relation.specs.declared.catalog.StoredTable.{StoredTable}
-use Rattle.relation.specs.declared.catalog.Told.{Told}
+use Rattle.relation.specs.declared.catalog.CatalogEntry.{CatalogEntry}
 use Rattle.relation.specs.declared.row.CatalogRow.TheVariants.{Column}
 use Rattle.relation.specs.declared.row.ColumnRow.{ColumnRow}
 use Rattle.relation.specs.declared.row.TableRow.{TableRow}
-use Rattle.relation.specs.Catalog.{as_column, column_rows, same_name, table_told, table_with}
+use Rattle.relation.specs.Catalog.{as_column, column_rows, table_told, table_with}
+use Rattle.values.specs.Name.{same_name}
 use Rattle.relation.specs.Named.{place_under, rows_under}
 use Rattle.relation.proofs.Steps.{filter_map-next, filter_map-none}
 
@@ -43,12 +44,12 @@ row_added old mid new key named table row rows removed inserted one are = go (sa
     go false e = rw (inserted table, removed table, one, at_name key table, e, append-nil) refl
 
 -- one row of the catalog more
-pub columns-more : (columns after : BTreeMap (List ℕ) (List ColumnRow)) (rows : List Told) (i : ℕ) (told : Told) (row : ColumnRow) → i < length rows → told ≡ get_or rows i told → told.row ≡ Column row
+pub columns-more : (columns after : BTreeMap (List ℕ) (List ColumnRow)) (rows : List CatalogEntry) (i : ℕ) (told : CatalogEntry) (row : ColumnRow) → i < length rows → told ≡ get_or rows i told → told.row ≡ Column row
     → ((table : List ℕ) → rows_under columns table ≡ column_rows table (take i rows))
     → ((table : List ℕ) → rows_under after table ≡ rows_under columns table ++ cond (same_name row.table table) (row ∷ []) [])
     → (table : List ℕ) → rows_under after table ≡ column_rows table (take (i + 1) rows)
 columns-more columns after rows i told row lt is column so_far added table =
-    let next : column_rows table (take (i + 1) rows) ≡ column_rows table (take i rows) ++ cons_option (as_column table told.row) [] = filter_map-next (λ (told : Told). as_column table told.row) rows i told lt is in
+    let next : column_rows table (take (i + 1) rows) ≡ column_rows table (take i rows) ++ cons_option (as_column table told.row) [] = filter_map-next (λ (told : CatalogEntry). as_column table told.row) rows i told lt is in
     let one : cons_option (as_column table told.row) [] ≡ cond (same_name row.table table) (row ∷ []) [] = rw column (chosen (same_name row.table table)) in
     added table ∙ ap (λ (l : List ColumnRow). l ++ cond (same_name row.table table) (row ∷ []) []) (so_far table) ∙ ap (λ (l : List ColumnRow). column_rows table (take i rows) ++ l) (sym one) ∙ sym next
   where
@@ -56,14 +57,14 @@ columns-more columns after rows i told row lt is column so_far added table =
     chosen true = refl
     chosen false = refl
 
-pub columns-other : (columns : BTreeMap (List ℕ) (List ColumnRow)) (rows : List Told) (i : ℕ) (told : Told) → i < length rows → told ≡ get_or rows i told → ((table : List ℕ) → as_column table told.row ≡ None)
+pub columns-other : (columns : BTreeMap (List ℕ) (List ColumnRow)) (rows : List CatalogEntry) (i : ℕ) (told : CatalogEntry) → i < length rows → told ≡ get_or rows i told → ((table : List ℕ) → as_column table told.row ≡ None)
     → ((table : List ℕ) → rows_under columns table ≡ column_rows table (take i rows))
     → (table : List ℕ) → rows_under columns table ≡ column_rows table (take (i + 1) rows)
 columns-other columns rows i told lt is none so_far table =
-    so_far table ∙ sym (filter_map-none (λ (told : Told). as_column table told.row) rows i told lt is (none table))
+    so_far table ∙ sym (filter_map-none (λ (told : CatalogEntry). as_column table told.row) rows i told lt is (none table))
 
 -- the table of a row, by the rows of its columns
-pub told-under : (rows : List Told) (columns : List ColumnRow) (row : ℕ × TableRow) (r : Result StoredTable Refusal) → columns ≡ column_rows row.1.name rows → table_with columns row r → table_told rows row r
+pub told-under : (rows : List CatalogEntry) (columns : List ColumnRow) (row : ℕ × TableRow) (r : Result StoredTable Refusal) → columns ≡ column_rows row.1.name rows → table_with columns row r → table_told rows row r
 told-under rows columns row r same h = subst (λ (cs : List ColumnRow). table_with cs row r) same h
 
 -- the place of the first table of a name, among so many

@@ -1,6 +1,5 @@
 -- What the catalog says: the tables, with their first pages and columns, and the indexes.
 use Rattle.std.specs.Prelude.{◌≡◌, ◌≤◌, ◌<◌, ◌==◌, ℕ, Bool, true, false, List, length, map, Option, Some, None, Result, Ok, Err, slice_get, slice_index_or, if◌then◌else◌}
-use Rattle.std.specs.Cmp.Lexicographic.{pointwise}
 use Rattle.std.specs.List.{AllByRecursion, filter_map, find}
 use Rattle.retro_base.specs.declared.refusal.Refusal.{Refusal}
 use Rattle.sql_tree.specs.declared.schema.IndexSchema.{IndexSchema}
@@ -13,7 +12,7 @@ use Rattle.heap_file.specs.Chain.{scanned}
 use Rattle.heap_file.specs.Work.{next_of}
 use Rattle.relation.specs.declared.catalog.Catalog.{Catalog}
 use Rattle.relation.specs.declared.catalog.StoredTable.{StoredTable}
-use Rattle.relation.specs.declared.catalog.Told.{Told}
+use Rattle.relation.specs.declared.catalog.CatalogEntry.{CatalogEntry}
 use Rattle.relation.specs.declared.catalog.TheConstants.{CATALOG}
 use Rattle.relation.specs.declared.row.CatalogRow.{CatalogRow}
 use Rattle.relation.specs.declared.row.CatalogRow.TheVariants.{Table, Column, Index}
@@ -22,18 +21,15 @@ use Rattle.relation.specs.declared.row.IndexRow.{IndexRow}
 use Rattle.relation.specs.declared.row.TableRow.{TableRow}
 use Rattle.relation.specs.CatalogRow.{IsRowOf}
 use Rattle.relation.specs.Each.{each}
-
--- whether two names are the same, byte for byte
-abbrev pub same_name : List ℕ → List ℕ → Bool
-same_name = pointwise ◌==◌
+use Rattle.values.specs.Name.{same_name}
 
 -- what a stored row of the catalog tells; a row of none of the three kinds breaks its page
-abbrev pub told : Placed → Result Told Refusal → Type 0
+abbrev pub told : Placed → Result CatalogEntry Refusal → Type 0
 told placed (Ok row) = (row.page ≡ placed.page) × IsRowOf placed.row (Some row.row)
 told placed (Err why) = (why ≡ broken placed.page) × IsRowOf placed.row None
 
 -- The rows of the catalog, in rising number. The first page is broken where its next row number is not their count.
-abbrev pub catalog_rows : ℕ → Pages → Result (List Told) Refusal → Type 0
+abbrev pub catalog_rows : ℕ → Pages → Result (List CatalogEntry) Refusal → Type 0
 catalog_rows size pages = do
   rows ← scanned size pages CATALOG
   next ← next_of size pages CATALOG
@@ -57,14 +53,14 @@ as_index page (Table row) = None
 as_index page (Column row) = None
 as_index page (Index row) = Some (page, row)
 
-abbrev pub table_rows : List Told → List (ℕ × TableRow)
-table_rows rows = filter_map (λ (told : Told). as_table told.page told.row) rows
+abbrev pub table_rows : List CatalogEntry → List (ℕ × TableRow)
+table_rows rows = filter_map (λ (told : CatalogEntry). as_table told.page told.row) rows
 
-abbrev pub column_rows : List ℕ → List Told → List ColumnRow
-column_rows table rows = filter_map (λ (told : Told). as_column table told.row) rows
+abbrev pub column_rows : List ℕ → List CatalogEntry → List ColumnRow
+column_rows table rows = filter_map (λ (told : CatalogEntry). as_column table told.row) rows
 
-abbrev pub index_rows : List Told → List (ℕ × IndexRow)
-index_rows rows = filter_map (λ (told : Told). as_index told.page told.row) rows
+abbrev pub index_rows : List CatalogEntry → List (ℕ × IndexRow)
+index_rows rows = filter_map (λ (told : CatalogEntry). as_index told.page told.row) rows
 
 -- some row tells that column at that place
 abbrev pub IsTold : List ColumnRow → ℕ → TableColumn → Type 0
@@ -96,7 +92,7 @@ table_with columns row (Ok table) =
     (table.name ≡ row.1.name) × (table.first ≡ row.1.first) × AreColumnsOf columns (Some table.columns)
 table_with columns row (Err why) = (why ≡ broken row.0) × AreColumnsOf columns None
 
-abbrev pub table_told : List Told → ℕ × TableRow → Result StoredTable Refusal → Type 0
+abbrev pub table_told : List CatalogEntry → ℕ × TableRow → Result StoredTable Refusal → Type 0
 table_told rows row = table_with (column_rows row.1.name rows) row
 
 -- the table of that name
@@ -125,7 +121,7 @@ abbrev pub index_told : List StoredTable → ℕ × IndexRow → Result IndexSch
 index_told tables row = only (index_over row (column_at row.1.place (table_named row.1.table tables)))
 
 -- the tables and indexes that these rows tell
-abbrev pub catalog_told : List Told → Result Catalog Refusal → Type 0
+abbrev pub catalog_told : List CatalogEntry → Result Catalog Refusal → Type 0
 catalog_told rows = do
   tables ← each (table_told rows) (table_rows rows)
   indexes ← each (index_told tables) (index_rows rows)

@@ -4,7 +4,7 @@ use Rattle.values.specs.declared.value.Kind.{Kind}
 use Rattle.values.specs.declared.value.Kind.TheVariants as kind
 use Rattle.values.specs.declared.value.Value.{Value}
 use Rattle.values.specs.declared.value.Value.TheVariants.{Int, Text}
-use Rattle.sql_tree.specs.Name.{IsName}
+use Rattle.values.specs.Name.{IsName}
 use Rattle.relation.specs.declared.row.CatalogRow.{CatalogRow}
 use Rattle.relation.specs.declared.row.CatalogRow.TheVariants.{Table, Column, Index}
 use Rattle.relation.specs.declared.row.IndexForm.{IndexForm}

@@ -1,6 +1,5 @@
 -- What the calls answer, and what they do to the pages.
 use Rattle.std.specs.Prelude.{◌≡◌, ◌+◌, ◌==◌, ℕ, Bool, true, false, List, [], ◌∷◌, map, Option, Some, None, Result, Ok, Err, if◌then◌else◌}
-use Rattle.std.specs.Cmp.Lexicographic.{pointwise}
 use Rattle.std.specs.List.{AllByRecursion}
 use Rattle.retro_base.specs.declared.refusal.Refusal.{Refusal}
 use Rattle.values.specs.declared.value.Kind.{Kind}
@@ -23,6 +22,7 @@ use Rattle.relation.specs.declared.row.IndexForm.TheVariants.{Named}
 use Rattle.relation.specs.Catalog.{catalog, schema_of, table_named}
 use Rattle.relation.specs.CatalogRow.{row_values}
 use Rattle.relation.specs.Each.{each, in_turn}
+use Rattle.sql_tree.specs.Rows.{fits}
 
 -- the tables and indexes there are
 abbrev pub schema_in : ℕ → Pages → Result Schema Refusal → Type 0
@@ -31,15 +31,15 @@ schema_in size pages = do
   only (Ok (schema_of catalog))
 
 -- what there is; where there is nothing, the catalog's first page is told as broken
-abbrev pub known : {A : Type 0} → Option A → Result A Refusal
-known None = Err (broken CATALOG)
-known (Some x) = Ok x
+abbrev pub or_broken : {A : Type 0} → Option A → Result A Refusal
+or_broken None = Err (broken CATALOG)
+or_broken (Some x) = Ok x
 
 -- the table of that name
 abbrev pub table_in : ℕ → Pages → List ℕ → Result StoredTable Refusal → Type 0
 table_in size pages name = do
   catalog ← catalog size pages
-  only (known (table_named name catalog.tables))
+  only (or_broken (table_named name catalog.tables))
 
 -- the next row number of the table of that name
 abbrev pub next_in : ℕ → Pages → List ℕ → Result ℕ Refusal → Type 0
@@ -47,25 +47,13 @@ next_in size pages name = do
   table ← table_in size pages name
   next_of size pages table.first
 
--- whether two kinds are the same
-abbrev pub same_kind : Kind → Kind → Bool
-same_kind kind.Int kind.Int = true
-same_kind kind.Int kind.Text = false
-same_kind kind.Text kind.Int = false
-same_kind kind.Text kind.Text = true
-
--- whether a row has one value of each column's kind, in the order of the columns
-abbrev pub fits : List TableColumn → List Value → Bool
-fits columns row = pointwise (λ (column : TableColumn) (value : Value). same_kind column.kind (kind_of value)) columns
-    row
-
 -- a row that fits the columns; one that does not breaks its page
 abbrev pub fitting : List TableColumn → Placed → Result Placed Refusal
 fitting columns placed = if fits columns placed.row then Ok placed else Err (broken placed.page)
 
 -- each row fits the columns
-abbrev pub AllFit : List TableColumn → List Placed → Type 0
-AllFit columns rows = AllByRecursion (λ (placed : Placed). fits columns placed.row ≡ true) rows
+abbrev pub AllPlacedFit : List TableColumn → List Placed → Type 0
+AllPlacedFit columns rows = AllByRecursion (λ (placed : Placed). fits columns placed.row ≡ true) rows
 
 -- the rows of a table, in rising number
 abbrev pub rows_at : ℕ → Pages → StoredTable → Result (List Placed) Refusal → Type 0
@@ -123,7 +111,7 @@ index_added size name table place = all_added size CATALOG (row_values (row_of_i
 abbrev pub indexed : ℕ → Pages → List ℕ → List ℕ → List ℕ → Result (Unit {0} × Pages) Refusal → Type 0
 indexed size pages name table column = do
   found ← table_in size pages table
-  place ← only (known (column_place column found.columns))
+  place ← only (or_broken (column_place column found.columns))
   index_added size name table place pages
 
 -- rows are added to the table of that name, in order

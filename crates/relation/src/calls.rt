@@ -6,15 +6,15 @@ ghost use Rattle.heap_file.specs.HeapPage.{IsShort};
 ghost use Rattle.heap_file.specs.Work.{next_of};
 ghost use Rattle.heap_file.specs.declared.chain.Placed.{Placed};
 ghost use Rattle.relation.specs.Catalog.{HaveFewColumns, catalog};
-ghost use Rattle.relation.specs.Work.{AllFit, all_added, all_changed, all_removed, created, index_added, rows_at};
+ghost use Rattle.relation.specs.Work.{AllPlacedFit, all_added, all_changed, all_removed, created, index_added, rows_at};
 
 use crate::catalog::{Catalog, StoredTable, read_catalog};
 use crate::drafting;
 use heap_file::Placed;
 use pager::{Draft, EditPager, Pager, Stop};
-use sql_tree::{Column, Name};
+use sql_tree::Column;
 use std::alloc::Global;
-use values::Row;
+use values::{Name, Row};
 
 /// The catalog, read once for all calls that follow until a table or an index is made.
 pub fn open<P: Pager>(alloc: Global, pager: &mut P) -> Result<Catalog, Stop<P::Fault>>
@@ -35,7 +35,7 @@ pub fn rows<P: Pager>(
 ) -> Result<Vec<Placed>, Stop<P::Fault>>
     ensures rows { Answers (λ rows. rows.items) (P.tells pager.new)
         (λ pages. rows_at (P.size pager.old) pages table.now) result }
-    ensures fitting { IfOk result (λ rows. AllFit table.now.columns rows.items) }
+    ensures fitting { IfOk result (λ rows. AllPlacedFit table.now.columns rows.items) }
     ensures only_reads { OnlyReads P.tells P.goes P.size P.faults pager.old pager.new result }
 {
     let draft = Draft::new(alloc, pager.size());

@@ -11,19 +11,17 @@ use crate::named::{ColumnRows, Places, columns_by_table, places_of};
 use crate::row::{CatalogRow, ColumnRow, IndexRow, TableRow, row_of};
 use heap_file::{Placed, drafting};
 use pager::{Draft, Pager, Stop, broken};
-use retro_base::Refusal;
-use sql_tree::{Column, IndexSchema, Name, Schema, TableSchema};
+use retro_base::{COLUMNS, Refusal};
+use sql_tree::{Column, IndexSchema, Schema, TableSchema};
 use std::alloc::{AllocError, Global};
-use values::{Duplicate, Seq};
+use values::{Duplicate, Name, Seq};
 
 /// The first page of the catalog.
 pub const CATALOG: u32 = 1;
-/// The most columns that a table has.
-const MOST_COLUMNS: usize = 16;
 
 /// What a row of the catalog tells, and the page where it stands.
 #[derive(Drop)]
-pub struct Told {
+pub struct CatalogEntry {
     pub page: u32,
     pub row: CatalogRow,
 }
@@ -100,7 +98,7 @@ fn read_rows<P: Pager>(
     alloc: Global,
     pager: &mut P,
     draft: &Draft,
-) -> Result<Vec<Told>, Stop<P::Fault>>
+) -> Result<Vec<CatalogEntry>, Stop<P::Fault>>
     requires { draft.now.size ≡ P.size pager.old }
     ensures read { Reads (λ rows. rows.items) (P.tells pager.new) draft.now.list
         (λ pages. catalog_rows draft.now.size pages) result }
@@ -115,7 +113,7 @@ fn read_rows<P: Pager>(
 }
 
 // What stored rows of the catalog tell.
-fn all_told(alloc: Global, rows: &[Placed]) -> Result<Vec<Told>, Refusal>
+fn all_told(alloc: Global, rows: &[Placed]) -> Result<Vec<CatalogEntry>, Refusal>
     ensures { Tells (λ told. told.items) (each told rows.now) result }
 {
     let mut all = Vec::new(alloc);
@@ -126,18 +124,18 @@ fn all_told(alloc: Global, rows: &[Placed]) -> Result<Vec<Told>, Refusal>
 }
 
 // What a stored row of the catalog tells.
-fn told_by(alloc: Global, placed: &Placed) -> Result<Told, Refusal>
+fn told_by(alloc: Global, placed: &Placed) -> Result<CatalogEntry, Refusal>
     ensures { Tells (λ told. told) (told placed.now) result }
 {
     let page = placed.page;
     match row_of(alloc, placed.row.as_slice())? {
-        Some(row) => Ok(Told { page, row }),
+        Some(row) => Ok(CatalogEntry { page, row }),
         None => Err(broken(page)),
     }
 }
 
 // The tables that the rows tell.
-fn tables_told(alloc: Global, rows: &[Told]) -> Result<Vec<StoredTable>, Refusal>
+fn tables_told(alloc: Global, rows: &[CatalogEntry]) -> Result<Vec<StoredTable>, Refusal>
     ensures { Tells (λ tables. tables.items) (each (table_told rows.now) (table_rows rows.now)) result }
 {
     let mut tables = Vec::new(alloc);
@@ -151,7 +149,7 @@ fn tables_told(alloc: Global, rows: &[Told]) -> Result<Vec<StoredTable>, Refusal
 }
 
 // A table's row.
-fn table_row(told: &Told) -> Option<&TableRow>
+fn table_row(told: &CatalogEntry) -> Option<&TableRow>
     ensures { MatchOption result (as_table told.now.page told.now.row ≡ None)
         (λ row. as_table told.now.page told.now.row ≡ Some (told.now.page, row.now)) }
 {
@@ -199,7 +197,7 @@ fn columns_under(
 fn columns_of(alloc: Global, rows: &[ColumnRow]) -> Result<Option<Seq<Column>>, AllocError>
     ensures { IfOk result (AreColumnsOf rows.now) }
 {
-    if rows.is_empty() || rows.len() > MOST_COLUMNS {
+    if rows.is_empty() || rows.len() > COLUMNS {
         return Ok(None);
     }
     let mut columns = Seq::new(alloc);
@@ -223,7 +221,7 @@ fn at_place(rows: &[ColumnRow], place: u32) -> Option<usize>
 fn indexes_told(
     alloc: Global,
     tables: &[StoredTable],
-    rows: &[Told],
+    rows: &[CatalogEntry],
 ) -> Result<Vec<IndexSchema>, Refusal>
     ensures { Tells (λ indexes. indexes.items) (each (index_told tables.now) (index_rows rows.now)) result }
 {
@@ -238,7 +236,7 @@ fn indexes_told(
 }
 
 // An index's row.
-fn index_row(told: &Told) -> Option<&IndexRow>
+fn index_row(told: &CatalogEntry) -> Option<&IndexRow>
     ensures { MatchOption result (as_index told.now.page told.now.row ≡ None)
         (λ row. as_index told.now.page told.now.row ≡ Some (told.now.page, row.now)) }
 {

@@ -8,7 +8,8 @@ ghost use Rattle.heap_file.specs.HeapPage.{IsShort};
 ghost use Rattle.heap_file.specs.declared.chain.Placed.{Placed};
 ghost use Rattle.relation.specs.CatalogRow.{row_values};
 ghost use Rattle.relation.specs.Each.{Tells, each};
-ghost use Rattle.relation.specs.Work.{AllFit, all_added, all_changed, all_removed, created, fits, fitting, index_added, rows_at, rows_of_table};
+ghost use Rattle.relation.specs.Work.{AllPlacedFit, all_added, all_changed, all_removed, created, fitting, index_added, rows_at, rows_of_table};
+ghost use Rattle.sql_tree.specs.Rows.{fits};
 
 use crate::catalog::{CATALOG, StoredTable};
 use crate::row::{column_values, index_values, table_values};
@@ -16,9 +17,9 @@ use heap_file::Placed;
 use heap_file::drafting::{self, Cursor};
 use pager::{Draft, Pager, Stop, broken};
 use retro_base::Refusal;
-use sql_tree::{Column, Name};
+use sql_tree::{Column, fits};
 use std::alloc::{AllocError, Global};
-use values::{Row, Value};
+use values::{Name, Row, Value};
 
 /// The rows of a table, in rising number.
 pub fn rows<P: Pager>(
@@ -30,7 +31,7 @@ pub fn rows<P: Pager>(
     requires { draft.now.size ≡ P.size pager.old }
     ensures rows { Reads (λ rows. rows.items) (P.tells pager.new) draft.now.list
         (λ pages. rows_at draft.now.size pages table.now) result }
-    ensures fitting { IfOk result (λ rows. AllFit table.now.columns rows.items) }
+    ensures fitting { IfOk result (λ rows. AllPlacedFit table.now.columns rows.items) }
     ensures only_reads { OnlyReads P.tells P.goes P.size P.faults pager.old pager.new result }
 {
     let rows = drafting::scan(alloc, pager, draft, table.first)?;
@@ -48,22 +49,6 @@ fn check_rows(columns: &[Column], rows: &[Placed]) -> Result<(), Refusal>
         }
     }
     Ok(())
-}
-
-// Whether the row has one value of each column's kind.
-#[tactic(auto, using(crate::proofs::Fitting::fits_apart))]
-fn fits(columns: &[Column], row: &[Value]) -> bool
-    ensures { result ≡ fits columns.now row.now }
-{
-    if row.len() != columns.len() {
-        return false;
-    }
-    for (i, column) in columns.iter().enumerate() {
-        if row[i].kind() != column.kind {
-            return false;
-        }
-    }
-    true
 }
 
 /// Drafts a table without rows.

@@ -10,4 +10,3 @@ mod row;
 pub use calls::{create_index, create_table, delete, insert, next_number, open, rows, update};
 pub use catalog::{Catalog, StoredTable};
 pub use heap_file::Placed;
-pub use row::is_name;

@@ -1,16 +1,16 @@
 //! What is found by name among the rows of the catalog: the rows of a table's columns, and tables.
 
 ghost use Rattle.std.specs.Prelude.{◌≡◌, ◌++◌, ◌∷◌, [], List, ℕ, None, IfOk, OnOk, MatchOption, if◌then◌else◌};
-ghost use Rattle.relation.specs.Catalog.{as_column, column_rows, same_name};
+ghost use Rattle.relation.specs.Catalog.{as_column, column_rows};
+ghost use Rattle.values.specs.Name.{same_name};
 ghost use Rattle.relation.specs.declared.row.CatalogRow.TheVariants.{Column};
 ghost use Rattle.relation.specs.Named.{ArePlaces, rows_under};
 
-use crate::catalog::{StoredTable, Told};
+use crate::catalog::{CatalogEntry, StoredTable};
 use crate::row::{CatalogRow, ColumnRow};
-use sql_tree::Name;
 use std::alloc::{AllocError, Global};
 use std::collections::BTreeMap;
-use values::{Duplicate, Seq};
+use values::{Duplicate, Name, Seq};
 
 /// The rows of columns, by the name of their table.
 pub type ColumnRows = BTreeMap<Name, Seq<ColumnRow>>;
@@ -19,7 +19,7 @@ pub type ColumnRows = BTreeMap<Name, Seq<ColumnRow>>;
 pub type Places = BTreeMap<Name, usize>;
 
 /// The rows of columns among these rows.
-pub fn columns_by_table(alloc: Global, rows: &[Told]) -> Result<ColumnRows, AllocError>
+pub fn columns_by_table(alloc: Global, rows: &[CatalogEntry]) -> Result<ColumnRows, AllocError>
     ensures { IfOk result (λ columns. (table : List ℕ) → rows_under columns table ≡ column_rows table rows.now) }
 {
     let mut columns = BTreeMap::new(alloc);
@@ -32,7 +32,7 @@ pub fn columns_by_table(alloc: Global, rows: &[Told]) -> Result<ColumnRows, Allo
 }
 
 // A column's row.
-fn column_row(told: &Told) -> Option<&ColumnRow>
+fn column_row(told: &CatalogEntry) -> Option<&ColumnRow>
     ensures { MatchOption result ((table : List ℕ) → as_column table told.now.row ≡ None)
         (λ row. told.now.row ≡ Column row.now) }
 {

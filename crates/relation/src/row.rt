@@ -1,15 +1,14 @@
 //! The rows of the catalog.
 
 ghost use Rattle.std.specs.Prelude.{◌≡◌, ◌↔◌, ◌∷◌, [], pos, IsTrue, IfOk};
-ghost use Rattle.std.specs.List.{list_all};
-ghost use Rattle.sql_tree.specs.Name.{IsName, begins_word, continues_word};
+ghost use Rattle.values.specs.Name.{IsName};
 ghost use Rattle.heap_file.specs.HeapPage.{IsShort};
 ghost use Rattle.relation.specs.CatalogRow.{IsRowOf, IsNameOf, IsNumber, IsKind, IsForm, row_values, kind_number};
 ghost use Rattle.relation.specs.Work.{row_of_index};
 
-use sql_tree::{Column, Name};
+use sql_tree::Column;
 use std::alloc::{AllocError, Global};
-use values::{Duplicate, Kind, Row, Seq, Text, Value};
+use values::{Duplicate, Kind, Name, Row, Seq, Text, Value, is_name};
 
 /// The row of a table: its name and its first page.
 #[derive(Drop)]
@@ -168,34 +167,6 @@ fn name_of(alloc: Global, text: &Text) -> Result<Option<Name>, AllocError>
         return Ok(None);
     }
     Ok(Some(Name::new(Seq::from(bytes.to_vec(alloc)?))))
-}
-
-/// Whether the bytes are a name: a letter or an underscore, then up to 31 letters, digits and underscores.
-pub fn is_name(bytes: &[u8]) -> bool
-    ensures { IsTrue result ↔ IsName bytes.now }
-{
-    match bytes.split_first() {
-        Some((first, rest)) => begins_word(*first) && rest.len() <= 31 && all_continue(rest),
-        None => false,
-    }
-}
-
-fn all_continue(bytes: &[u8]) -> bool
-    ensures { result ≡ list_all continues_word bytes.now }
-{
-    bytes.iter().all(|byte| continues_word(*byte))
-}
-
-fn begins_word(byte: u8) -> bool
-    ensures { result ≡ begins_word byte }
-{
-    (byte >= b'a' && byte <= b'z') || (byte >= b'A' && byte <= b'Z') || byte == b'_'
-}
-
-fn continues_word(byte: u8) -> bool
-    ensures { result ≡ continues_word byte }
-{
-    begins_word(byte) || (byte >= b'0' && byte <= b'9')
 }
 
 // The number of four bytes that an integer is.

@@ -6,14 +6,12 @@ ghost use Rattle.heap_file.specs.HeapPage.{IsShort};
 ghost use Rattle.heap_file.specs.declared.chain.Placed.{Placed};
 
 use pager::{MemPager, Stop};
-use relation::{
-    Catalog, Placed, StoredTable, create_table, delete, insert, is_name, open, rows, update,
-};
+use relation::{Catalog, Placed, StoredTable, create_table, delete, insert, open, rows, update};
 use retro_base::{Failed, Page, Refusal};
-use sql_tree::{Column, Name};
+use sql_tree::Column;
 use std::alloc::Global;
 use std::process::ExitCode;
-use values::{Duplicate, Kind, Row, Seq, Text, Value};
+use values::{Duplicate, Kind, Name, Row, Seq, Text, Value, is_name};
 
 const PAGES: usize = 2000;
 

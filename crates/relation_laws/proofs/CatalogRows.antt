@@ -1,5 +1,5 @@
 -- The catalog's rows of a new table, and of a new index.
-use Rattle.std.proofs.Common.{◌≡◌, ◌≢◌, ◌<◌, ◌≤◌, ◌+◌, ◌^◌, ℕ, pos, zero, suc, Bool, true, false, List, [], ◌∷◌, length, map, get_or, Ok, refl, ap, arith}
+use Rattle.std.proofs.Common.{◌≡◌, ◌≢◌, ◌<◌, ◌≤◌, ◌+◌, ◌^◌, ℕ, pos, zero, suc, Bool, true, false, List, [], ◌∷◌, length, map, get_or, Ok, refl, ap, arith, subst, sym}
 use Rattle.std.specs.Int.{w64}
 use Rattle.std.specs.Int.RustNames.{FitsSigned}
 use Rattle.std.specs.List.{AllByRecursion, AllZip, Contains, cons_option}
@@ -7,17 +7,18 @@ use Rattle.values.specs.declared.value.Kind.{Kind}
 use Rattle.values.specs.declared.value.Kind.TheVariants as kind
 use Rattle.values.specs.declared.value.Value.{Value}
 use Rattle.row_codec.specs.RowCode.{IsValue}
-use Rattle.sql_tree.specs.Name.{IsName}
+use Rattle.row_codec.proofs.Codes.{row_size}
+use Rattle.values.specs.Name.{IsName, same_name}
 use Rattle.sql_tree.specs.declared.statement.Column.{Column as TableColumn}
 use Rattle.pager.specs.Pages.{Pages}
 use Rattle.heap_file.specs.declared.chain.Placed.{Placed}
 use Rattle.heap_file.specs.HeapPage.{IsShort}
 use Rattle.heap_laws.specs.Table.{IsStorable}
-use Rattle.relation.specs.declared.catalog.Told.{Told}
+use Rattle.relation.specs.declared.catalog.CatalogEntry.{CatalogEntry}
 use Rattle.relation.specs.declared.row.CatalogRow.{CatalogRow}
 use Rattle.relation.specs.declared.row.CatalogRow.TheVariants.{Table, Column, Index}
 use Rattle.relation.specs.declared.row.ColumnRow.{ColumnRow}
-use Rattle.relation.specs.Catalog.{AreColumns, as_column, column_rows, index_rows, same_name, table_rows, told}
+use Rattle.relation.specs.Catalog.{AreColumns, as_column, column_rows, index_rows, table_rows, told}
 use Rattle.relation.specs.CatalogRow.{IsCatalogRow, kind_number, row_values}
 use Rattle.relation.specs.Each.{each}
 use Rattle.relation.specs.Work.{row_of_index, rows_of_columns, rows_of_table}
@@ -35,7 +36,7 @@ storable values short all = record {
   fits = omega arith;
   lawful = record { some = short.some; few = short.few; values = all };
   code = refl;
-  short = short.short;
+  short = subst (λ (n : ℕ). n ≤ 900) (sym (row_size 0 values)) short.short;
 }
 
 kind-fits : (kind : Kind) → FitsSigned w64 (pos (kind_number kind))
@@ -78,7 +79,7 @@ length-rows name place [] = refl
 length-rows name place (column ∷ columns) = ap suc (length-rows name (place + 1) columns)
 
 -- what rows tell that stand somewhere
-abbrev pub tells : List Placed → List CatalogRow → List Told
+abbrev pub tells : List Placed → List CatalogRow → List CatalogEntry
 tells (placed ∷ more) (row ∷ rows) = record { page = placed.page; row = row } ∷ tells more rows
 tells _ _ = []
 
@@ -161,7 +162,7 @@ are-columns name columns are = record {
 }
 
 -- no column's row is one of a table that is not there
-pub strangers : (pages : Pages) (names : List (List ℕ)) (name : List ℕ) (rows : List Told) (held : List (List ℕ)) → AllByRecursion (λ other. other ≢ name) names → AllZip (λ (row : Told) (some : List ℕ). IsKept pages names row.row some) rows held → column_rows name rows ≡ []
+pub strangers : (pages : Pages) (names : List (List ℕ)) (name : List ℕ) (rows : List CatalogEntry) (held : List (List ℕ)) → AllByRecursion (λ other. other ≢ name) names → AllZip (λ (row : CatalogEntry) (some : List ℕ). IsKept pages names row.row some) rows held → column_rows name rows ≡ []
 strangers pages names name [] held apart kept = refl
 strangers pages names name (row ∷ rows) [] apart kept = absurd kept
 strangers pages names name (row ∷ rows) (some ∷ held) apart kept = go (strangers pages names name rows held apart kept.1) row.row kept.0
@@ -173,7 +174,7 @@ strangers pages names name (row ∷ rows) (some ∷ held) apart kept = go (stran
 
 -- the rows are kept, with no page of an index
 pub kept-columns : (pages : Pages) (names : List (List ℕ)) (more : List Placed) (name : List ℕ) (place : ℕ) (columns : List TableColumn) → Contains names name
-    → AllZip (λ (row : Told) (some : List ℕ). IsKept pages names row.row some) (tells more (rows_of_columns name place columns)) (map (λ (row : Told). []) (tells more (rows_of_columns name place columns)))
+    → AllZip (λ (row : CatalogEntry) (some : List ℕ). IsKept pages names row.row some) (tells more (rows_of_columns name place columns)) (map (λ (row : CatalogEntry). []) (tells more (rows_of_columns name place columns)))
 kept-columns pages names [] name place [] has = tt
 kept-columns pages names [] name place (column ∷ columns) has = tt
 kept-columns pages names (placed ∷ more) name place [] has = tt

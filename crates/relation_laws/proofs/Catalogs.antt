@@ -17,7 +17,7 @@ use Rattle.heap_laws.proofs.Reading.{Same, ok-one, read_law}
 use Rattle.heap_laws.proofs.Rows.{keyed-at}
 use Rattle.relation.specs.declared.catalog.StoredTable.{StoredTable}
 use Rattle.relation.specs.declared.catalog.TheConstants.{CATALOG}
-use Rattle.relation.specs.declared.catalog.Told.{Told}
+use Rattle.relation.specs.declared.catalog.CatalogEntry.{CatalogEntry}
 use Rattle.relation.specs.declared.row.CatalogRow.{CatalogRow}
 use Rattle.relation.specs.declared.row.CatalogRow.TheVariants.{Table, Column, Index}
 use Rattle.relation.specs.declared.row.ColumnRow.{ColumnRow}
@@ -72,9 +72,9 @@ same-row (Index a) (Index b) e =
     let same : Index (record { name = a.name; table = a.table; place = a.place; form = a.form; root = a.root }) ≡ Index (record { name = b.name; table = b.table; place = b.place; form = b.form; root = b.root }) = cc (e, form) in
     same
 
-same : (a b : Told) → a.page ≡ b.page → a.row ≡ b.row → Same (Ok a) (Ok b)
+same : (a b : CatalogEntry) → a.page ≡ b.page → a.row ≡ b.row → Same (Ok a) (Ok b)
 same a b page row =
-    let joined : Same {A = Told} (Ok (record { page = a.page; row = a.row })) (Ok (record { page = b.page; row = b.row })) = cc (page, row) in
+    let joined : Same {A = CatalogEntry} (Ok (record { page = a.page; row = a.row })) (Ok (record { page = b.page; row = b.row })) = cc (page, row) in
     joined
 
 told-one : (placed : Placed) → IsOne (told placed)
@@ -115,7 +115,7 @@ columns-one rows a b p q = same_lists a b (sym p.many ∙ q.many) each-same
         let row = keyed-one (λ (row : ColumnRow). row.place) place rows (get_or rows left.0 e) (get_or rows right.0 e) once (left.0, left.1, get_or_default rows left.0 (get_or rows left.0 e) e left.1) (right.0, right.1, get_or_default rows right.0 (get_or rows right.0 e) e right.1) (left.2 e).0 (right.2 e).0 in
         sym (left.2 e).1 ∙ ap (λ (r : ColumnRow). r.column) row ∙ (right.2 e).1
 
-table_told-one : (rows : List Told) (row : ℕ × TableRow) → IsOne (table_told rows row)
+table_told-one : (rows : List CatalogEntry) (row : ℕ × TableRow) → IsOne (table_told rows row)
 table_told-one rows row (Ok a) (Ok b) p q =
     let columns : a.columns ≡ b.columns = columns-one (column_rows row.1.name rows) a.columns b.columns p.2 q.2 in
     let name : a.name ≡ b.name = p.0 ∙ sym q.0 in

@@ -1,7 +1,6 @@
 -- The pages that changed rows take.
 use Rattle.std.proofs.Common.{◌≡◌, ◌∙◌, ◌<◌, ◌+◌, ◌==◌, cond, ℕ, Bool, true, false, nat_le, List, [], ◌∷◌, length, Some, Ok, inl, inr, refl, sym, ap, subst, arith}
 use Rattle.std.specs.List.{Contains, insert}
-use Rattle.std.proofs.lemmas.Bool.{leb-true}
 use Rattle.std.proofs.lemmas.List.Sorted.{Contains-permutation, IsPermutation-sym}
 use Rattle.values.specs.declared.value.Value.{Value}
 use Rattle.pager.specs.Pages.{Pages, written}
@@ -24,7 +23,7 @@ use Rattle.heap_laws.proofs.Removing.{place-there, take-out, without-sized}
 use Rattle.heap_laws.proofs.Routes.{IsRoute, around, link_of, route-update, written-other}
 use Rattle.heap_laws.proofs.Rows.{Standing, standing}
 use Rattle.heap_laws.proofs.Spotting.{spot}
-use Rattle.relation_laws.specs.Needs.{bytes_on, has_room_for, next_pages, row_bytes, taken_after}
+use Rattle.relation_laws.specs.Needs.{bytes_on, has_room_for, next_pages, entry_size, taken_after}
 use Rattle.relation_laws.specs.Reach.{with_root}
 use Rattle.relation_laws.proofs.Drawing.{Draws, draws-then, next-first}
 use Rattle.relation_laws.proofs.Drawn.{RootStep, append-step, step-none, step-one}
@@ -60,9 +59,9 @@ ends-after size pages firsts indexes first last page tail held now at sized last
     (there.0, record { head = head.0; at_first = head.1; named = named; at_last = subst (λ (p : ℕ). IsAt size (written pages page (page_bytes now)) p there.0) named there.1 })
 
 -- whether there is room, by the bytes of the rows
-room-is : (page : ℕ) (held : HeapPage) (number : ℕ) (row : List Value) (rows : List Placed) → bytes_on page rows ≡ length (entry_bytes held.entries) → has_room held (record { number = number; row = row }) ≡ nat_le (bytes_on page rows + row_bytes row) 1004
+room-is : (page : ℕ) (held : HeapPage) (number : ℕ) (row : List Value) (rows : List Placed) → bytes_on page rows ≡ length (entry_bytes held.entries) → has_room held (record { number = number; row = row }) ≡ nat_le (bytes_on page rows + entry_size row) 1004
 room-is page held number row rows weighs =
-    ap (λ (n : ℕ). nat_le n 1004) (bytes-push held.entries (record { number = number; row = row }) ∙ ap (λ (k : ℕ). length (entry_bytes held.entries) + k) (entry-length number row) ∙ ap (λ (k : ℕ). k + row_bytes row) (sym weighs))
+    ap (λ (n : ℕ). nat_le n 1004) (bytes-push held.entries (record { number = number; row = row }) ∙ ap (λ (k : ℕ). length (entry_bytes held.entries) + k) (entry-length number row) ∙ ap (λ (k : ℕ). k + entry_size row) (sym weighs))
 
 -- a store with a row taken out: the rows that are left weigh what stands on their page and on the last one
 record Out (size : ℕ) (pages : Pages) (firsts indexes : List ℕ) (first : ℕ) (table : Table) (placed : Placed) (last : ℕ) (rest : HeapPage) : Type 0 where
@@ -104,7 +103,7 @@ kept-sized size pages firsts indexes first placed row found place well has is at
     let it = spot size pages first placed.page placed.number found.0 place found.1 read.one.chain.links read.route.leads at here in
     let stands = around size pages first it.before (link_of placed.page found.1) it.behind (subst (IsRoute size pages first) it.links_are read.route) in
     record {
-      page = with_fits (without found.1 place) place (record { number = placed.number; row = row }) (without_fits found.1 place (place-there read.one.chain.links placed.page placed.number found.0 found.1 place it) stands.sized_here.page) is (leb-true _ _ room);
+      page = with_fits (without found.1 place) place (record { number = placed.number; row = row }) (without_fits found.1 place (place-there read.one.chain.links placed.page placed.number found.0 found.1 place it) stands.sized_here.page) is room;
       next = stands.sized_here.next;
       next_number = stands.sized_here.next_number;
       last = stands.sized_here.last;

@@ -5,7 +5,7 @@ use Rattle.std.proofs.lemmas.List.{map-append}
 use Rattle.std.proofs.lemmas.List.Elements.{filter_map-append}
 use Rattle.retro_base.specs.declared.refusal.Refusal.{Refusal}
 use Rattle.values.specs.declared.value.Value.{Value}
-use Rattle.sql_tree.specs.Name.{IsName}
+use Rattle.values.specs.Name.{IsName}
 use Rattle.sql_tree.specs.declared.schema.IndexSchema.{IndexSchema}
 use Rattle.sql_tree.specs.declared.statement.Column.{Column as TableColumn}
 use Rattle.pager.specs.Pages.{Pages}
@@ -20,7 +20,7 @@ use Rattle.heap_laws.proofs.Stores.{all-join, times-some}
 use Rattle.relation.specs.declared.catalog.Catalog.{Catalog}
 use Rattle.relation.specs.declared.catalog.StoredTable.{StoredTable}
 use Rattle.relation.specs.declared.catalog.TheConstants.{CATALOG}
-use Rattle.relation.specs.declared.catalog.Told.{Told}
+use Rattle.relation.specs.declared.catalog.CatalogEntry.{CatalogEntry}
 use Rattle.relation.specs.declared.row.ColumnRow.{ColumnRow}
 use Rattle.relation.specs.declared.row.IndexRow.{IndexRow}
 use Rattle.relation.specs.declared.row.TableRow.{TableRow}
@@ -58,7 +58,7 @@ more_tables found stored = found.tables ++ stored ∷ []
 abbrev rows_made : List ℕ → ℕ → List TableColumn → List (List Value)
 rows_made name first columns = map row_values (rows_of_table name first columns)
 
-abbrev told_made : Placed → List Placed → List ℕ → ℕ → List TableColumn → List Told
+abbrev told_made : Placed → List Placed → List ℕ → ℕ → List TableColumn → List CatalogEntry
 told_made placed more name first columns = tells (placed ∷ more) (rows_of_table name first columns)
 
 created_store : (size : ℕ) (pages : Pages) (all : PlainTables) (is : IsStoreOf size pages all) (name : List ℕ) (columns : List TableColumn) (first : ℕ) (base after : Pages) → Creates size pages all is name columns first base after → IsStoreOf size after (with_new (empty_table name columns) all)
@@ -127,7 +127,7 @@ created_store size pages all is name columns first base after it = grown_store s
 
         columns_there : column_rows name (is.store.told ++ told_made p ps name first columns) ≡ columns_from name 0 columns
         columns_there =
-            filter_map-append (λ (t : Told). as_column name t.row) is.store.told (told_made p ps name first columns)
+            filter_map-append (λ (t : CatalogEntry). as_column name t.row) is.store.told (told_made p ps name first columns)
             ∙ ap (λ (l : List ColumnRow). l ++ column_rows name (told_made p ps name first columns)) (strangers pages (names_of is.store.found.tables) name is.store.told is.store.held apart is.store.kept)
             ∙ own-columns ps name 0 columns long
 

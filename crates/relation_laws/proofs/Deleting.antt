@@ -15,7 +15,8 @@ use Rattle.heap_laws.specs.Table.{IsTable, OthersStay, Table, without_row}
 use Rattle.heap_laws.proofs.Removing.{remove_law}
 use Rattle.relation.specs.declared.catalog.StoredTable.{StoredTable}
 use Rattle.relation.specs.Each.{in_turn}
-use Rattle.relation.specs.Work.{fits, page_of, row_removed, rows_at}
+use Rattle.relation.specs.Work.{page_of, row_removed, rows_at}
+use Rattle.sql_tree.specs.Rows.{fits}
 use Rattle.relation.proofs.Steps.{left_pages}
 use Rattle.relation_laws.specs.Laws.{DeleteLaw, IsStoreOf, with_table, without_rows}
 use Rattle.relation_laws.specs.Reach.{Reaches}

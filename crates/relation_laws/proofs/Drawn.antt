@@ -9,8 +9,8 @@ use Rattle.heap_file.specs.declared.page.Entry.{Entry}
 use Rattle.heap_file.specs.declared.page.HeapPage.{HeapPage}
 use Rattle.pager.specs.Allows.{◌>>=◌, either, only}
 use Rattle.heap_file.specs.Chain.{heap_page, last_page}
-use Rattle.heap_file.specs.HeapPage.{empty_page, page_bytes}
-use Rattle.heap_file.specs.Work.{added, appended, fits, lengthened, made, page_with}
+use Rattle.heap_file.specs.HeapPage.{empty_page, page_bytes, have_room}
+use Rattle.heap_file.specs.Work.{added, appended, lengthened, made, page_with}
 use Rattle.heap_laws.specs.Store.{WellFormed, free_pages, next_free, times}
 use Rattle.heap_laws.specs.Table.{Adds, Edits, IsAdded, Makes, Table, has_room}
 use Rattle.heap_laws.proofs.Editing.{free-same}
@@ -47,8 +47,8 @@ append-step size pages firsts indexes first entry y well (head, at, (tail, at_la
               ∙ written-other one (last_page first head) 0 (page_bytes (record tail { next = next.0 })) (λ e. absurd (omega (arith, e, at_last.named))) ∙ written-other next.1 next.0 0 (page_bytes (page_with entry)) (λ e. absurd (omega (arith, e, behind))),
         )
 
-    whole : (b : Bool) → either b (either (fits (tail.entries ++ entry ∷ [])) (only (Ok (last_page first head, written pages (last_page first head) (page_bytes (record tail { entries = tail.entries ++ entry ∷ [] }))))) (lengthened size pages first (last_page first head) tail entry)) (only (Err (broken (last_page first head)))) (Ok y) → RootStep size pages y.1
-    whole true h = room (fits (tail.entries ++ entry ∷ [])) h
+    whole : (b : Bool) → either b (either (have_room (tail.entries ++ entry ∷ [])) (only (Ok (last_page first head, written pages (last_page first head) (page_bytes (record tail { entries = tail.entries ++ entry ∷ [] }))))) (lengthened size pages first (last_page first head) tail entry)) (only (Err (broken (last_page first head)))) (Ok y) → RootStep size pages y.1
+    whole true h = room (have_room (tail.entries ++ entry ∷ [])) h
     whole false h = ok-no h
 
 pub add-step : (size : ℕ) (pages : Pages) (firsts indexes : List ℕ) (first : ℕ) (row : List Value) (y : (ℕ × ℕ) × Pages) → WellFormed size pages firsts indexes → added size pages first row (Ok y) → RootStep size pages y.1

@@ -1,7 +1,7 @@
 -- The entries of the catalog's table.
 use Rattle.std.proofs.Common.{◌≡◌, ◌<◌, ◌≤◌, ◌+◌, ◌*◌, ◌^◌, ◌==◌, ℕ, Bool, true, false, List, [], ◌∷◌, length, Ok, Err, refl, sym, ap, subst, arith, length-append}
 use Rattle.std.specs.List.{AllByRecursion, Contains}
-use Rattle.std.proofs.lemmas.Bool.{eqb-true}
+use Rattle.std.proofs.lemmas.Bool.{eqb-true, leb-true}
 use Rattle.std.proofs.lemmas.List.{length-map}
 use Rattle.std.proofs.lemmas.List.Concat.{flat_map-cons}
 use Rattle.std.proofs.lemmas.List.Sorted.{length_permutation}
@@ -38,7 +38,7 @@ entries-few (entry ∷ entries) =
 rows-few : (links : List Link) → AllByRecursion (λ (link : Link). IsSized link.held) links → length (rows_of links) ≤ 1004 * length links
 rows-few [] all = omega arith
 rows-few (link ∷ links) all =
-    omega (arith, ap length (rows-cons link links), length-append (rows_on link) (rows_of links), length-map {B = Placed} link.held.entries (λ (entry : Entry). record { number = entry.number; page = link.page; row = entry.row }), entries-few link.held.entries, all.0.page.fits, rows-few links all.1)
+    omega (arith, ap length (rows-cons link links), length-append (rows_on link) (rows_of links), length-map {B = Placed} link.held.entries (λ (entry : Entry). record { number = entry.number; page = link.page; row = entry.row }), entries-few link.held.entries, leb-true _ _ all.0.page.fits, rows-few links all.1)
 
 -- a table of a store has fewer rows than there are row numbers
 pub few-rows : (size : ℕ) (pages : Pages) (firsts indexes : List ℕ) (first : ℕ) (table : HeapTable) → WellFormed size pages firsts indexes → Contains firsts first → IsTable size pages first table → length table.rows + 2 ^ 32 < 2 ^ 64

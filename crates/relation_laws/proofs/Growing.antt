@@ -16,13 +16,14 @@ use Rattle.heap_laws.proofs.Reading.{ok-one}
 use Rattle.relation.specs.declared.catalog.Catalog.{Catalog}
 use Rattle.relation.specs.declared.catalog.StoredTable.{StoredTable}
 use Rattle.relation.specs.declared.catalog.TheConstants.{CATALOG}
-use Rattle.relation.specs.declared.catalog.Told.{Told}
+use Rattle.relation.specs.declared.catalog.CatalogEntry.{CatalogEntry}
 use Rattle.relation.specs.declared.row.CatalogRow.{CatalogRow}
 use Rattle.relation.specs.declared.row.CatalogRow.TheVariants.{Table, Column, Index}
 use Rattle.relation.specs.declared.row.ColumnRow.{ColumnRow}
 use Rattle.relation.specs.declared.row.IndexRow.{IndexRow}
 use Rattle.relation.specs.declared.row.TableRow.{TableRow}
-use Rattle.relation.specs.Catalog.{AreColumnsOf, as_column, as_index, as_table, catalog_rows, catalog_told, column_at, column_rows, index_over, index_rows, index_told, same_name, table_named, table_rows, table_told, told}
+use Rattle.relation.specs.Catalog.{AreColumnsOf, as_column, as_index, as_table, catalog_rows, catalog_told, column_at, column_rows, index_over, index_rows, index_told, table_named, table_rows, table_told, told}
+use Rattle.values.specs.Name.{same_name}
 use Rattle.relation.specs.CatalogRow.{IsCatalogRow, row_values}
 use Rattle.relation.specs.Each.{each}
 use Rattle.relation_laws.specs.Laws.{IsNewName, IsStoreOf}
@@ -34,18 +35,18 @@ use Rattle.relation_laws.proofs.Lists.{all-map, zip-join, zip-weaken}
 use Rattle.relation_laws.proofs.Singling.{firsts_of, kept-stays, pages_in, shown-here}
 
 -- rows without pages of indexes
-nones : (held : List (List ℕ)) (rows : List Told) → pages_in (held ++ map (λ (row : Told). []) rows) ≡ pages_in held
-nones held rows = flat_map-append (λ (some : List ℕ). some) held (map (λ (row : Told). []) rows) ∙ ap (λ (l : List ℕ). pages_in held ++ l) (none rows) ∙ append-nil (pages_in held)
+nones : (held : List (List ℕ)) (rows : List CatalogEntry) → pages_in (held ++ map (λ (row : CatalogEntry). []) rows) ≡ pages_in held
+nones held rows = flat_map-append (λ (some : List ℕ). some) held (map (λ (row : CatalogEntry). []) rows) ∙ ap (λ (l : List ℕ). pages_in held ++ l) (none rows) ∙ append-nil (pages_in held)
   where
-    none : (rows : List Told) → pages_in (map (λ (row : Told). []) rows) ≡ []
+    none : (rows : List CatalogEntry) → pages_in (map (λ (row : CatalogEntry). []) rows) ≡ []
     none [] = refl
     none (row ∷ rows) = none rows
 
 -- a table and the columns that rows tell of it, among more rows
-told-more : (rows more : List Told) (row : ℕ × TableRow) (table : StoredTable) → column_rows row.1.name more ≡ [] → table_told rows row (Ok table) → table_told (rows ++ more) row (Ok table)
+told-more : (rows more : List CatalogEntry) (row : ℕ × TableRow) (table : StoredTable) → column_rows row.1.name more ≡ [] → table_told rows row (Ok table) → table_told (rows ++ more) row (Ok table)
 told-more rows more row table none h =
     let same : column_rows row.1.name (rows ++ more) ≡ column_rows row.1.name rows =
-    filter_map-append (λ (t : Told). as_column row.1.name t.row) rows more ∙ ap (λ (l : List ColumnRow). column_rows row.1.name rows ++ l) none ∙ append-nil (column_rows row.1.name rows) in
+    filter_map-append (λ (t : CatalogEntry). as_column row.1.name t.row) rows more ∙ ap (λ (l : List ColumnRow). column_rows row.1.name rows ++ l) none ∙ append-nil (column_rows row.1.name rows) in
     (h.0, h.1, subst (λ (l : List ColumnRow). AreColumnsOf l (Some table.columns)) (sym same) h.2)
 
 -- an index over a table that stays
@@ -57,7 +58,7 @@ index-more tables more row index h = go (table_named row.1.table tables) refl h
     go (Some table) e h = rw (find-append (λ (t : StoredTable). same_name t.name row.1.table) tables more table e) h
 
 -- the catalog's rows before, and more rows, which tell more tables and more indexes
-pub record Grown (rows more : List Told) (found : Catalog) (tables : List StoredTable) (indexes : List IndexSchema) : Type 0 where
+pub record Grown (rows more : List CatalogEntry) (found : Catalog) (tables : List StoredTable) (indexes : List IndexSchema) : Type 0 where
   pub before : catalog_told rows (Ok found)
   pub others : (table : StoredTable) → Contains found.tables table → column_rows table.name more ≡ []
   pub newer : each (table_told (rows ++ more)) (table_rows more) (Ok tables)
@@ -66,15 +67,15 @@ pub record Grown (rows more : List Told) (found : Catalog) (tables : List Stored
 abbrev pub grown_catalog : Catalog → List StoredTable → List IndexSchema → Catalog
 grown_catalog found tables indexes = record { tables = found.tables ++ tables; indexes = found.indexes ++ indexes }
 
-pub grown : (rows more : List Told) (found : Catalog) (tables : List StoredTable) (indexes : List IndexSchema) → Grown rows more found tables indexes → catalog_told (rows ++ more) (Ok (grown_catalog found tables indexes))
+pub grown : (rows more : List CatalogEntry) (found : Catalog) (tables : List StoredTable) (indexes : List IndexSchema) → Grown rows more found tables indexes → catalog_told (rows ++ more) (Ok (grown_catalog found tables indexes))
 grown rows more found tables indexes is =
     subst (λ (c : Catalog). ((table : StoredTable) → Contains c.tables table → column_rows table.name more ≡ []) → each (index_told (c.tables ++ tables)) (index_rows more) (Ok indexes) → catalog_told (rows ++ more) (Ok (grown_catalog c tables indexes))) (ok-one is.before.2.2) joined is.others is.over
   where
     all_tables : table_rows (rows ++ more) ≡ table_rows rows ++ table_rows more
-    all_tables = filter_map-append (λ (t : Told). as_table t.page t.row) rows more
+    all_tables = filter_map-append (λ (t : CatalogEntry). as_table t.page t.row) rows more
 
     all_indexes : index_rows (rows ++ more) ≡ index_rows rows ++ index_rows more
-    all_indexes = filter_map-append (λ (t : Told). as_index t.page t.row) rows more
+    all_indexes = filter_map-append (λ (t : CatalogEntry). as_index t.page t.row) rows more
 
     joined : ((table : StoredTable) → Contains is.before.0 table → column_rows table.name more ≡ []) → each (index_told (is.before.0 ++ tables)) (index_rows more) (Ok indexes) → catalog_told (rows ++ more) (Ok (record { tables = is.before.0 ++ tables; indexes = is.before.2.0 ++ indexes }))
     joined others over = (
@@ -125,8 +126,8 @@ shows-stays size pages after stored table stays told = record {
 }
 
 -- the pages that indexes hold, with none for each of more rows
-abbrev pub all_held : List (List ℕ) → List Told → List (List ℕ)
-all_held held more = held ++ map (λ (row : Told). []) more
+abbrev pub all_held : List (List ℕ) → List CatalogEntry → List (List ℕ)
+all_held held more = held ++ map (λ (row : CatalogEntry). []) more
 
 -- A store whose catalog has more rows, of which none is of an index with pages: the rows are there, and what all of them
 -- tell together is well-formed over the pages behind.
@@ -138,7 +139,7 @@ pub record Grows (size : ℕ) (pages : Pages) (all : PlainTables) (is : IsStoreO
   pub found : Catalog
   pub read : catalog_told (is.store.told ++ tells more rows) (Ok found)
   pub wider : (name : List ℕ) → Contains (names_of is.store.found.tables) name → Contains (names_of found.tables) name
-  pub kept : AllZip (λ (row : Told) (some : List ℕ). IsKept after (names_of found.tables) row.row some) (tells more rows) (map (λ (row : Told). []) (tells more rows))
+  pub kept : AllZip (λ (row : CatalogEntry) (some : List ℕ). IsKept after (names_of found.tables) row.row some) (tells more rows) (map (λ (row : CatalogEntry). []) (tells more rows))
   pub well : WellFormed size after (firsts_of found) (pages_in is.store.held)
   pub names : AreDifferent (names_of found.tables ++ map (λ (index : IndexSchema). index.name) found.indexes)
   pub columns : AllByRecursion (λ (table : StoredTable). AreDifferent (map (λ (column : TableColumn). column.name) table.columns)) found.tables
@@ -194,9 +195,9 @@ grown_store size pages all is rows after behind it = record {
         ∙ sym (range-append 0 (length is.store.placed) (length (map row_values rows)))
         ∙ ap (range_with_len 0) count
 
-    kept : AllZip (λ (row : Told) (some : List ℕ). IsKept after (names_of it.found.tables) row.row some) (is.store.told ++ tells it.more rows) (all_held is.store.held (tells it.more rows))
+    kept : AllZip (λ (row : CatalogEntry) (some : List ℕ). IsKept after (names_of it.found.tables) row.row some) (is.store.told ++ tells it.more rows) (all_held is.store.held (tells it.more rows))
     kept =
-        zip-join (λ (row : Told) (some : List ℕ). IsKept after (names_of it.found.tables) row.row some) is.store.told (tells it.more rows) is.store.held (map (λ (row : Told). []) (tells it.more rows))
-        (zip-weaken (λ (row : Told) (some : List ℕ). IsKept pages (names_of is.store.found.tables) row.row some) (λ (row : Told) (some : List ℕ). IsKept after (names_of it.found.tables) row.row some) is.store.told is.store.held
+        zip-join (λ (row : CatalogEntry) (some : List ℕ). IsKept after (names_of it.found.tables) row.row some) is.store.told (tells it.more rows) is.store.held (map (λ (row : CatalogEntry). []) (tells it.more rows))
+        (zip-weaken (λ (row : CatalogEntry) (some : List ℕ). IsKept pages (names_of is.store.found.tables) row.row some) (λ (row : CatalogEntry) (some : List ℕ). IsKept after (names_of it.found.tables) row.row some) is.store.told is.store.held
         (λ row some has h. kept-wider after (names_of is.store.found.tables) (names_of it.found.tables) row.row some it.wider (kept-stays pages after (names_of is.store.found.tables) row.row some h)) is.store.kept)
         it.kept

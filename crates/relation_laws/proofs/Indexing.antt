@@ -5,7 +5,7 @@ use Rattle.std.specs.Prelude.{slice_get}
 use Rattle.std.proofs.lemmas.Iterator.Adapters.{position_from-zero}
 use Rattle.std.proofs.lemmas.List.{map-append}
 use Rattle.retro_base.specs.declared.refusal.Refusal.{Refusal}
-use Rattle.sql_tree.specs.Name.{IsName}
+use Rattle.values.specs.Name.{IsName, same_name}
 use Rattle.sql_tree.specs.Scope.{column_place}
 use Rattle.sql_tree.specs.declared.schema.IndexSchema.{IndexSchema}
 use Rattle.sql_tree.specs.declared.statement.Column.{Column as TableColumn}
@@ -19,14 +19,14 @@ use Rattle.heap_laws.proofs.Stores.{all-join, times-some}
 use Rattle.relation.specs.declared.catalog.Catalog.{Catalog}
 use Rattle.relation.specs.declared.catalog.StoredTable.{StoredTable}
 use Rattle.relation.specs.declared.catalog.TheConstants.{CATALOG}
-use Rattle.relation.specs.declared.catalog.Told.{Told}
+use Rattle.relation.specs.declared.catalog.CatalogEntry.{CatalogEntry}
 use Rattle.relation.specs.declared.row.CatalogRow.{CatalogRow}
 use Rattle.relation.specs.declared.row.CatalogRow.TheVariants.{Table, Column, Index}
 use Rattle.relation.specs.declared.row.IndexForm.TheVariants.{Named}
-use Rattle.relation.specs.Catalog.{as_table, catalog, catalog_told, index_told, same_name, table_named, table_rows, table_told, told}
+use Rattle.relation.specs.Catalog.{as_table, catalog, catalog_told, index_told, table_named, table_rows, table_told, told}
 use Rattle.relation.specs.CatalogRow.{IsCatalogRow, row_values}
 use Rattle.relation.specs.Each.{each}
-use Rattle.relation.specs.Work.{index_added, indexed, known, row_of_index}
+use Rattle.relation.specs.Work.{index_added, indexed, or_broken, row_of_index}
 use Rattle.relation.proofs.Told.{few-told}
 use Rattle.relation_laws.specs.Laws.{HasColumn, IndexLaw, IsNewName, IsStoreOf, Leaves, with_index}
 use Rattle.relation_laws.specs.Reach.{IsPageOf, IsUntouched, ReachesCatalog}
@@ -82,14 +82,14 @@ place-found column columns at_column =
     position_from-zero (λ (c : TableColumn). same_name c.name column) columns ∙ at_column.placed 0 ∙ ap (λ (k : ℕ). Some k) (let same : 0 + at_column.place ≡ at_column.place = omega arith in same)
 
 -- what the catalog's rows tell is lawful
-lawful-told : (placed : List Placed) (rows : List Told) → each told placed (Ok rows) → AllByRecursion (λ (row : Told). IsCatalogRow row.row) rows
-lawful-told [] rows h = let same : [] ≡ rows = cc h in subst (λ (l : List Told). AllByRecursion (λ (row : Told). IsCatalogRow row.row) l) same tt
+lawful-told : (placed : List Placed) (rows : List CatalogEntry) → each told placed (Ok rows) → AllByRecursion (λ (row : CatalogEntry). IsCatalogRow row.row) rows
+lawful-told [] rows h = let same : [] ≡ rows = cc h in subst (λ (l : List CatalogEntry). AllByRecursion (λ (row : CatalogEntry). IsCatalogRow row.row) l) same tt
 lawful-told (p ∷ placed) rows h =
     let same : h.0 ∷ h.2.0 ≡ rows = cc h.2.2 in
-    subst (λ (l : List Told). AllByRecursion (λ (row : Told). IsCatalogRow row.row) l) same (h.1.1.0, lawful-told placed h.2.0 h.2.1)
+    subst (λ (l : List CatalogEntry). AllByRecursion (λ (row : CatalogEntry). IsCatalogRow row.row) l) same (h.1.1.0, lawful-told placed h.2.0 h.2.1)
 
 -- the names of the tables that rows tell are names
-names-told : (all rows : List Told) (tables : List StoredTable) → AllByRecursion (λ (row : Told). IsCatalogRow row.row) rows → each (table_told all) (table_rows rows) (Ok tables) → AllByRecursion (λ (table : StoredTable). IsName table.name) tables
+names-told : (all rows : List CatalogEntry) (tables : List StoredTable) → AllByRecursion (λ (row : CatalogEntry). IsCatalogRow row.row) rows → each (table_told all) (table_rows rows) (Ok tables) → AllByRecursion (λ (table : StoredTable). IsName table.name) tables
 names-told all [] tables lawful h = let same : [] ≡ tables = cc h in subst (λ (l : List StoredTable). AllByRecursion (λ (table : StoredTable). IsName table.name) l) same tt
 names-told all (row ∷ rows) tables lawful h = go row.row lawful.0 (λ some told. names-told all rows some lawful.1 told) h
   where
@@ -132,8 +132,8 @@ index-ready size pages all table is one name column is_name there =
 pub row-added : (size : ℕ) (pages : Pages) (all : PlainTables) (table : PlainTable) (is : IsStoreOf size pages all) (one : Single size pages all table is) (name column : List ℕ) (ready : IndexReady size pages all is one.stored name column) (answer : Result (Unit {0} × Pages) Refusal) → indexed size pages name table.name column answer → index_added size name one.stored.name ready.at_column.place pages answer
 row-added size pages all table is one name column ready answer work =
     subst (λ (n : List ℕ). index_added size name n ready.at_column.place pages answer) one.shows.name
-    (goes-on (only (known (column_place column one.stored.columns))) (λ place. index_added size name table.name place pages) ready.at_column.place (λ a e. sym e ∙ ap known (place-found column one.stored.columns ready.at_column)) answer
-    (by-name size pages all table is one (λ stored. only (known (column_place column stored.columns)) >>= λ place. index_added size name table.name place pages) answer work))
+    (goes-on (only (or_broken (column_place column one.stored.columns))) (λ place. index_added size name table.name place pages) ready.at_column.place (λ a e. sym e ∙ ap or_broken (place-found column one.stored.columns ready.at_column)) answer
+    (by-name size pages all table is one (λ stored. only (or_broken (column_place column stored.columns)) >>= λ place. index_added size name table.name place pages) answer work))
 
 -- a store with one more index
 index-store : (size : ℕ) (pages : Pages) (all : PlainTables) (table : PlainTable) (is : IsStoreOf size pages all) (one : Single size pages all table is) (name column : List ℕ) (after : Pages) → IsNewName all name → (ready : IndexReady size pages all is one.stored name column)

@@ -12,7 +12,8 @@ use Rattle.heap_laws.specs.Table.{IsStorable, IsTable, OthersStay, Table, with_r
 use Rattle.heap_laws.proofs.Adding.{add_law}
 use Rattle.heap_laws.proofs.Stores.{all-join}
 use Rattle.relation.specs.declared.catalog.StoredTable.{StoredTable}
-use Rattle.relation.specs.Work.{all_added, fits}
+use Rattle.relation.specs.Work.{all_added}
+use Rattle.sql_tree.specs.Rows.{fits}
 use Rattle.relation.proofs.Steps.{left_pages}
 use Rattle.relation_laws.specs.Laws.{InsertLaw, IsRowFor, IsStoreOf, Leaves, with_rows, with_table}
 use Rattle.relation_laws.specs.Reach.{Reaches}

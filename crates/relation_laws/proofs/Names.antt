@@ -12,7 +12,8 @@ use Rattle.heap_laws.proofs.Rows.{keyed-contains}
 use Rattle.heap_laws.proofs.Stores.{chain_pages}
 use Rattle.relation.specs.declared.catalog.StoredTable.{StoredTable}
 use Rattle.relation.specs.declared.catalog.TheConstants.{CATALOG}
-use Rattle.relation.specs.Catalog.{same_name, table_named}
+use Rattle.relation.specs.Catalog.{table_named}
+use Rattle.values.specs.Name.{same_name}
 use Rattle.relation_laws.specs.Tables.{AreDifferent, names_of}
 use Rattle.relation_laws.proofs.Lists.{contains-cases, contains-head, keyed-one, one-keyed}
 

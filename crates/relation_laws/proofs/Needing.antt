@@ -6,9 +6,9 @@ use Rattle.retro_base.specs.Fields.{field_bytes}
 use Rattle.retro_base.specs.declared.refusal.Refusal.{Refusal}
 use Rattle.retro_base.proofs.FieldLaws.{length-field_bytes}
 use Rattle.values.specs.declared.value.Value.{Value}
-use Rattle.values.specs.declared.value.Value.TheVariants.{Int, Text}
 use Rattle.sql_tree.specs.declared.statement.Column.{Column as TableColumn}
-use Rattle.row_codec.specs.RowCode.{row_code, value_code}
+use Rattle.row_codec.specs.RowCode.{row_code}
+use Rattle.row_codec.proofs.Codes.{row_size}
 use Rattle.pager.specs.Pages.{Pages}
 use Rattle.heap_file.specs.declared.page.Entry.{Entry}
 use Rattle.heap_file.specs.declared.page.HeapPage.{HeapPage}
@@ -27,10 +27,9 @@ use Rattle.relation.specs.declared.catalog.TheConstants.{CATALOG}
 use Rattle.relation.specs.declared.row.CatalogRow.TheVariants.{Table as TableOf}
 use Rattle.relation.specs.CatalogRow.{row_values}
 use Rattle.relation.specs.Work.{all_added, created, index_added, indexed, inserted, row_of_index, rows_of_columns, rows_of_table}
-use Rattle.relation.proofs.Fitting.{codes-cons, int-length, row-length as fixed-length}
 use Rattle.relation.proofs.Steps.{left_pages}
 use Rattle.relation_laws.specs.Laws.{AreTableColumns, EditsLaw, HasColumn, IsNewName, IsRowFor, IsStoreOf}
-use Rattle.relation_laws.specs.Needs.{CreateNeeds, IndexNeeds, InsertNeeds, TakesNeeded, next_pages, opened, row_bytes, taken_after}
+use Rattle.relation_laws.specs.Needs.{CreateNeeds, IndexNeeds, InsertNeeds, TakesNeeded, next_pages, opened, entry_size, taken_after}
 use Rattle.relation_laws.specs.Reach.{with_root}
 use Rattle.relation_laws.specs.Tables.{PlainTable, PlainTables}
 use Rattle.relation_laws.proofs.Creating.{ready}
@@ -43,13 +42,9 @@ use Rattle.relation_laws.proofs.Lists.{contains-left}
 use Rattle.relation_laws.proofs.Reaching.{made-spares, own-first, own-last}
 use Rattle.relation_laws.proofs.Singling.{Single, by-name, firsts_of, has-catalog, has-first, named-here, pages_in, single}
 
--- a row takes as many bytes under each number
-row-length : (number : ℕ) (row : List Value) → length (row_code number row) ≡ length (row_code 0 row)
-row-length number row = omega (arith, length-append (field_bytes 8 number) (length row ∷ flat_map value_code row), length-append (field_bytes 8 0) (length row ∷ flat_map value_code row), length-field_bytes 8 number, length-field_bytes 8 0)
-
-pub entry-length : (number : ℕ) (row : List Value) → length (entry_code (record { number = number; row = row })) ≡ row_bytes row
+pub entry-length : (number : ℕ) (row : List Value) → length (entry_code (record { number = number; row = row })) ≡ entry_size row
 entry-length number row =
-    omega (arith, length-append (field_bytes 2 (length (row_code number row))) (row_code number row), length-append (field_bytes 2 (length (row_code 0 row))) (row_code 0 row), length-field_bytes 2 (length (row_code number row)), length-field_bytes 2 (length (row_code 0 row)), row-length number row)
+    omega (arith, length-append (field_bytes 2 (length (row_code number row))) (row_code number row), length-field_bytes 2 (length (row_code number row)), row_size number row)
 
 bytes-one : (entry : Entry) → length (entry_bytes (entry ∷ [])) ≡ length (entry_code entry)
 bytes-one entry = ap length (flat_map-cons entry_code entry [] ∙ append-nil (entry_code entry))
@@ -183,30 +178,30 @@ steps size pages firsts indexes first table row y last tail well has shows stora
     turn false false false true = refl
     turn false false false false = refl
 
-    go : (b : Bool) (to : ℕ) (next : HeapPage) → EndsAt size y.1 first to next → b ≡ nat_le (length (entry_bytes tail.entries) + row_bytes row) 1004
+    go : (b : Bool) (to : ℕ) (next : HeapPage) → EndsAt size y.1 first to next → b ≡ nat_le (length (entry_bytes tail.entries) + entry_size row) 1004
         → next.entries ≡ entries_after b tail (record { number = table.next_number; row = row }) → (b ≡ true → to ≡ last) → (b ≡ false → to ≡ y.0.1)
         → IsAdded b size pages y.1 first last y.0.1 → Draws pages y.1 (opens_of b) → Steps size pages y.1 first last tail row
     go true to next ended e are stays moves effect draws =
-        let long : length (entry_bytes next.entries) ≡ length (entry_bytes tail.entries) + row_bytes row = ap (λ (es : List Entry). length (entry_bytes es)) are ∙ bytes-push tail.entries (record { number = table.next_number; row = row }) ∙ ap (λ (k : ℕ). length (entry_bytes tail.entries) + k) (entry-length table.next_number row) in
+        let long : length (entry_bytes next.entries) ≡ length (entry_bytes tail.entries) + entry_size row = ap (λ (es : List Entry). length (entry_bytes es)) are ∙ bytes-push tail.entries (record { number = table.next_number; row = row }) ∙ ap (λ (k : ℕ). length (entry_bytes tail.entries) + k) (entry-length table.next_number row) in
         record {
           room = true;
           page = y.0.1;
           next = next;
           ends = subst (λ (p : ℕ). EndsAt size y.1 first p next) (stays refl) ended;
-          opens = λ rows. omega (arith, ap (λ (b : Bool). cond b (opened (length (entry_bytes tail.entries) + row_bytes row) rows) (1 + opened (row_bytes row) rows)) e, ap (λ (n : ℕ). opened n rows) long);
+          opens = λ rows. omega (arith, ap (λ (b : Bool). cond b (opened (length (entry_bytes tail.entries) + entry_size row) rows) (1 + opened (entry_size row) rows)) e, ap (λ (n : ℕ). opened n rows) long);
           takes = omega (arith, effect.1);
           edits = effect.2;
           are = refl;
           draws = draws;
         }
     go false to next ended e are stays moves effect draws =
-        let long : length (entry_bytes next.entries) ≡ row_bytes row = ap (λ (es : List Entry). length (entry_bytes es)) are ∙ bytes-one (record { number = table.next_number; row = row }) ∙ entry-length table.next_number row in
+        let long : length (entry_bytes next.entries) ≡ entry_size row = ap (λ (es : List Entry). length (entry_bytes es)) are ∙ bytes-one (record { number = table.next_number; row = row }) ∙ entry-length table.next_number row in
         record {
           room = false;
           page = y.0.1;
           next = next;
           ends = subst (λ (p : ℕ). EndsAt size y.1 first p next) (moves refl) ended;
-          opens = λ rows. omega (arith, ap (λ (b : Bool). cond b (opened (length (entry_bytes tail.entries) + row_bytes row) rows) (1 + opened (row_bytes row) rows)) e, ap (λ (n : ℕ). opened n rows) long);
+          opens = λ rows. omega (arith, ap (λ (b : Bool). cond b (opened (length (entry_bytes tail.entries) + entry_size row) rows) (1 + opened (entry_size row) rows)) e, ap (λ (n : ℕ). opened n rows) long);
           takes = omega (arith, effect.0.one_less);
           edits = edits-as pages y.1 (first ∷ last ∷ y.0.1 ∷ 0 ∷ []) (first ∷ last ∷ 0 ∷ y.0.1 ∷ []) (λ p. turn (p == first) (p == last) (p == y.0.1) (p == 0)) effect.1;
           are = ap (λ (p : ℕ). p ∷ []) (effect.0.next ∙ next-first pages);
@@ -260,13 +255,13 @@ rows-full size pages firsts indexes first table [] why last tail well among is s
 rows-full size pages firsts indexes first table (row ∷ rows) why last tail well among is storable room ends (inl h) =
     let full = (add_law size pages firsts indexes first table row (Err why) well among is storable.0 (omega (arith, room)) h).1 in
     let same : full.tail ≡ tail = ends-one size pages first full.last last full.tail tail full.ends ends in
-    none (nat_le (length (entry_bytes tail.entries) + row_bytes row) 1004) refl full.none (subst (λ (t : HeapPage). has_room t (record { number = table.next_number; row = row }) ≡ false) same full.room)
+    none (nat_le (length (entry_bytes tail.entries) + entry_size row) 1004) refl full.none (subst (λ (t : HeapPage). has_room t (record { number = table.next_number; row = row }) ≡ false) same full.room)
   where
     clash : true ≡ false → ⊥
     clash e = absurd cc
 
-    none : (b : Bool) → nat_le (length (entry_bytes tail.entries) + row_bytes row) 1004 ≡ b → free_pages size pages ≡ 0 → has_room tail (record { number = table.next_number; row = row }) ≡ false
-        → free_pages size pages < cond b (opened (length (entry_bytes tail.entries) + row_bytes row) rows) (1 + opened (row_bytes row) rows)
+    none : (b : Bool) → nat_le (length (entry_bytes tail.entries) + entry_size row) 1004 ≡ b → free_pages size pages ≡ 0 → has_room tail (record { number = table.next_number; row = row }) ≡ false
+        → free_pages size pages < cond b (opened (length (entry_bytes tail.entries) + entry_size row) rows) (1 + opened (entry_size row) rows)
     none true e free room = absurd (clash (sym e ∙ sym (ap (λ (n : ℕ). nat_le n 1004) (bytes-push tail.entries (record { number = table.next_number; row = row }) ∙ ap (λ (k : ℕ). length (entry_bytes tail.entries) + k) (entry-length table.next_number row))) ∙ room))
     none false e free room = omega (arith, free)
 rows-full size pages firsts indexes first table (row ∷ rows) why last tail well among is storable room ends (inr h) =
@@ -283,32 +278,19 @@ ends-there size pages firsts indexes first well has =
     let tail = tail-there size pages firsts indexes first well has read.one.lawful.head read.head_at in
     (last_page first read.one.lawful.head, tail.0, record { head = read.one.lawful.head; at_first = read.head_at; named = refl; at_last = tail.1 })
 
-row-bytes : (row : List Value) → row_bytes row ≡ 2 + length (row_code 0 row)
-row-bytes row = omega (arith, length-append (field_bytes 2 (length (row_code 0 row))) (row_code 0 row), length-field_bytes 2 (length (row_code 0 row)))
-
 -- rows of one length before others open as many pages
-opened-as : (taken : ℕ) (row other : List Value) (rows : List (List Value)) → length (row_code 0 row) ≡ length (row_code 0 other) → opened taken (row ∷ rows) ≡ opened taken (other ∷ rows)
+opened-as : (taken : ℕ) (row other : List Value) (rows : List (List Value)) → entry_size row ≡ entry_size other → opened taken (row ∷ rows) ≡ opened taken (other ∷ rows)
 opened-as taken row other rows long =
-    ap (λ (n : ℕ). cond (nat_le (taken + n) 1004) (opened (taken + n) rows) (1 + opened n rows)) (row-bytes row ∙ ap (λ (n : ℕ). 2 + n) long ∙ sym (row-bytes other))
+    ap (λ (n : ℕ). cond (nat_le (taken + n) 1004) (opened (taken + n) rows) (1 + opened n rows)) long
 
 -- a table's row in the catalog is as long whatever its first page is
-table-length : (name : List ℕ) (first : ℕ) → length (row_code 0 (row_values (TableOf (record { name = name; first = first })))) ≡ 27 + length (value_code (Text name))
-table-length name first =
-    omega (arith, fixed-length (Int (pos 1) ∷ Text name ∷ Int (pos first) ∷ []), codes-cons (Int (pos 1)) (Text name ∷ Int (pos first) ∷ []), codes-cons (Text name) (Int (pos first) ∷ []), codes-cons (Int (pos first)) [], int-length (pos 1), int-length (pos first))
-
 pub opened-same : (taken : ℕ) (name : List ℕ) (first other : ℕ) (columns : List TableColumn) → opened taken (map row_values (rows_of_table name first columns)) ≡ opened taken (map row_values (rows_of_table name other columns))
 opened-same taken name first other columns =
-    opened-as taken (row_values (TableOf (record { name = name; first = first }))) (row_values (TableOf (record { name = name; first = other }))) (map row_values (rows_of_columns name 0 columns)) (table-length name first ∙ sym (table-length name other))
+    opened-as taken (row_values (TableOf (record { name = name; first = first }))) (row_values (TableOf (record { name = name; first = other }))) (map row_values (rows_of_columns name 0 columns)) refl
 
 -- an index's row is as long whatever its column's place is
-index-length : (name table : List ℕ) (place : ℕ) → length (row_code 0 (row_values (row_of_index name table place))) ≡ 45 + (length (value_code (Text name)) + length (value_code (Text table)))
-index-length name table place =
-    let last : List Value = Int (pos 0) ∷ [] in
-    let rest : List Value = Int (pos place) ∷ Int (pos 0) ∷ last in
-    omega (arith, fixed-length (Int (pos 3) ∷ Text name ∷ Text table ∷ rest), codes-cons (Int (pos 3)) (Text name ∷ Text table ∷ rest), codes-cons (Text name) (Text table ∷ rest), codes-cons (Text table) rest, codes-cons (Int (pos place)) (Int (pos 0) ∷ last), codes-cons (Int (pos 0)) last, codes-cons (Int (pos 0)) [], int-length (pos 3), int-length (pos place), int-length (pos 0))
-
 pub opened-index : (taken : ℕ) (name table : List ℕ) (place other : ℕ) → opened taken (row_values (row_of_index name table place) ∷ []) ≡ opened taken (row_values (row_of_index name table other) ∷ [])
-opened-index taken name table place other = opened-as taken (row_values (row_of_index name table place)) (row_values (row_of_index name table other)) [] (index-length name table place ∙ sym (index-length name table other))
+opened-index taken name table place other = opened-as taken (row_values (row_of_index name table place)) (row_values (row_of_index name table other)) [] refl
 
 pub insert-needs : (size : ℕ) (pages : Pages) (all : PlainTables) (table : PlainTable) (rows : List (List Value)) (answer : Result (Unit {0} × Pages) Refusal)
     → IsStoreOf size pages all → Contains all.tables table → AllByRecursion (IsRowFor table) rows → table.next_number + length rows < 2 ^ 64

@@ -14,14 +14,16 @@ use Rattle.heap_laws.proofs.Reading.{ok-one, read_law}
 use Rattle.relation.specs.declared.catalog.Catalog.{Catalog}
 use Rattle.relation.specs.declared.catalog.StoredTable.{StoredTable}
 use Rattle.relation.specs.declared.catalog.TheConstants.{CATALOG}
-use Rattle.relation.specs.declared.catalog.Told.{Told}
+use Rattle.relation.specs.declared.catalog.CatalogEntry.{CatalogEntry}
 use Rattle.relation.specs.declared.row.CatalogRow.{CatalogRow}
 use Rattle.relation.specs.declared.row.CatalogRow.TheVariants.{Table, Column, Index}
 use Rattle.relation.specs.declared.row.IndexForm.{IndexForm}
 use Rattle.relation.specs.declared.row.IndexForm.TheVariants.{Named, Chain, Tree}
-use Rattle.relation.specs.Catalog.{catalog, catalog_rows, same_name, table_named}
+use Rattle.relation.specs.Catalog.{catalog, catalog_rows, table_named}
+use Rattle.values.specs.Name.{same_name}
 use Rattle.relation.specs.Each.{each}
-use Rattle.relation.specs.Work.{fits, fitting, known, rows_at, table_in}
+use Rattle.relation.specs.Work.{fitting, or_broken, rows_at, table_in}
+use Rattle.sql_tree.specs.Rows.{fits}
 use Rattle.relation_laws.specs.Laws.{IsStoreOf, with_table}
 use Rattle.relation_laws.specs.Tables.{HoldsPages, IsKept, IsStore, PlainTable, PlainTables, Shows, names_of, numbered_row}
 use Rattle.relation_laws.proofs.Catalogs.{catalog-one, each-one, goes-on}
@@ -74,7 +76,7 @@ single size pages all table is has =
 
 -- the catalog tells a table by its name
 pub named-here : (size : ℕ) (pages : Pages) (all : PlainTables) (table : PlainTable) (is : IsStoreOf size pages all) (one : Single size pages all table is) → table_in size pages table.name (Ok one.stored)
-named-here size pages all table is one = (is.store.found, read-here size pages is.store, ap known there)
+named-here size pages all table is one = (is.store.found, read-here size pages is.store, ap or_broken there)
   where
     there : table_named table.name is.store.found.tables ≡ Some one.stored
     there = rw one.shows.name (named-there is.store.found.tables one.stored (different-split (names_of is.store.found.tables) _ is.store.names) one.has)
@@ -107,7 +109,7 @@ rows-read size pages all table is one a told =
     (λ rows. each-one _ (λ placed. only-one _) rows) a (Ok one.shows.placed) told (rows-here size pages all table is one)
 
 -- what the catalog says goes by its rows alone
-pub rows-stay : (size : ℕ) (pages after : Pages) (told : List Told) → ((table : HeapTable) → IsTable size pages CATALOG table → IsTable size after CATALOG table) → catalog_rows size pages (Ok told) → catalog_rows size after (Ok told)
+pub rows-stay : (size : ℕ) (pages after : Pages) (told : List CatalogEntry) → ((table : HeapTable) → IsTable size pages CATALOG table → IsTable size after CATALOG table) → catalog_rows size pages (Ok told) → catalog_rows size after (Ok told)
 rows-stay size pages after told stays c =
     let table : HeapTable = record { next_number = c.2.0; rows = c.0 } in
     let same = stays table (record { next_number = c.2.1; rows = c.1 }) in
@@ -136,7 +138,7 @@ store-stays size pages after store all stays well shown same = record {
     told = store.told;
     rows = rows-stay size pages after store.told stays store.rows;
     held = store.held;
-    kept = zip-weaken (λ (row : Told) (some : List ℕ). IsKept pages (names_of store.found.tables) row.row some) (λ (row : Told) (some : List ℕ). IsKept after (names_of store.found.tables) row.row some) store.told store.held (λ row some has h. kept-stays pages after (names_of store.found.tables) row.row some h) store.kept;
+    kept = zip-weaken (λ (row : CatalogEntry) (some : List ℕ). IsKept pages (names_of store.found.tables) row.row some) (λ (row : CatalogEntry) (some : List ℕ). IsKept after (names_of store.found.tables) row.row some) store.told store.held (λ row some has h. kept-stays pages after (names_of store.found.tables) row.row some h) store.kept;
     heap = well;
     names = store.names;
     columns = store.columns;

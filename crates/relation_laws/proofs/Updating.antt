@@ -14,7 +14,8 @@ use Rattle.heap_laws.specs.Store.{WellFormed}
 use Rattle.heap_laws.specs.Table.{IsStorable, IsTable, OthersStay, Table, with_changed}
 use Rattle.heap_laws.proofs.Changing.{change_law}
 use Rattle.relation.specs.Each.{in_turn}
-use Rattle.relation.specs.Work.{fits, page_of, row_changed, rows_at}
+use Rattle.relation.specs.Work.{page_of, row_changed, rows_at}
+use Rattle.sql_tree.specs.Rows.{fits}
 use Rattle.relation.proofs.Steps.{left_pages}
 use Rattle.relation_laws.specs.Laws.{IsRowFor, IsStoreOf, Leaves, UpdateLaw, changed_to, with_changes, with_table}
 use Rattle.relation_laws.specs.Reach.{Reaches}

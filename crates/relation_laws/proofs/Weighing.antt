@@ -20,24 +20,24 @@ use Rattle.heap_laws.proofs.Orders.{number_of}
 use Rattle.heap_laws.proofs.Reading.{read_law, reads, rows-read}
 use Rattle.heap_laws.proofs.Routes.{IsRoute, around, leads-one, link_of, pages_on, rows-cons, rows-middle, times-cons, times-links}
 use Rattle.heap_laws.proofs.Rows.{placed_on, standing}
-use Rattle.relation_laws.specs.Needs.{bytes_on, page_under, row_bytes}
+use Rattle.relation_laws.specs.Needs.{bytes_on, page_under, entry_size}
 use Rattle.relation_laws.proofs.Lists.{contains-cases, contains-cons, contains-head, keyed-one}
 use Rattle.relation_laws.proofs.Needing.{entry-length}
 use Rattle.relation_laws.proofs.Reaching.{own}
 
 -- what a row weighs on a page
 abbrev weight : ℕ → Placed → ℕ
-weight page placed = cond (placed.page == page) (row_bytes placed.row) 0
+weight page placed = cond (placed.page == page) (entry_size placed.row) 0
 
 off-link : (page other : ℕ) (entries : List Entry) → (other ≡ page → ⊥) → sum_by (weight page) (map (placed_on other) entries) ≡ 0
 off-link page other [] apart = refl
 off-link page other (entry ∷ entries) apart =
-    omega (arith, sum_by-cons (weight page) (placed_on other entry) (map (placed_on other) entries), ap (λ (b : Bool). cond b (row_bytes entry.row) 0) (ne_eqb other page apart), off-link page other entries apart)
+    omega (arith, sum_by-cons (weight page) (placed_on other entry) (map (placed_on other) entries), ap (λ (b : Bool). cond b (entry_size entry.row) 0) (ne_eqb other page apart), off-link page other entries apart)
 
 on-link : (page : ℕ) (entries : List Entry) → sum_by (weight page) (map (placed_on page) entries) ≡ length (entry_bytes entries)
 on-link page [] = refl
 on-link page (entry ∷ entries) =
-    omega (arith, sum_by-cons (weight page) (placed_on page entry) (map (placed_on page) entries), ap (λ (b : Bool). cond b (row_bytes entry.row) 0) (eq-eqb page page refl), on-link page entries, entry-length entry.number entry.row, ap length (flat_map-cons entry_code entry entries), length-append (entry_code entry) (entry_bytes entries))
+    omega (arith, sum_by-cons (weight page) (placed_on page entry) (map (placed_on page) entries), ap (λ (b : Bool). cond b (entry_size entry.row) 0) (eq-eqb page page refl), on-link page entries, entry-length entry.number entry.row, ap length (flat_map-cons entry_code entry entries), length-append (entry_code entry) (entry_bytes entries))
 
 off-links : (page : ℕ) (links : List Link) → times page (pages_on links) ≡ 0 → sum_by (weight page) (rows_of links) ≡ 0
 off-links page [] none = refl

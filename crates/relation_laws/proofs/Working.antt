@@ -16,7 +16,7 @@ use Rattle.heap_laws.proofs.Reading.{ok-one, reads}
 use Rattle.heap_laws.proofs.Stores.{times-some}
 use Rattle.relation.specs.declared.catalog.StoredTable.{StoredTable}
 use Rattle.relation.specs.declared.catalog.TheConstants.{CATALOG}
-use Rattle.relation.specs.Catalog.{same_name}
+use Rattle.values.specs.Name.{same_name}
 use Rattle.relation.specs.CatalogRow.{row_values}
 use Rattle.relation.specs.Each.{in_turn}
 use Rattle.relation.specs.Work.{all_added, created, deleted, indexed, inserted, row_changed, row_of_index, row_removed, rows_at, rows_of_table, updated}

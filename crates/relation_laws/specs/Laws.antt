@@ -4,7 +4,7 @@ use Rattle.std.specs.List.{AllByRecursion, Contains, filter, list_any}
 use Rattle.retro_base.specs.declared.refusal.Refusal.{Refusal}
 use Rattle.retro_base.specs.declared.refusal.Refusal.TheVariants.{PagesFull}
 use Rattle.values.specs.declared.value.Value.{Value}
-use Rattle.sql_tree.specs.Name.{IsName}
+use Rattle.values.specs.Name.{IsName, same_name}
 use Rattle.sql_tree.specs.declared.schema.IndexSchema.{IndexSchema}
 use Rattle.sql_tree.specs.declared.schema.Schema.{Schema}
 use Rattle.sql_tree.specs.declared.schema.TableSchema.{TableSchema}
@@ -14,9 +14,9 @@ use Rattle.heap_file.specs.declared.chain.Placed.{Placed}
 use Rattle.heap_laws.specs.Laws.{Answers, AreZero}
 use Rattle.heap_laws.specs.Table.{IsStorable}
 use Rattle.relation.specs.declared.catalog.StoredTable.{StoredTable}
-use Rattle.relation.specs.Catalog.{same_name}
 use Rattle.relation.specs.Each.{in_turn}
-use Rattle.relation.specs.Work.{all_changed, all_removed, created, deleted, fits, indexed, inserted, next_in, page_of, row_changed, row_removed, rows_at, rows_in, schema_in, table_in, updated}
+use Rattle.relation.specs.Work.{all_changed, all_removed, created, deleted, indexed, inserted, next_in, page_of, row_changed, row_removed, rows_at, rows_in, schema_in, table_in, updated}
+use Rattle.sql_tree.specs.Rows.{fits}
 use Rattle.relation_laws.specs.Needs.{CreateNeeds, IndexNeeds, InsertNeeds, TakesNeeded, UpdateNeeds}
 use Rattle.relation_laws.specs.Reach.{EditsEnds, Reaches, ReachesCatalog}
 use Rattle.relation_laws.specs.Tables.{AreDifferent, IsStore, PlainTable, PlainTables, TablesOf, numbered, numbered_row}

@@ -4,11 +4,12 @@ use Rattle.std.specs.List.{filter, range_with_len, sum_by}
 use Rattle.retro_base.specs.Fields.{number_at}
 use Rattle.retro_base.specs.declared.refusal.Refusal.{Refusal}
 use Rattle.values.specs.declared.value.Value.{Value}
+use Rattle.values.specs.Row.{row_bytes}
 use Rattle.sql_tree.specs.declared.statement.Column.{Column as TableColumn}
 use Rattle.pager.specs.Pages.{Pages}
 use Rattle.heap_file.specs.declared.page.HeapPage.{HeapPage}
 use Rattle.heap_file.specs.declared.chain.Placed.{Placed}
-use Rattle.heap_file.specs.HeapPage.{entry_bytes, entry_code}
+use Rattle.heap_file.specs.HeapPage.{entry_bytes}
 use Rattle.heap_laws.specs.Store.{free_pages, root_at}
 use Rattle.heap_laws.specs.Table.{EndsAt}
 use Rattle.relation.specs.declared.catalog.StoredTable.{StoredTable}
@@ -16,16 +17,16 @@ use Rattle.relation.specs.declared.catalog.TheConstants.{CATALOG}
 use Rattle.relation.specs.CatalogRow.{row_values}
 use Rattle.relation.specs.Work.{row_of_index, rows_at, rows_of_table, table_in}
 
--- the bytes that a row takes on a page, whatever its number
-abbrev pub row_bytes : List Value → ℕ
-row_bytes row = length (entry_code (record { number = 0; row = row }))
+-- the bytes of a row's entry on a page: its length in two bytes, and its encoding
+abbrev pub entry_size : List Value → ℕ
+entry_size row = 2 + row_bytes row
 
 -- How many pages rows open at the end of a table whose last page has so many bytes of rows: each stands on the last
 -- page where it has room there, else on a new one.
 abbrev pub opened : ℕ → List (List Value) → ℕ
 opened taken [] = 0
 opened taken (row ∷ rows) =
-    if nat_le (taken + row_bytes row) 1004 then opened (taken + row_bytes row) rows else 1 + opened (row_bytes row) rows
+    if nat_le (taken + entry_size row) 1004 then opened (taken + entry_size row) rows else 1 + opened (entry_size row) rows
 
 -- the page so many places behind a page of the free list
 abbrev pub free_behind : Pages → ℕ → ℕ → ℕ
@@ -71,12 +72,12 @@ TakesNeeded size pages needs (Err why) = free_pages size pages < needs
 
 -- the bytes that the rows on a page take
 abbrev pub bytes_on : ℕ → List Placed → ℕ
-bytes_on page rows = sum_by (λ (placed : Placed). if placed.page == page then row_bytes placed.row else 0) rows
+bytes_on page rows = sum_by (λ (placed : Placed). if placed.page == page then entry_size placed.row else 0) rows
 
 -- whether a page has room for a changed row, once its old row is taken out
 abbrev pub has_room_for : ℕ × List Value → ℕ → List Placed → Bool
 has_room_for change page rows =
-    nat_le (bytes_on page (filter (λ (placed : Placed). not (placed.number == change.0)) rows) + row_bytes change.1)
+    nat_le (bytes_on page (filter (λ (placed : Placed). not (placed.number == change.0)) rows) + entry_size change.1)
     1004
 
 -- the page of the row of that number

@@ -12,13 +12,13 @@ use Rattle.heap_laws.specs.Table.{IsTable}
 use Rattle.relation.specs.declared.catalog.Catalog.{Catalog}
 use Rattle.relation.specs.declared.catalog.StoredTable.{StoredTable}
 use Rattle.relation.specs.declared.catalog.TheConstants.{CATALOG}
-use Rattle.relation.specs.declared.catalog.Told.{Told}
+use Rattle.relation.specs.declared.catalog.CatalogEntry.{CatalogEntry}
 use Rattle.relation.specs.declared.row.CatalogRow.{CatalogRow}
 use Rattle.relation.specs.declared.row.CatalogRow.TheVariants.{Table, Column, Index}
 use Rattle.relation.specs.declared.row.IndexForm.{IndexForm}
 use Rattle.relation.specs.declared.row.IndexForm.TheVariants.{Named, Chain, Tree}
 use Rattle.relation.specs.Catalog.{catalog, catalog_rows, catalog_told}
-use Rattle.relation.specs.Work.{fits}
+use Rattle.sql_tree.specs.Rows.{fits}
 
 -- a row under its number, wherever it stands
 abbrev pub numbered_row : Placed → ℕ × List Value
@@ -86,12 +86,12 @@ pub record IsStore (size : ℕ) (pages : Pages) : Type 0 where
   pub placed : List Placed
   pub scan : scanned size pages CATALOG (Ok placed)
   pub gapless : map (λ (row : Placed). row.number) placed ≡ range_with_len 0 (length placed)
-  pub told : List Told
+  pub told : List CatalogEntry
   pub rows : catalog_rows size pages (Ok told)
   pub found : Catalog
   pub read : catalog_told told (Ok found)
   pub held : List (List ℕ)
-  pub kept : AllZip (λ (row : Told) (some : List ℕ). IsKept pages (names_of found.tables) row.row some) told held
+  pub kept : AllZip (λ (row : CatalogEntry) (some : List ℕ). IsKept pages (names_of found.tables) row.row some) told held
   pub heap : WellFormed size pages (CATALOG ∷ map (λ (table : StoredTable). table.first) found.tables)
       (flat_map (λ (some : List ℕ). some) held)
   pub names : AreDifferent (names_of found.tables ++ map (λ (index : IndexSchema). index.name) found.indexes)

@@ -9,7 +9,7 @@ use Rattle.pager.specs.Pages.{Pages}
 use Rattle.heap_laws.specs.Store.{free_pages}
 use Rattle.relation.specs.declared.catalog.StoredTable.{StoredTable}
 use Rattle.relation.specs.declared.catalog.TheConstants.{CATALOG}
-use Rattle.relation.specs.Catalog.{same_name}
+use Rattle.values.specs.Name.{same_name}
 use Rattle.relation.specs.Each.{in_turn}
 use Rattle.relation.specs.Work.{created, deleted, indexed, inserted, table_in, updated}
 use Rattle.relation_laws.specs.Laws.{AreChangesOf, AreNumbersOf, AreTableColumns, HasColumn, IsNewName, IsRowFor, IsStoreOf, empty_table, with_changes, with_index, with_new, with_rows, without_rows}

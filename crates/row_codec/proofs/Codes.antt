@@ -1,18 +1,21 @@
 -- Encodings that stand first in bytes.
-use Rattle.std.proofs.Common.{ℤ, ◌≡◌, ◌<◌, ◌≤◌, ◌^◌, ◌+◌, ◌-◌, ◌++◌, ◌∙◌, ℕ, zero, suc, List, [], ◌∷◌, length, get_or, take, drop, Option, Some, None, inl, inr, refl, sym, ap, arith, append_assoc}
+use Rattle.std.proofs.Common.{ℤ, ◌≡◌, ◌<◌, ◌≤◌, ◌^◌, ◌+◌, ◌-◌, ◌++◌, ◌∙◌, ℕ, zero, suc, List, [], ◌∷◌, length, get_or, take, drop, Option, Some, None, Ok, Err, inl, inr, refl, sym, ap, arith, append_assoc, sum_by}
 use Rattle.std.specs.Int.{w64, cast_unsigned, cast_signed}
 use Rattle.std.specs.Int.RustNames.{FitsSigned}
 use Rattle.std.specs.List.{flat_map, AllByRecursion}
 use Rattle.std.proofs.lemmas.Int.{ints, to_z-of_z, of_z-to_z}
 use Rattle.std.proofs.lemmas.List.{take_at, drop_at, drop-drop, drop_all, drop_more, take-append-drop, take-take, get_or_at, get_or-drop, get_or-take, get_or_past, length-append, length-drop, length-take-le, append-nil}
 use Rattle.std.proofs.lemmas.Nat.{be_bytes_8}
-use Rattle.std.proofs.lemmas.Bool.{cases_lt}
-use Rattle.std.proofs.lemmas.List.Concat.{flat_map-cons, flat_map-append}
+use Rattle.std.proofs.lemmas.Bool.{cases_lt, le-leb, lt-leb}
+use Rattle.std.proofs.lemmas.List.Concat.{flat_map-cons, flat_map-append, length-flat_map}
+use Rattle.std.proofs.lemmas.List.Sums.{sum_by-cons}
+use Rattle.values.specs.Row.{value_bytes, row_bytes}
 use Rattle.retro_base.specs.Fields.{field_bytes, number_at}
+use Rattle.retro_base.specs.declared.refusal.Refusal.TheVariants.{RowTooLong}
 use Rattle.retro_base.proofs.FieldLaws.{length-field_bytes, number_at-field, number_at-fits, number_at-same}
 use Rattle.values.specs.declared.value.Value.{Value}
 use Rattle.values.specs.declared.value.Value.TheVariants.{Int, Text}
-use Rattle.row_codec.specs.RowCode.{value_code, row_code, IsValue, IsRow, IsEncoded, IsDecoded, IsFirstValue, AreFirstValues, OneRow}
+use Rattle.row_codec.specs.RowCode.{value_code, row_code, encoded, IsValue, IsRow, IsEncoded, IsDecoded, IsFirstValue, AreFirstValues, OneRow, RowSize}
 
 -- lists that begin with parts of one length have the same parts
 pub same_parts : {A : Type 0} (a b x y : List A) → length a ≡ length b → a ++ x ≡ b ++ y → (a ≡ b) × (x ≡ y)
@@ -63,6 +66,28 @@ same_rows (v ∷ vs) (w ∷ ws) long fits also e =
     let split : value_code v ++ flat_map value_code vs ≡ value_code w ++ flat_map value_code ws = sym (flat_map-cons value_code v vs) ∙ e ∙ flat_map-cons value_code w ws in
     let one = same_value v w _ _ fits.0 also.0 split in
     cc (one.0, same_rows vs ws (omega arith) fits.1 also.1 one.1)
+
+value_size : (value : Value) → length (value_code value) ≡ value_bytes value
+value_size (Int n) = omega (arith, length-field_bytes 8 (cast_unsigned w64 n))
+value_size (Text t) = omega arith
+
+values_size : (row : List Value) → sum_by (λ (value : Value). length (value_code value)) row ≡ sum_by value_bytes row
+values_size [] = refl
+values_size (value ∷ row) = omega (arith, sum_by-cons (λ (value : Value). length (value_code value)) value row, sum_by-cons value_bytes value row, value_size value, values_size row)
+
+-- the encoding of a row is as long as the row counts
+pub row_size : RowSize
+row_size number row =
+    omega (arith, length-append (field_bytes 8 number) (length row ∷ flat_map value_code row), length-field_bytes 8 number, length-flat_map value_code row, values_size row)
+
+-- bytes that are not too long are the encoding
+pub encoded_whole : (number : ℕ) (row : List Value) (bytes : List ℕ) → bytes ≡ row_code number row → length bytes ≤ 900 → encoded number row ≡ Ok bytes
+encoded_whole number row bytes is short = rw (le-leb (row_bytes row) 900 (omega (arith, row_size number row, ap length is))) (ap Ok (sym is))
+
+-- of bytes that are too long their number is told
+pub encoded_long : (number : ℕ) (row : List Value) (bytes : List ℕ) → bytes ≡ row_code number row → 900 < length bytes → encoded number row ≡ Err (RowTooLong (length bytes))
+encoded_long number row bytes is long =
+    rw (lt-leb (row_bytes row) 900 (omega (arith, row_size number row, ap length is))) (ap (λ (n : ℕ). Err (RowTooLong n)) (sym (row_size number row) ∙ ap length (sym is)))
 
 -- bytes are the encoding of one row alone
 pub one_row : OneRow

@@ -7,6 +7,7 @@ use Rattle.retro_base.specs.Fields.{field_bytes}
 use Rattle.retro_base.specs.declared.limits.TheConstants.{ROW_BYTES}
 use Rattle.retro_base.specs.declared.refusal.Refusal.{Refusal}
 use Rattle.retro_base.specs.declared.refusal.Refusal.TheVariants.{RowTooLong}
+use Rattle.values.specs.Row.{row_bytes}
 use Rattle.values.specs.Text.{IsText}
 use Rattle.values.specs.declared.value.Value.{Value}
 use Rattle.values.specs.declared.value.Value.TheVariants.{Int, Text}
@@ -41,8 +42,7 @@ pub record IsEncoded (bytes : List ℕ) (number : ℕ) (row : List Value) : Type
 -- the encoding of a row, or how long it would be
 abbrev pub encoded : ℕ → List Value → Result (List ℕ) Refusal
 encoded number row =
-    if nat_le (length (row_code number row)) ROW_BYTES then Ok (row_code number row)
-    else Err (RowTooLong (length (row_code number row)))
+    if nat_le (row_bytes row) ROW_BYTES then Ok (row_code number row) else Err (RowTooLong (row_bytes row))
 
 -- the row whose encoding the bytes are, or none where they are no row's
 abbrev pub IsDecoded : List ℕ → Option (ℕ × List Value) → Type 0
@@ -67,3 +67,7 @@ AreFirstValues bytes count (Some found) =
 -- bytes are the encoding of one row alone
 abbrev pub OneRow : Type 0
 OneRow = (bytes : List ℕ) (m n : ℕ) (r s : List Value) → IsEncoded bytes m r → IsEncoded bytes n s → (m ≡ n) × (r ≡ s)
+
+-- the encoding of a row is as long as the row counts, whatever its number
+abbrev pub RowSize : Type 0
+RowSize = (number : ℕ) (row : List Value) → length (row_code number row) ≡ row_bytes row

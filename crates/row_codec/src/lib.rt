@@ -6,6 +6,6 @@ mod reading;
 mod value;
 mod writing;
 
-pub use laws::one_row;
+pub use laws::{one_row, row_size};
 pub use reading::decode;
 pub use writing::{encode, encoded_length};

@@ -5,7 +5,7 @@ ghost use Rattle.retro_base.specs.declared.refusal.Refusal.TheVariants.{OutOfMem
 ghost use Rattle.row_codec.specs.RowCode.{IsDecoded, AreFirstValues};
 
 use crate::value::first_value;
-use retro_base::{ROW_BYTES, Refusal, get_u64};
+use retro_base::{COLUMNS, ROW_BYTES, Refusal, get_u64};
 use std::alloc::Global;
 use values::{Row, Seq};
 
@@ -14,7 +14,7 @@ pub fn decode(alloc: Global, bytes: &[u8]) -> Result<Option<(u64, Row)>, Refusal
     ensures decoded { IfOk result (IsDecoded bytes.now) }
     ensures memory { IfErr result (λ why. why ≡ OutOfMemory) }
 {
-    if bytes.len() < 9 || bytes.len() > ROW_BYTES || bytes[8] == 0 || bytes[8] > 16 {
+    if bytes.len() < 9 || bytes.len() > ROW_BYTES || bytes[8] == 0 || bytes[8] > COLUMNS as u8 {
         return Ok(None);
     }
     let Some((row, end)) = first_values(alloc, &bytes[9..], usize::from(bytes[8]))? else {

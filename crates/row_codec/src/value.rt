@@ -5,9 +5,9 @@ ghost use Rattle.retro_base.specs.declared.refusal.Refusal.TheVariants.{OutOfMem
 ghost use Rattle.values.specs.Text.{IsPrintable};
 ghost use Rattle.row_codec.specs.RowCode.{IsFirstValue};
 
-use retro_base::{Refusal, VALUE_TEXT_BYTES, get_u64};
+use retro_base::{Refusal, get_u64};
 use std::alloc::Global;
-use values::{Seq, Text, Value};
+use values::{Seq, Text, Value, is_text};
 
 /// The byte before an integer.
 pub const INT: u8 = 1;
@@ -49,16 +49,9 @@ fn first_text(alloc: Global, bytes: &[u8]) -> Result<Option<(Value, usize)>, Ref
         return Ok(None);
     }
     let end = 2 + bytes[1] as usize;
-    if end > 2 + VALUE_TEXT_BYTES || end > bytes.len() || !is_printable(&bytes[2..end]) {
+    if end > bytes.len() || !is_text(&bytes[2..end]) {
         return Ok(None);
     }
     let text = Text::new(Seq::from(bytes[2..end].to_vec(alloc)?));
     Ok(Some((Value::Text(text), end)))
-}
-
-// Whether all bytes are printable ASCII.
-fn is_printable(bytes: &[u8]) -> bool
-    ensures { IsTrue result ↔ EachIndex bytes.now (λ k. IsPrintable (slice_index bytes.now k)) }
-{
-    bytes.iter().all(|byte| *byte >= 0x20 && *byte <= 0x7e)
 }

@@ -2,7 +2,8 @@
 
 ghost use Rattle.std.specs.Prelude.{◌≡◌, ◌≤◌, ◌++◌, ◌+◌, IfOk, OnOk, ℕ, length};
 ghost use Rattle.retro_base.specs.Gives.{Gives};
-ghost use Rattle.row_codec.specs.RowCode.{encoded, row_code, value_code, IsEncoded, IsRow, IsValue};
+ghost use Rattle.values.specs.Row.{row_bytes, value_bytes};
+ghost use Rattle.row_codec.specs.RowCode.{encoded, value_code, IsEncoded, IsRow, IsValue};
 
 use crate::value::{INT, TEXT};
 use retro_base::{ROW_BYTES, Refusal};
@@ -31,12 +32,11 @@ pub fn encode(alloc: Global, number: u64, row: &Row) -> Result<Vec<u8>, Refusal>
     Ok(bytes)
 }
 
-/// How many bytes the encoding of a row takes, whatever its number.
-#[tactic(auto, unfolding(retro_base::specs::Fields::field_bytes))]
+/// How many bytes the encoding of a row takes.
 pub fn encoded_length(row: &Row) -> usize
     requires some { 1 ≤ length row.now }
     requires few { length row.now ≤ 16 }
-    ensures length { (number : ℕ) → length (row_code number row.now) ≡ result }
+    ensures length { result ≡ row_bytes row.now }
     ensures lawful { IsRow row.now }
 {
     let mut bytes = 9;
@@ -47,9 +47,8 @@ pub fn encoded_length(row: &Row) -> usize
 }
 
 // How many bytes a value's encoding takes.
-#[tactic(auto, unfolding(retro_base::specs::Fields::field_bytes))]
 fn value_length(value: &Value) -> usize
-    ensures length { result ≡ length (value_code value.now) }
+    ensures length { result ≡ value_bytes value.now }
     ensures short { result ≤ 202 }
     ensures lawful { IsValue value.now }
 {

@@ -15,7 +15,8 @@ use Rattle.pager.specs.declared.stop.Stop.{Stop}
 use Rattle.pager.specs.declared.stop.Stop.TheVariants as stop
 use Rattle.relation.specs.declared.catalog.Catalog.{Catalog}
 use Rattle.relation.specs.declared.catalog.StoredTable.{StoredTable}
-use Rattle.relation.specs.Catalog.{HaveFewColumns, catalog, same_name, schema_of, table_named}
+use Rattle.relation.specs.Catalog.{HaveFewColumns, catalog, schema_of, table_named}
+use Rattle.values.specs.Name.{same_name}
 use Rattle.relation.proofs.Steps.{next_step}
 use Rattle.sql_exec.specs.declared.source.Source.{Source}
 use Rattle.sql_exec.specs.Asking.{answered, answered_beside, asked_of, opened, over_two, source_at}

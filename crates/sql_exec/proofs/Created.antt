@@ -3,7 +3,7 @@ use Rattle.std.proofs.Common.{◌≡◌, ◌≢◌, ◌∙◌, ◌≤◌, ◌||�
 use Rattle.std.specs.List.{AllByRecursion}
 use Rattle.std.proofs.lemmas.List.{map-append}
 use Rattle.retro_base.specs.declared.refusal.Refusal.{Refusal}
-use Rattle.sql_tree.specs.Name.{IsName}
+use Rattle.values.specs.Name.{IsName, same_name}
 use Rattle.sql_tree.specs.declared.schema.IndexSchema.{IndexSchema}
 use Rattle.sql_tree.specs.declared.schema.TableSchema.{TableSchema}
 use Rattle.sql_tree.specs.declared.statement.Column.{Column}
@@ -17,7 +17,6 @@ use Rattle.tables.specs.Tables.{Tables, with_table}
 use Rattle.pager.specs.Allows.{◌>>=◌, only}
 use Rattle.pager.specs.Pages.{Pages}
 use Rattle.heap_file.proofs.Ones.{differ}
-use Rattle.relation.specs.Catalog.{same_name}
 use Rattle.relation.specs.Work.{created}
 use Rattle.relation_laws.specs.Laws.{AreTableColumns, IsNewName, IsStoreOf, empty_table, with_new, without_contents}
 use Rattle.relation_laws.specs.Tables.{AreDifferent, PlainTable, PlainTables}

@@ -11,11 +11,12 @@ use Rattle.sql_tree.specs.declared.schema.TableSchema.{TableSchema}
 use Rattle.sql_tree.specs.declared.statement.Column.{Column}
 use Rattle.sql_tree.specs.declared.statement.Delete.{Delete as DeleteRecord}
 use Rattle.sql_tree.specs.declared.statement.Update.{Update as UpdateRecord}
-use Rattle.sql_check.specs.Rows.{fits}
+use Rattle.sql_tree.specs.Rows.{fits}
 use Rattle.sql_select.specs.Rows.{holds_at}
 use Rattle.tables.specs.declared.contents.NumberedRow.{NumberedRow}
 use Rattle.tables.specs.Meaning.{assigned, check_lengths, remaining_row, reworked, set_row, updated_row}
-use Rattle.tables.specs.Rows.{row_bytes, rows_of}
+use Rattle.tables.specs.Rows.{rows_of}
+use Rattle.values.specs.Row.{row_bytes}
 use Rattle.tables.specs.Tables.{AllFit}
 use Rattle.heap_file.specs.declared.chain.Placed.{Placed}
 use Rattle.sql_exec.specs.Planning.{counted, picked, row_changes, row_numbers, under_numbers}

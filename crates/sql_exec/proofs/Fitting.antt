@@ -14,14 +14,15 @@ use Rattle.sql_tree.specs.declared.statement.Statement.TheVariants.{Insert, Upda
 use Rattle.sql_tree.specs.declared.statement.Update.{Update as UpdateRecord}
 use Rattle.sql_check.specs.Check.{checked, finds, first_refusal, has_unknown_name, has_wrong_type, lacks, takes_taken_name, update_has_unknown, update_is_mistyped}
 use Rattle.sql_check.specs.Names.{is_reserved, stored_table, table_named as named_in}
-use Rattle.sql_check.specs.Rows.{fits, same_kind}
+use Rattle.sql_tree.specs.Rows.{same_kind, fits}
 use Rattle.tables.specs.Rows.{rows_of}
 use Rattle.tables.specs.Tables.{AllFit}
 use Rattle.heap_file.specs.declared.chain.Placed.{Placed}
 use Rattle.relation.specs.declared.catalog.Catalog.{Catalog}
 use Rattle.relation.specs.declared.catalog.StoredTable.{StoredTable}
-use Rattle.relation.specs.Catalog.{same_name, schema_of, table_named}
-use Rattle.relation.specs.Work.{AllFit as AllFitStored, fits as fits_stored, same_kind as same_stored}
+use Rattle.relation.specs.Catalog.{schema_of, table_named}
+use Rattle.values.specs.Name.{same_name}
+use Rattle.relation.specs.Work.{AllPlacedFit}
 use Rattle.relation_laws.specs.Tables.{numbered_row}
 use Rattle.sql_exec.specs.Asking.{schema_at}
 use Rattle.sql_exec.specs.Running.{IsOfWidth, numbered_at}
@@ -81,32 +82,18 @@ both-true : (a b : Bool) → a && b ≡ true → (a ≡ true) × (b ≡ true)
 both-true true b e = (refl, e)
 both-true false b e = no-row e
 
--- a row that fits is as long as the columns, and fits as the pages keep rows
+-- a row that fits is as long as the columns
 pub fits-long : (columns : List Column) (row : List Value) → fits columns row ≡ true → length row ≡ length columns
 fits-long [] [] e = refl
 fits-long [] (value ∷ row) e = no-row e
 fits-long (column ∷ columns) [] e = no-row e
 fits-long (column ∷ columns) (value ∷ row) e = omega (arith, fits-long columns row (both-true (same_kind column.kind (kind_of value)) (fits columns row) e).1)
 
-kinds-same : (a b : Kind) → same_kind a b ≡ same_stored a b
-kinds-same kind.Int kind.Int = refl
-kinds-same kind.Int kind.Text = refl
-kinds-same kind.Text kind.Int = refl
-kinds-same kind.Text kind.Text = refl
-
-pub fits-same : (columns : List Column) (row : List Value) → fits columns row ≡ fits_stored columns row
-fits-same [] [] = refl
-fits-same [] (value ∷ row) = refl
-fits-same (column ∷ columns) [] = refl
-fits-same (column ∷ columns) (value ∷ row) =
-    ap (λ (b : Bool). b && fits columns row) (kinds-same column.kind (kind_of value))
-    ∙ ap (λ (b : Bool). same_stored column.kind (kind_of value) && b) (fits-same columns row)
-
-pub each-fits : (columns : List Column) (rows : List (List Value)) → list_all (fits columns) rows ≡ true → AllByRecursion (λ (row : List Value). fits_stored columns row ≡ true) rows
+pub each-fits : (columns : List Column) (rows : List (List Value)) → list_all (fits columns) rows ≡ true → AllByRecursion (λ (row : List Value). fits columns row ≡ true) rows
 each-fits columns [] e = tt
 each-fits columns (row ∷ rows) e =
     let both = both-true (fits columns row) (list_all (fits columns) rows) e in
-    (sym (fits-same columns row) ∙ both.0, each-fits columns rows both.1)
+    (both.0, each-fits columns rows both.1)
 
 pub each-wide : (columns : List Column) (rows : List (List Value)) → length columns ≤ 16 → AllByRecursion (λ (row : List Value). 1 ≤ length row) rows → list_all (fits columns) rows ≡ true → AllByRecursion IsOfWidth rows
 each-wide columns [] few some e = tt
@@ -136,15 +123,11 @@ wide-each columns (row ∷ rows) some few fit =
     let long = fits-long columns row fit.0 in
     ((omega (arith, long, some), omega (arith, long, few)), wide-each columns rows some few fit.1)
 
-pub stored-each : (columns : List Column) (rows : List (List Value)) → AllFit columns rows → AllByRecursion (λ (row : List Value). fits_stored columns row ≡ true) rows
-stored-each columns [] fit = tt
-stored-each columns (row ∷ rows) fit = (sym (fits-same columns row) ∙ fit.0, stored-each columns rows fit.1)
-
 -- rows that fit as the pages keep them, under their numbers
-pub read-fit : (columns : List Column) (rows : List Placed) → AllFitStored columns rows → AllFit columns (rows_of (map numbered_at rows))
+pub read-fit : (columns : List Column) (rows : List Placed) → AllPlacedFit columns rows → AllFit columns (rows_of (map numbered_at rows))
 read-fit columns [] fit = tt
-read-fit columns (row ∷ rows) fit = (fits-same columns row.row ∙ fit.0, read-fit columns rows fit.1)
+read-fit columns (row ∷ rows) fit = (fit.0, read-fit columns rows fit.1)
 
-pub fit-read : (columns : List Column) (rows : List Placed) → AllByRecursion (λ (row : ℕ × List Value). fits_stored columns row.1 ≡ true) (map numbered_row rows) → AllFitStored columns rows
+pub fit-read : (columns : List Column) (rows : List Placed) → AllByRecursion (λ (row : ℕ × List Value). fits columns row.1 ≡ true) (map numbered_row rows) → AllPlacedFit columns rows
 fit-read columns [] fit = tt
 fit-read columns (row ∷ rows) fit = (fit.0, fit-read columns rows fit.1)

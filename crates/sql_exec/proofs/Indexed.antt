@@ -4,7 +4,7 @@ use Rattle.std.specs.Cmp.Lexicographic.{pointwise}
 use Rattle.std.specs.List.{Contains, find}
 use Rattle.std.specs.Prelude.{◌==◌}
 use Rattle.retro_base.specs.declared.refusal.Refusal.{Refusal}
-use Rattle.sql_tree.specs.Name.{IsName}
+use Rattle.values.specs.Name.{IsName, same_name}
 use Rattle.sql_tree.specs.Scope.{column_place}
 use Rattle.sql_tree.specs.declared.schema.Schema.{Schema}
 use Rattle.sql_tree.specs.declared.schema.TableSchema.{TableSchema}
@@ -21,8 +21,8 @@ use Rattle.pager.specs.Pages.{Pages}
 use Rattle.heap_file.proofs.Ones.{differ}
 use Rattle.relation.specs.declared.catalog.Catalog.{Catalog}
 use Rattle.relation.specs.declared.catalog.StoredTable.{StoredTable}
-use Rattle.relation.specs.Catalog.{same_name, schema_of, table_named}
-use Rattle.relation.specs.Work.{index_added, known as known_stored, table_in}
+use Rattle.relation.specs.Catalog.{schema_of, table_named}
+use Rattle.relation.specs.Work.{index_added, or_broken, table_in}
 use Rattle.relation.proofs.Steps.{next_step}
 use Rattle.relation_laws.specs.Laws.{HasColumn, IsStoreOf, with_index}
 use Rattle.relation_laws.specs.Tables.{PlainTables}
@@ -104,8 +104,8 @@ module _ (size : ℕ) (pages : Pages) (all : PlainTables) (is : IsStoreOf size p
         let column : HasColumn create.column here.table = subst (λ (columns : List Column). Contains (map (λ (column : Column). column.name) columns) create.column) (sym here.shows.columns) has-column in
         work_law.single size pages all (Indexes create.index create.table create.column) b is
         (new-name all create.index named pass.1, (here.table, here.has, here.is_name, column))
-        (next_step (table_in size pages create.table) (λ (t : StoredTable). only (known_stored (column_place create.column t.columns)) >>= (λ (place : ℕ). index_added size create.index create.table place pages)) here.found (table-by-name size pages all is create.table here) b
-        (next_step (only (known_stored (column_place create.column here.found.columns))) (λ (place : ℕ). index_added size create.index create.table place pages) at_column.place (ap (λ (p : Option ℕ). known_stored p) (place-found create.column here.found.columns at_column)) b
+        (next_step (table_in size pages create.table) (λ (t : StoredTable). only (or_broken (column_place create.column t.columns)) >>= (λ (place : ℕ). index_added size create.index create.table place pages)) here.found (table-by-name size pages all is create.table here) b
+        (next_step (only (or_broken (column_place create.column here.found.columns))) (λ (place : ℕ). index_added size create.index create.table place pages) at_column.place (ap (λ (p : Option ℕ). or_broken p) (place-found create.column here.found.columns at_column)) b
         (subst (λ (name : List ℕ). index_added size create.index name at_column.place pages b) (sym here.shows.name ∙ here.is_name) h)))
 
     added-law : IsName create.index → (b : Result (Reply × Pages) Refusal) → (index_added size create.index here.found.name at_column.place pages >>= (λ (done : Unit {0} × Pages). only (Ok (Plain, done.1)))) b → IsRun size (CreateIndex create) snapshot pages (plain all) b

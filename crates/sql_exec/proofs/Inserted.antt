@@ -14,7 +14,7 @@ use Rattle.sql_tree.specs.declared.statement.Column.{Column}
 use Rattle.sql_tree.specs.declared.statement.Insert.{Insert as InsertRecord}
 use Rattle.sql_tree.specs.declared.statement.Statement.TheVariants.{Insert}
 use Rattle.sql_check.specs.Check.{checked}
-use Rattle.sql_check.specs.Rows.{fits}
+use Rattle.sql_tree.specs.Rows.{fits}
 use Rattle.tables.specs.declared.contents.Contents.{Contents}
 use Rattle.tables.specs.declared.contents.NumberedRow.{NumberedRow}
 use Rattle.tables.specs.declared.reply.Reply.{Reply}
@@ -30,7 +30,7 @@ use Rattle.heap_laws.specs.Table.{IsStorable}
 use Rattle.relation.specs.declared.catalog.Catalog.{Catalog}
 use Rattle.relation.specs.declared.catalog.StoredTable.{StoredTable}
 use Rattle.relation.specs.Catalog.{table_named}
-use Rattle.relation.specs.Work.{all_added, fits as fits_stored, known as known_stored, table_in}
+use Rattle.relation.specs.Work.{all_added, or_broken, table_in}
 use Rattle.relation.proofs.Steps.{next_step}
 use Rattle.relation_laws.specs.Laws.{IsRowFor, IsStoreOf, with_rows}
 use Rattle.relation_laws.specs.Tables.{PlainTable, PlainTables, numbered as numbered_pairs}
@@ -60,7 +60,7 @@ table-there found name table f is b h =
 
 -- the catalog finds the table by its name
 pub table-by-name : (size : ℕ) (pages : Pages) (all : PlainTables) (is : IsStoreOf size pages all) (name : List ℕ) (here : Here size pages name is.store.found.tables all.tables) → table_in size pages name (Ok here.found)
-table-by-name size pages all is name here = (is.store.found, read-here size pages is.store, ap (λ (t : Option StoredTable). known_stored t) here.named)
+table-by-name size pages all is name here = (is.store.found, read-here size pages is.store, ap (λ (t : Option StoredTable). or_broken t) here.named)
 
 -- the rows of an insert, as pages and as tables number them
 numbered-same : (next : ℕ) (rows : List (List Value)) → map row_under (numbered_pairs next rows) ≡ numbered next rows
@@ -74,7 +74,7 @@ with-rows-same table rows =
     the_contents : List NumberedRow → Contents
     the_contents l = record { next = table.next_number + length rows; rows = l }
 
-rows-for : (table : PlainTable) (rows : List (List Value)) → AllByRecursion IsStorable rows → AllByRecursion (λ (row : List Value). fits_stored table.columns row ≡ true) rows → AllByRecursion (IsRowFor table) rows
+rows-for : (table : PlainTable) (rows : List (List Value)) → AllByRecursion IsStorable rows → AllByRecursion (λ (row : List Value). fits table.columns row ≡ true) rows → AllByRecursion (IsRowFor table) rows
 rows-for table [] storable fit = tt
 rows-for table (row ∷ rows) storable fit = ((storable.0, fit.0), rows-for table rows storable.1 fit.1)
 
@@ -88,7 +88,7 @@ module _ (size : ℕ) (pages : Pages) (all : PlainTables) (is : IsStoreOf size p
   rows-are here short lawful =
       let fit : list_all (fits here.found.columns) insert.tuples ≡ true = tuples-fit is.store.found insert snapshot here.found here.named (ap (λ (s : Schema). checked (Insert insert) snapshot s) (schema-same size pages all is) ∙ passes) in
       rows-for here.table insert.tuples (storable-each insert.tuples lawful (passed-each insert.tuples short))
-      (subst (λ (columns : List Column). AllByRecursion (λ (row : List Value). fits_stored columns row ≡ true) insert.tuples) (sym here.shows.columns) (each-fits here.found.columns insert.tuples fit))
+      (subst (λ (columns : List Column). AllByRecursion (λ (row : List Value). fits columns row ≡ true) insert.tuples) (sym here.shows.columns) (each-fits here.found.columns insert.tuples fit))
 
   -- its work on the pages
   worked-as : (here : Here size pages insert.table is.store.found.tables all.tables) → here.table.next_number + length insert.tuples ≤ 2 ^ 64 - 1 → check_lengths insert.tuples ≡ Ok tt → AllByRecursion IsRow insert.tuples

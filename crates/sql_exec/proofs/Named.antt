@@ -13,7 +13,8 @@ use Rattle.tables.specs.Tables.{Found, place_named, with_contents, table_named a
 use Rattle.pager.specs.Pages.{Pages}
 use Rattle.heap_file.specs.declared.chain.Placed.{Placed}
 use Rattle.relation.specs.declared.catalog.StoredTable.{StoredTable}
-use Rattle.relation.specs.Catalog.{schema_of, same_name, table_named}
+use Rattle.relation.specs.Catalog.{schema_of, table_named}
+use Rattle.values.specs.Name.{same_name}
 use Rattle.relation_laws.specs.Laws.{IsStoreOf, without_contents}
 use Rattle.relation_laws.specs.Tables.{AreDifferent, PlainTable, PlainTables, Shows, names_of, numbered_row}
 use Rattle.relation_laws.specs.Work.{where_named}

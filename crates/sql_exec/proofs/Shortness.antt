@@ -14,7 +14,8 @@ use Rattle.retro_base.proofs.FieldLaws.{length-field_bytes}
 use Rattle.retro_base.specs.declared.refusal.Refusal.TheVariants.{RowTooLong}
 use Rattle.values.specs.declared.value.Value.{Value}
 use Rattle.values.specs.declared.value.Value.TheVariants.{Int, Text}
-use Rattle.row_codec.specs.RowCode.{IsRow, IsValue, row_code, value_code}
+use Rattle.row_codec.specs.RowCode.{IsRow, IsValue}
+use Rattle.row_codec.proofs.Codes.{row_size}
 use Rattle.pager.specs.Pages.{Pages}
 use Rattle.heap_file.specs.declared.chain.Link.{Link}
 use Rattle.heap_file.specs.declared.chain.Placed.{Placed}
@@ -24,21 +25,8 @@ use Rattle.heap_file.specs.HeapPage.{IsEntry, IsShort}
 use Rattle.heap_laws.proofs.Stores.{all-join}
 use Rattle.heap_laws.specs.Table.{IsStorable}
 use Rattle.tables.specs.Meaning.{check_lengths}
-use Rattle.tables.specs.Rows.{row_bytes, value_bytes}
+use Rattle.values.specs.Row.{value_bytes, row_bytes}
 use Rattle.sql_exec.specs.Running.{IsOfWidth, values_of}
-
-value-same : (value : Value) → length (value_code value) ≡ value_bytes value
-value-same (Int n) = omega (arith, length-field_bytes 8 (cast_unsigned w64 n))
-value-same (Text t) = omega arith
-
-values-same : (row : List Value) → sum_by (λ (value : Value). length (value_code value)) row ≡ sum_by value_bytes row
-values-same [] = refl
-values-same (value ∷ row) = omega (arith, sum_by-cons (λ (value : Value). length (value_code value)) value row, sum_by-cons value_bytes value row, value-same value, values-same row)
-
--- the encoding of a row is as long as the tables count it
-pub row-same : (number : ℕ) (row : List Value) → length (row_code number row) ≡ row_bytes row
-row-same number row =
-    omega (arith, length-append (field_bytes 8 number) (length row ∷ flat_map value_code row), length-field_bytes 8 number, length-flat_map value_code row, values-same row)
 
 value-bound : (value : Value) → IsValue value → value_bytes value ≤ 202
 value-bound (Int n) is = omega arith
@@ -68,11 +56,11 @@ passed-each (row ∷ rows) passes = go (nat_le (row_bytes row) 900) refl (passed
 
 pub short-each : (rows : List (List Value)) → AllByRecursion IsOfWidth rows → AllByRecursion (λ (row : List Value). row_bytes row ≤ 900) rows → AllByRecursion IsShort rows
 short-each [] wide short = tt
-short-each (row ∷ rows) wide short = (record { some = wide.0.0; few = wide.0.1; short = omega (arith, row-same 0 row, short.0) }, short-each rows wide.1 short.1)
+short-each (row ∷ rows) wide short = (record { some = wide.0.0; few = wide.0.1; short = short.0 }, short-each rows wide.1 short.1)
 
 pub storable-each : (rows : List (List Value)) → AllByRecursion IsRow rows → AllByRecursion (λ (row : List Value). row_bytes row ≤ 900) rows → AllByRecursion IsStorable rows
 storable-each [] lawful short = tt
-storable-each (row ∷ rows) lawful short = (record { fits = omega arith; lawful = lawful.0; code = refl; short = omega (arith, row-same 0 row, short.0) }, storable-each rows lawful.1 short.1)
+storable-each (row ∷ rows) lawful short = (record { fits = omega arith; lawful = lawful.0; code = refl; short = omega (arith, row_size 0 row, short.0) }, storable-each rows lawful.1 short.1)
 
 -- one item more of which it holds
 all-push : {A : Type 0} (P : A → Type 0) (xs : List A) (x : A) → AllByRecursion P xs → P x → AllByRecursion P (xs ++ x ∷ [])
@@ -85,7 +73,7 @@ all-next P xs i x lt is all one = rw (take_more xs i x lt, ← is) (all-push P (
 -- stored rows are short
 entries-short : (page : ℕ) (entries : List Entry) → AllByRecursion IsEntry entries → AllByRecursion (λ (placed : Placed). row_bytes placed.row ≤ 900) (map (λ (entry : Entry). record { number = entry.number; page = page; row = entry.row }) entries)
 entries-short page [] all = tt
-entries-short page (entry ∷ entries) all = (omega (arith, row-same entry.number entry.row, all.0.short), entries-short page entries all.1)
+entries-short page (entry ∷ entries) all = (omega (arith, row_size entry.number entry.row, all.0.short), entries-short page entries all.1)
 
 links-short : (size : ℕ) (pages : Pages) (from to : ℕ) (links : List Link) → Leads size pages from links to → AllByRecursion (λ (placed : Placed). row_bytes placed.row ≤ 900) (chain_rows links)
 links-short size pages from to [] leads = tt

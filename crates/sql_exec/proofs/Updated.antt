@@ -27,7 +27,8 @@ use Rattle.heap_laws.specs.Table.{IsStorable}
 use Rattle.relation.specs.declared.catalog.Catalog.{Catalog}
 use Rattle.relation.specs.declared.catalog.StoredTable.{StoredTable}
 use Rattle.relation.specs.Catalog.{HaveFewColumns, schema_of, table_named}
-use Rattle.relation.specs.Work.{AllFit as AllFitStored, all_changed, fits as fits_stored, page_of, row_changed, rows_at, table_in}
+use Rattle.relation.specs.Work.{AllPlacedFit, all_changed, page_of, row_changed, rows_at, table_in}
+use Rattle.sql_tree.specs.Rows.{fits}
 use Rattle.relation.specs.Each.{in_turn}
 use Rattle.relation.proofs.Steps.{next_step}
 use Rattle.relation_laws.specs.Laws.{AreChangesOf, IsRowFor, IsStoreOf, changed_to, with_changes}
@@ -47,7 +48,7 @@ use Rattle.sql_exec.proofs.Answering.{few-named}
 use Rattle.sql_exec.proofs.Choosing.{changed-chosen, chosen-all, chosen-differ, chosen_value, map-chosen, number_of, with_value}
 use Rattle.sql_exec.proofs.Deciding.{Sets, SetsNot, after_at, hits, lengths-same, set-all, set-fit, set_at, value}
 use Rattle.sql_exec.proofs.Deleted.{all-numbers, each-number, each-placed, numbers-differ}
-use Rattle.sql_exec.proofs.Fitting.{fit-read, read-fit, stored-each, update-right, wide-each}
+use Rattle.sql_exec.proofs.Fitting.{fit-read, read-fit, update-right, wide-each}
 use Rattle.sql_exec.proofs.Inserted.{table-by-name, table-missing, table-there}
 use Rattle.sql_exec.proofs.Meaning.{does-passed, performed-unknown, updated-err, updated-long, updated-ok, work-updates}
 use Rattle.sql_exec.proofs.Named.{Here, Missing, by-name-here, found_as, found-plain, missing-plain, rows-under, schema-same, set-plain, single-of}
@@ -55,7 +56,7 @@ use Rattle.sql_exec.proofs.Shortness.{passed-each, rows-short, storable-each}
 use Rattle.sql_exec.proofs.Steps.{ends-there}
 
 -- changed rows fit, over any rows that fit
-pub changes-fit : (found : Catalog) (update : UpdateRecord) (snapshot : Option ℕ) (table : StoredTable) (rows : List Placed) → table_named update.table found.tables ≡ Some table → checked (Update update) snapshot (schema_of found) ≡ Ok tt → AllFitStored table.columns rows → Sets (schema_at table) snapshot update rows
+pub changes-fit : (found : Catalog) (update : UpdateRecord) (snapshot : Option ℕ) (table : StoredTable) (rows : List Placed) → table_named update.table found.tables ≡ Some table → checked (Update update) snapshot (schema_of found) ≡ Ok tt → AllPlacedFit table.columns rows → Sets (schema_at table) snapshot update rows
     → AllFit table.columns (values_of (map (set_at (schema_at table) snapshot update) (filter (hits (schema_at table) snapshot update) rows)))
 changes-fit found update snapshot table rows is passes fit sets =
     let right = update-right found update snapshot table is passes in
@@ -63,7 +64,7 @@ changes-fit found update snapshot table rows is passes fit sets =
     (reworked_fit (schema_at table) snapshot update (map numbered_at rows) (map (after_at (schema_at table) snapshot update) rows, length (map (set_at (schema_at table) snapshot update) (filter (hits (schema_at table) snapshot update) rows))) (read-fit table.columns rows fit) right.0 right.1 sets.after)
 
 -- and have one to sixteen values
-pub changes-wide : (found : Catalog) (update : UpdateRecord) (snapshot : Option ℕ) (table : StoredTable) (schema : TableSchema) (rows changes : List Placed) → HaveFewColumns found.tables → table_named update.table found.tables ≡ Some table → schema ≡ schema_at table → checked (Update update) snapshot (schema_of found) ≡ Ok tt → AllFitStored table.columns rows → picked (placed_changes schema snapshot update) rows ≡ Ok changes
+pub changes-wide : (found : Catalog) (update : UpdateRecord) (snapshot : Option ℕ) (table : StoredTable) (schema : TableSchema) (rows changes : List Placed) → HaveFewColumns found.tables → table_named update.table found.tables ≡ Some table → schema ≡ schema_at table → checked (Update update) snapshot (schema_of found) ≡ Ok tt → AllPlacedFit table.columns rows → picked (placed_changes schema snapshot update) rows ≡ Ok changes
     → AllByRecursion IsOfWidth (values_of changes)
 changes-wide found update snapshot table schema rows changes few is of_table passes fit told = go (set-all (schema_at table) snapshot update rows)
   where
@@ -87,7 +88,7 @@ pairs-same : (schema : TableSchema) (snapshot : Option ℕ) (update : UpdateReco
 pairs-same schema snapshot update [] = refl
 pairs-same schema snapshot update (row ∷ rows) = ap (λ (l : List (ℕ × List Value)). (row.number, value schema snapshot update row) ∷ l) (pairs-same schema snapshot update rows)
 
-rows-for : (schema : TableSchema) (snapshot : Option ℕ) (update : UpdateRecord) (table : PlainTable) (rows : List Placed) → AllByRecursion IsStorable (values_of (map (set_at schema snapshot update) rows)) → AllByRecursion (λ (row : List Value). fits_stored table.columns row ≡ true) (values_of (map (set_at schema snapshot update) rows)) → AllByRecursion (λ (change : ℕ × List Value). IsRowFor table change.1) (map (with_value (value schema snapshot update)) rows)
+rows-for : (schema : TableSchema) (snapshot : Option ℕ) (update : UpdateRecord) (table : PlainTable) (rows : List Placed) → AllByRecursion IsStorable (values_of (map (set_at schema snapshot update) rows)) → AllByRecursion (λ (row : List Value). fits table.columns row ≡ true) (values_of (map (set_at schema snapshot update) rows)) → AllByRecursion (λ (change : ℕ × List Value). IsRowFor table change.1) (map (with_value (value schema snapshot update)) rows)
 rows-for schema snapshot update table [] storable fit = tt
 rows-for schema snapshot update table (row ∷ rows) storable fit = ((storable.0, fit.0), rows-for schema snapshot update table rows storable.1 fit.1)
 
@@ -122,7 +123,7 @@ module _ (size : ℕ) (pages : Pages) (all : PlainTables) (is : IsStoreOf size p
 
     fitting : AllFit here.found.columns (values_of changed)
     fitting = changes-fit is.store.found update snapshot here.found here.shows.placed here.named (ap (λ (s : Schema). checked (Update update) snapshot s) (schema-same size pages all is) ∙ passes)
-        (fit-read here.found.columns here.shows.placed (subst (λ (rows : List (ℕ × List Value)). AllByRecursion (λ (row : ℕ × List Value). fits_stored here.found.columns row.1 ≡ true) rows) here.shows.rows (subst (λ (columns : List Column). AllByRecursion (λ (row : ℕ × List Value). fits_stored columns row.1 ≡ true) here.table.rows) here.shows.columns here.shows.fitting))) sets
+        (fit-read here.found.columns here.shows.placed (subst (λ (rows : List (ℕ × List Value)). AllByRecursion (λ (row : ℕ × List Value). fits here.found.columns row.1 ≡ true) rows) here.shows.rows (subst (λ (columns : List Column). AllByRecursion (λ (row : ℕ × List Value). fits columns row.1 ≡ true) here.table.rows) here.shows.columns here.shows.fitting))) sets
 
     allowed : check_lengths (values_of changed) ≡ Ok tt → AllByRecursion IsRow (values_of changed) → AreChangesOf here.table pairs
     allowed short lawful = (
@@ -132,7 +133,7 @@ module _ (size : ℕ) (pages : Pages) (all : PlainTables) (is : IsStoreOf size p
         subst AreDifferent (numbers-same (schema_at here.found) snapshot update (filter (hits (schema_at here.found) snapshot update) here.shows.placed)) (chosen-differ (hits (schema_at here.found) snapshot update) here.shows.placed (numbers-differ size pages all is update.table here)),
       ),
       rows-for (schema_at here.found) snapshot update here.table (filter (hits (schema_at here.found) snapshot update) here.shows.placed) (storable-each (values_of changed) lawful (passed-each (values_of changed) short))
-          (subst (λ (columns : List Column). AllByRecursion (λ (row : List Value). fits_stored columns row ≡ true) (values_of changed)) (sym here.shows.columns) (stored-each here.found.columns (values_of changed) fitting)),
+          (subst (λ (columns : List Column). AllByRecursion (λ (row : List Value). fits columns row ≡ true) (values_of changed)) (sym here.shows.columns) fitting),
     )
 
     worked-as : check_lengths (values_of changed) ≡ Ok tt → AllByRecursion IsRow (values_of changed) → (b : Result (Unit {0} × Pages) Refusal) → all_changed size here.found.first changed pages b → IsWorked size pages all (Changes update.table pairs) b

@@ -10,9 +10,9 @@ ghost use Rattle.sql_exec.specs.Promises.{Reads};
 use pager::{Pager, Stop};
 use relation::{Catalog, Placed, StoredTable, rows};
 use retro_base::Refusal;
-use sql_tree::{Name, TableSchema};
+use sql_tree::TableSchema;
 use std::alloc::{AllocError, Global};
-use values::{Duplicate, Row, Seq};
+use values::{Duplicate, Name, Row, Seq};
 
 /// The columns of a table, and its rows.
 #[derive(Drop)]

@@ -1,10 +1,11 @@
 use Rattle.std.proofs.Common.{◌≡◌, ◌≢◌, ◌∙◌, ◌++◌, ◌∷◌, [], true, false, eqb, ap, sym, subst, inl, inr}
-use Rattle.std.proofs.lemmas.Bool.{eq-eqb, ne_eqb, leb-true}
+use Rattle.std.proofs.lemmas.Bool.{eq-eqb, ne_eqb}
 use Rattle.std.proofs.lemmas.Result.{err_from_is_err_and}
 use Rattle.pager.specs.Draft.{drafted}
 use Rattle.pager.specs.Pages.{Pages, broken}
 use Rattle.heap_file.specs.Chain.{IsAt}
-use Rattle.heap_file.specs.Work.{appended, fits, leaving_head, lengthened}
+use Rattle.heap_file.specs.Work.{appended, leaving_head, lengthened}
+use Rattle.heap_file.specs.HeapPage.{have_room}
 use Rattle.heap_file.proofs.Heads.{at-other, ended, fitted, head_on, long}
 use Rattle.heap_file.proofs.Packing.{entry_is, pushed_fits}
 use Rattle.heap_file.proofs.Ways.{allowed_stop, allowed_on}
@@ -15,7 +16,7 @@ lengthen-requires-clause-entry g c = entry_is c.args.entry c.requires.number c.h
 
 pub store-requires-clause-held : goal.store-requires-clause-held
 store-requires-clause-held g c =
-    let room = leb-true _ _ (rw c.as_slice.ensures at (sym c.has_room.ensures.room ∙ c.if-not-has_room.false)) in
+    let room = rw c.as_slice.ensures at (sym c.has_room.ensures.room ∙ c.if-not-has_room.false) in
     rw c.in_ok-push.ensures.ok (pushed_fits c.in_ok-tail.tail c.args.entry c.in_ok-tail.ensures.lawful (entry_is c.args.entry c.requires.number c.has_room.ensures.row c.requires.entry) room)
 
 pub returns-in_err-tail-clause-appended : goal.returns-in_err-tail-clause-appended
@@ -39,7 +40,7 @@ returns-then-not-has_room-clause-appended g c = λ base shown told.
     let tail = c.in_ok-tail.tail in
     let at_last = c.in_ok-tail.ensures.read base shown (c.lengthen.ensures.only_reads.narrows base shown told) in
     let end : eqb 0 tail.next ≡ true = eq-eqb 0 tail.next (sym c.if-tail-ne0.false) in
-    let room : fits (tail.entries ++ c.args.entry ∷ []) ≡ false = rw c.as_slice.ensures at (sym c.has_room.ensures.room ∙ c.if-not-has_room.true) in
+    let room : have_room (tail.entries ++ c.args.entry ∷ []) ≡ false = rw c.as_slice.ensures at (sym c.has_room.ensures.room ∙ c.if-not-has_room.true) in
     allowed_on (λ placed. (placed, drafted shown c.lengthen.new.draft.list)) (leaving_head size pages c.args.head (lengthened size pages first last tail c.args.entry)) (leaving_head size pages c.args.head (appended size pages first c.args.entry)) c.lengthen.result
     (λ a h at. head_on size first (lengthened size pages first last tail c.args.entry) (appended size pages first c.args.entry) a (long size pages first last c.args.entry c.args.head.held tail (sym c.last_page-last.ensures) at at_last end room) (h at))
     (c.lengthen.ensures.lengthened base shown told)
@@ -53,7 +54,7 @@ returns-clause-appended g c = λ base shown told at.
     let tail = c.in_ok-tail.tail in
     let at_last = c.in_ok-tail.ensures.read base shown told in
     let end : eqb 0 tail.next ≡ true = eq-eqb 0 tail.next (sym c.if-tail-ne0.false) in
-    let room : fits (tail.entries ++ c.args.entry ∷ []) ≡ true = rw c.as_slice.ensures at (sym c.has_room.ensures.room ∙ c.if-not-has_room.false) in
+    let room : have_room (tail.entries ++ c.args.entry ∷ []) ≡ true = rw c.as_slice.ensures at (sym c.has_room.ensures.room ∙ c.if-not-has_room.false) in
     let stored = rw c.in_ok-push.ensures.ok at (c.in_ok-store.ensures.drafted shown) in
     let differ : first ≢ last = λ e. c.if-last-first.false (sym e) in (
       fitted size pages (drafted shown c.store.new.draft.list) first last c.args.entry c.args.head.held tail (sym c.last_page-last.ensures) at at_last end room stored,

@@ -5,8 +5,8 @@ use Rattle.pager.specs.Draft.{drafted}
 use Rattle.pager.specs.Pages.{Pages, written}
 use Rattle.heap_file.specs.declared.page.Entry.{Entry}
 use Rattle.heap_file.specs.Chain.{IsAt}
-use Rattle.heap_file.specs.HeapPage.{IsNarrow, IsShort, page_bytes}
-use Rattle.heap_file.specs.Work.{appended, fits, without}
+use Rattle.heap_file.specs.HeapPage.{IsNarrow, IsShort, page_bytes, have_room}
+use Rattle.heap_file.specs.Work.{appended, without}
 use Rattle.heap_file.proofs.Heads.{at-own}
 use Rattle.heap_file.proofs.Packing.{entry_is}
 use Rattle.heap_file.proofs.Ways.{allowed_stop, appended_at, changed_moved}
@@ -33,7 +33,7 @@ returns-in_err-to-clause-changed g c = λ base shown told.
     let moved : Pages = written pages c.args.link.page (page_bytes (without held place)) in
     let is = rw c.as_slice.ensures at c.in-Some.ensures in
     let rest = c.without-rest.ensures.without in
-    let room : fits ((without held place).entries ++ entry ∷ []) ≡ false = rw (c.as_slice-2.ensures, rest, c.in_ok-row.ensures) at (sym c.has_room.ensures.room ∙ c.if-not-has_room.true) in
+    let room : have_room ((without held place).entries ++ entry ∷ []) ≡ false = rw (c.as_slice-2.ensures, rest, c.in_ok-row.ensures) at (sym c.has_room.ensures.room ∙ c.if-not-has_room.true) in
     let stored : drafted shown c.store.new.draft.list ≡ moved = rw rest at (c.in_ok-store.ensures.drafted shown) in
     rw (p.1, p.2)
     (allowed_stop c.in_err-to.field-0.0
@@ -52,7 +52,7 @@ returns-then-not-has_room-clause-changed g c = λ base shown told at.
     let moved : Pages = written pages c.args.link.page (page_bytes (without held place)) in
     let is = rw c.as_slice.ensures at c.in-Some.ensures in
     let rest = c.without-rest.ensures.without in
-    let room : fits ((without held place).entries ++ entry ∷ []) ≡ false = rw (c.as_slice-2.ensures, rest, c.in_ok-row.ensures) at (sym c.has_room.ensures.room ∙ c.if-not-has_room.true) in
+    let room : have_room ((without held place).entries ++ entry ∷ []) ≡ false = rw (c.as_slice-2.ensures, rest, c.in_ok-row.ensures) at (sym c.has_room.ensures.room ∙ c.if-not-has_room.true) in
     let stored : drafted shown c.store.new.draft.list ≡ moved = rw rest at (c.in_ok-store.ensures.drafted shown) in
     let answer = Ok (c.in_ok-to.to, drafted shown c.append.new.draft.list) in (
       changed_moved size pages c.args.first c.args.link.page place held entry at is room answer
@@ -71,7 +71,7 @@ returns-clause-changed g c = λ base shown told at.
     let now = c.in_ok-held.held in
     let is = rw c.as_slice.ensures at c.in-Some.ensures in
     let rest = c.without-rest.ensures.without in
-    let room : fits ((without held place).entries ++ entry ∷ []) ≡ true = rw (c.as_slice-2.ensures, rest, c.in_ok-row.ensures) at (sym c.has_room.ensures.room ∙ c.if-not-has_room.false) in
+    let room : have_room ((without held place).entries ++ entry ∷ []) ≡ true = rw (c.as_slice-2.ensures, rest, c.in_ok-row.ensures) at (sym c.has_room.ensures.room ∙ c.if-not-has_room.false) in
     let narrow : IsNarrow now = rw (c.in_ok-held.ensures.0, rest) (record { next = omega arith; next_number = omega arith; last = omega arith }) in
     let written_now = c.in_ok-store-2.ensures.drafted shown in
     let stored = rw (c.in_ok-held.ensures.0, rest, c.in_ok-row.ensures) at written_now in (

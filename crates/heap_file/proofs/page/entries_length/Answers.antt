@@ -1,4 +1,5 @@
 use Rattle.std.proofs.Common.{arith}
+use Rattle.std.proofs.lemmas.Bool.{leb-true}
 use Rattle.heap_file.proofs.Packing.{length-taken, short_among}
 use Rattle.heap_file.proofs.page.entries_length.Goals as goal
 
@@ -8,4 +9,4 @@ entry_length-length-requires c =
 
 pub overflow_add-length : goal.overflow_add-length
 overflow_add-length c =
-    omega (arith, c.loop-entry.invariant, length-taken c.args.entries.now c.loop-entry.entry-index, c.requires.fits, c.entry_length-length.ensures.short)
+    omega (arith, c.loop-entry.invariant, length-taken c.args.entries.now c.loop-entry.entry-index, leb-true _ _ c.requires.fits, c.entry_length-length.ensures.short)

@@ -1,4 +1,5 @@
 use Rattle.std.proofs.Common.{◌≡◌, ◌++◌, replicate, refl, arith}
+use Rattle.std.proofs.lemmas.Bool.{leb-true}
 use Rattle.retro_base.specs.Fields.{field_bytes}
 use Rattle.heap_file.specs.HeapPage.{entry_bytes, header}
 use Rattle.heap_file.proofs.Packing.{entries-few, behind_header}
@@ -6,7 +7,7 @@ use Rattle.heap_file.proofs.page.page_of.Goals as goal
 
 pub overflow_cast-len : goal.overflow_cast-len
 overflow_cast-len c =
-    let few = entries-few c.args.held.now.entries in omega (arith, c.requires.fits)
+    let few = entries-few c.args.held.now.entries in omega (arith, leb-true _ _ c.requires.fits)
 
 pub returns-clause-page : goal.returns-clause-page
 unfolding field_bytes

@@ -3,7 +3,8 @@ use Rattle.std.proofs.lemmas.List.{take_more}
 use Rattle.pager.specs.Allows.{only}
 use Rattle.heap_file.specs.declared.chain.Placed.{Placed}
 use Rattle.relation.specs.Each.{each}
-use Rattle.relation.specs.Work.{fits, fitting}
+use Rattle.relation.specs.Work.{fitting}
+use Rattle.sql_tree.specs.Rows.{fits}
 use Rattle.relation.proofs.Steps.{each-next, each-ended}
 use Rattle.relation.proofs.drafting.check_rows.Goals as goal
 

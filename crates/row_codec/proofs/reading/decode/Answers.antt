@@ -2,7 +2,7 @@ use Rattle.std.proofs.Common.{arith}
 use Rattle.std.proofs.lemmas.List.{take_rest}
 use Rattle.row_codec.proofs.Codes.{row_parts, not_values, whole_values, row_read}
 use Rattle.row_codec.proofs.reading.decode.Goals as goal
-use Rattle.row_codec.proofs.reading.decode.Goals.{then-bytes-lt9-via-then-bytes-lt9, then-bytes-lt9-via-else-bytes-lt9+then-bytes-gt-ROW_BYTES, then-bytes-lt9-via-else-bytes-lt9+else-bytes-gt-ROW_BYTES+then-bytes-eq0, then-bytes-lt9-via-else-bytes-lt9+else-bytes-gt-ROW_BYTES+else-bytes-eq0+then-bytes-gt16}
+use Rattle.row_codec.proofs.reading.decode.Goals.{then-bytes-lt9-via-then-bytes-lt9, then-bytes-lt9-via-else-bytes-lt9+then-bytes-gt-ROW_BYTES, then-bytes-lt9-via-else-bytes-lt9+else-bytes-gt-ROW_BYTES+then-bytes-eq0, then-bytes-lt9-via-else-bytes-lt9+else-bytes-gt-ROW_BYTES+else-bytes-eq0+then-bytes}
 
 pub returns-then-bytes-lt9-clause-decoded : goal.returns-then-bytes-lt9-clause-decoded
 returns-then-bytes-lt9-clause-decoded c = λ number row is.
@@ -13,7 +13,7 @@ returns-then-bytes-lt9-clause-decoded c = λ number row is.
       | then-bytes-lt9-via-then-bytes-lt9 w ↦ omega arith
       | then-bytes-lt9-via-else-bytes-lt9+then-bytes-gt-ROW_BYTES w ↦ omega (arith, is.short)
       | then-bytes-lt9-via-else-bytes-lt9+else-bytes-gt-ROW_BYTES+then-bytes-eq0 w ↦ omega (arith, parts.1)
-      | then-bytes-lt9-via-else-bytes-lt9+else-bytes-gt-ROW_BYTES+else-bytes-eq0+then-bytes-gt16 w ↦ omega (arith, parts.1)
+      | then-bytes-lt9-via-else-bytes-lt9+else-bytes-gt-ROW_BYTES+else-bytes-eq0+then-bytes w ↦ omega (arith, parts.1)
     ]
 
 pub returns-in_default-clause-decoded : goal.returns-in_default-clause-decoded

@@ -1,6 +1,6 @@
 use Rattle.std.proofs.Common.{take}
 use Rattle.std.specs.List.{AllByRecursion}
-use Rattle.sql_tree.specs.Name.{IsName}
+use Rattle.values.specs.Name.{IsName}
 use Rattle.sql_tree.specs.declared.statement.Column.{Column}
 use Rattle.sql_exec.proofs.making.read_names.Given as goal
 

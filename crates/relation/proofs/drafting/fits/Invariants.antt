@@ -1,6 +1,0 @@
-use Rattle.std.proofs.Common.{◌≡◌, drop}
-use Rattle.relation.specs.Work.{fits}
-use Rattle.relation.proofs.drafting.fits.Given as goal
-
-abbrev pub invariant-loop-i : goal.invariant-loop-i
-invariant-loop-i l = fits (drop l.i l.columns) (drop l.i l.row) ≡ fits l.columns l.row
