@@ -4,7 +4,7 @@ use Rattle.disk_model.specs.Disk.{Writes}
 use Rattle.disk_model.proofs.Written.{same_outside}
 use Rattle.disk_mem.specs.Disks.{stepped}
 use Rattle.disk_mem.specs.History.{Past, state_of}
-use Rattle.disk_mem.specs.declared.recording.Step.TheVariants.{Wrote}
+use Rattle.disk_mem.specs.declared.recording.Event.TheVariants.{Wrote}
 
 pub writes_stepped : {E : Type 0} (past new : Past) (place : ℕ) (bytes : List ℕ) → place + length bytes ≤ length (state_of past).seen → new ≡ stepped past (Wrote place bytes)
     → Writes {E = E} place bytes (state_of past) (state_of new) (Ok tt)

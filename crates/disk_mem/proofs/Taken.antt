@@ -6,10 +6,10 @@ use Rattle.std.proofs.lemmas.List.{get_or-take, get_or-drop, length-take-le, len
 use Rattle.disk_model.specs.Disk.{InRange, written}
 use Rattle.disk_model.proofs.Written.{length-written, inside, same_outside}
 use Rattle.disk_mem.specs.History.{FitsIn, IsLoose, TakenFrom}
-use Rattle.disk_mem.specs.declared.recording.Step.{Step}
+use Rattle.disk_mem.specs.declared.recording.Event.{Event}
 
 -- each byte that is loose after all the steps is taken, or loose after those that are left; the others are as they were
-pub record Taking (left : List ℕ) (all rest : List Step) (old new : List ℕ) : Type 0 where
+pub record Taking (left : List ℕ) (all rest : List Event) (old new : List ℕ) : Type 0 where
   pub size : length new ≡ length old
   pub within : AllByRecursion (FitsIn (length old)) rest
   pub among : (i : ℕ) → IsLoose rest i → IsLoose all i
@@ -43,7 +43,7 @@ module _ (place count : ℕ) (left mid : List ℕ) (same_size : length left ≡ 
   as_before i out = (same_outside place piece mid in_piece).kept i (λ within. out (within.0, omega (arith, within.1, length_piece)))
 
 -- the range of the newest of the steps that are left was taken
-pub takes_on : (left : List ℕ) (all rest later : List Step) (step : Step) (place count : ℕ) (old mid : List ℕ)
+pub takes_on : (left : List ℕ) (all rest later : List Event) (step : Event) (place count : ℕ) (old mid : List ℕ)
     → rest ≡ step ∷ later
     → length left ≡ length old
     → place + count ≤ length old
@@ -61,7 +61,7 @@ takes_on left all rest later step place count old mid split same_size fits withi
       (λ there. inl (from_left place count left mid same fit i there))
       (λ out. ⊎_elim
       (λ is. inl (as_before place count left mid same fit i out ∙ is))
-      (λ still. ⊎_elim (λ had. inr had) (λ there. absurd (out there)) (apart i (subst (λ (steps : List Step). IsLoose steps i) split still)))
+      (λ still. ⊎_elim (λ had. inr had) (λ there. absurd (out there)) (apart i (subst (λ (steps : List Event). IsLoose steps i) split still)))
       (run.taken i loose))
       (in_or_out place count i);
 }
@@ -73,13 +73,13 @@ takes_on left all rest later step place count old mid split same_size fits withi
     fit = omega (arith, fits, run.size)
 
     is_left : (i : ℕ) → IsLoose later i ⊎ InRange place count i → IsLoose rest i
-    is_left i loose = subst (λ (steps : List Step). IsLoose steps i) (sym split) (joined i loose)
+    is_left i loose = subst (λ (steps : List Event). IsLoose steps i) (sym split) (joined i loose)
 
 filled_piece : (fill place count size : ℕ) → place + count ≤ size → take count (drop place (replicate size fill)) ≡ replicate count fill
 filled_piece fill place count size fits = ap (take count) (drop-replicate place size fill) ∙ take-replicate count (size - place) fill (omega (arith, fits))
 
 -- the same where each byte that is taken is `fill`
-pub fills_on : (fill : ℕ) (all rest later : List Step) (step : Step) (place count : ℕ) (old mid : List ℕ)
+pub fills_on : (fill : ℕ) (all rest later : List Event) (step : Event) (place count : ℕ) (old mid : List ℕ)
     → rest ≡ step ∷ later
     → place + count ≤ length old
     → AllByRecursion (FitsIn (length old)) later
@@ -93,7 +93,7 @@ fills_on fill all rest later step place count old mid split fits within apart jo
     (takes_on filled all rest later step place count old mid split (length-replicate (length old) fill) fits within apart joined run)
 
 -- no step is left after which a byte is loose
-pub all_taken : (left : List ℕ) (all rest : List Step) (old new : List ℕ) → ((i : ℕ) → IsLoose rest i → ⊥) → Taking left all rest old new → TakenFrom left (record { seen = old; is_loose = IsLoose all }) new
+pub all_taken : (left : List ℕ) (all rest : List Event) (old new : List ℕ) → ((i : ℕ) → IsLoose rest i → ⊥) → Taking left all rest old new → TakenFrom left (record { seen = old; is_loose = IsLoose all }) new
 all_taken left all rest old new none run = record {
   is_image = record { size = run.size; kept = run.kept };
   taken = λ i loose. ⊎_elim (λ is. is) (λ still. absurd (none i still)) (run.taken i loose);

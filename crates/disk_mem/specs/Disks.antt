@@ -3,8 +3,8 @@ use Rattle.std.specs.Prelude.{◌≡◌, ◌⊎◌, ℕ, List, [], ◌∷◌, Op
 use Rattle.retro_base.specs.Cause.{raised}
 use Rattle.disk_mem.specs.History.{Past, synced}
 use Rattle.disk_mem.specs.Plan.{Plan, counted, IsFate, IsListed, IsStopped}
-use Rattle.disk_mem.specs.declared.recording.Step.{Step}
-use Rattle.disk_mem.specs.declared.recording.Step.TheVariants.{Lost}
+use Rattle.disk_mem.specs.declared.recording.Event.{Event}
+use Rattle.disk_mem.specs.declared.recording.Event.TheVariants.{Lost}
 use Rattle.disk_mem.specs.declared.schedule.Call.{Call}
 use Rattle.disk_mem.specs.declared.schedule.Call.TheVariants.{Write}
 use Rattle.disk_mem.specs.declared.schedule.Fate.TheVariants.{Fails}
@@ -24,7 +24,7 @@ fresh bytes failing stop = record {
 }
 
 -- the past with this step more
-abbrev pub stepped : Past → Step → Past
+abbrev pub stepped : Past → Event → Past
 stepped past step = record { first = past.first; steps = step ∷ past.steps }
 
 -- the past with a sync more
@@ -32,7 +32,7 @@ abbrev pub settled : Past → Past
 settled past = record { first = past.first; steps = synced past.steps }
 
 -- the device after a step more
-abbrev pub with_step : Device → Step → Device
+abbrev pub with_step : Device → Event → Device
 with_step device step = record device { past = stepped device.past step }
 
 -- the device after a call of that kind that succeeded

@@ -3,13 +3,13 @@ use Rattle.std.specs.Prelude.{◌≡◌, ◌⊎◌, ℕ, ◌+◌, ◌≤◌, Lis
 use Rattle.std.specs.List.{AllByRecursion}
 use Rattle.disk_model.specs.Disk.{State, InRange, written, IsImage}
 use Rattle.disk_model.specs.Moments.{Clock}
-use Rattle.disk_mem.specs.declared.recording.Step.{Step}
-use Rattle.disk_mem.specs.declared.recording.Step.TheVariants.{Wrote, Lost, Synced}
+use Rattle.disk_mem.specs.declared.recording.Event.{Event}
+use Rattle.disk_mem.specs.declared.recording.Event.TheVariants.{Wrote, Lost, Synced}
 
 -- the bytes that it began with, all of them durable, and what changed it since, the newest step first
 pub record Past : Type 0 where
   pub first : List ℕ
-  pub steps : List Step
+  pub steps : List Event
 
 -- a past with room for that many lost writes more
 pub record RoomyPast : Type 0 where
@@ -17,28 +17,28 @@ pub record RoomyPast : Type 0 where
   pub room : ℕ
 
 -- what a device reads that began with these bytes
-abbrev pub seen_after : List ℕ → List Step → List ℕ
+abbrev pub seen_after : List ℕ → List Event → List ℕ
 seen_after first [] = first
 seen_after first (Wrote place bytes ∷ before) = written place bytes (seen_after first before)
 seen_after first (Lost place count ∷ before) = seen_after first before
 seen_after first (Synced ∷ before) = seen_after first before
 
 -- a write into this place, done or failed, has no sync behind it
-abbrev pub IsLoose : List Step → ℕ → Type 0
+abbrev pub IsLoose : List Event → ℕ → Type 0
 IsLoose [] i = ⊥
 IsLoose (Wrote place bytes ∷ before) i = IsLoose before i ⊎ InRange place (length bytes) i
 IsLoose (Lost place count ∷ before) i = IsLoose before i ⊎ InRange place count i
 IsLoose (Synced ∷ before) i = ⊥
 
 -- how many steps the next sync adds: none where no write stands behind the last
-abbrev pub owed : List Step → ℕ
+abbrev pub owed : List Event → ℕ
 owed [] = 0
 owed (Wrote place bytes ∷ before) = 1
 owed (Lost place count ∷ before) = 1
 owed (Synced ∷ before) = 0
 
 -- the steps after a sync
-abbrev pub synced : List Step → List Step
+abbrev pub synced : List Event → List Event
 synced [] = []
 synced (Wrote place bytes ∷ before) = Synced ∷ Wrote place bytes ∷ before
 synced (Lost place count ∷ before) = Synced ∷ Lost place count ∷ before
@@ -48,7 +48,7 @@ abbrev pub state_of : Past → State
 state_of past = record { seen = seen_after past.first past.steps; is_loose = IsLoose past.steps }
 
 -- a crash might have left this now, or earlier, after `since` of these steps or more
-abbrev pub LeftAfter : List ℕ → List Step → ℕ → List ℕ → Type 0
+abbrev pub LeftAfter : List ℕ → List Event → ℕ → List ℕ → Type 0
 LeftAfter first [] since image = IsImage (state_of (record { first = first; steps = [] })) image
 LeftAfter first (step ∷ before) since image =
     IsImage (state_of (record { first = first; steps = step ∷ before })) image
@@ -70,12 +70,12 @@ abbrev pub Filled : ℕ → State → List ℕ → Type 0
 Filled fill state image = TakenFrom (replicate (length state.seen) fill) state image
 
 -- the range of a step lies on a device of that size
-abbrev pub FitsIn : ℕ → Step → Type 0
+abbrev pub FitsIn : ℕ → Event → Type 0
 FitsIn size (Wrote place bytes) = place + length bytes ≤ size
 FitsIn size (Lost place count) = place + count ≤ size
 FitsIn size Synced = Unit {0}
 
 -- the bytes are those that these steps made of the first ones, and each step fits in them
-pub record Recorded (first : List ℕ) (steps : List Step) (bytes : List ℕ) : Type 0 where
+pub record Recorded (first : List ℕ) (steps : List Event) (bytes : List ℕ) : Type 0 where
   pub seen : bytes ≡ seen_after first steps
   pub within : AllByRecursion (FitsIn (length bytes)) steps

@@ -5,22 +5,22 @@ ghost use Rattle.std.specs.List.{AllByRecursion};
 ghost use Rattle.disk_mem.specs.History.{Filled, FitsIn, IsLoose, TakenFrom};
 ghost use Rattle.disk_model.specs.Disk.{written};
 
-use crate::recording::Step;
+use crate::recording::Event;
 use std::collections::VecDeque;
 
 /// Takes each byte that is loose after these steps, the newest first, from `left`.
-pub fn take_loose(bytes: &mut [u8], steps: &VecDeque<Step>, left: &[u8])
+pub fn take_loose(bytes: &mut [u8], steps: &VecDeque<Event>, left: &[u8])
     requires same_size { length left.now ≡ length bytes.old }
     requires within { AllByRecursion (FitsIn (length bytes.old)) steps.now.items }
     ensures { TakenFrom left.now (record { seen = bytes.old; is_loose = IsLoose steps.now.items }) bytes.new }
 {
     for step in steps {
         match step {
-            Step::Wrote { place, bytes: copy } => {
+            Event::Wrote { place, bytes: copy } => {
                 take_range(bytes, *place, copy.len() as u64, left);
             }
-            Step::Lost { place, count } => take_range(bytes, *place, *count, left),
-            Step::Synced => return,
+            Event::Lost { place, count } => take_range(bytes, *place, *count, left),
+            Event::Synced => return,
         }
     }
 }
@@ -36,17 +36,17 @@ fn take_range(bytes: &mut [u8], place: u64, count: u64, left: &[u8])
 }
 
 /// Makes each byte that is loose after these steps, the newest first, `fill`.
-pub fn fill_loose(bytes: &mut [u8], steps: &VecDeque<Step>, fill: u8)
+pub fn fill_loose(bytes: &mut [u8], steps: &VecDeque<Event>, fill: u8)
     requires { AllByRecursion (FitsIn (length bytes.old)) steps.now.items }
     ensures { Filled fill (record { seen = bytes.old; is_loose = IsLoose steps.now.items }) bytes.new }
 {
     for step in steps {
         match step {
-            Step::Wrote { place, bytes: copy } => {
+            Event::Wrote { place, bytes: copy } => {
                 fill_range(bytes, *place, copy.len() as u64, fill);
             }
-            Step::Lost { place, count } => fill_range(bytes, *place, *count, fill),
-            Step::Synced => return,
+            Event::Lost { place, count } => fill_range(bytes, *place, *count, fill),
+            Event::Synced => return,
         }
     }
 }

@@ -5,7 +5,7 @@ ghost use Rattle.disk_mem.specs.Disks.{called, failed, fresh, MustFail, settled,
 ghost use Rattle.disk_mem.specs.History.{clock_of, Filled, state_of, TakenFrom};
 ghost use Rattle.disk_mem.specs.Plan.{made};
 ghost use Rattle.disk_mem.specs.Moments.{now_counts, only_now};
-ghost use Rattle.disk_mem.specs.declared.recording.Step.TheVariants.{Wrote};
+ghost use Rattle.disk_mem.specs.declared.recording.Event.TheVariants.{Wrote};
 ghost use Rattle.disk_mem.specs.declared.schedule.Call.TheVariants.{Read, Write, Sync};
 ghost use Rattle.disk_model.specs.Cause.{HasCause};
 ghost use Rattle.disk_model.specs.Moments.{Elapses};

@@ -2,7 +2,7 @@
 
 ghost use Rattle.std.specs.Prelude.{◌≡◌, ◌+◌, ◌-◌, ◌^◌, ◌<◌, ◌≤◌, [], length, OnOk, OnErr, IfOk};
 ghost use Rattle.std.specs.VecDeque.{deque_capacity, deque_len};
-ghost use Rattle.disk_mem.specs.declared.recording.Step.TheVariants.{Wrote, Lost};
+ghost use Rattle.disk_mem.specs.declared.recording.Event.TheVariants.{Wrote, Lost};
 ghost use Rattle.disk_mem.specs.Disks.{settled, stepped};
 ghost use Rattle.disk_mem.specs.History.{Filled, owed, state_of, synced, TakenFrom};
 ghost use Rattle.disk_model.specs.Disk.{written};
@@ -15,7 +15,7 @@ use values::Seq;
 
 /// A call that changed a device, or what a crash may leave of it.
 #[derive(Drop)]
-pub enum Step {
+pub enum Event {
     /// These bytes were written from that place on.
     Wrote { place: u64, bytes: Seq<u8> },
     /// A write of that many bytes from that place on failed.
@@ -31,7 +31,7 @@ pub struct Recording {
     first: Vec<u8>,
     bytes: Vec<u8>,
     // The newest first.
-    steps: VecDeque<Step>,
+    steps: VecDeque<Event>,
     room: usize,
 }
 
@@ -98,7 +98,7 @@ impl Recording {
     {
         let copy = bytes.to_vec(self.alloc)?;
         self.steps.reserve(2 * self.room + 2)?;
-        self.steps.push_front_reserved(Step::Wrote {
+        self.steps.push_front_reserved(Event::Wrote {
             place,
             bytes: Seq::from(copy),
         });
@@ -113,7 +113,7 @@ impl Recording {
         ensures past { self.new.past ≡ stepped self.old.past (Lost place count) }
         ensures room { self.new.room ≡ self.old.room - 1 }
     {
-        self.steps.push_front_reserved(Step::Lost { place, count });
+        self.steps.push_front_reserved(Event::Lost { place, count });
         self.room -= 1;
     }
 
@@ -127,15 +127,15 @@ impl Recording {
 }
 
 // Adds a sync, if a write stands behind the last.
-fn add_sync(steps: &mut VecDeque<Step>)
+fn add_sync(steps: &mut VecDeque<Event>)
     requires { deque_len steps.old + owed steps.old.items ≤ deque_capacity steps.old }
     ensures items { steps.new.items ≡ synced steps.old.items }
     ensures len { deque_len steps.new ≡ deque_len steps.old + owed steps.old.items }
     ensures capacity { deque_capacity steps.new ≡ deque_capacity steps.old }
 {
     match steps.front() {
-        None | Some(Step::Synced) => {}
-        Some(_) => steps.push_front_reserved(Step::Synced),
+        None | Some(Event::Synced) => {}
+        Some(_) => steps.push_front_reserved(Event::Synced),
     }
 }
 

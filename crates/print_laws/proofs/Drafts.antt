@@ -21,7 +21,7 @@ use Rattle.sql_parts.specs.declared.action.StepAction.TheVariants as step_action
 use Rattle.sql_parts.specs.declared.parsed.Parsed.{Parsed}
 use Rattle.sql_parts.specs.declared.part.Part.{Part}
 use Rattle.sql_parts.specs.Taking.{a_line, an_operand}
-use Rattle.sql_build.specs.declared.draft.Draft.{Draft}
+use Rattle.sql_build.specs.declared.draft.Assembly.{Assembly}
 use Rattle.sql_build.specs.Built.{acted, all_taken, alone, built, condition_ends, empty, expression_ends, finished, goes_on, leaf, put, said, stepped, taken}
 use Rattle.print_laws.proofs.Contents.{ArgumentFits, ColumnFits, ConditionFits, DigitsFit, ExpressionFits, LineFits, NameFits, OperandFits, Optional, PartsFit, ValueFits}
 use Rattle.print_laws.proofs.Keeping.{Kept, all_on, goes_on_with, got_line, got_operand, kept, line_kept, list_kept, nothing, output_kept, query_kept, row_kept, table_kept, term_kept, update_kept}
@@ -36,15 +36,15 @@ abbrev JudgeFits : ConditionStep → Type 0
 JudgeFits (condition_step.Compare a c b) = OperandFits a × OperandFits b
 JudgeFits _ = Unit {0}
 
-record DraftFits (d : Draft) : Type 0 where
+record DraftFits (d : Assembly) : Type 0 where
   parts : PartsFit d.parts
   expression : AllByRecursion StepFits d.expression
   condition : AllByRecursion JudgeFits d.condition
 
 -- what was built so far, if anything was
-data KeptDraft : Option Draft → Type 0 where
+data KeptDraft : Option Assembly → Type 0 where
   gone : KeptDraft None
-  kept_draft : {d : Draft} → DraftFits d → KeptDraft (Some d)
+  kept_draft : {d : Assembly} → DraftFits d → KeptDraft (Some d)
 
 leaf_fits : (o : Operand) → OperandFits o → StepFits (leaf o)
 leaf_fits (operand.Literal v) h = h
@@ -99,19 +99,19 @@ only_condition (Some []) h = tt
 only_condition (Some (t ∷ [])) h = h.0
 only_condition (Some (t ∷ u ∷ us)) h = tt
 
-expression_kept : (t : Option ExpressionTree) (d : Draft) → Optional ExpressionFits t → DraftFits d → KeptDraft (expression_ends t d)
+expression_kept : (t : Option ExpressionTree) (d : Assembly) → Optional ExpressionFits t → DraftFits d → KeptDraft (expression_ends t d)
 expression_kept None d f h = gone
 expression_kept (Some t) d f h = kept_draft (record { parts = (f, h.parts); expression = tt; condition = h.condition })
 
-condition_kept : (t : Option ConditionTree) (d : Draft) → Optional ConditionFits t → DraftFits d → KeptDraft (condition_ends t d)
+condition_kept : (t : Option ConditionTree) (d : Assembly) → Optional ConditionFits t → DraftFits d → KeptDraft (condition_ends t d)
 condition_kept None d f h = gone
 condition_kept (Some t) d f h = kept_draft (record { parts = (f, h.parts); expression = h.expression; condition = tt })
 
-judged : (s : ConditionStep) (d : Draft) (ps : List Part) → JudgeFits s → PartsFit ps → DraftFits d → KeptDraft (Some (record { parts = ps; expression = d.expression; condition = d.condition ++ s ∷ [] }))
+judged : (s : ConditionStep) (d : Assembly) (ps : List Part) → JudgeFits s → PartsFit ps → DraftFits d → KeptDraft (Some (record { parts = ps; expression = d.expression; condition = d.condition ++ s ∷ [] }))
 judged s d ps f g h = kept_draft (record { parts = g; expression = h.expression; condition = all_on JudgeFits d.condition s h.condition f })
 
 -- each operation keeps what fits
-step_kept : (a : StepAction) (d : Draft) → DraftFits d → KeptDraft (stepped a d)
+step_kept : (a : StepAction) (d : Assembly) → DraftFits d → KeptDraft (stepped a d)
 step_kept step_action.Leaf d h =
     goes_on_with KeptDraft gone OperandFits (an_operand d.parts) _ (got_operand d.parts h.parts)
     (λ o ps f g. kept_draft (record { parts = g; expression = all_on StepFits d.expression (leaf o) h.expression (leaf_fits o f); condition = h.condition }))
@@ -126,11 +126,11 @@ step_kept step_action.Expression d h = expression_kept (expression_tree.tree_of 
 step_kept step_action.Condition d h = condition_kept (condition_tree.tree_of d.condition) d (only_condition (condition_tree.told d.condition []) (conditions_told d.condition [] h.condition tt)) h
 step_kept step_action.NoCondition d h = kept_draft (record { parts = (tt, h.parts); expression = h.expression; condition = h.condition })
 
-put_kept : {x : Option (List Part)} (d : Draft) → DraftFits d → Kept x → KeptDraft (put x d)
+put_kept : {x : Option (List Part)} (d : Assembly) → DraftFits d → Kept x → KeptDraft (put x d)
 put_kept d h nothing = gone
 put_kept d h (kept f) = kept_draft (record { parts = f; expression = h.expression; condition = h.condition })
 
-act_kept : (a : Action) (d : Draft) → DraftFits d → KeptDraft (acted a d)
+act_kept : (a : Action) (d : Assembly) → DraftFits d → KeptDraft (acted a d)
 act_kept (action.Term a) d h = put_kept d h (term_kept a d.parts h.parts)
 act_kept (action.Step a) d h = step_kept a d h
 act_kept (action.Table a) d h = put_kept d h (table_kept a d.parts h.parts)
@@ -149,18 +149,18 @@ OpFits (op.Text t) = IsText t
 OpFits (op.LongText t) = ArgumentFits t
 OpFits (op.Act a) = Unit {0}
 
-op_kept : (o : Op) (d : Draft) → OpFits o → DraftFits d → KeptDraft (taken o d)
+op_kept : (o : Op) (d : Assembly) → OpFits o → DraftFits d → KeptDraft (taken o d)
 op_kept (op.Name n) d f h = kept_draft (record { parts = (f, h.parts); expression = h.expression; condition = h.condition })
 op_kept (op.Integer n) d f h = kept_draft (record { parts = (f, h.parts); expression = h.expression; condition = h.condition })
 op_kept (op.Text t) d f h = kept_draft (record { parts = (f, h.parts); expression = h.expression; condition = h.condition })
 op_kept (op.LongText t) d f h = kept_draft (record { parts = (f, h.parts); expression = h.expression; condition = h.condition })
 op_kept (op.Act a) d f h = act_kept a d h
 
-goes_on_kept : {x : Option Draft} (f : Draft → Option Draft) → KeptDraft x → ((d : Draft) → DraftFits d → KeptDraft (f d)) → KeptDraft (goes_on x f)
+goes_on_kept : {x : Option Assembly} (f : Assembly → Option Assembly) → KeptDraft x → ((d : Assembly) → DraftFits d → KeptDraft (f d)) → KeptDraft (goes_on x f)
 goes_on_kept f gone g = gone
 goes_on_kept f (kept_draft {d} h) g = g d h
 
-all_kept : (os : List Op) (d : Draft) → AllByRecursion OpFits os → DraftFits d → KeptDraft (all_taken os d)
+all_kept : (os : List Op) (d : Assembly) → AllByRecursion OpFits os → DraftFits d → KeptDraft (all_taken os d)
 all_kept [] d f h = kept_draft h
 all_kept (o ∷ os) d f h = goes_on_kept (all_taken os) (op_kept o d f.0 h) (λ e g. all_kept os e f.1 g)
 
@@ -171,7 +171,7 @@ alone_fits p (other ∷ others) h = tt
 said_fits : (ps : List Part) → PartsFit ps → Optional LineFits (said ps)
 said_fits ps h = goes_on_with (Optional LineFits) tt LineFits (a_line ps) _ (got_line ps h) (λ p qs f g. alone_fits p qs f)
 
-finished_fits : {x : Option Draft} → KeptDraft x → Optional LineFits (finished x)
+finished_fits : {x : Option Assembly} → KeptDraft x → Optional LineFits (finished x)
 finished_fits gone = tt
 finished_fits (kept_draft {d} h) = said_fits d.parts h.parts
 

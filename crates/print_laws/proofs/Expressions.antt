@@ -24,7 +24,7 @@ use Rattle.sql_grammar.specs.Grammar.{class_of}
 use Rattle.sql_parts.specs.declared.parsed.Parsed.{Parsed}
 use Rattle.sql_parts.specs.declared.part.Part.{Part}
 use Rattle.sql_parts.specs.declared.part.Part.TheVariants as part
-use Rattle.sql_build.specs.declared.draft.Draft.{Draft}
+use Rattle.sql_build.specs.declared.draft.Assembly.{Assembly}
 use Rattle.sql_build.specs.Built.{expression_ends, expression_on, leaf}
 use Rattle.print_laws.specs.Printed.{column, column_of, expression, literal, mark, operand}
 use Rattle.print_laws.proofs.Leads.{Leads, by_side, clean, push, puts, takes}
@@ -32,40 +32,40 @@ use Rattle.print_laws.proofs.Leads.{Leads, by_side, clean, push, puts, takes}
 text_class : (b : Bool) (t : List ℕ) → nat_le (length t) 64 ≡ b → class_of (token.Text t) ≡ (if b then class.ShortText else class.Text)
 text_class b t e = ap (λ x. if x then class.ShortText else class.Text) e
 
-text_by : (b : Bool) (t : List ℕ) {ss : List Symbol} {ts : List Token} {d : Draft} {p : Parsed} → nat_le (length t) 64 ≡ b
+text_by : (b : Bool) (t : List ℕ) {ss : List Symbol} {ts : List Token} {d : Assembly} {p : Parsed} → nat_le (length t) 64 ≡ b
     → Leads ss ts (Some (push (part.Literal (value.Text t)) d)) p → Leads (Use rule.Literal ∷ ss) (token.Text t ∷ ts) (Some d) p
 text_by true t e l = by_side 2 (takes (text_class true t e) (puts l))
 text_by false t e l = by_side 3 (takes (text_class false t e) (puts l))
 
-pub reads_literal : (v : Value) {ss : List Symbol} {ts : List Token} {d : Draft} {p : Parsed} → Leads ss ts (Some (push (part.Literal v) d)) p → Leads (Use rule.Literal ∷ ss) (literal v ts) (Some d) p
+pub reads_literal : (v : Value) {ss : List Symbol} {ts : List Token} {d : Assembly} {p : Parsed} → Leads ss ts (Some (push (part.Literal v) d)) p → Leads (Use rule.Literal ∷ ss) (literal v ts) (Some d) p
 reads_literal (value.Int (pos n)) l = by_side 0 (takes refl (puts l))
 reads_literal (value.Int (negsuc n)) l = by_side 1 (takes refl (takes refl (puts l)))
 reads_literal (value.Text t) l = text_by (nat_le (length t) 64) t refl l
 
-column_by : (t : Option (List ℕ)) (c : List ℕ) {ss : List Symbol} {ts : List Token} {d : Draft} {p : Parsed}
+column_by : (t : Option (List ℕ)) (c : List ℕ) {ss : List Symbol} {ts : List Token} {d : Assembly} {p : Parsed}
     → Leads ss ts (Some (push (part.ColumnName (record { table = t; column = c })) d)) p → Leads (Use rule.ColumnName ∷ ss) (column_of t c ts) (Some d) p
 column_by None c l = by_side 0 (takes refl (by_side 1 (puts l)))
 column_by (Some t) c l = by_side 0 (takes refl (by_side 0 (takes refl (takes refl (puts l)))))
 
-pub reads_column : (c : ColumnName) {ss : List Symbol} {ts : List Token} {d : Draft} {p : Parsed} → Leads ss ts (Some (push (part.ColumnName c) d)) p → Leads (Use rule.ColumnName ∷ ss) (column c ts) (Some d) p
+pub reads_column : (c : ColumnName) {ss : List Symbol} {ts : List Token} {d : Assembly} {p : Parsed} → Leads ss ts (Some (push (part.ColumnName c) d)) p → Leads (Use rule.ColumnName ∷ ss) (column c ts) (Some d) p
 reads_column c l = column_by c.table c.column l
 
-pub reads_operand : (o : Operand) {ss : List Symbol} {ts : List Token} {d : Draft} {p : Parsed} → Leads ss ts (Some (push (part.Operand o) d)) p → Leads (Use rule.Operand ∷ ss) (operand o ts) (Some d) p
+pub reads_operand : (o : Operand) {ss : List Symbol} {ts : List Token} {d : Assembly} {p : Parsed} → Leads ss ts (Some (push (part.Operand o) d)) p → Leads (Use rule.Operand ∷ ss) (operand o ts) (Some d) p
 reads_operand (operand'.Literal v) l = by_side 2 (reads_literal v (puts l))
 reads_operand (operand'.Column c) l = by_side 1 (reads_column c (puts l))
 reads_operand operand'.CurrentSnapshot l = by_side 0 (takes refl (takes refl (takes refl (puts l))))
 
 -- a draft whose expression goes on
-abbrev on : List ExpressionStep → Draft → Draft
+abbrev on : List ExpressionStep → Assembly → Assembly
 on steps d = record { parts = d.parts; expression = d.expression ++ steps; condition = d.condition }
 
 -- the expression is read back wherever it may stand
 record IsReadBack (e : ExpressionTree) : Type 0 where
-  factor : (ss : List Symbol) (ts : List Token) (d : Draft) (p : Parsed) → Leads ss ts (Some (on (postfix e) d)) p → Leads (Use rule.Factor ∷ ss) (expression 2 e ts) (Some d) p
-  term : (ss : List Symbol) (ts : List Token) (d : Draft) (p : Parsed) → Leads (Use rule.MoreFactors ∷ ss) ts (Some (on (postfix e) d)) p → Leads (Use rule.Term ∷ ss) (expression 1 e ts) (Some d) p
-  whole : (ss : List Symbol) (ts : List Token) (d : Draft) (p : Parsed) → Leads (Use rule.MoreTerms ∷ ss) ts (Some (on (postfix e) d)) p → Leads (Use rule.Expression ∷ ss) (expression 0 e ts) (Some d) p
+  factor : (ss : List Symbol) (ts : List Token) (d : Assembly) (p : Parsed) → Leads ss ts (Some (on (postfix e) d)) p → Leads (Use rule.Factor ∷ ss) (expression 2 e ts) (Some d) p
+  term : (ss : List Symbol) (ts : List Token) (d : Assembly) (p : Parsed) → Leads (Use rule.MoreFactors ∷ ss) ts (Some (on (postfix e) d)) p → Leads (Use rule.Term ∷ ss) (expression 1 e ts) (Some d) p
+  whole : (ss : List Symbol) (ts : List Token) (d : Assembly) (p : Parsed) → Leads (Use rule.MoreTerms ∷ ss) ts (Some (on (postfix e) d)) p → Leads (Use rule.Expression ∷ ss) (expression 0 e ts) (Some d) p
 
-reads_leaf : (o : Operand) (ss : List Symbol) (ts : List Token) (d : Draft) (p : Parsed) → Leads ss ts (Some (on (leaf o ∷ []) d)) p → Leads (Use rule.Factor ∷ ss) (operand o ts) (Some d) p
+reads_leaf : (o : Operand) (ss : List Symbol) (ts : List Token) (d : Assembly) (p : Parsed) → Leads ss ts (Some (on (leaf o ∷ []) d)) p → Leads (Use rule.Factor ∷ ss) (operand o ts) (Some d) p
 reads_leaf o ss ts d p l = by_side 1 (reads_operand o (puts (on_leaf o l)))
   where
     on_leaf : (o : Operand) → Leads ss ts (Some (on (leaf o ∷ []) d)) p → Leads ss ts (Some (expression_on (leaf o) d.parts (push (part.Operand o) d))) p
@@ -75,25 +75,25 @@ reads_leaf o ss ts d p l = by_side 1 (reads_operand o (puts (on_leaf o l)))
 pub both : {X : Type 0} (xs ys zs : List X) (y : X) → xs ++ (ys ++ (zs ++ y ∷ [])) ≡ ((xs ++ ys) ++ zs) ++ y ∷ []
 both xs ys zs y = sym (append_assoc xs ys (zs ++ y ∷ [])) ∙ sym (append_assoc (xs ++ ys) zs (y ∷ []))
 
-applied : (o : Operator) (a b : ExpressionTree) (ss : List Symbol) (ts : List Token) (d : Draft) (p : Parsed)
+applied : (o : Operator) (a b : ExpressionTree) (ss : List Symbol) (ts : List Token) (d : Assembly) (p : Parsed)
     → Leads ss ts (Some (on (postfix (Apply o a b)) d)) p → Leads ss ts (Some (on (step.Apply o ∷ []) (on (postfix b) (on (postfix a) d)))) p
 applied o a b ss ts d p l =
     let P : List ExpressionStep → Type 0 = λ es. Leads ss ts (Some (record { parts = d.parts; expression = es; condition = d.condition })) p in
     subst P (both d.expression (postfix a) (postfix b) (step.Apply o)) l
 
-reads_sum : (a b : ExpressionTree) → IsReadBack a → IsReadBack b → (ss : List Symbol) (ts : List Token) (d : Draft) (p : Parsed)
+reads_sum : (a b : ExpressionTree) → IsReadBack a → IsReadBack b → (ss : List Symbol) (ts : List Token) (d : Assembly) (p : Parsed)
     → Leads (Use rule.MoreTerms ∷ ss) ts (Some (on (postfix (Apply operator.Add a b)) d)) p
     → Leads (Use rule.Expression ∷ ss) (expression 0 a (mark sign.Plus (expression 1 b ts))) (Some d) p
 reads_sum a b ra rb ss ts d p l =
     ra.whole ss _ d p (by_side 0 (takes refl (rb.term (Put (action.Step (step_action.Apply operator.Add)) ∷ Use rule.MoreTerms ∷ ss) ts _ p (by_side 1 (puts (applied operator.Add a b _ ts d p l))))))
 
-reads_difference : (a b : ExpressionTree) → IsReadBack a → IsReadBack b → (ss : List Symbol) (ts : List Token) (d : Draft) (p : Parsed)
+reads_difference : (a b : ExpressionTree) → IsReadBack a → IsReadBack b → (ss : List Symbol) (ts : List Token) (d : Assembly) (p : Parsed)
     → Leads (Use rule.MoreTerms ∷ ss) ts (Some (on (postfix (Apply operator.Subtract a b)) d)) p
     → Leads (Use rule.Expression ∷ ss) (expression 0 a (mark sign.Minus (expression 1 b ts))) (Some d) p
 reads_difference a b ra rb ss ts d p l =
     ra.whole ss _ d p (by_side 1 (takes refl (rb.term (Put (action.Step (step_action.Apply operator.Subtract)) ∷ Use rule.MoreTerms ∷ ss) ts _ p (by_side 1 (puts (applied operator.Subtract a b _ ts d p l))))))
 
-reads_product : (a b : ExpressionTree) → IsReadBack a → IsReadBack b → (ss : List Symbol) (ts : List Token) (d : Draft) (p : Parsed)
+reads_product : (a b : ExpressionTree) → IsReadBack a → IsReadBack b → (ss : List Symbol) (ts : List Token) (d : Assembly) (p : Parsed)
     → Leads (Use rule.MoreFactors ∷ ss) ts (Some (on (postfix (Apply operator.Multiply a b)) d)) p
     → Leads (Use rule.Term ∷ ss) (expression 1 a (mark sign.Star (expression 2 b ts))) (Some d) p
 reads_product a b ra rb ss ts d p l =

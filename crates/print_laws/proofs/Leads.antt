@@ -17,37 +17,37 @@ use Rattle.sql_grammar.proofs.Tables.{side-IsIn}
 use Rattle.sql_parts.specs.declared.parsed.Parsed.{Parsed}
 use Rattle.sql_parts.specs.declared.part.Part.{Part}
 use Rattle.sql_parts.specs.declared.part.Part.TheVariants as part
-use Rattle.sql_build.specs.declared.draft.Draft.{Draft}
+use Rattle.sql_build.specs.declared.draft.Assembly.{Assembly}
 use Rattle.sql_build.specs.Built.{acted, all_taken, finished, goes_on, with_parts}
 use Rattle.sql_text.proofs.Meaning.{all_taken-append}
 use Rattle.print_laws.specs.Printed.{Writer, further, mark}
 
 -- from the symbols the tokens follow, and what comes out builds the line on what is built so far
-pub record Leads (ss : List Symbol) (ts : List Token) (so_far : Option Draft) (p : Parsed) : Type 0 where
+pub record Leads (ss : List Symbol) (ts : List Token) (so_far : Option Assembly) (p : Parsed) : Type 0 where
   pub ops : List Op
   pub derives : Derives ss ts ops
   pub builds : finished (goes_on so_far (all_taken ops)) ≡ Some p
 
-pub takes : {k : Class} {ss : List Symbol} {t : Token} {ts : List Token} {d : Draft} {p : Parsed} → class_of t ≡ k → Leads ss ts (all_taken (content_of t) d) p → Leads (Take k ∷ ss) (t ∷ ts) (Some d) p
+pub takes : {k : Class} {ss : List Symbol} {t : Token} {ts : List Token} {d : Assembly} {p : Parsed} → class_of t ≡ k → Leads ss ts (all_taken (content_of t) d) p → Leads (Take k ∷ ss) (t ∷ ts) (Some d) p
 takes {t = t} {d = d} e l = record {
   ops = content_of t ++ l.ops;
   derives = Taken e refl l.derives;
   builds = ap finished (all_taken-append (content_of t) l.ops d) ∙ l.builds;
 }
 
-pub puts : {a : Action} {ss : List Symbol} {ts : List Token} {d : Draft} {p : Parsed} → Leads ss ts (acted a d) p → Leads (Put a ∷ ss) ts (Some d) p
+pub puts : {a : Action} {ss : List Symbol} {ts : List Token} {d : Assembly} {p : Parsed} → Leads ss ts (acted a d) p → Leads (Put a ∷ ss) ts (Some d) p
 puts {a = a} l = record { ops = op.Act a ∷ l.ops; derives = Emitted l.derives; builds = l.builds }
 
 -- a rule by one of its right sides
-pub by_side : {r : Rule} {ss : List Symbol} {ts : List Token} {d : Draft} {p : Parsed} (n : ℕ) → Leads (pick n (sides r) ++ ss) ts (Some d) p → Leads (Use r ∷ ss) ts (Some d) p
+pub by_side : {r : Rule} {ss : List Symbol} {ts : List Token} {d : Assembly} {p : Parsed} (n : ℕ) → Leads (pick n (sides r) ++ ss) ts (Some d) p → Leads (Use r ∷ ss) ts (Some d) p
 by_side {r = r} n l = record { ops = l.ops; derives = Replaced (pick n (sides r)) (side-IsIn n r) l.derives; builds = l.builds }
 
 -- the last part
-abbrev pub push : Part → Draft → Draft
+abbrev pub push : Part → Assembly → Assembly
 push x d = with_parts (x ∷ d.parts) d
 
 -- parts alone
-abbrev pub clean : List Part → Draft
+abbrev pub clean : List Part → Assembly
 clean ps = record { parts = ps; expression = []; condition = [] }
 
 -- the whole line is built
@@ -55,7 +55,7 @@ pub ends : (p : Parsed) → Leads [] [] (Some (clean (part.Parsed p ∷ []))) p
 ends p = record { ops = []; derives = Done; builds = refl }
 
 -- a list of things behind commas, where each is one that is read
-pub goes_further_with : {X : Type 0} (Q : X → Type 0) (r : Rule) (write : Writer X) (state : List X → Draft) (p : Parsed) (ss : List Symbol)
+pub goes_further_with : {X : Type 0} (Q : X → Type 0) (r : Rule) (write : Writer X) (state : List X → Assembly) (p : Parsed) (ss : List Symbol)
     → ((xs : List X) (ts : List Token) → Leads ss ts (Some (state xs)) p → Leads (Use r ∷ ss) ts (Some (state xs)) p)
     → ((x : X) (xs : List X) (ts : List Token) → Q x → Leads (Use r ∷ ss) ts (Some (state (xs ++ x ∷ []))) p → Leads (Use r ∷ ss) (mark sign.Comma (write x ts)) (Some (state xs)) p)
     → (xs before : List X) (ts : List Token) → AllByRecursion Q xs → Leads ss ts (Some (state (before ++ xs))) p → Leads (Use r ∷ ss) (further write xs ts) (Some (state before)) p
@@ -71,7 +71,7 @@ each [] = tt
 each (x ∷ xs) = (tt, each xs)
 
 -- a list of things behind commas
-pub goes_further : {X : Type 0} (r : Rule) (write : Writer X) (state : List X → Draft) (p : Parsed) (ss : List Symbol)
+pub goes_further : {X : Type 0} (r : Rule) (write : Writer X) (state : List X → Assembly) (p : Parsed) (ss : List Symbol)
     → ((xs : List X) (ts : List Token) → Leads ss ts (Some (state xs)) p → Leads (Use r ∷ ss) ts (Some (state xs)) p)
     → ((x : X) (xs : List X) (ts : List Token) → Leads (Use r ∷ ss) ts (Some (state (xs ++ x ∷ []))) p → Leads (Use r ∷ ss) (mark sign.Comma (write x ts)) (Some (state xs)) p)
     → (xs before : List X) (ts : List Token) → Leads ss ts (Some (state (before ++ xs))) p → Leads (Use r ∷ ss) (further write xs ts) (Some (state before)) p

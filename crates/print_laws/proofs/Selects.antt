@@ -22,7 +22,7 @@ use Rattle.sql_grammar.specs.declared.grammar.Symbol.TheVariants.{Use}
 use Rattle.sql_parts.specs.declared.parsed.Parsed.{Parsed}
 use Rattle.sql_parts.specs.declared.part.Part.{Part}
 use Rattle.sql_parts.specs.declared.part.Part.TheVariants as part
-use Rattle.sql_build.specs.declared.draft.Draft.{Draft}
+use Rattle.sql_build.specs.declared.draft.Assembly.{Assembly}
 use Rattle.print_laws.specs.Printed.{column, direction_word, distinct, filter, further, grouping, key, limit, name, ordering, output, output_name, output_value, query, second, select_list, word}
 use Rattle.print_laws.proofs.Conditions.{reads_filter}
 use Rattle.print_laws.proofs.Expressions.{reads_column, reads_value}
@@ -58,7 +58,7 @@ more_outputs os before ss ts ps p l =
 abbrev select : Bool → SelectList → List ℕ → Option (List ℕ) → Option ConditionTree → List ColumnName → List OrderKey → Option ℕ → Select
 select b l t s c g o n = record { distinct = b; list = l; table = t; second = s; condition = c; group_by = g; order_by = o; limit = n }
 
-abbrev with_query : Select → List Part → Option Draft
+abbrev with_query : Select → List Part → Option Assembly
 with_query q ps = Some (clean (part.Query q ∷ ps))
 
 reads_list : (l : SelectList) (t : List ℕ) → IsList l → {ss : List Symbol} {ts : List Token} {ps : List Part} {p : Parsed}

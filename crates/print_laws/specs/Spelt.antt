@@ -4,7 +4,7 @@ use Rattle.std.specs.Fmt.{decimal}
 use Rattle.std.specs.List.{AllByRecursion}
 use Rattle.std.specs.Str.{str_to_ascii_uppercase}
 use Rattle.values.specs.Text.{IsPrintable, IsText}
-use Rattle.sql_tree.specs.Name.{IsName}
+use Rattle.values.specs.Name.{IsName}
 use Rattle.sql_lexer.specs.declared.token.Keyword.{Keyword}
 use Rattle.sql_lexer.specs.declared.token.Token.{Token}
 use Rattle.sql_lexer.specs.declared.token.Token.TheVariants.{Keyword as KeywordToken, Name, Integer, Text, LongText, Sign}

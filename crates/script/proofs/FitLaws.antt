@@ -6,8 +6,8 @@ use Rattle.std.specs.Option.{option_map}
 use Rattle.retro_base.specs.declared.limits.TheConstants.{ITEMS, PHASES, SESSIONS}
 use Rattle.script.specs.Limits.{EndFits, StatementFits, ItemFits, PhaseFits, ScriptFits, SessionFits, LineFits}
 use Rattle.script.specs.Script.{end_step, finished, goes_on, has_name, is_closed, open_step, opened, phases_of, sessions_of, single_step, statement_step, step}
-use Rattle.script.specs.declared.draft.Draft.{Draft}
-use Rattle.script.specs.declared.draft.Draft.TheVariants as draft
+use Rattle.script.specs.declared.draft.ScriptSoFar.{ScriptSoFar}
+use Rattle.script.specs.declared.draft.ScriptSoFar.TheVariants as draft
 use Rattle.script.specs.declared.draft.OpenPhase.{OpenPhase}
 use Rattle.script.specs.declared.draft.OpenSession.{OpenSession}
 use Rattle.script.specs.declared.line.Line.{Line}
@@ -27,7 +27,7 @@ SessionKeeps items (Some s) =
 abbrev pub PhaseKeeps : OpenPhase → Type 0
 PhaseKeeps p = (length p.phases + 1 ≤ PHASES) × AllByRecursion PhaseFits p.phases × (p.items ≤ ITEMS) × SessionKeeps p.items p.session
 
-abbrev pub DraftFits : Draft → Type 0
+abbrev pub DraftFits : ScriptSoFar → Type 0
 DraftFits draft.Empty = Unit {0}
 DraftFits (draft.Open p) = PhaseKeeps p
 
@@ -134,14 +134,14 @@ open_keeps p (line.Ends end) h f = in_end p end p.session h h.3 f
 open_keeps p (line.Single single) h f = in_single p single p.session h h.3
 open_keeps p line.Bad h f = tt
 
-abbrev NextFits : Option Draft → Type 0
+abbrev NextFits : Option ScriptSoFar → Type 0
 NextFits next = MatchOption next (Unit {0}) DraftFits
 
 opened_next : (next : Option OpenPhase) → Keeps next → NextFits (option_map draft.Open next)
 opened_next None k = tt
 opened_next (Some p) k = k
 
-pub step_fits : (state : Draft) (one : Line) → DraftFits state → LineFits one → NextFits (step state one)
+pub step_fits : (state : ScriptSoFar) (one : Line) → DraftFits state → LineFits one → NextFits (step state one)
 step_fits draft.Empty line.Skipped fits new = tt
 step_fits draft.Empty line.Phase fits new = (omega arith, tt, omega arith, tt)
 step_fits draft.Empty (line.Session name) fits new = (omega arith, tt, omega arith, (omega arith, tt, omega arith, tt, tt))
@@ -156,9 +156,9 @@ open_answer : (number : ℕ) (p : OpenPhase) (closed : Bool) → PhaseKeeps p �
 open_answer number p true h = (omega (arith, h.0, length-append p.phases (record { sessions = sessions_of p.session } ∷ [])), phases_fit p h)
 open_answer number p false h = tt
 
-finished_answer : (number : ℕ) (state : Draft) → DraftFits state → AnswerFits (finished number state)
+finished_answer : (number : ℕ) (state : ScriptSoFar) → DraftFits state → AnswerFits (finished number state)
 finished_answer number draft.Empty fits = (omega arith, tt)
 finished_answer number (draft.Open p) fits = open_answer number p (is_closed p.session) fits
 
-pub finished_fits : (number : ℕ) (state : Draft) (script : Script) → DraftFits state → finished number state ≡ Ok script → ScriptFits script
+pub finished_fits : (number : ℕ) (state : ScriptSoFar) (script : Script) → DraftFits state → finished number state ≡ Ok script → ScriptFits script
 finished_fits number state script fits e = rw e at (finished_answer number state fits)

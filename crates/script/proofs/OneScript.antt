@@ -6,8 +6,8 @@ use Rattle.std.specs.Option.{option_map_or}
 use Rattle.script.specs.Line.{IsLine, IsOnly}
 use Rattle.script.specs.Script.{is_closed, step, finished, script_from, script_of, IsScript, IsBadAt, IsOnlyReading}
 use Rattle.script.specs.Text.{script_lines}
-use Rattle.script.specs.declared.draft.Draft.{Draft}
-use Rattle.script.specs.declared.draft.Draft.TheVariants as draft
+use Rattle.script.specs.declared.draft.ScriptSoFar.{ScriptSoFar}
+use Rattle.script.specs.declared.draft.ScriptSoFar.TheVariants as draft
 use Rattle.script.specs.declared.line.Line.{Line}
 use Rattle.script.specs.declared.structure.Script.{Script}
 
@@ -21,17 +21,17 @@ end_number : (empty : Bool) (script : Script) (m n : ℕ) → cond empty (Ok scr
 end_number true script m n e = cc
 end_number false script m n e = cc
 
-finished_number : (m n : ℕ) (state : Draft) → finished m state ≡ Err n → n ≡ m
+finished_number : (m n : ℕ) (state : ScriptSoFar) → finished m state ≡ Err n → n ≡ m
 finished_number m n draft.Empty e = cc
 finished_number m n (draft.Open p) e = end_number (is_closed p.session) _ m n e
 
 -- lines that are bad at the last of their first ones are bad there
-cut_next : (lines : List Line) (k m n : ℕ) (next : Option Draft) → ((state : Draft) → script_from (m + 1) state (take k lines) ≡ Err n → script_from (m + 1) state lines ≡ Err n)
+cut_next : (lines : List Line) (k m n : ℕ) (next : Option ScriptSoFar) → ((state : ScriptSoFar) → script_from (m + 1) state (take k lines) ≡ Err n → script_from (m + 1) state lines ≡ Err n)
     → option_map_or (λ state. script_from (m + 1) state (take k lines)) next (Err m) ≡ Err n → option_map_or (λ state. script_from (m + 1) state lines) next (Err m) ≡ Err n
 cut_next lines k m n None go_on e = e
 cut_next lines k m n (Some state) go_on e = go_on state e
 
-cut_from : (lines : List Line) (k m n : ℕ) (state : Draft) → n + 1 ≡ m + k → script_from m state (take k lines) ≡ Err n → script_from m state lines ≡ Err n
+cut_from : (lines : List Line) (k m n : ℕ) (state : ScriptSoFar) → n + 1 ≡ m + k → script_from m state (take k lines) ≡ Err n → script_from m state lines ≡ Err n
 cut_from [] zero m n state h e = e
 cut_from [] (suc k) m n state h e = e
 cut_from (line ∷ lines) zero m n state h e = let same = finished_number m n state e in absurd (omega arith)

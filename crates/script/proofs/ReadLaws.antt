@@ -14,8 +14,8 @@ use Rattle.script.proofs.OneScript.{OnlyLine, only_good, only_bad}
 use Rattle.script.specs.Line.{IsLine}
 use Rattle.script.specs.Script.{step, finished, script_from, script_of, IsScript, IsBadAt, IsOnlyReading, IsRefused}
 use Rattle.script.specs.Text.{in_bounds, lines_in_bounds, script_lines}
-use Rattle.script.specs.declared.draft.Draft.{Draft}
-use Rattle.script.specs.declared.draft.Draft.TheVariants as draft
+use Rattle.script.specs.declared.draft.ScriptSoFar.{ScriptSoFar}
+use Rattle.script.specs.declared.draft.ScriptSoFar.TheVariants as draft
 use Rattle.script.specs.declared.line.Line.{Line}
 use Rattle.script.specs.declared.line.Line.TheVariants.{Bad}
 use Rattle.script.specs.declared.structure.Script.{Script}
@@ -29,7 +29,7 @@ abbrev pub first_bounded : Bool → List ℕ → List ℕ → Option (List ℕ)
 first_bounded too_far first more = cond (too_far && (length more == 0)) None (in_bounds first)
 
 -- Some lines were read, and the rest of the bytes was not: the lines before say what was read, and the line after them has this number.
-pub record HasRead (bytes rest : List ℕ) (number : ℕ) (state : Draft) : Type 0 where
+pub record HasRead (bytes rest : List ℕ) (number : ℕ) (state : ScriptSoFar) : Type 0 where
   pub before : List (Option (List ℕ))
   pub said : List Line
   pub whole : script_lines bytes ≡ before ++ lines_in_bounds (goes_too_far bytes) (lines rest)
@@ -61,12 +61,12 @@ read_none bytes rest e h = record {
   behind = front_some SCRIPT_BYTES bytes rest e;
 }
 
-step_bad : (state : Draft) → step state Bad ≡ None
+step_bad : (state : ScriptSoFar) → step state Bad ≡ None
 step_bad draft.Empty = refl
 step_bad (draft.Open p) = refl
 
 -- a line that goes too far may not stand anywhere, so that a line which may stand there leaves bytes to read
-behind_next : (too_far : Bool) (first more : List ℕ) (state next : Draft) (line : Line) → IsLine (first_bounded too_far first more) line → step state line ≡ Some next → too_far ≡ true → 0 < length more
+behind_next : (too_far : Bool) (first more : List ℕ) (state next : ScriptSoFar) (line : Line) → IsLine (first_bounded too_far first more) line → step state line ≡ Some next → too_far ≡ true → 0 < length more
 behind_next true first (b ∷ more) state next line is stepped far = omega arith
 behind_next true first [] state next line is stepped far =
     let none : step state line ≡ None = ap (step state) is ∙ step_bad state in
@@ -100,12 +100,12 @@ all_bounded too_far first (b ∷ bs) =
     some_bounded too_far first (b ∷ bs) some.0 (lines (b ∷ bs)) some.1 some.2 (grind (arith, nat_tests))
 
 -- the lines of what was read, and one more
-whole_more : (bytes rest more first : List ℕ) (number : ℕ) (state : Draft) (h : HasRead bytes rest number state) → lines rest ≡ first ∷ lines more
+whole_more : (bytes rest more first : List ℕ) (number : ℕ) (state : ScriptSoFar) (h : HasRead bytes rest number state) → lines rest ≡ first ∷ lines more
     → script_lines bytes ≡ (h.before ++ first_bounded (goes_too_far bytes) first more ∷ []) ++ lines_in_bounds (goes_too_far bytes) (lines more)
 whole_more bytes rest more first number state h split =
     rw append_assoc (h.whole ∙ ap (λ xs. h.before ++ xs) (ap (lines_in_bounds (goes_too_far bytes)) split ∙ all_bounded (goes_too_far bytes) first more))
 
-pub read_more : (bytes rest more first : List ℕ) (number : ℕ) (state next : Draft) (line : Line) → HasRead bytes rest number state → lines rest ≡ first ∷ lines more → length more < length rest
+pub read_more : (bytes rest more first : List ℕ) (number : ℕ) (state next : ScriptSoFar) (line : Line) → HasRead bytes rest number state → lines rest ≡ first ∷ lines more → length more < length rest
     → IsLine (first_bounded (goes_too_far bytes) first more) line → OnlyLine (first_bounded (goes_too_far bytes) first more) line → LineFits line → step state line ≡ Some next → HasRead bytes more (number + 1) next
 read_more bytes rest more first number state next line h split shorter is only fits stepped = record {
   before = h.before ++ first_bounded (goes_too_far bytes) first more ∷ [];
@@ -125,7 +125,7 @@ abbrev pub IsBadOnlyAt : List ℕ → ℕ → Type 0
 IsBadOnlyAt bytes number = IsBadAt bytes number × IsOnlyReading bytes (Err number)
 
 -- the line that may not stand there is bad
-pub bad_line : (bytes rest more first : List ℕ) (number : ℕ) (state : Draft) (line : Line) → HasRead bytes rest number state → lines rest ≡ first ∷ lines more
+pub bad_line : (bytes rest more first : List ℕ) (number : ℕ) (state : ScriptSoFar) (line : Line) → HasRead bytes rest number state → lines rest ≡ first ∷ lines more
     → IsLine (first_bounded (goes_too_far bytes) first more) line → OnlyLine (first_bounded (goes_too_far bytes) first more) line → step state line ≡ None → IsBadOnlyAt bytes number
 unfolding IsScript IsBadAt
 bad_line bytes rest more first number state line h split is only stopped =
@@ -139,50 +139,50 @@ bad_line bytes rest more first number state line h split is only stopped =
       only_bad bytes (h.said ++ line ∷ []) number (rw cut (are_push OnlyLine h.before h.said new line h.only only)) bad,
     )
 
-all_read : (bytes rest : List ℕ) (number : ℕ) (state : Draft) (h : HasRead bytes rest number state) → length rest ≡ 0 → script_lines bytes ≡ h.before
+all_read : (bytes rest : List ℕ) (number : ℕ) (state : ScriptSoFar) (h : HasRead bytes rest number state) → length rest ≡ 0 → script_lines bytes ≡ h.before
 all_read bytes [] number state h e = h.whole ∙ append-nil h.before
 all_read bytes (b ∷ bs) number state h e = absurd (omega arith)
 
 -- the answer at the end of the lines
-end_said : (bytes rest : List ℕ) (number : ℕ) (state : Draft) (h : HasRead bytes rest number state) → script_of h.said ≡ finished number state
+end_said : (bytes rest : List ℕ) (number : ℕ) (state : ScriptSoFar) (h : HasRead bytes rest number state) → script_of h.said ≡ finished number state
 end_said bytes rest number state h = ap script_of (sym (append-nil h.said)) ∙ h.goes_on []
 
-pub end_good : (bytes rest : List ℕ) (number : ℕ) (state : Draft) (answer : Result Script Refusal) → HasRead bytes rest number state → length rest ≡ 0
+pub end_good : (bytes rest : List ℕ) (number : ℕ) (state : ScriptSoFar) (answer : Result Script Refusal) → HasRead bytes rest number state → length rest ≡ 0
     → IfOk answer (λ script. finished number state ≡ Ok script) → IfOk answer (IsScript bytes)
 unfolding IsScript IsBadAt
 end_good bytes rest number state (Ok script) h none good =
     (h.said, rw (all_read bytes rest number state h none) h.are, end_said bytes rest number state h ∙ good)
 end_good bytes rest number state (Err refusal) h none good = tt
 
-pub end_only : (bytes rest : List ℕ) (number : ℕ) (state : Draft) (answer : Result Script Refusal) → HasRead bytes rest number state → length rest ≡ 0
+pub end_only : (bytes rest : List ℕ) (number : ℕ) (state : ScriptSoFar) (answer : Result Script Refusal) → HasRead bytes rest number state → length rest ≡ 0
     → IfOk answer (λ script. finished number state ≡ Ok script) → IfOk answer (λ script. IsOnlyReading bytes (Ok script))
 end_only bytes rest number state (Ok script) h none good =
     only_good bytes h.said script (rw (all_read bytes rest number state h none) h.only) (end_said bytes rest number state h ∙ good)
 end_only bytes rest number state (Err refusal) h none good = tt
 
-pub end_fits : (bytes rest : List ℕ) (number : ℕ) (state : Draft) (answer : Result Script Refusal) → HasRead bytes rest number state
+pub end_fits : (bytes rest : List ℕ) (number : ℕ) (state : ScriptSoFar) (answer : Result Script Refusal) → HasRead bytes rest number state
     → IfOk answer (λ script. finished number state ≡ Ok script) → IfOk answer ScriptFits
 end_fits bytes rest number state (Ok script) h good = finished_fits number state script h.fits good
 end_fits bytes rest number state (Err refusal) h good = tt
 
-bad_end : (bytes rest : List ℕ) (number : ℕ) (state : Draft) → HasRead bytes rest number state → length rest ≡ 0 → finished number state ≡ Err number → IsBadOnlyAt bytes number
+bad_end : (bytes rest : List ℕ) (number : ℕ) (state : ScriptSoFar) → HasRead bytes rest number state → length rest ≡ 0 → finished number state ≡ Err number → IsBadOnlyAt bytes number
 unfolding IsScript IsBadAt
 bad_end bytes rest number state h none bad =
     let all : take number (script_lines bytes) ≡ h.before = rw (all_read bytes rest number state h none) (take_all number h.before (omega (arith, h.count))) in
     let answer : script_of h.said ≡ Err number = end_said bytes rest number state h ∙ bad in
     ((h.said, rw all h.are, answer), only_bad bytes h.said number (rw all h.only) answer)
 
-abbrev EndsBadly : ℕ → Draft → Refusal → Type 0
+abbrev EndsBadly : ℕ → ScriptSoFar → Refusal → Type 0
 EndsBadly number state refusal = (refusal ≡ OutOfMemory) ⊎ ((refusal ≡ BadScript number) × (finished number state ≡ Err number))
 
-pub end_bad : (bytes rest : List ℕ) (number : ℕ) (state : Draft) (answer : Result Script Refusal) → HasRead bytes rest number state → length rest ≡ 0
+pub end_bad : (bytes rest : List ℕ) (number : ℕ) (state : ScriptSoFar) (answer : Result Script Refusal) → HasRead bytes rest number state → length rest ≡ 0
     → IfErr answer (EndsBadly number state) → IfErr answer (IsRefused bytes)
 end_bad bytes rest number state (Ok script) h none bad = tt
 end_bad bytes rest number state (Err refusal) h none (inl memory) = rw memory tt
 end_bad bytes rest number state (Err refusal) h none (inr (e, bad)) = rw e (bad_end bytes rest number state h none bad)
 
 -- what was read to its end is no longer than a script
-pub end_short : (bytes rest : List ℕ) (number : ℕ) (state : Draft) → HasRead bytes rest number state → length rest ≡ 0 → length bytes ≤ SCRIPT_BYTES
+pub end_short : (bytes rest : List ℕ) (number : ℕ) (state : ScriptSoFar) → HasRead bytes rest number state → length rest ≡ 0 → length bytes ≤ SCRIPT_BYTES
 end_short bytes rest number state h none = by_test (goes_too_far bytes) refl
   where
     by_test : (far : Bool) → goes_too_far bytes ≡ far → length bytes ≤ SCRIPT_BYTES

@@ -12,8 +12,8 @@ use Rattle.std.proofs.lemmas.Option.{slice_get_past}
 use Rattle.retro_base.specs.declared.limits.TheConstants.{ITEMS, PHASES, SESSIONS}
 use Rattle.script.specs.Rules.{Standing, behind, behind_all, breaks, breaks_at, counted, counts, has_no_room, in_phase, IsFirstBreak, item_lines, items_on, nothing, phase_lines, session_lines, standing, Tells}
 use Rattle.script.specs.Script.{end_step, finished, goes_on, has_name, is_closed, new_session, open_step, opened, phases_of, script_from, script_of, sessions_of, single_step, statement_step, step}
-use Rattle.script.specs.declared.draft.Draft.{Draft}
-use Rattle.script.specs.declared.draft.Draft.TheVariants as draft
+use Rattle.script.specs.declared.draft.ScriptSoFar.{ScriptSoFar}
+use Rattle.script.specs.declared.draft.ScriptSoFar.TheVariants as draft
 use Rattle.script.specs.declared.draft.OpenPhase.{OpenPhase}
 use Rattle.script.specs.declared.draft.OpenSession.{OpenSession}
 use Rattle.script.specs.declared.line.Line.{Line}
@@ -31,7 +31,7 @@ names_of session = map (λ s. s.name) (sessions_of session)
 abbrev stands_open : OpenPhase → Standing
 stands_open p = record { phases = length p.phases + 1; names = names_of p.session; items = p.items; is_open = not (is_closed p.session) }
 
-abbrev stands : Draft → Standing
+abbrev stands : ScriptSoFar → Standing
 stands draft.Empty = nothing
 stands (draft.Open p) = stands_open p
 
@@ -156,20 +156,20 @@ open_moves p (Single one) = in_single p one p.session
 open_moves p Bad = refl
 
 -- the lines before say what stands behind them
-abbrev Tracks : List Line → Draft → Type 0
+abbrev Tracks : List Line → ScriptSoFar → Type 0
 Tracks before state = standing before ≡ stands state
 
-abbrev Goes : List Line → Line → Option Draft → Type 0
+abbrev Goes : List Line → Line → Option ScriptSoFar → Type 0
 Goes before line next = MatchOption next (breaks (standing before) line ≡ true) (λ state. (breaks (standing before) line ≡ false) × Tracks (before ++ line ∷ []) state)
 
-abbrev Steps : Standing → Line → Option Draft → Type 0
+abbrev Steps : Standing → Line → Option ScriptSoFar → Type 0
 Steps s line next = MatchOption next (breaks s line ≡ true) (λ state. (breaks s line ≡ false) × (behind s line ≡ stands state))
 
 opened_steps : (p : OpenPhase) (line : Line) (next : Option OpenPhase) → Moves (stands_open p) line next → Steps (stands_open p) line (option_map draft.Open next)
 opened_steps p line None h = h
 opened_steps p line (Some q) h = h
 
-steps : (state : Draft) (line : Line) → Steps (stands state) line (step state line)
+steps : (state : ScriptSoFar) (line : Line) → Steps (stands state) line (step state line)
 steps draft.Empty Skipped = (refl, refl)
 steps draft.Empty Phase = (refl, refl)
 steps draft.Empty (Session name) = (refl, refl)
@@ -179,11 +179,11 @@ steps draft.Empty (Statement reading) = refl
 steps draft.Empty Bad = refl
 steps (draft.Open p) line = opened_steps p line (open_step p line) (open_moves p line)
 
-goes_by : (before : List Line) (line : Line) (s : Standing) (next : Option Draft) → standing before ≡ s → Steps s line next → Goes before line next
+goes_by : (before : List Line) (line : Line) (s : Standing) (next : Option ScriptSoFar) → standing before ≡ s → Steps s line next → Goes before line next
 goes_by before line s None e h = ap (λ x. breaks x line) e ∙ h
 goes_by before line s (Some state) e h = (ap (λ x. breaks x line) e ∙ h.0, behind-push nothing before line ∙ ap (λ x. behind x line) e ∙ h.1)
 
-goes : (before : List Line) (state : Draft) (line : Line) → Tracks before state → Goes before line (step state line)
+goes : (before : List Line) (state : ScriptSoFar) (line : Line) → Tracks before state → Goes before line (step state line)
 goes before state line t = goes_by before line (stands state) (step state line) t (steps state line)
 
 -- what stands at a place of joined lists
@@ -234,7 +234,7 @@ open_end : (before : List Line) (number : ℕ) (p : OpenPhase) (closed : Bool) �
 open_end before number p true e n t = none_at_end before (t ∙ ap not e)
 open_end before number p false e n t = break_at_end before number n (t ∙ ap not e)
 
-ends : (before : List Line) (number : ℕ) (state : Draft) → number ≡ length before + 1 → Tracks before state → Says before [] (finished number state)
+ends : (before : List Line) (number : ℕ) (state : ScriptSoFar) → number ≡ length before + 1 → Tracks before state → Says before [] (finished number state)
 ends before number draft.Empty n t = none_at_end before (ap (λ s. s.is_open) t)
 ends before number (draft.Open p) n t = open_end before number p (is_closed p.session) refl n (ap (λ s. s.is_open) t)
 
@@ -266,13 +266,13 @@ later before line lines (Err number) b (place, n, h, broken, earlier) = (
   ],
 )
 
-on_next : (before : List Line) (line : Line) (lines : List Line) (number : ℕ) (next : Option Draft) → number ≡ length before + 1 → Goes before line next
-    → ((state : Draft) → Tracks (before ++ line ∷ []) state → Says (before ++ line ∷ []) lines (script_from (number + 1) state lines))
+on_next : (before : List Line) (line : Line) (lines : List Line) (number : ℕ) (next : Option ScriptSoFar) → number ≡ length before + 1 → Goes before line next
+    → ((state : ScriptSoFar) → Tracks (before ++ line ∷ []) state → Says (before ++ line ∷ []) lines (script_from (number + 1) state lines))
     → Says before (line ∷ lines) (option_map_or (λ state. script_from (number + 1) state lines) next (Err number))
 on_next before line lines number None n g go_on = break_here before line lines number n g
 on_next before line lines number (Some state) n g go_on = later before line lines (script_from (number + 1) state lines) g.0 (go_on state g.1)
 
-tells_breaks : (lines before : List Line) (number : ℕ) (state : Draft) → number ≡ length before + 1 → Tracks before state → Says before lines (script_from number state lines)
+tells_breaks : (lines before : List Line) (number : ℕ) (state : ScriptSoFar) → number ≡ length before + 1 → Tracks before state → Says before lines (script_from number state lines)
 tells_breaks [] before number state n t = ends before number state n t
 tells_breaks (line ∷ lines) before number state n t =
     on_next before line lines number (step state line) n (goes before state line t)
@@ -316,7 +316,7 @@ statements_of (Some s) = map Statement s.statements
 abbrev told_open : OpenPhase → List Line
 told_open p = flat_map phase_lines (phases_of p) ++ statements_of p.session
 
-abbrev told : Draft → List Line
+abbrev told : ScriptSoFar → List Line
 told draft.Empty = []
 told (draft.Open p) = told_open p
 
@@ -332,7 +332,7 @@ counted-skip : (before : List Line) → counted (before ++ Skipped ∷ []) ≡ c
 counted-skip before = filter-append counts before (Skipped ∷ []) ∙ append-nil (counted before)
 
 -- what was read, and the lines that count
-abbrev IsTold : List Line → Draft → Type 0
+abbrev IsTold : List Line → ScriptSoFar → Type 0
 IsTold before draft.Empty = counted before ≡ []
 IsTold before (draft.Open p) = (0 < length (counted before)) × (in_phase (counted before) ≡ told_open p)
 
@@ -460,7 +460,7 @@ open_adds p (Ends end) c = end_told p end p.session
 open_adds p (Single one) c = single_told p one p.session
 open_adds p Bad c = tt
 
-abbrev Told : List Line → Option Draft → Type 0
+abbrev Told : List Line → Option ScriptSoFar → Type 0
 Told lines None = Unit {0}
 Told lines (Some state) = IsTold lines state
 
@@ -477,11 +477,11 @@ next_told before line p (Some q) c t a = (
   ap in_phase (counted-push before line c) ∙ in_phase-push (counted before) line t.0 ∙ ap (λ xs. xs ++ line ∷ []) t.1 ∙ sym a,
 )
 
-skipped_told : (before : List Line) (state : Draft) → IsTold before state → IsTold (before ++ Skipped ∷ []) state
+skipped_told : (before : List Line) (state : ScriptSoFar) → IsTold before state → IsTold (before ++ Skipped ∷ []) state
 skipped_told before draft.Empty t = counted-skip before ∙ t
 skipped_told before (draft.Open p) t = (omega (arith, t.0, ap length (counted-skip before)), ap in_phase (counted-skip before) ∙ t.1)
 
-told_more : (before : List Line) (state : Draft) (line : Line) → IsTold before state → Told (before ++ line ∷ []) (step state line)
+told_more : (before : List Line) (state : ScriptSoFar) (line : Line) → IsTold before state → Told (before ++ line ∷ []) (step state line)
 told_more before draft.Empty Skipped t = skipped_told before draft.Empty t
 told_more before draft.Empty Phase t = first_told before Phase (record { phases = []; items = 0; session = None }) refl t refl
 told_more before draft.Empty (Session name) t = first_told before (Session name) (record { phases = []; items = 0; session = Some (new_session [] name) }) refl t refl
@@ -504,17 +504,17 @@ open_answers : (lines : List Line) (number : ℕ) (p : OpenPhase) (closed : Bool
 open_answers lines number p true e t = t ∙ closed_told p (ap not e)
 open_answers lines number p false e t = tt
 
-end_answers : (lines : List Line) (number : ℕ) (state : Draft) → IsTold lines state → Answers lines (finished number state)
+end_answers : (lines : List Line) (number : ℕ) (state : ScriptSoFar) → IsTold lines state → Answers lines (finished number state)
 end_answers lines number draft.Empty t = ap in_phase t
 end_answers lines number (draft.Open p) t = open_answers lines number p (is_closed p.session) refl t.1
 
-next_answers : (before : List Line) (line : Line) (lines : List Line) (number : ℕ) (next : Option Draft) → Told (before ++ line ∷ []) next
-    → ((state : Draft) → IsTold (before ++ line ∷ []) state → Answers ((before ++ line ∷ []) ++ lines) (script_from (number + 1) state lines))
+next_answers : (before : List Line) (line : Line) (lines : List Line) (number : ℕ) (next : Option ScriptSoFar) → Told (before ++ line ∷ []) next
+    → ((state : ScriptSoFar) → IsTold (before ++ line ∷ []) state → Answers ((before ++ line ∷ []) ++ lines) (script_from (number + 1) state lines))
     → Answers (before ++ line ∷ lines) (option_map_or (λ state. script_from (number + 1) state lines) next (Err number))
 next_answers before line lines number None t go_on = tt
 next_answers before line lines number (Some state) t go_on = rw append_assoc at (go_on state t)
 
-answers_from : (lines before : List Line) (number : ℕ) (state : Draft) → IsTold before state → Answers (before ++ lines) (script_from number state lines)
+answers_from : (lines before : List Line) (number : ℕ) (state : ScriptSoFar) → IsTold before state → Answers (before ++ lines) (script_from number state lines)
 answers_from [] before number state t = rw append-nil (end_answers before number state t)
 answers_from (line ∷ lines) before number state t =
     next_answers before line lines number (step state line) (told_more before state line t) (λ state' t'. answers_from lines (before ++ line ∷ []) (number + 1) state' t')

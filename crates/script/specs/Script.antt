@@ -9,8 +9,8 @@ use Rattle.retro_base.specs.declared.refusal.Refusal.TheVariants as refusal
 use Rattle.sql_tree.specs.declared.statement.Statement.{Statement as StatementOf}
 use Rattle.script.specs.Line.{IsLine}
 use Rattle.script.specs.Text.{script_lines}
-use Rattle.script.specs.declared.draft.Draft.{Draft}
-use Rattle.script.specs.declared.draft.Draft.TheVariants as draft
+use Rattle.script.specs.declared.draft.ScriptSoFar.{ScriptSoFar}
+use Rattle.script.specs.declared.draft.ScriptSoFar.TheVariants as draft
 use Rattle.script.specs.declared.draft.OpenPhase.{OpenPhase}
 use Rattle.script.specs.declared.draft.OpenSession.{OpenSession}
 use Rattle.script.specs.declared.line.Line.{Line}
@@ -92,7 +92,7 @@ open_step p (Single single) = single_step p single p.session
 open_step p Bad = None
 
 -- what was read behind one line more, if the line may stand there; a SESSION line opens the first phase too
-abbrev pub step : Draft → Line → Option Draft
+abbrev pub step : ScriptSoFar → Line → Option ScriptSoFar
 step draft.Empty Skipped = Some draft.Empty
 step draft.Empty Phase = Some (draft.Open (record { phases = []; items = 0; session = None }))
 step draft.Empty (Session name) = Some (draft.Open (record { phases = []; items = 0; session = Some (new_session [] name) }))
@@ -100,12 +100,12 @@ step draft.Empty line = None
 step (draft.Open p) line = option_map draft.Open (open_step p line)
 
 -- the script, where the lines end before the line of this number: no transaction may be open
-abbrev pub finished : ℕ → Draft → Result Script ℕ
+abbrev pub finished : ℕ → ScriptSoFar → Result Script ℕ
 finished number draft.Empty = Ok (record { phases = [] })
 finished number (draft.Open p) = if is_closed p.session then Ok (record { phases = phases_of p }) else Err number
 
 -- the script that these lines tell, the first having this number, behind what was read; or the number of the first bad line
-abbrev pub script_from : ℕ → Draft → List Line → Result Script ℕ
+abbrev pub script_from : ℕ → ScriptSoFar → List Line → Result Script ℕ
 script_from number state [] = finished number state
 script_from number state (line ∷ lines) = option_map_or (λ next. script_from (number + 1) next lines) (step state line) (Err number)
 

@@ -38,7 +38,7 @@ pub struct OpenPhase {
 
 /// A script as far as it was read.
 #[derive(Drop)]
-pub enum Draft {
+pub enum ScriptSoFar {
     /// No line that counts was read.
     Empty,
     Open(OpenPhase),
@@ -259,16 +259,16 @@ impl OpenPhase {
     }
 }
 
-impl Draft {
+impl ScriptSoFar {
     /// What was read and one line more, if the line may stand there.
-    pub fn step(self, alloc: Global, line: Line) -> Result<Option<Draft>, AllocError>
+    pub fn step(self, alloc: Global, line: Line) -> Result<Option<ScriptSoFar>, AllocError>
         ensures { IfOk result (λ next. next ≡ step self line) }
     {
         match self {
-            Draft::Empty => Ok(first_step(alloc, line)),
-            Draft::Open(phase) => {
+            ScriptSoFar::Empty => Ok(first_step(alloc, line)),
+            ScriptSoFar::Open(phase) => {
                 let next = phase.step(alloc, line)?;
-                Ok(next.map(|phase| Draft::Open(phase)))
+                Ok(next.map(|phase| ScriptSoFar::Open(phase)))
             }
         }
     }
@@ -280,10 +280,10 @@ impl Draft {
         ensures bad { IfErr result (λ e. (e ≡ Refusal.OutOfMemory) ⊎ ((e ≡ Refusal.BadScript number) × (finished number self ≡ Err number))) }
     {
         match self {
-            Draft::Empty => Ok(Script {
+            ScriptSoFar::Empty => Ok(Script {
                 phases: Seq::new(alloc),
             }),
-            Draft::Open(phase) => {
+            ScriptSoFar::Open(phase) => {
                 if !phase.is_closed() {
                     return Err(Refusal::BadScript { line: number });
                 }
@@ -295,15 +295,15 @@ impl Draft {
     }
 }
 
-fn first_step(alloc: Global, line: Line) -> Option<Draft>
-    ensures { result ≡ step Draft.Empty line }
+fn first_step(alloc: Global, line: Line) -> Option<ScriptSoFar>
+    ensures { result ≡ step ScriptSoFar.Empty line }
 {
     match line {
-        Line::Skipped => Some(Draft::Empty),
-        Line::Phase => Some(Draft::Open(OpenPhase::new(alloc, None))),
+        Line::Skipped => Some(ScriptSoFar::Empty),
+        Line::Phase => Some(ScriptSoFar::Open(OpenPhase::new(alloc, None))),
         Line::Session(name) => {
             let session = OpenSession::new(alloc, Seq::new(alloc), name);
-            Some(Draft::Open(OpenPhase::new(alloc, Some(session))))
+            Some(ScriptSoFar::Open(OpenPhase::new(alloc, Some(session))))
         }
         _ => None,
     }

@@ -4,7 +4,7 @@ ghost use Rattle.std.specs.Prelude.{◌≡◌, ◌≤◌, ◌+◌, IfOk, IfErr, 
 ghost use Rattle.script.specs.Limits.{ScriptFits};
 ghost use Rattle.script.specs.Script.{IsScript, IsOnlyReading, IsRefused};
 
-use crate::draft::Draft;
+use crate::draft::ScriptSoFar;
 use crate::limits::SCRIPT_BYTES;
 use crate::line::read_line;
 use crate::structure::Script;
@@ -22,7 +22,7 @@ pub fn read(alloc: Global, bytes: &[u8]) -> Result<Script, Refusal>
 {
     let too_far = bytes.len() > SCRIPT_BYTES;
     let mut rest = first_bytes(bytes);
-    let mut draft = Draft::Empty;
+    let mut draft = ScriptSoFar::Empty;
     let mut number = 1;
     while !rest.is_empty() {
         let (first, more) = split_line(rest);

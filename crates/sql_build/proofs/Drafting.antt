@@ -12,7 +12,7 @@ use Rattle.sql_tree.specs.declared.expression.ExpressionStep.{ExpressionStep}
 use Rattle.sql_tree.specs.declared.expression.ExpressionStep.TheVariants as step
 use Rattle.sql_tree.specs.declared.expression.Operator.{Operator}
 use Rattle.sql_tree.specs.declared.condition.Comparison.{Comparison}
-use Rattle.sql_build.specs.declared.draft.Draft.{Draft}
+use Rattle.sql_build.specs.declared.draft.Assembly.{Assembly}
 use Rattle.sql_parts.specs.declared.action.Action.{Action}
 use Rattle.sql_parts.specs.declared.action.Action.TheVariants as action
 use Rattle.sql_parts.specs.declared.action.StepAction.{StepAction}
@@ -34,7 +34,7 @@ abbrev pub Conditions : List ConditionStep → ℕ → Type 0
 Conditions ss n = (ts : List ConditionTree) × (condition_tree.told ss [] ≡ Some ts) × (length ts ≡ n)
 
 -- a draft has a shape
-pub record Has (d : Draft) (k : Shape) : Type 0 where
+pub record Has (d : Assembly) (k : Shape) : Type 0 where
   pub parts : Fits d.parts k.cells
   pub expressions : Expressions d.expression k.trees
   pub conditions : Conditions d.condition k.conditions
@@ -113,17 +113,17 @@ only_condition (t ∷ []) x e l = (t, ap condition_tree.only e)
 only_condition (t ∷ u ∷ ts) x e l = absurd (omega (arith, l))
 
 -- what an action leaves
-abbrev pub Leaves : Option Draft → Shape → Type 0
-Leaves x k = (d : Draft) × (x ≡ Some d) × Has d k
+abbrev pub Leaves : Option Assembly → Shape → Type 0
+Leaves x k = (d : Assembly) × (x ≡ Some d) × Has d k
 
-leaf_taken : (d : Draft) (ps : List Part) (cs : List Cell) → Fits ps ((sort.Operand, 0) ∷ cs) → (a : Operand) × (rest : List Part) × (leaf_step d ps ≡ Some (expression_on (leaf a) rest d)) × Fits rest cs
+leaf_taken : (d : Assembly) (ps : List Part) (cs : List Cell) → Fits ps ((sort.Operand, 0) ∷ cs) → (a : Operand) × (rest : List Part) × (leaf_step d ps ≡ Some (expression_on (leaf a) rest d)) × Fits rest cs
 leaf_taken d ps cs (operand f) = (_, _, refl, f)
 
-compare_taken : (c : Comparison) (d : Draft) (ps : List Part) (cs : List Cell) → Fits ps ((sort.Operand, 0) ∷ (sort.Operand, 0) ∷ cs)
+compare_taken : (c : Comparison) (d : Assembly) (ps : List Part) (cs : List Cell) → Fits ps ((sort.Operand, 0) ∷ (sort.Operand, 0) ∷ cs)
     → (a : Operand) × (b : Operand) × (rest : List Part) × (compare_step c d ps ≡ Some (condition_on (condition_step.Compare a c b) rest d)) × Fits rest cs
 compare_taken c d ps cs (operand (operand f)) = (_, _, _, refl, f)
 
-step_made : (a : StepAction) (d : Draft) (m : Shape) → Has d (from (step_effect a) m) → Leaves (stepped a d) (to (step_effect a) m)
+step_made : (a : StepAction) (d : Assembly) (m : Shape) → Has d (from (step_effect a) m) → Leaves (stepped a d) (to (step_effect a) m)
 step_made step_action.Leaf d m h =
     let l = leaf_taken d d.parts m.cells h.parts in
     (expression_on (leaf l.0) l.1 d, l.2, record { parts = l.3; expressions = leaf_on d.expression l.0 m.trees h.expressions; conditions = h.conditions })
@@ -148,11 +148,11 @@ step_made step_action.Condition d m h =
 step_made step_action.NoCondition d m h =
     (with_parts (part.Condition None ∷ d.parts) d, refl, record { parts = condition h.parts; expressions = h.expressions; conditions = h.conditions })
 
-parts_made : (x : Option (List Part)) (d : Draft) (m : Shape) (pops pushes : List Cell) → Has d (from (alike pops pushes) m) → Made x (pushes ++ m.cells) → Leaves (put x d) (to (alike pops pushes) m)
+parts_made : (x : Option (List Part)) (d : Assembly) (m : Shape) (pops pushes : List Cell) → Has d (from (alike pops pushes) m) → Made x (pushes ++ m.cells) → Leaves (put x d) (to (alike pops pushes) m)
 parts_made x d m pops pushes h q = (with_parts q.0 d, ap (λ y. put y d) q.1, record { parts = q.2; expressions = h.expressions; conditions = h.conditions })
 
 -- from the effect of an action to the one that is given
-given : (a : Action) (d : Draft) (m : Shape) (x y : Effect) → x ≡ y → (Has d (from x m) → Leaves (acted a d) (to x m)) → Has d (from y m) → Leaves (acted a d) (to y m)
+given : (a : Action) (d : Assembly) (m : Shape) (x y : Effect) → x ≡ y → (Has d (from x m) → Leaves (acted a d) (to x m)) → Has d (from y m) → Leaves (acted a d) (to y m)
 given a d m x y e f =
     let P : Effect → Type 0 = λ z. Has d (from z m) → Leaves (acted a d) (to z m) in
     subst P e f
@@ -161,7 +161,7 @@ alike_is : (x : Option (List Cell × List Cell)) (e : Effect) → alike_of x ≡
 alike_is None e h = cc
 alike_is (Some p) e h = (p, refl, some_injective h)
 
-pub act_made : (n : ℕ) (a : Action) (d : Draft) (m : Shape) (e : Effect) → put_effect n a ≡ Some e → Has d (from e m) → Leaves (acted a d) (to e m)
+pub act_made : (n : ℕ) (a : Action) (d : Assembly) (m : Shape) (e : Effect) → put_effect n a ≡ Some e → Has d (from e m) → Leaves (acted a d) (to e m)
 act_made n (action.Term a) d m e h =
     given (action.Term a) d m (alike (term_pops a) (term_pushes a)) e (some_injective h) (λ k. parts_made (term a d.parts) d m (term_pops a) (term_pushes a) k (term_made a d.parts m.cells k.parts))
 act_made n (action.Row a) d m e h =

@@ -50,7 +50,7 @@ impl Ops {
 
 /// What is built so far: parts, and the steps of an expression and of a condition that are not over.
 #[derive(Drop)]
-pub struct Draft {
+pub struct Assembly {
     parts: Parts,
     expression: Seq<ExpressionStep>,
     condition: Seq<ConditionStep>,
@@ -60,7 +60,7 @@ pub struct Draft {
 pub fn assemble(alloc: Global, ops: Seq<Op>) -> Result<Option<Parsed>, AllocError>
     ensures { IfOk result (λ parsed. parsed ≡ built ops) }
 {
-    let mut draft = Draft::new(alloc);
+    let mut draft = Assembly::new(alloc);
     let mut ops = Ops::new(ops);
     while let Some(op) = ops.next() {
         if !draft.take(alloc, op)? {
@@ -70,11 +70,11 @@ pub fn assemble(alloc: Global, ops: Seq<Op>) -> Result<Option<Parsed>, AllocErro
     Ok(draft.finish())
 }
 
-impl Draft {
-    fn new(alloc: Global) -> Draft
+impl Assembly {
+    fn new(alloc: Global) -> Assembly
         ensures { result ≡ empty }
     {
-        Draft {
+        Assembly {
             parts: Parts::new(alloc),
             expression: Seq::new(alloc),
             condition: Seq::new(alloc),

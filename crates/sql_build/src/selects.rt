@@ -9,10 +9,10 @@ ghost use Rattle.sql_parts.specs.declared.part.Part.TheVariants as part;
 use crate::pieces::{one, plain};
 use sql_parts::{AsOf, ListAction, OutputAction, Parsed, Part, Parts, QueryAction};
 use sql_tree::{
-    Aggregate, Direction, Name, OrderKey, Output, OutputValue, Select, SelectList, Statement,
+    Aggregate, Direction, OrderKey, Output, OutputValue, Select, SelectList, Statement,
 };
 use std::alloc::{AllocError, Global};
-use values::{Seq, Value};
+use values::{Name, Seq, Value};
 
 /// The outputs of a select.
 pub fn output(action: OutputAction, parts: &mut Parts) -> Option<Part>

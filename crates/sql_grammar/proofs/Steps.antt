@@ -12,7 +12,7 @@ use Rattle.sql_grammar.specs.declared.grammar.Symbol.{Symbol}
 use Rattle.sql_grammar.specs.declared.grammar.Symbol.TheVariants.{Take, Put, Use}
 use Rattle.sql_grammar.specs.Derivation.{Derives, Done, Taken, Emitted, Replaced, IsIn, IsSentence, Begins}
 use Rattle.sql_grammar.specs.Grammar.{class_of, content_of, sides}
-use Rattle.sql_grammar.specs.Machine.{Ends, Holds, look, rank, Stands, Wants}
+use Rattle.sql_grammar.specs.Machine.{Ends, Continues, look, rank, Stands, Wants}
 use Rattle.sql_grammar.specs.Table.{choice, expansion, follow}
 use Rattle.sql_grammar.proofs.Finishing.{finishes}
 use Rattle.sql_grammar.proofs.Tables.{fine_side, is_chosen, rank_falls, side-IsIn}
@@ -52,7 +52,7 @@ abbrev Stops : Rule → List Token → Class → Type 0
 Stops r c k = (ts : List Token) (os : List Op) → look ts ≡ k → IsSentence r (c ++ ts) os → ⊥
 
 -- a rule is next: its chosen right side stands for it
-expands : (r : Rule) (c : List Token) (k : Class) (q : Rule) (ss : List Symbol) (ops : List Op) → Holds r c k (Use q ∷ ss) ops → Holds r c k (expansion q k ++ ss) ops
+expands : (r : Rule) (c : List Token) (k : Class) (q : Rule) (ss : List Symbol) (ops : List Op) → Continues r c k (Use q ∷ ss) ops → Continues r c k (expansion q k ++ ss) ops
 expands r c k q ss ops h = record {
   sound = λ ts os d. h.sound ts os (Replaced (expansion q k) (side-IsIn (choice q k) q) d);
   whole = λ ts os l s.
@@ -67,7 +67,7 @@ expands r c k q ss ops h = record {
 pub expansion_ranks : (q : Rule) (k : Class) (ss : List Symbol) → rank (expansion q k ++ ss) < rank (Use q ∷ ss)
 expansion_ranks q k ss = rank_falls q ss (expansion q k) (side-IsIn (choice q k) q)
 
-puts : (r : Rule) (c : List Token) (k : Class) (a : Action) (ss : List Symbol) (ops : List Op) → Holds r c k (Put a ∷ ss) ops → Holds r c k ss (ops ++ Act a ∷ [])
+puts : (r : Rule) (c : List Token) (k : Class) (a : Action) (ss : List Symbol) (ops : List Op) → Continues r c k (Put a ∷ ss) ops → Continues r c k ss (ops ++ Act a ∷ [])
 puts r c k a ss ops h = record {
   sound = λ ts os d. let P : List Op → Type 0 = λ x. IsSentence r (c ++ ts) x in subst P (sym (append_assoc ops (Act a ∷ []) os)) (h.sound ts (Act a ∷ os) (Emitted d));
   whole = λ ts os l s.
@@ -78,21 +78,21 @@ puts r c k a ss ops h = record {
 }
 
 -- the same by what a call of `pop` and of `push` say
-pub next : (r : Rule) (c : List Token) (k : Class) (old rest : List Symbol) (x y : Symbol) (ops : List Op) → old ≡ x ∷ rest → x ≡ y → Holds r c k old ops → Holds r c k (y ∷ rest) ops
-next r c k old rest x y ops e q h = let P : List Symbol → Type 0 = λ ss. Holds r c k ss ops in subst P (e ∙ ap (λ z. z ∷ rest) q) h
+pub next : (r : Rule) (c : List Token) (k : Class) (old rest : List Symbol) (x y : Symbol) (ops : List Op) → old ≡ x ∷ rest → x ≡ y → Continues r c k old ops → Continues r c k (y ∷ rest) ops
+next r c k old rest x y ops e q h = let P : List Symbol → Type 0 = λ ss. Continues r c k ss ops in subst P (e ∙ ap (λ z. z ∷ rest) q) h
 
-pub next_put : (r : Rule) (c : List Token) (k : Class) (old rest : List Symbol) (x : Symbol) (a : Action) (ops new : List Op) → old ≡ x ∷ rest → x ≡ Put a → new ≡ ops ++ Act a ∷ [] → Holds r c k old ops → Holds r c k rest new
+pub next_put : (r : Rule) (c : List Token) (k : Class) (old rest : List Symbol) (x : Symbol) (a : Action) (ops new : List Op) → old ≡ x ∷ rest → x ≡ Put a → new ≡ ops ++ Act a ∷ [] → Continues r c k old ops → Continues r c k rest new
 next_put r c k old rest x a ops new e q n h =
-    let P : List Op → Type 0 = λ os. Holds r c k rest os in
+    let P : List Op → Type 0 = λ os. Continues r c k rest os in
     subst P (sym n) (puts r c k a rest ops (next r c k old rest x (Put a) ops e q h))
 
-pub next_use : (r : Rule) (c : List Token) (k : Class) (old rest side new : List Symbol) (x : Symbol) (q : Rule) (ops : List Op) → old ≡ x ∷ rest → x ≡ Use q → side ≡ expansion q k → new ≡ side ++ rest → Holds r c k old ops → Holds r c k new ops
+pub next_use : (r : Rule) (c : List Token) (k : Class) (old rest side new : List Symbol) (x : Symbol) (q : Rule) (ops : List Op) → old ≡ x ∷ rest → x ≡ Use q → side ≡ expansion q k → new ≡ side ++ rest → Continues r c k old ops → Continues r c k new ops
 next_use r c k old rest side new x q ops e i s n h =
-    let P : List Symbol → Type 0 = λ ss. Holds r c k ss ops in
+    let P : List Symbol → Type 0 = λ ss. Continues r c k ss ops in
     subst P (sym (n ∙ ap (λ z. z ++ rest) s)) (expands r c k q rest ops (next r c k old rest x (Use q) ops e i h))
 
 -- the token is the one that is wanted
-takes : (r : Rule) (c : List Token) (t : Token) (ss : List Symbol) (ops : List Op) → Holds r c (class_of t) (Take (class_of t) ∷ ss) ops → Stands r (c ++ t ∷ []) ss (ops ++ content_of t)
+takes : (r : Rule) (c : List Token) (t : Token) (ss : List Symbol) (ops : List Op) → Continues r c (class_of t) (Take (class_of t) ∷ ss) ops → Stands r (c ++ t ∷ []) ss (ops ++ content_of t)
 takes r c t ss ops h k = record {
   sound = λ ts os d.
       let P : List Op → Type 0 = λ x. IsSentence r (c ++ t ∷ ts) x in
@@ -116,13 +116,13 @@ look_taken [] k ss os d = absurd (nothing_taken d)
 look_taken (t ∷ ts) k ss os d = (taken d).0
 
 -- a token of another class is wanted
-other : (r : Rule) (c : List Token) (k wanted : Class) (ss : List Symbol) (ops : List Op) → wanted ≢ k → Holds r c k (Take wanted ∷ ss) ops → Stops r c k
+other : (r : Rule) (c : List Token) (k wanted : Class) (ss : List Symbol) (ops : List Op) → wanted ≢ k → Continues r c k (Take wanted ∷ ss) ops → Stops r c k
 other r c k wanted ss ops n h = λ ts os l s.
     let w = h.whole ts os l s in
     n (sym (look_taken ts wanted ss w.0 w.2) ∙ l)
 
 -- no token is wanted
-none : (r : Rule) (c : List Token) (t : Token) (ops : List Op) → Holds r c (class_of t) [] ops → Stops r c (class_of t)
+none : (r : Rule) (c : List Token) (t : Token) (ops : List Op) → Continues r c (class_of t) [] ops → Stops r c (class_of t)
 none r c t ops h = λ ts os l s.
     let w = h.whole ts os l s in
     no_token_ends t (sym l ∙ ap look ((done w.2).0))
@@ -136,17 +136,17 @@ is_not b P h e p = let t : true ≡ false = sym (h.1 p) ∙ e in cc
 
 -- the same by what calls of `settle` and `is_wanted` say
 pub refuses_by : (b : Bool) (w : Option Class) (t : Token) (k : Class) (old ss : List Symbol) (before ops : List Op) → k ≡ class_of t → IsTrue b ↔ (w ≡ Some k) → b ≡ false
-    → ((r : Rule) (c : List Token) → Holds r c k old before → Wants w r c k ss ops) → (r : Rule) (c : List Token) → Stands r c old before → Begins r (c ++ t ∷ []) → ⊥
+    → ((r : Rule) (c : List Token) → Continues r c k old before → Wants w r c k ss ops) → (r : Rule) (c : List Token) → Stands r c old before → Begins r (c ++ t ∷ []) → ⊥
 refuses_by b w t k old ss before ops e h n f r c s =
     let P : Class → Type 0 = λ x. Wants w r c x ss ops in
     refuses w r c t ss ops (λ q. is_not b (w ≡ Some k) h n (q ∙ ap Some (sym e))) (subst P e (f r c (s k)))
 
 pub takes_by : (b : Bool) (w : Option Class) (t : Token) (k : Class) (old ss : List Symbol) (before ops put new : List Op) → k ≡ class_of t → IsTrue b ↔ (w ≡ Some k) → b ≡ true
     → new ≡ ops ++ put → put ≡ content_of t
-    → ((r : Rule) (c : List Token) → Holds r c k old before → Wants w r c k ss ops) → (r : Rule) (c : List Token) → Stands r c old before → Stands r (c ++ t ∷ []) ss new
+    → ((r : Rule) (c : List Token) → Continues r c k old before → Wants w r c k ss ops) → (r : Rule) (c : List Token) → Stands r c old before → Stands r (c ++ t ∷ []) ss new
 takes_by b w t k old ss before ops put new e h y n p f r c s =
     let P : Option Class → Type 0 = λ x. Wants x r c k ss ops in
-    let Q : Class → Type 0 = λ x. Holds r c x (Take x ∷ ss) ops in
+    let Q : Class → Type 0 = λ x. Continues r c x (Take x ∷ ss) ops in
     let N : List Op → Type 0 = λ x. Stands r (c ++ t ∷ []) ss x in
     subst N (sym (n ∙ ap (λ x. ops ++ x) p)) (takes r c t ss ops (subst Q e (subst P (h.0 y) (f r c (s k)))))
 
@@ -159,13 +159,13 @@ begins r f k = record {
 }
 
 -- at the end
-sentence : (r : Rule) (c : List Token) (ops : List Op) → Holds r c End [] ops → IsSentence r c ops
+sentence : (r : Rule) (c : List Token) (ops : List Op) → Continues r c End [] ops → IsSentence r c ops
 sentence r c ops h =
     let P : List Token → Type 0 = λ x. IsSentence r x (ops ++ []) in
     let Q : List Op → Type 0 = λ x. IsSentence r c x in
     subst Q (append-nil ops) (subst P (append-nil c) (h.sound [] [] Done))
 
-alone : (r : Rule) (c : List Token) (ops os : List Op) → Holds r c End [] ops → IsSentence r c os → os ≡ ops
+alone : (r : Rule) (c : List Token) (ops os : List Op) → Continues r c End [] ops → IsSentence r c os → os ≡ ops
 alone r c ops os h s =
     let P : List Token → Type 0 = λ x. IsSentence r x os in
     let w = h.whole [] os refl (subst P (sym (append-nil c)) s) in
@@ -187,7 +187,7 @@ is_none_by true (Some k) e = cc
 is_none_by false (Some k) e = refl
 
 pub ends_by : (b : Bool) (w : Option Class) (old ss : List Symbol) (before ops : List Op) → is_some w ≡ not b
-    → ((r : Rule) (c : List Token) → Holds r c End old before → Wants w r c End ss ops) → (r : Rule) (c : List Token) → Stands r c old before → Ends b r c ops
+    → ((r : Rule) (c : List Token) → Continues r c End old before → Wants w r c End ss ops) → (r : Rule) (c : List Token) → Stands r c old before → Ends b r c ops
 ends_by b w old ss before ops e f r c s = let P : Bool → Type 0 = λ x. Ends x r c ops in subst P (is_none_by b w e) (ends w r c ss ops (f r c (s End)))
 
 -- what was read begins a sentence

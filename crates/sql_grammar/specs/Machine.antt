@@ -31,19 +31,19 @@ IsFine (Put a ∷ ss) = IsFine ss
 IsFine (Use r ∷ ss) = ((k : Class) → IsIn k (heads ss) → IsIn k (follow r)) × IsFine ss
 
 -- where a token of the class comes next, the symbols stand for what may come behind the tokens so far
-pub record Holds (r : Rule) (so_far : List Token) (k : Class) (ss : List Symbol) (ops : List Op) : Type 0 where
+pub record Continues (r : Rule) (so_far : List Token) (k : Class) (ss : List Symbol) (ops : List Op) : Type 0 where
   pub sound : (ts : List Token) (os : List Op) → Derives ss ts os → IsSentence r (so_far ++ ts) (ops ++ os)
   pub whole : (ts : List Token) (os : List Op) → look ts ≡ k → IsSentence r (so_far ++ ts) os → (rest : List Op) × (os ≡ ops ++ rest) × Derives ss ts rest
   pub fine : IsFine ss
 
 -- the same, whatever comes next
 abbrev pub Stands : Rule → List Token → List Symbol → List Op → Type 0
-Stands r so_far ss ops = (k : Class) → Holds r so_far k ss ops
+Stands r so_far ss ops = (k : Class) → Continues r so_far k ss ops
 
 -- a token of the class is wanted next, or none
 abbrev pub Wants : Option Class → Rule → List Token → Class → List Symbol → List Op → Type 0
-Wants (Some wanted) r so_far k ss ops = Holds r so_far k (Take wanted ∷ ss) ops
-Wants None r so_far k ss ops = Holds r so_far k [] ops
+Wants (Some wanted) r so_far k ss ops = Continues r so_far k (Take wanted ∷ ss) ops
+Wants None r so_far k ss ops = Continues r so_far k [] ops
 
 -- the token was taken, or begins no sentence
 abbrev pub Takes : Bool → Rule → List Token → Token → List Symbol → List Op → Type 0

@@ -72,7 +72,7 @@ impl Machine {
     ghost use Rattle.sql_grammar.specs.declared.grammar.Class.TheVariants.{End};
     ghost use Rattle.sql_grammar.specs.declared.grammar.Rule.{Rule};
     ghost use Rattle.sql_grammar.specs.Derivation.{IsIn};
-    ghost use Rattle.sql_grammar.specs.Machine.{Ends, Holds, Stands, Takes, Wants};
+    ghost use Rattle.sql_grammar.specs.Machine.{Ends, Continues, Stands, Takes, Wants};
     ghost use Rattle.sql_grammar.specs.Table.{follow};
 
     /// Before the first token of a sentence of the rule.
@@ -91,7 +91,7 @@ impl Machine {
     // Goes on to the next token that is wanted, which is to have this class; none where the sentence is over.
     fn settle(&mut self, class: Class) -> Result<Option<Class>, AllocError>
         ensures { IfOk result (λ wanted. (r : Rule) (so_far : List Token)
-            → Holds r so_far class self.old.expected self.old.ops
+            → Continues r so_far class self.old.expected self.old.ops
             → Wants wanted r so_far class self.new.expected self.new.ops) }
     {
         while let Some(symbol) = self.expected.pop() {
