@@ -155,7 +155,7 @@ count_stays (change ∷ changes) base = count_stays changes (base_after base cha
 -- a dirty page is one of the store
 pub dirty_inside : (desk : Desk) (page : ℕ) → DeskFits desk → desk.dirty page ≡ true → page < (now desk.history).base.page_count
 dirty_inside desk page f soils =
-    let inside = written_inside desk.rest (behind desk.history desk.past).base page f.log.right (f.soiled page soils) in
+    let inside = written_inside desk.rest (behind desk.history desk.past).base page f.log.fits.right (f.soiled page soils) in
     omega (arith, inside, sym (count_stays desk.rest (behind desk.history desk.past).base) ∙ ap (λ (b : Base). b.page_count) (base_whole desk.history desk.past desk.rest f.log.split))
 
 module _ {D : Type 0} (honest : D → Type 0) (state : D → State) (running : RunningDesk D) (desk : Desk) (is : IsDesk honest state running desk) (f : DeskFits desk) where

@@ -35,7 +35,7 @@ use Rattle.copy_queue.specs.Pending.{Pending}
 use Rattle.page_pool.specs.Side.{Pool, IsPageSide}
 use Rattle.race_model.specs.Desk.{Desk, Doubt, Sure, OneMore, NewBase, writes_of, writes_page}
 use Rattle.race_model.specs.Fits.{DeskFits, DoubtFits}
-use Rattle.race_model.specs.Machine.{acked_to, changed, change_failed, cut, cut_failed, written as written_desk, write_failed, settled, stopped}
+use Rattle.race_model.specs.Machine.{acked_to, changed, change_failed, cut, cut_failed, written_desk, write_failed, settled, stopped}
 use Rattle.race_model.proofs.Histories.{page_count_after}
 use Rattle.race_model.proofs.Lists.{drop-to, pages_of-append, pages_of-drop, pages_of-length}
 use Rattle.race_model.proofs.LogKeeps.{base_whole}

@@ -12,7 +12,7 @@ ghost use Rattle.history.specs.Writes.{pages_of, is_among};
 ghost use Rattle.page_pool.specs.Side.{HoldsSame, soiled};
 ghost use Rattle.race_model.specs.Desk.{Desk};
 ghost use Rattle.race_model.specs.Fits.{DeskFits};
-ghost use Rattle.race_model.specs.Machine.{cut, cut_failed, MayCut, MayWrite, settled, stopped, write_failed, written};
+ghost use Rattle.race_model.specs.Machine.{cut, cut_failed, MayCut, MayWrite, settled, stopped, write_failed, written_desk};
 ghost use Rattle.redo_log.specs.Cause.{IsMemoryOrFault};
 ghost use Rattle.desk.specs.Cause.{IsWriteRefusal, stop_behind};
 ghost use Rattle.desk.specs.Desk.{HoldsPagesOf, IsDesk, IsWhole, ListsLogOf};
@@ -68,7 +68,7 @@ impl<D: Disk + Drop> RunningDesk<D> {
         ensures stop { MatchResult result (λ _. self.new.stop ≡ self.old.stop)
             (λ why. self.new.stop ≡ stop_behind self.old.stop why) }
         ensures done { (desk : Desk) (need : ℕ) → IsDesk D.is_honest D.state self.old desk
-            → OnOk result (IsDesk D.is_honest D.state self.new (written desk page need)) }
+            → OnOk result (IsDesk D.is_honest D.state self.new (written_desk desk page need)) }
         ensures failed { (desk : Desk) (need : ℕ) → IsDesk D.is_honest D.state self.old desk
             → OnErr result ((left : List ℕ) × IsDesk D.is_honest D.state self.new (write_failed desk page need left)) }
         ensures any_moment { (desk : Desk) (need : ℕ) (left : List ℕ) → IsDesk D.is_honest D.state self.old desk
@@ -105,7 +105,7 @@ impl<D: Disk + Drop> RunningDesk<D> {
             (λ why. self.new.stop ≡ stop_behind self.old.stop why) }
         ensures done { (desk : Desk) → IsDesk D.is_honest D.state self.old desk → DeskFits desk
             → IfOk result (λ wrote. wrote ≡ true → (page : ℕ) × IsLeastWritable desk page
-            × MayWrite desk page desk.acked × ((need : ℕ) → IsDesk D.is_honest D.state self.new (written desk page need))) }
+            × MayWrite desk page desk.acked × ((need : ℕ) → IsDesk D.is_honest D.state self.new (written_desk desk page need))) }
         ensures none { (desk : Desk) → IsDesk D.is_honest D.state self.old desk
             → IfOk result (λ wrote. wrote ≡ false → (self.new ≡ self.old) × NoneWritable desk) }
         ensures failed { (desk : Desk) (need : ℕ) → IsDesk D.is_honest D.state self.old desk → DeskFits desk

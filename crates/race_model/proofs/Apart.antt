@@ -20,7 +20,7 @@ use Rattle.race_model.specs.Desk.{capacity_of}
 use Rattle.race_model.specs.Vault.{Maplog, Vault, Batch, IsMaplogOf}
 use Rattle.race_model.specs.Fits.{HistoryFits, MappingsFit, VaultFits, BatchFits}
 use Rattle.race_model.specs.Apart.{HistoryOutlives, HistoryOutlivesLines, Outlives, OutlivesLines, ToldBelow, AllOutlive, VaultFinds, FindsAlike, PastIsRight, PastOverLines, TrimLeaves}
-use Rattle.race_model.specs.Reading.{Told, told_of, found}
+use Rattle.race_model.specs.Reading.{PeekTold, told_of, found}
 use Rattle.race_model.proofs.Lists.{drop-to}
 use Rattle.race_model.proofs.Grows.{contains_none, vault_with, batch_with}
 use Rattle.race_model.proofs.Histories.{keeps_newest, count_with, fits_with}
@@ -93,7 +93,7 @@ vault_one floor vault history change fine keeps fit = vault_with history floor f
 batch_one : (batch : Batch) → OutlivesOne (λ history. BatchFits history batch)
 batch_one batch history change fine keeps fit = batch_with history fine change keeps batch fit
 
-told_one : (acked : ℕ) (told : Told) → OutlivesOne (ToldBelow acked told)
+told_one : (acked : ℕ) (told : PeekTold) → OutlivesOne (ToldBelow acked told)
 told_one acked told history change fine keeps fit = record {
   there = omega (arith, fit.there, count_with history fine change keeps);
   fits = told_with history fine change keeps acked fit.there told fit.fits;
@@ -148,7 +148,7 @@ finds_alike history floor vault kept start upto page fits f are above within =
 
 pub past_is_right : PastIsRight
 past_is_right desk more vault kept snapshot page fits may f are held retained still =
-    let told : Told = told_of desk snapshot page in
+    let told : PeekTold = told_of desk snapshot page in
     let later : History = with_changes desk.history more in
     let keeps : AllKeepNewest (now desk.history).base more = all_keep (now desk.history).base more may in
     let later_told = all_outlive.told desk.acked told desk.history more fits.history.consistent keeps (record { there = fits.pending; fits = told_fits desk fits.history snapshot page retained }) in

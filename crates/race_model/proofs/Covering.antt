@@ -27,45 +27,45 @@ other_page loose page q sure = elim (cases_eq q page) [
 
 pub failures_cover : FailuresCover
 failures_cover = record {
-  change = λ m change sure. (
-    λ contents i. record { log = inl (surely m.desk contents.log sure i.log); pages = i.pages; version = i.version; maplog = i.maplog; slots = i.slots },
-    λ contents i. record { log = inr (surely (changed m.desk change) contents.log sure i.log); pages = i.pages; version = i.version; maplog = i.maplog; slots = i.slots },
-  );
-  write = λ m page need left. (
-    λ contents i. record {
+  change = λ m change sure. record {
+    early = λ contents i. record { log = inl (surely m.desk contents.log sure i.log); pages = i.pages; version = i.version; maplog = i.maplog; slots = i.slots };
+    late = λ contents i. record { log = inr (surely (changed m.desk change) contents.log sure i.log); pages = i.pages; version = i.version; maplog = i.maplog; slots = i.slots };
+  };
+  write = λ m page need left. record {
+    early = λ contents i. record {
       log = i.log;
       pages = λ q firm. let other = other_page m.desk.loose page q firm in i.pages q other.1 ∙ sym (cond-false (eqb q page) left (m.desk.pages q) other.0);
       version = i.version;
       maplog = i.maplog;
       slots = i.slots;
-    },
-    λ contents i. record {
+    };
+    late = λ contents i. record {
       log = i.log;
       pages = λ q firm. let other = other_page m.desk.loose page q firm in i.pages q firm ∙ cond-false (eqb q page) _ (m.desk.pages q) other.0 ∙ sym (cond-false (eqb q page) left (m.desk.pages q) other.0);
       version = i.version;
       maplog = i.maplog;
       slots = i.slots;
-    },
-  );
-  settle = λ m. (
-    λ contents i. record { log = i.log; pages = i.pages; version = i.version; maplog = i.maplog; slots = i.slots },
-    λ contents i. record { log = i.log; pages = λ q firm. i.pages q refl; version = i.version; maplog = i.maplog; slots = i.slots },
-  );
+    };
+  };
+  settle = λ m. record {
+    early = λ contents i. record { log = i.log; pages = i.pages; version = i.version; maplog = i.maplog; slots = i.slots };
+    late = λ contents i. record { log = i.log; pages = λ q firm. i.pages q refl; version = i.version; maplog = i.maplog; slots = i.slots };
+  };
+  cut = λ m sure. record {
+    early = λ contents i. record { log = inl (surely m.desk contents.log sure i.log); pages = i.pages; version = i.version; maplog = i.maplog; slots = i.slots };
+    late = λ contents i. record { log = inr (surely (cut m.desk) contents.log sure i.log); pages = i.pages; version = i.version; maplog = i.maplog; slots = i.slots };
+  };
   cut_in_version = λ m version sure.
       λ contents i. record { log = inr (surely (in_version version (cut m.desk)) contents.log sure i.log); pages = i.pages; version = i.version; maplog = i.maplog; slots = i.slots };
-  cut = λ m sure. (
-    λ contents i. record { log = inl (surely m.desk contents.log sure i.log); pages = i.pages; version = i.version; maplog = i.maplog; slots = i.slots },
-    λ contents i. record { log = inr (surely (cut m.desk) contents.log sure i.log); pages = i.pages; version = i.version; maplog = i.maplog; slots = i.slots },
-  );
-  lay = λ m batch slots left loose sure loosens outside outside_too. (
-    λ contents i. record {
+  lay = λ m batch slots left loose sure loosens outside outside_too. record {
+    early = λ contents i. record {
       log = i.log;
       pages = i.pages;
       version = i.version;
       maplog = i.maplog;
       slots = λ slot firm. i.slots slot (loosens slot firm).1 ∙ sym (outside.same slot (loosens slot firm).0);
-    },
-    λ contents i. record {
+    };
+    late = λ contents i. record {
       log = i.log;
       pages = i.pages;
       version = i.version;
@@ -73,17 +73,18 @@ failures_cover = record {
       slots = λ slot firm.
           let free = (loosens slot firm).0 in
           i.slots slot (outside_too.sure slot free (loosens slot firm).1) ∙ outside_too.same slot free ∙ sym (outside.same slot free);
-    },
-  );
-  enter = λ m batch none. (
-    λ contents i. record { log = i.log; pages = i.pages; version = i.version; maplog = inl (only (record { version = i.version; mappings = contents.mappings }) (listing m.vault m.vault.mappings) m.vault.others none i.maplog); slots = i.slots },
-    λ contents i. record { log = i.log; pages = i.pages; version = i.version; maplog = inr (0, omega arith, sym (only (record { version = i.version; mappings = contents.mappings }) (listing m.vault (trim_to m.vault.mappings batch.low)) m.vault.others none i.maplog)); slots = i.slots },
-    λ contents i. record { log = i.log; pages = i.pages; version = i.version; maplog = inr (1, omega arith, sym (only (record { version = i.version; mappings = contents.mappings }) (listing m.vault (enter_into m.vault.mappings batch)) m.vault.others none i.maplog)); slots = i.slots },
-  );
-  trim = λ m low none. (
-    λ contents i. record { log = i.log; pages = i.pages; version = i.version; maplog = inl (only (record { version = i.version; mappings = contents.mappings }) (listing m.vault m.vault.mappings) m.vault.others none i.maplog); slots = i.slots },
-    λ contents i. record { log = i.log; pages = i.pages; version = i.version; maplog = inr (0, omega arith, sym (only (record { version = i.version; mappings = contents.mappings }) (listing m.vault (trim_to m.vault.mappings low)) m.vault.others none i.maplog)); slots = i.slots },
-  );
+    };
+  };
+  enter = λ m batch none. record {
+    early = λ contents i. record { log = i.log; pages = i.pages; version = i.version; maplog = inl (only (record { version = i.version; mappings = contents.mappings }) (listing m.vault m.vault.mappings) m.vault.others none i.maplog); slots = i.slots };
+    late = λ contents i. record { log = i.log; pages = i.pages; version = i.version; maplog = inr (1, omega arith, sym (only (record { version = i.version; mappings = contents.mappings }) (listing m.vault (enter_into m.vault.mappings batch)) m.vault.others none i.maplog)); slots = i.slots };
+  };
+  enter_trimmed = λ m batch none.
+      λ contents i. record { log = i.log; pages = i.pages; version = i.version; maplog = inr (0, omega arith, sym (only (record { version = i.version; mappings = contents.mappings }) (listing m.vault (trim_to m.vault.mappings batch.low)) m.vault.others none i.maplog)); slots = i.slots };
+  trim = λ m low none. record {
+    early = λ contents i. record { log = i.log; pages = i.pages; version = i.version; maplog = inl (only (record { version = i.version; mappings = contents.mappings }) (listing m.vault m.vault.mappings) m.vault.others none i.maplog); slots = i.slots };
+    late = λ contents i. record { log = i.log; pages = i.pages; version = i.version; maplog = inr (0, omega arith, sym (only (record { version = i.version; mappings = contents.mappings }) (listing m.vault (trim_to m.vault.mappings low)) m.vault.others none i.maplog)); slots = i.slots };
+  };
 }
 
 -- ---- the version of a Maplog

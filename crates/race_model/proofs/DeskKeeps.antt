@@ -11,8 +11,8 @@ use Rattle.history.specs.declared.log.Log.{Log}
 use Rattle.replay.specs.Opened.{Contents, forgotten}
 use Rattle.race_model.specs.Desk.{Doubt, Sure, OneMore, NewBase, Desk, behind, captured, log_from, IsInDoubt, IsLogOf, ArePagesOf, writes_page}
 use Rattle.race_model.specs.Fits.{WasSent, DoubtFits, DeskFits}
-use Rattle.race_model.specs.Machine.{changed, change_failed, acked_to, MayWrite, with_page, written, write_failed, settled, stopped, MayCut, cut, cut_failed}
-use Rattle.race_model.specs.Images.{Holds, OpenTo, OpenInDoubt}
+use Rattle.race_model.specs.Machine.{changed, change_failed, acked_to, MayWrite, with_page, written_desk, write_failed, settled, stopped, MayCut, cut, cut_failed}
+use Rattle.race_model.specs.Images.{HoldsCaptures, OpenTo, OpenInDoubt}
 use Rattle.race_model.proofs.Alike.{unchanged, is_written-append, is_written-last}
 use Rattle.race_model.proofs.Histories.{keeps_newest, count_with, fits_with}
 use Rattle.race_model.proofs.LogKeeps.{counts, log_with, log_cut}
@@ -32,7 +32,7 @@ module _ (desk : Desk) (f : DeskFits desk) where
     log = log_with desk.history desk.floor f.history desk.past desk.rest f.log change may;
     known = f.known;
     based = f.based;
-    pages = λ page. elim (f.pages page) [ inl same ↦ inl same | inr sent ↦ inr (sent_with desk.history change desk.past desk.rest desk.need page sent) ];
+    pages = λ page. elim (f.pages page) [ inl same ↦ inl same | inr sent ↦ inr (sent_with (behind desk.history desk.past) change desk.rest desk.need page sent) ];
     clean = λ page h.
         f.clean page (or_parts (desk.dirty page) (writes_page page change) h).0
         ∙ sym (unchanged (now desk.history).pages change page (or_parts (desk.dirty page) (writes_page page change) h).1)
@@ -111,7 +111,7 @@ module _ (desk : Desk) (f : DeskFits desk) where
   }
 
   -- a page that may be written may be lost
-  may_go : (page need : ℕ) → MayWrite desk page need → WasSent desk.history desk.past desk.rest need page
+  may_go : (page need : ℕ) → MayWrite desk page need → WasSent (behind desk.history desk.past) desk.rest need page
   may_go page need can =
       let first : ℕ = (behind desk.history desk.past).base.captures in
       record {
@@ -129,16 +129,16 @@ module _ (desk : Desk) (f : DeskFits desk) where
       }
 
   pages_written : (page need : ℕ) (left : List ℕ) → MayWrite desk page need → (other : ℕ)
-      → ((with_page desk.loose page true other ≡ false) × (with_page desk.pages page left other ≡ (behind desk.history desk.past).pages other)) ⊎ WasSent desk.history desk.past desk.rest need other
+      → ((with_page desk.loose page true other ≡ false) × (with_page desk.pages page left other ≡ (behind desk.history desk.past).pages other)) ⊎ WasSent (behind desk.history desk.past) desk.rest need other
   pages_written page need left can other = elim (cases_eq other page) [
-    | inl is ↦ inr (subst (λ p. WasSent desk.history desk.past desk.rest need p) (sym is) (may_go page need can))
+    | inl is ↦ inr (subst (λ p. WasSent (behind desk.history desk.past) desk.rest need p) (sym is) (may_go page need can))
     | inr differs ↦ elim (f.pages other) [
       | inl same ↦ inl (cond-false (eqb other page) true (desk.loose other) (ne_eqb other page differs) ∙ same.0, cond-false (eqb other page) left (desk.pages other) (ne_eqb other page differs) ∙ same.1)
-      | inr sent ↦ inr (sent_up desk.history desk.past desk.rest desk.need need other can.up sent)
+      | inr sent ↦ inr (sent_up (behind desk.history desk.past) desk.rest desk.need need other can.up sent)
     ]
   ]
 
-  pub write_keeps : (page need : ℕ) → MayWrite desk page need → DeskFits (written desk page need)
+  pub write_keeps : (page need : ℕ) → MayWrite desk page need → DeskFits (written_desk desk page need)
   write_keeps page need can = record {
     history = f.history;
     log = f.log;
@@ -155,7 +155,7 @@ module _ (desk : Desk) (f : DeskFits desk) where
     ];
     needed = can.acked;
     pending = f.pending;
-    doubt = calm desk (written desk page need) desk.doubt can.goes f.doubt;
+    doubt = calm desk (written_desk desk page need) desk.doubt can.goes f.doubt;
   }
 
   pub write_failed_keeps : (page need : ℕ) (left : List ℕ) → MayWrite desk page need → DeskFits (write_failed desk page need left)
@@ -195,7 +195,7 @@ module _ (desk : Desk) (f : DeskFits desk) where
     log = f.log;
     known = f.history.consistent.known;
     based = omega (arith, f.based, f.needed, f.pending);
-    pages = λ page. elim (f.pages page) [ inl same ↦ inl same | inr sent ↦ inr (sent_up desk.history desk.past desk.rest desk.need (now desk.history).base.captures page (omega (arith, f.needed, f.pending)) sent) ];
+    pages = λ page. elim (f.pages page) [ inl same ↦ inl same | inr sent ↦ inr (sent_up (behind desk.history desk.past) desk.rest desk.need (now desk.history).base.captures page (omega (arith, f.needed, f.pending)) sent) ];
     clean = f.clean;
     soiled = f.soiled;
     needed = omega (arith, can.acked);
@@ -220,7 +220,7 @@ module _ (desk : Desk) (f : DeskFits desk) where
 
   -- ---- its images
 
-  module _ (contents : Contents) (is_log : IsLogOf desk contents.log) (are_pages : ArePagesOf desk contents.pages) (holds : Holds desk.history desk.floor desk.need contents.mappings contents.slots) where
+  module _ (contents : Contents) (is_log : IsLogOf desk contents.log) (are_pages : ArePagesOf desk contents.pages) (holds : HoldsCaptures desk.history desk.floor desk.need contents.mappings contents.slots) where
     here : (page : ℕ) → ImageFits desk.history desk.past desk.rest desk.need contents.pages page
     here page = elim (f.pages page) [ inl same ↦ inl (are_pages page same.0 ∙ same.1) | inr sent ↦ inr sent ]
 
@@ -249,5 +249,5 @@ module _ (desk : Desk) (f : DeskFits desk) where
           inr (subst (λ (log : Log). OpenTo (with_log log) desk.version (with_change desk.history change)) (sym e)
           (opens desk.version (with_change desk.history change) desk.floor desk.past (desk.rest ++ change ∷ []) desk.need contents.pages contents.mappings contents.slots (fits_with desk.history desk.floor f.history change h.0)
           (log_with desk.history desk.floor f.history desk.past desk.rest f.log change h.0) f.known f.based
-          (λ page. elim (here page) [ inl same ↦ inl same | inr sent ↦ inr (sent_with desk.history change desk.past desk.rest desk.need page sent) ])
+          (λ page. elim (here page) [ inl same ↦ inl same | inr sent ↦ inr (sent_with (behind desk.history desk.past) change desk.rest desk.need page sent) ])
           (holds_with desk.history desk.floor f.history change h.0 desk.need contents.mappings contents.slots holds)))

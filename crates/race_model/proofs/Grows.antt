@@ -13,7 +13,7 @@ use Rattle.history.specs.Laws.{IsConsistent, KeepsNewest}
 use Rattle.skippy.specs.Mappings.{Mappings}
 use Rattle.race_model.specs.Vault.{Vault, Batch}
 use Rattle.race_model.specs.Fits.{HistoryFits, MappingsFit, VaultFits, BatchFits, WasSent}
-use Rattle.race_model.specs.Images.{Holds}
+use Rattle.race_model.specs.Images.{HoldsCaptures}
 use Rattle.race_model.proofs.Lists.{pages_of-append, pages_of-length}
 use Rattle.race_model.proofs.Histories.{keeps_newest, page_count_after, count, oldest_within, grown, count_with, start_with, captured_with, drop_with}
 use Rattle.race_model.proofs.Opening.{end_within}
@@ -33,8 +33,8 @@ pub all_map : {X : Type 0} (P Q : X → Type 0) (xs : List X) → ((x : X) → P
 all_map P Q [] leads all = tt
 all_map P Q (x ∷ xs) leads all = (leads x all.0, all_map P Q xs leads all.1)
 
-pub sent_with : (history : History) (change : Change) (past rest : List Change) (need page : ℕ) → WasSent history past rest need page → WasSent (with_change history change) past (rest ++ change ∷ []) need page
-sent_with history change past rest need page sent = record {
+pub sent_with : (start : State) (change : Change) (rest : List Change) (need page : ℕ) → WasSent start rest need page → WasSent start (rest ++ change ∷ []) need page
+sent_with start change rest need page sent = record {
   early = sent.early;
   late = sent.late ++ change ∷ [];
   split = sym (append_assoc sent.early sent.late (change ∷ [])) ∙ ap (λ (t : List Change). t ++ change ∷ []) sent.split;
@@ -42,8 +42,8 @@ sent_with history change past rest need page sent = record {
   below = sent.below;
 }
 
-pub sent_up : (history : History) (past rest : List Change) (need more page : ℕ) → need ≤ more → WasSent history past rest need page → WasSent history past rest more page
-sent_up history past rest need more page le sent = record { early = sent.early; late = sent.late; split = sent.split; written = sent.written; below = λ place lt e. omega (arith, sent.below place lt e, le) }
+pub sent_up : (start : State) (rest : List Change) (need more page : ℕ) → need ≤ more → WasSent start rest need page → WasSent start rest more page
+sent_up start rest need more page le sent = record { early = sent.early; late = sent.late; split = sent.split; written = sent.written; below = λ place lt e. omega (arith, sent.below place lt e, le) }
 
 module _ (history : History) (floor : ℕ) (fine : IsConsistent history) (change : Change) (keeps : KeepsNewest (now history).base change) where
   pub mappings_with : (mappings : Mappings) → MappingsFit history floor mappings → MappingsFit (with_change history change) floor mappings
@@ -87,8 +87,8 @@ module _ (history : History) (fine : IsConsistent history) (change : Change) (ke
     pages = subst (λ n. AllByRecursion (λ page. page < n) (pages_of batch.images)) (sym pages_stay) f.pages;
   }
 
-pub holds_with : (history : History) (floor : ℕ) (fits : HistoryFits history floor) (change : Change) (may : MayFollow (now history).base change) (n : ℕ) (mappings : Mappings) (slots : ℕ → List ℕ) → Holds history floor n mappings slots
-    → Holds (with_change history change) floor n mappings slots
+pub holds_with : (history : History) (floor : ℕ) (fits : HistoryFits history floor) (change : Change) (may : MayFollow (now history).base change) (n : ℕ) (mappings : Mappings) (slots : ℕ → List ℕ) → HoldsCaptures history floor n mappings slots
+    → HoldsCaptures (with_change history change) floor n mappings slots
 holds_with history floor fits change may n mappings slots holds =
     let keeps : KeepsNewest (now history).base change = keeps_newest (now history).base change may.right in
     record {

@@ -65,20 +65,22 @@ module _ (history : History) (floor : ℕ) (fits : HistoryFits history floor) wh
     pub log_with : LogFits (with_change history change) floor past (rest ++ change ∷ [])
     log_with = record {
       split = sym (append_assoc past rest (change ∷ [])) ∙ ap (λ (t : List Change). t ++ change ∷ []) log.split;
-      base = log.base;
-      right = right_more (behind history past).base rest change log.right (subst (λ (b : Base). IsRight b change) (sym (base_whole history past rest log.split)) may.right);
-      rises = all-more WritesRise rest change log.rises may.rises;
-      different = ap differ same_mapped ∙ log.different;
-      listed = ap (λ (ps : List ℕ). are_among ps (behind history past).base.captured) same_mapped ∙ log.listed;
-      same =
-          let caps : List PageImage = captures_of (behind history past) rest in
-          let caps_more : captures_of (behind history past) (rest ++ change ∷ []) ≡ caps ++ captured_by (now history) change =
-          captures_of-append (behind history past) rest (change ∷ []) ∙ ap (λ (t : List PageImage). caps ++ t) (append-nil (captured_by (run (behind history past) rest) change) ∙ ap (λ (s : State). captured_by s change) (whole history past rest log.split)) in
-          ap (drop (base_count - floor)) all_grown
-          ∙ drop-append-le (base_count - floor) (all_mappings history floor).pages more (omega (arith, all_length, counts history past rest log.split))
-          ∙ ap (λ (ps : List ℕ). ps ++ more) log.same
-          ∙ sym (drop-append-le (floor - base_count) (pages_of caps) more (omega (arith, pages_of-length caps, counts history past rest log.split, floor_within history floor fits, count history fits.consistent)))
-          ∙ ap (drop (floor - base_count)) (sym (ap pages_of caps_more ∙ pages_of-append caps (captured_by (now history) change)));
+      fits = record {
+        base = log.fits.base;
+        right = right_more (behind history past).base rest change log.fits.right (subst (λ (b : Base). IsRight b change) (sym (base_whole history past rest log.split)) may.right);
+        rises = all-more WritesRise rest change log.fits.rises may.rises;
+        different = ap differ same_mapped ∙ log.fits.different;
+        listed = ap (λ (ps : List ℕ). are_among ps (behind history past).base.captured) same_mapped ∙ log.fits.listed;
+        same =
+            let caps : List PageImage = captures_of (behind history past) rest in
+            let caps_more : captures_of (behind history past) (rest ++ change ∷ []) ≡ caps ++ captured_by (now history) change =
+            captures_of-append (behind history past) rest (change ∷ []) ∙ ap (λ (t : List PageImage). caps ++ t) (append-nil (captured_by (run (behind history past) rest) change) ∙ ap (λ (s : State). captured_by s change) (whole history past rest log.split)) in
+            ap (drop (base_count - floor)) all_grown
+            ∙ drop-append-le (base_count - floor) (all_mappings history floor).pages more (omega (arith, all_length, counts history past rest log.split))
+            ∙ ap (λ (ps : List ℕ). ps ++ more) log.fits.same
+            ∙ sym (drop-append-le (floor - base_count) (pages_of caps) more (omega (arith, pages_of-length caps, counts history past rest log.split, floor_within history floor fits, count history fits.consistent)))
+            ∙ ap (drop (floor - base_count)) (sym (ap pages_of caps_more ∙ pages_of-append caps (captured_by (now history) change)));
+      };
     }
 
   -- behind a cut the log is the base of now alone
@@ -92,12 +94,14 @@ module _ (history : History) (floor : ℕ) (fits : HistoryFits history floor) wh
       ∙ sym (pages_of-drop (newest_start base.marks) (captures history)) in
       record {
         split = append-nil history.changes;
-        base = fits.right;
-        right = tt;
-        rises = tt;
-        different = ap differ since ∙ since_differ history floor fits;
-        listed = ap (λ (ps : List ℕ). are_among ps base.captured) since ∙ since_listed history floor fits;
-        same = drop_all (base.captures - floor) (all_mappings history floor).pages (omega (arith, all_length)) ∙ sym (drop_all (floor - base.captures) [] (omega arith));
+        fits = record {
+          base = fits.right;
+          right = tt;
+          rises = tt;
+          different = ap differ since ∙ since_differ history floor fits;
+          listed = ap (λ (ps : List ℕ). are_among ps base.captured) since ∙ since_listed history floor fits;
+          same = drop_all (base.captures - floor) (all_mappings history floor).pages (omega (arith, all_length)) ∙ sym (drop_all (floor - base.captures) [] (omega arith));
+        };
       }
 
 -- ---- at an opening
@@ -147,16 +151,18 @@ module _ (contents : Contents) (store : AreOfStore contents) where
   pub log_opened : LogFits (opened contents) contents.mappings.low [] contents.log.changes
   log_opened = record {
     split = refl;
-    base = store.right.base;
-    right = store.right.right;
-    rises = store.rises;
-    different = ap differ same_since ∙ store.right.joined.holds_base.different;
-    listed = ap (λ (ps : List ℕ). are_among ps base.captured) same_since ∙ store.right.joined.holds_base.captured;
-    same =
-        let front : List ℕ = drop (base.captures - low) mapped in
-        let counted = store.right.joined.holds_base.counted in
-        ap (drop (base.captures - low)) all_opened
-        ∙ drop-append-le (base.captures - low) mapped (drop (end_of contents.mappings - base.captures) (pages_of caps)) (omega (arith, counted))
-        ∙ ap (λ (ps : List ℕ). front ++ ps) (sym (drop-to (low - base.captures) (length front) (end_of contents.mappings - base.captures) (pages_of caps) (omega (arith, length-drop (base.captures - low) mapped, counted))))
-        ∙ sym (begins_is front (drop (low - base.captures) (pages_of caps)) store.right.joined.holds_changes.same);
+    fits = record {
+      base = store.right.base;
+      right = store.right.right;
+      rises = store.rises;
+      different = ap differ same_since ∙ store.right.joined.holds_base.different;
+      listed = ap (λ (ps : List ℕ). are_among ps base.captured) same_since ∙ store.right.joined.holds_base.captured;
+      same =
+          let front : List ℕ = drop (base.captures - low) mapped in
+          let counted = store.right.joined.holds_base.counted in
+          ap (drop (base.captures - low)) all_opened
+          ∙ drop-append-le (base.captures - low) mapped (drop (end_of contents.mappings - base.captures) (pages_of caps)) (omega (arith, counted))
+          ∙ ap (λ (ps : List ℕ). front ++ ps) (sym (drop-to (low - base.captures) (length front) (end_of contents.mappings - base.captures) (pages_of caps) (omega (arith, length-drop (base.captures - low) mapped, counted))))
+          ∙ sym (begins_is front (drop (low - base.captures) (pages_of caps)) store.right.joined.holds_changes.same);
+    };
   }

@@ -17,7 +17,7 @@ use Rattle.replay.specs.Opened.{Contents, opened, slot_images, forgotten}
 use Rattle.replay.proofs.Belonging.{held_long, opened_is_consistent}
 use Rattle.race_model.specs.Desk.{behind, captured, capacity_of, log_from, is_written}
 use Rattle.race_model.specs.Fits.{HistoryFits, LogFits, WasSent, MappingsFit, all_mappings, AreOfStore}
-use Rattle.race_model.specs.Images.{Holds, OpenTo}
+use Rattle.race_model.specs.Images.{HoldsCaptures, OpenTo}
 use Rattle.race_model.proofs.Alike.{Alike, alike-pages, alike-page, alike-bytes, alike-length, captures_alike, base_alike, run_alike, run_over, late_alike, is_written-append}
 use Rattle.race_model.proofs.Lists.{same_at, image_eq, pages_of-get, drop-to, begins, differ-drop, are_among-drop}
 use Rattle.race_model.proofs.Histories.{captures_of-append, run_count, capacity_stays, count, pages_count, oldest_within}
@@ -42,7 +42,7 @@ captured_behind history past rest counted split number le known =
 
 -- what an image of the pages' device has there
 abbrev pub ImageFits : History → List Change → List Change → ℕ → (ℕ → List ℕ) → ℕ → Type 0
-ImageFits history past rest need pages page = (pages page ≡ (behind history past).pages page) ⊎ WasSent history past rest need page
+ImageFits history past rest need pages page = (pages page ≡ (behind history past).pages page) ⊎ WasSent (behind history past) rest need page
 
 -- the pages of the image under the log's changes
 abbrev over : History → List Change → (ℕ → List ℕ) → State
@@ -154,7 +154,7 @@ module _ (history : History) (floor : ℕ) (fits : HistoryFits history floor) (m
     same_from =
         let n : ℕ = (low - floor) + (base.captures - low) in
         sym (drop-to (floor - base.captures) (n - (base.captures - floor)) (low - base.captures) (pages_of (captures_of (behind history past) rest)) (omega (arith, is.above)))
-        ∙ ap (drop (n - (base.captures - floor))) (sym log.same)
+        ∙ ap (drop (n - (base.captures - floor))) (sym log.fits.same)
         ∙ drop-to (base.captures - floor) (n - (base.captures - floor)) n all (omega (arith, is.above))
         ∙ sym (drop-to (low - floor) (base.captures - low) n all refl)
         ∙ ap (drop (base.captures - low)) window
@@ -197,7 +197,7 @@ module _ (contents : Contents) where
 -- The law: beside an image of the archive that holds `need` captures, an image of the desk's devices opens to the history.
 module _ (version : Version) (history : History) (floor : ℕ) (past rest : List Change) (need : ℕ) (pages : ℕ → List ℕ) (mappings : Mappings) (slots : ℕ → List ℕ) (fits : HistoryFits history floor)
     (log : LogFits history floor past rest) (known : length history.held ≤ need) (based : (behind history past).base.captures ≤ need) (image : (page : ℕ) → ImageFits history past rest need pages page)
-    (holds : Holds history floor need mappings slots) where
+    (holds : HoldsCaptures history floor need mappings slots) where
   abbrev contents : Contents
   contents = record { log = log_from version history past rest; pages = pages; mappings = mappings; slots = slots }
 
@@ -216,15 +216,15 @@ module _ (version : Version) (history : History) (floor : ℕ) (past rest : List
   of_store : AreOfStore contents
   of_store = record {
     right = record {
-      base = log.base;
-      right = log.right;
+      base = log.fits.base;
+      right = log.fits.right;
       joined = record {
         holds_base = record {
           counted = counted;
           room = omega (arith, holds.mapped.room, capacity_is);
-          different = ap differ (since_is history floor fits mappings holds.mapped past rest log counted) ∙ differ-drop (fewer history floor fits mappings holds.mapped past rest log counted) (mapped_since at (all_mappings history floor)) log.different;
+          different = ap differ (since_is history floor fits mappings holds.mapped past rest log counted) ∙ differ-drop (fewer history floor fits mappings holds.mapped past rest log counted) (mapped_since at (all_mappings history floor)) log.fits.different;
           captured = ap (λ (ps : List ℕ). are_among ps at.captured) (since_is history floor fits mappings holds.mapped past rest log counted)
-              ∙ are_among-drop (fewer history floor fits mappings holds.mapped past rest log counted) (mapped_since at (all_mappings history floor)) at.captured log.listed;
+              ∙ are_among-drop (fewer history floor fits mappings holds.mapped past rest log counted) (mapped_since at (all_mappings history floor)) at.captured log.fits.listed;
         };
         holds_changes = record {
           known = omega (arith, end_within history floor fits mappings holds.mapped, ap (λ (b : Base). b.captures) same_base);
@@ -235,7 +235,7 @@ module _ (version : Version) (history : History) (floor : ℕ) (past rest : List
         };
       };
     };
-    rises = log.rises;
+    rises = log.fits.rises;
   }
 
   same_capture : (number : ℕ) → oldest_start (now history).base.marks ≤ number → captured (opened contents) number ≡ captured history number

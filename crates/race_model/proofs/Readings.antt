@@ -23,7 +23,7 @@ use Rattle.replay.specs.Opened.{forgotten}
 use Rattle.race_model.specs.Desk.{Desk, capacity_of}
 use Rattle.race_model.specs.Vault.{Vault}
 use Rattle.race_model.specs.Fits.{HistoryFits, VaultFits}
-use Rattle.race_model.specs.Reading.{Told, told_of, in_slot, found}
+use Rattle.race_model.specs.Reading.{PeekTold, told_of, in_slot, found}
 use Rattle.race_model.specs.Machine.{KeepsPins}
 use Rattle.race_model.specs.Images.{IsSameWorld}
 use Rattle.race_model.specs.Invariant.{ToldFits}
@@ -120,7 +120,7 @@ module _ (history : History) (fine : IsConsistent history) where
       → is_retained pin (now history).base.marks ≡ true → is_retained pin (now (with_change history change)).base.marks ≡ true
   pin_with change pins pin keeps at is = subst (λ (s : State). is_retained pin s.base.marks ≡ true) (sym (now-with history change)) (retained_after (now history).base change pins pin keeps at is)
 
-  pub told_with : (change : Change) → KeepsNewest (now history).base change → (acked : ℕ) → acked ≤ (now history).base.captures → (told : Told) → ToldFits history acked told → ToldFits (with_change history change) acked told
+  pub told_with : (change : Change) → KeepsNewest (now history).base change → (acked : ℕ) → acked ≤ (now history).base.captures → (told : PeekTold) → ToldFits history acked told → ToldFits (with_change history change) acked told
   told_with change keeps acked pending told f =
       let base : Base = (now history).base in
       let after : (now (with_change history change)).base ≡ base_after base change = ap (λ (s : State). s.base) (now-with history change) in
@@ -145,7 +145,7 @@ module _ (history : History) (fine : IsConsistent history) where
             ∙ sym (as_part (captures (with_change history change)) told.start told.upto told.page told.bytes);
       }
 
-  pub told_up : (acked more : ℕ) → acked ≤ more → (told : Told) → ToldFits history acked told → ToldFits history more told
+  pub told_up : (acked more : ℕ) → acked ≤ more → (told : PeekTold) → ToldFits history acked told → ToldFits history more told
   told_up acked more le told f = record { known = f.known; upto = omega (arith, f.upto, le); start = f.start; reads = f.reads }
 
 -- images up to a number, and then those from there on or from the start on
@@ -226,7 +226,7 @@ module _ (history : History) (floor : ℕ) (fits : HistoryFits history floor) (v
       ap (λ (ps : List ℕ). option_map (λ place. low + place) (option_map (λ place. (from - low) + place) (position test ps))) (mapped_part from to above within)
       ∙ option_map-add low (from - low) from (position test (pages_of (part from to (captures history)))) (omega (arith, above))
 
-  pub found_is : (told : Told) (acked : ℕ) → acked ≤ end_of vault.mappings → ToldFits history acked told → is_retained told.snapshot (now history).base.marks ≡ true → found vault capacity told ≡ pages_as_of history told.snapshot told.page
+  pub found_is : (told : PeekTold) (acked : ℕ) → acked ≤ end_of vault.mappings → ToldFits history acked told → is_retained told.snapshot (now history).base.marks ≡ true → found vault capacity told ≡ pages_as_of history told.snapshot told.page
   found_is told acked held fit retained =
       let start : oldest_start (now history).base.marks ≤ told.start = omega (arith, fit.start retained, oldest-start (now history).base.captures 0 0 told.snapshot (now history).base.marks fits.consistent.marks retained) in
       let within : told.upto ≤ end_of vault.mappings = omega (arith, fit.upto, held) in

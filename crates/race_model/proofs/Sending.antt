@@ -85,7 +85,7 @@ module _ (desk : Desk) (f : DeskFits desk) where
       ap (λ (b : Base). b.page_count) (sym (base_whole desk.history desk.past desk.rest f.log.split)) ∙ page_count_stays (behind desk.history desk.past).base desk.rest in
       subst (λ n. AllByRecursion (λ page. page < n) (pages_of (drop desk.acked (captures desk.history)))) (sym pages)
       (subst (AllByRecursion (λ page. page < (behind desk.history desk.past).base.page_count)) (sym (ap pages_of pending_is ∙ pages_of-drop (desk.acked - first) late))
-      (all_drop (λ page. page < (behind desk.history desk.past).base.page_count) (desk.acked - first) (pages_of late) (captured_in (behind desk.history desk.past) desk.rest f.log.right)))
+      (all_drop (λ page. page < (behind desk.history desk.past).base.page_count) (desk.acked - first) (pages_of late) (captured_in (behind desk.history desk.past) desk.rest f.log.fits.right)))
 
   taken : (n : ℕ) → MayTake desk n → length (batch_of desk n).images ≡ n
   taken n may =

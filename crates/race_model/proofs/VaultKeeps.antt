@@ -15,7 +15,7 @@ use Rattle.race_model.specs.Desk.{captured, capacity_of}
 use Rattle.race_model.specs.Vault.{Maplog, Vault, Batch, batch_end, listing, IsMaplogOf, AreSlotsOf, trim_to, enter_into, IsSlotOf, LeavesOthers, HoldsBatch}
 use Rattle.race_model.specs.Fits.{MappingsFit, VaultFits, BatchFits}
 use Rattle.race_model.specs.Machine.{MayLay, laid, lay_failed, MayEnter, entered, enter_failed, MayTrim, trimmed, trim_failed}
-use Rattle.race_model.specs.Images.{Holds}
+use Rattle.race_model.specs.Images.{HoldsCaptures}
 use Rattle.race_model.proofs.Lists.{pages_of-append, pages_of-length, pages_of-drop, drop-to}
 use Rattle.race_model.proofs.Grows.{contains_cons, contains_none}
 
@@ -195,7 +195,7 @@ module _ (history : History) (floor : ℕ) where
 
     -- ---- its images
 
-    pub vault_holds : (maplog : Maplog) (slots : ℕ → List ℕ) → IsMaplogOf vault maplog → AreSlotsOf vault slots → Holds history floor (end_of vault.mappings) maplog.mappings slots
+    pub vault_holds : (maplog : Maplog) (slots : ℕ → List ℕ) → IsMaplogOf vault maplog → AreSlotsOf vault slots → HoldsCaptures history floor (end_of vault.mappings) maplog.mappings slots
     vault_holds maplog slots is_maplog are_slots =
         let at : MappingsFit history floor maplog.mappings × (end_of vault.mappings ≤ end_of maplog.mappings) × (end_of maplog.mappings ≤ vault.laid) = elim is_maplog [
           | inl e ↦ subst (λ (m : Maplog). MappingsFit history floor m.mappings × (end_of vault.mappings ≤ end_of m.mappings) × (end_of m.mappings ≤ vault.laid)) (sym e) (f.mappings, omega arith, f.held)

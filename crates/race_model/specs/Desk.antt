@@ -10,13 +10,17 @@ use Rattle.history.specs.declared.log.Log.{Log}
 use Rattle.history.specs.declared.log.Version.{Version}
 use Rattle.replay.specs.Opened.{forgotten}
 
--- what a failed call may have left of the log beside its list: nothing; the list with one change more; a new base alone, in records of a version
+-- what a failed call may have left of the log beside its list: nothing; the list with one change more; a new base
+-- alone, in records of a version
 pub data Doubt : Type 0 where
   Sure : Doubt
   OneMore : Change → Doubt
   NewBase : Version → Doubt
 
--- The log is in records of a version. The changes of the history are those before its base and those that it lists. The archive's lowest capture at the opening was `floor`. The devices open beside an archive that holds `need` captures; `acked` are known to stand in it. The pages' device reads as `pages`: `loose` are those written since it was settled, `dirty` those changed and not written.
+-- The log is in records of a version. The changes of the history are those before its base and those that it lists. The
+-- archive's lowest capture at the opening was `floor`. The devices open beside an archive that holds `need` captures;
+-- `acked` are known to stand in it. The pages' device reads as `pages`: `loose` are those written since it was settled,
+-- `dirty` those changed and not written.
 pub record Desk : Type 0 where
   pub version : Version
   pub history : History

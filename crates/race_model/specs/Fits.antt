@@ -5,7 +5,7 @@ use Rattle.history.specs.declared.entry.Change.{Change}
 use Rattle.history.specs.declared.writes.PageImage.{PageImage}
 use Rattle.history.specs.Marks.{oldest_start}
 use Rattle.history.specs.Writes.{pages_of}
-use Rattle.history.specs.History.{History, now, captures, captures_of}
+use Rattle.history.specs.History.{State, History, now, captures, captures_of}
 use Rattle.history.specs.Laws.{IsConsistent}
 use Rattle.history.specs.Right.{IsBase, AreRight, WritesRise, MayFollow}
 use Rattle.skippy.specs.Mappings.{Mappings, end_of}
@@ -19,35 +19,50 @@ use Rattle.race_model.specs.Vault.{Maplog, Vault, Batch, batch_end}
 abbrev pub all_mappings : History → ℕ → Mappings
 all_mappings history floor = record { low = floor; pages = drop floor (pages_of (captures history)) }
 
--- The log from a base on is right, and tells all mappings: since the base's newest snapshot they are of different pages, which the base tells as captured, and from the base on they are those that the changes capture.
+-- the mappings behind the base are those of the captures that the changes make
+abbrev pub MapsAsItCaptures : State → Mappings → List Change → Type 0
+MapsAsItCaptures start mappings rest =
+    drop (start.base.captures - mappings.low) mappings.pages
+    ≡ drop (mappings.low - start.base.captures) (pages_of (captures_of start rest))
+
+-- A log's changes behind its base are right, and it tells all mappings: since the base's newest snapshot they are of
+-- different pages, which the base tells as captured, and from the base on they are those that the changes capture.
+pub record LogFitsFrom (start : State) (mappings : Mappings) (rest : List Change) : Type 0 where
+  pub base : IsBase start.base
+  pub right : AreRight start.base rest
+  pub rises : AllByRecursion WritesRise rest
+  pub different : IsTrue (differ (mapped_since start.base mappings))
+  pub listed : IsTrue (are_among (mapped_since start.base mappings) start.base.captured)
+  pub same : MapsAsItCaptures start mappings rest
+
+-- so it is of the log that lists the changes of a history behind its base
 pub record LogFits (history : History) (floor : ℕ) (past rest : List Change) : Type 0 where
   pub split : past ++ rest ≡ history.changes
-  pub base : IsBase (behind history past).base
-  pub right : AreRight (behind history past).base rest
-  pub rises : AllByRecursion WritesRise rest
-  pub different : IsTrue (differ (mapped_since (behind history past).base (all_mappings history floor)))
-  pub listed : IsTrue (are_among (mapped_since (behind history past).base (all_mappings history floor)) (behind history past).base.captured)
-  pub same : drop ((behind history past).base.captures - floor) (all_mappings history floor).pages ≡ drop (floor - (behind history past).base.captures) (pages_of (captures_of (behind history past) rest))
+  pub fits : LogFitsFrom (behind history past) (all_mappings history floor) rest
 
--- A page was sent to its device behind some of the log's changes, which write it, and each capture that they make of it is below `need`.
-pub record WasSent (history : History) (past rest : List Change) (need page : ℕ) : Type 0 where
+-- A page was sent to its device behind some of the log's changes, which write it, and each capture that they make of it
+-- is below `need`.
+pub record WasSent (start : State) (rest : List Change) (need page : ℕ) : Type 0 where
   pub early : List Change
   pub late : List Change
   pub split : early ++ late ≡ rest
   pub written : is_written page early ≡ true
-  pub below : (place : ℕ) → place < length (captures_of (behind history past) early) → (get_or (captures_of (behind history past) early) place forgotten).page ≡ page →
-      (behind history past).base.captures + place < need
+  pub below : (place : ℕ) → place < length (captures_of start early)
+      → (get_or (captures_of start early) place forgotten).page ≡ page → start.base.captures + place < need
 
 -- on its device a page is surely as at the base, or it was sent
 abbrev pub PageFits : Desk → ℕ → Type 0
-PageFits desk page = ((desk.loose page ≡ false) × (desk.pages page ≡ (behind desk.history desk.past).pages page)) ⊎ WasSent desk.history desk.past desk.rest desk.need page
+PageFits desk page =
+    ((desk.loose page ≡ false) × (desk.pages page ≡ (behind desk.history desk.past).pages page))
+    ⊎ WasSent (behind desk.history desk.past) desk.rest desk.need page
 
 -- a log in doubt is one that would fit, of a desk that has stopped
 abbrev pub DoubtFits : Desk → Doubt → Type 0
 DoubtFits desk Sure = Unit {0}
 DoubtFits desk (OneMore change) = MayFollow (now desk.history).base change × (desk.stopped ≡ true)
 DoubtFits desk (NewBase version) =
-    ((page : ℕ) → (desk.loose page ≡ false) × (desk.pages page ≡ (now desk.history).pages page)) × ((now desk.history).base.captures ≤ desk.need) × (desk.stopped ≡ true)
+    ((page : ℕ) → (desk.loose page ≡ false) × (desk.pages page ≡ (now desk.history).pages page))
+    × ((now desk.history).base.captures ≤ desk.need) × (desk.stopped ≡ true)
 
 -- what holds of a history that is kept from a floor on
 pub record HistoryFits (history : History) (floor : ℕ) : Type 0 where
@@ -67,7 +82,8 @@ pub record DeskFits (desk : Desk) : Type 0 where
   pub pending : desk.acked ≤ (now desk.history).base.captures
   pub doubt : DoubtFits desk desk.doubt
 
--- mappings are those of the captures from a number on that no retained snapshot is above, and no more than there are slots
+-- mappings are those of the captures from a number on that no retained snapshot is above, and no more than there are
+-- slots
 pub record MappingsFit (history : History) (floor : ℕ) (mappings : Mappings) : Type 0 where
   pub above : floor ≤ mappings.low
   pub needed : mappings.low ≤ oldest_start (now history).base.marks
@@ -77,12 +93,15 @@ pub record MappingsFit (history : History) (floor : ℕ) (mappings : Mappings) :
 
 pub record VaultFits (history : History) (floor : ℕ) (vault : Vault) : Type 0 where
   pub mappings : MappingsFit history floor vault.mappings
-  pub others : (other : Maplog) → Contains vault.others other → MappingsFit history floor other.mappings × (end_of vault.mappings ≤ end_of other.mappings) × (end_of other.mappings ≤ vault.laid) × (vault.stopped ≡ true)
+  pub others : (other : Maplog) → Contains vault.others other
+      → MappingsFit history floor other.mappings × (end_of vault.mappings ≤ end_of other.mappings)
+      × (end_of other.mappings ≤ vault.laid) × (vault.stopped ≡ true)
   pub held : end_of vault.mappings ≤ vault.laid
   pub laid : vault.laid ≤ (now history).base.captures
   pub room : vault.laid ≤ end_of vault.mappings + capacity_of history
   pub slots : (number : ℕ) → oldest_start (now history).base.marks ≤ number → number < vault.laid →
-      (vault.loose (number % capacity_of history) ≡ false) × (vault.slots (number % capacity_of history) ≡ (captured history number).bytes)
+      (vault.loose (number % capacity_of history) ≡ false)
+      × (vault.slots (number % capacity_of history) ≡ (captured history number).bytes)
 
 -- a batch is a part of the captures, of pages of the store
 pub record BatchFits (history : History) (batch : Batch) : Type 0 where

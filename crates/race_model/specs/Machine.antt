@@ -1,4 +1,5 @@
--- The steps of a desk and a vault, and of the readers between them. A call that fails is a step too; a crash within a call leaves what its failing leaves.
+-- The steps of a desk and a vault, and of the readers between them. A call that fails is a step too; a crash within a
+-- call leaves what its failing leaves.
 use Rattle.std.specs.Prelude.{◌≡◌, ◌+◌, ◌==◌, ◌||◌, ◌<◌, ◌≤◌, ◌++◌, min, max, ℕ, Bool, true, false, List, [], ◌∷◌, map, take, drop, Contains, if◌then◌else◌}
 use Rattle.std.specs.List.{AllByRecursion}
 use Rattle.retro_base.specs.declared.limits.TheConstants.{BATCH}
@@ -11,20 +12,28 @@ use Rattle.history.specs.History.{History, now, captures, with_change}
 use Rattle.skippy.specs.Mappings.{end_of}
 use Rattle.race_model.specs.Desk.{OneMore, NewBase, Desk, captured, capacity_of, writes_page}
 use Rattle.race_model.specs.Vault.{Vault, Batch, batch_end, listing, trim_to, enter_into, LeavesOthers, HoldsBatch}
-use Rattle.race_model.specs.Reading.{Told, told_of}
+use Rattle.race_model.specs.Reading.{PeekTold, told_of}
 
 -- ---- the desk
 
 -- a commit or a drop, done
 abbrev pub changed : Desk → Change → Desk
-changed desk change = record desk { history = with_change desk.history change; rest = desk.rest ++ change ∷ []; dirty = λ page. desk.dirty page || writes_page page change }
+changed desk change = record desk {
+  history = with_change desk.history change;
+  rest = desk.rest ++ change ∷ [];
+  dirty = λ page. desk.dirty page || writes_page page change;
+}
 
 abbrev pub change_failed : Desk → Change → Desk
 change_failed desk change = record desk { doubt = OneMore change; stopped = true }
 
 -- so many of the captures that are not yet acknowledged
 abbrev pub batch_of : Desk → ℕ → Batch
-batch_of desk count = record { first = desk.acked; low = min (oldest_start (now desk.history).base.marks) desk.acked; images = take count (drop desk.acked (captures desk.history)) }
+batch_of desk count = record {
+  first = desk.acked;
+  low = min (oldest_start (now desk.history).base.marks) desk.acked;
+  images = take count (drop desk.acked (captures desk.history));
+}
 
 abbrev pub acked_to : Desk → ℕ → Desk
 acked_to desk count = record desk { acked = max desk.acked count }
@@ -33,19 +42,30 @@ acked_to desk count = record desk { acked = max desk.acked count }
 pub record MayWrite (desk : Desk) (page need : ℕ) : Type 0 where
   pub goes : desk.stopped ≡ false
   pub soiled : desk.dirty page ≡ true
-  pub below : (number : ℕ) → number < (now desk.history).base.captures → (captured desk.history number).page ≡ page → number < need
+  pub below : (number : ℕ) → number < (now desk.history).base.captures → (captured desk.history number).page ≡ page
+      → number < need
   pub up : desk.need ≤ need
   pub acked : need ≤ desk.acked
 
 abbrev pub with_page : {X : Type 0} → (ℕ → X) → ℕ → X → ℕ → X
 with_page pages page x other = if other == page then x else pages other
 
-abbrev pub written : Desk → ℕ → ℕ → Desk
-written desk page need =
-    record desk { pages = with_page desk.pages page ((now desk.history).pages page); loose = with_page desk.loose page true; dirty = with_page desk.dirty page false; need = need }
+abbrev pub written_desk : Desk → ℕ → ℕ → Desk
+written_desk desk page need =
+    record desk {
+      pages = with_page desk.pages page ((now desk.history).pages page);
+      loose = with_page desk.loose page true;
+      dirty = with_page desk.dirty page false;
+      need = need;
+    }
 
 abbrev pub write_failed : Desk → ℕ → ℕ → List ℕ → Desk
-write_failed desk page need left = record desk { pages = with_page desk.pages page left; loose = with_page desk.loose page true; need = need; stopped = true }
+write_failed desk page need left = record desk {
+  pages = with_page desk.pages page left;
+  loose = with_page desk.loose page true;
+  need = need;
+  stopped = true;
+}
 
 abbrev pub settled : Desk → Desk
 settled desk = record desk { loose = λ page. false }
@@ -75,7 +95,12 @@ abbrev pub laid : Vault → Batch → (ℕ → List ℕ) → (ℕ → Bool) → 
 laid vault batch slots loose = record vault { slots = slots; loose = loose; laid = max vault.laid (batch_end batch) }
 
 abbrev pub lay_failed : Vault → (ℕ → List ℕ) → (ℕ → Bool) → Vault
-lay_failed vault slots loose = record vault { slots = slots; loose = loose; laid = end_of vault.mappings; stopped = true }
+lay_failed vault slots loose = record vault {
+  slots = slots;
+  loose = loose;
+  laid = end_of vault.mappings;
+  stopped = true;
+}
 
 -- a batch may be entered where it is laid
 pub record MayEnter (vault : Vault) (batch : Batch) : Type 0 where
@@ -86,7 +111,10 @@ abbrev pub entered : Vault → Batch → Vault
 entered vault batch = record vault { mappings = enter_into vault.mappings batch }
 
 abbrev pub enter_failed : Vault → Batch → Vault
-enter_failed vault batch = record vault { others = listing vault (trim_to vault.mappings batch.low) ∷ listing vault (enter_into vault.mappings batch) ∷ []; stopped = true }
+enter_failed vault batch = record vault {
+  others = listing vault (trim_to vault.mappings batch.low) ∷ listing vault (enter_into vault.mappings batch) ∷ [];
+  stopped = true;
+}
 
 -- Mappings may be forgotten below a number up to what is held; a step forgets none that a retained snapshot needs.
 pub record MayTrim (history : History) (vault : Vault) (low : ℕ) : Type 0 where
@@ -108,7 +136,7 @@ pub record Machine : Type 0 where
   pub batches : List Batch
   pub receipts : List ℕ
   pub pins : List ℕ
-  pub told : List Told
+  pub told : List PeekTold
 
 -- a drop leaves each pinned snapshot
 abbrev pub KeepsPins : List ℕ → Change → Type 0
@@ -126,30 +154,59 @@ pub record MayTake (desk : Desk) (count : ℕ) : Type 0 where
   pub few : count ≤ BATCH
   pub there : desk.acked + count ≤ (now desk.history).base.captures
 
+-- the machine with its desk, or its vault, at another state
+abbrev pub with_desk : Machine → Desk → Machine
+with_desk m desk = record m { desk = desk }
+
+abbrev pub with_vault : Machine → Vault → Machine
+with_vault m vault = record m { vault = vault }
+
 pub data Step : Machine → Machine → Type 0 where
   Quiet : (m : Machine) → Step m m
-  Changes : (m : Machine) (change : Change) → MayChange m change → Step m (record m { desk = changed m.desk change })
-  ChangeFails : (m : Machine) (change : Change) → MayChange m change → Step m (record m { desk = change_failed m.desk change })
-  TakesBatch : (m : Machine) (count : ℕ) → MayTake m.desk count → Step m (record m { batches = batch_of m.desk count ∷ m.batches })
-  Acknowledges : (m : Machine) (count : ℕ) → Contains m.receipts count → count ≤ (now m.desk.history).base.captures → Step m (record m { desk = acked_to m.desk count })
-  WritesBack : (m : Machine) (page need : ℕ) → MayWrite m.desk page need → Step m (record m { desk = written m.desk page need })
-  WriteFails : (m : Machine) (page need : ℕ) (left : List ℕ) → MayWrite m.desk page need → Step m (record m { desk = write_failed m.desk page need left })
-  Settles : (m : Machine) → m.desk.stopped ≡ false → Step m (record m { desk = settled m.desk })
-  Stops : (m : Machine) → Step m (record m { desk = stopped m.desk })
-  CutsLog : (m : Machine) → MayCut m.desk → Step m (record m { desk = cut m.desk })
-  CutFails : (m : Machine) → MayCut m.desk → Step m (record m { desk = cut_failed m.desk })
-  Lays : (m : Machine) (batch : Batch) (slots : ℕ → List ℕ) (loose : ℕ → Bool) → Contains m.batches batch → m.vault.stopped ≡ false → MayLay m.vault batch → LeavesOthers (capacity_of m.desk.history) m.vault batch slots loose →
-      HoldsBatch (capacity_of m.desk.history) batch slots loose → Step m (record m { vault = laid m.vault batch slots loose })
-  LayFails : (m : Machine) (batch : Batch) (slots : ℕ → List ℕ) (loose : ℕ → Bool) → Contains m.batches batch → m.vault.stopped ≡ false → MayLay m.vault batch → LeavesOthers (capacity_of m.desk.history) m.vault batch slots loose →
-      Step m (record m { vault = lay_failed m.vault slots loose })
-  Enters : (m : Machine) (batch : Batch) → Contains m.batches batch → m.vault.stopped ≡ false → MayEnter m.vault batch → Step m (record m { vault = entered m.vault batch; receipts = batch_end batch ∷ m.receipts })
-  EnterFails : (m : Machine) (batch : Batch) → Contains m.batches batch → m.vault.stopped ≡ false → MayEnter m.vault batch → Step m (record m { vault = enter_failed m.vault batch })
-  Trims : (m : Machine) (low : ℕ) → m.vault.stopped ≡ false → MayTrim m.desk.history m.vault low → Step m (record m { vault = trimmed m.vault low })
-  TrimFails : (m : Machine) (low : ℕ) → m.vault.stopped ≡ false → MayTrim m.desk.history m.vault low → Step m (record m { vault = trim_failed m.vault low })
-  Looks : (m : Machine) (snapshot : ℕ) → is_retained snapshot (now m.desk.history).base.marks ≡ true → Step m (record m { pins = snapshot ∷ m.pins })
-  LooksAtAll : (m : Machine) → Step m (record m { pins = map (λ (mark : Mark). mark.number) (now m.desk.history).base.marks ++ m.pins })
-  Unlooks : (m : Machine) (pins : List ℕ) → ((pin : ℕ) → Contains pins pin → Contains m.pins pin) → Step m (record m { pins = pins })
-  Peeks : (m : Machine) (snapshot page : ℕ) → Contains m.pins snapshot → Step m (record m { told = told_of m.desk snapshot page ∷ m.told })
+  -- of the desk
+  Changes : (m : Machine) (change : Change) → MayChange m change → Step m (with_desk m (changed m.desk change))
+  ChangeFails : (m : Machine) (change : Change) → MayChange m change
+      → Step m (with_desk m (change_failed m.desk change))
+  WritesBack : (m : Machine) (page need : ℕ) → MayWrite m.desk page need
+      → Step m (with_desk m (written_desk m.desk page need))
+  WriteFails : (m : Machine) (page need : ℕ) (left : List ℕ) → MayWrite m.desk page need
+      → Step m (with_desk m (write_failed m.desk page need left))
+  Settles : (m : Machine) → m.desk.stopped ≡ false → Step m (with_desk m (settled m.desk))
+  Stops : (m : Machine) → Step m (with_desk m (stopped m.desk))
+  CutsLog : (m : Machine) → MayCut m.desk → Step m (with_desk m (cut m.desk))
+  CutFails : (m : Machine) → MayCut m.desk → Step m (with_desk m (cut_failed m.desk))
+  -- of the vault
+  Lays : (m : Machine) (batch : Batch) (slots : ℕ → List ℕ) (loose : ℕ → Bool) → Contains m.batches batch
+      → m.vault.stopped ≡ false → MayLay m.vault batch
+      → LeavesOthers (capacity_of m.desk.history) m.vault batch slots loose
+      → HoldsBatch (capacity_of m.desk.history) batch slots loose
+      → Step m (with_vault m (laid m.vault batch slots loose))
+  LayFails : (m : Machine) (batch : Batch) (slots : ℕ → List ℕ) (loose : ℕ → Bool) → Contains m.batches batch
+      → m.vault.stopped ≡ false → MayLay m.vault batch
+      → LeavesOthers (capacity_of m.desk.history) m.vault batch slots loose
+      → Step m (with_vault m (lay_failed m.vault slots loose))
+  EnterFails : (m : Machine) (batch : Batch) → Contains m.batches batch → m.vault.stopped ≡ false
+      → MayEnter m.vault batch → Step m (with_vault m (enter_failed m.vault batch))
+  Trims : (m : Machine) (low : ℕ) → m.vault.stopped ≡ false → MayTrim m.desk.history m.vault low
+      → Step m (with_vault m (trimmed m.vault low))
+  TrimFails : (m : Machine) (low : ℕ) → m.vault.stopped ≡ false → MayTrim m.desk.history m.vault low
+      → Step m (with_vault m (trim_failed m.vault low))
+  -- between the two: a batch goes to the vault, and its receipt to the desk
+  TakesBatch : (m : Machine) (count : ℕ) → MayTake m.desk count
+      → Step m (record m { batches = batch_of m.desk count ∷ m.batches })
+  Enters : (m : Machine) (batch : Batch) → Contains m.batches batch → m.vault.stopped ≡ false → MayEnter m.vault batch
+      → Step m (record m { vault = entered m.vault batch; receipts = batch_end batch ∷ m.receipts })
+  Acknowledges : (m : Machine) (count : ℕ) → Contains m.receipts count
+      → count ≤ (now m.desk.history).base.captures → Step m (with_desk m (acked_to m.desk count))
+  -- of readers
+  Looks : (m : Machine) (snapshot : ℕ) → is_retained snapshot (now m.desk.history).base.marks ≡ true
+      → Step m (record m { pins = snapshot ∷ m.pins })
+  LooksAtAll : (m : Machine)
+      → Step m (record m { pins = map (λ (mark : Mark). mark.number) (now m.desk.history).base.marks ++ m.pins })
+  Unlooks : (m : Machine) (pins : List ℕ) → ((pin : ℕ) → Contains pins pin → Contains m.pins pin)
+      → Step m (record m { pins = pins })
+  Peeks : (m : Machine) (snapshot page : ℕ) → Contains m.pins snapshot
+      → Step m (record m { told = told_of m.desk snapshot page ∷ m.told })
 
 pub data Run : Machine → Machine → Type 0 where
   Done : {m : Machine} → Run m m

@@ -11,7 +11,8 @@ pub record Maplog : Type 0 where
   pub version : Version
   pub mappings : Mappings
 
--- The Maplog lists `mappings` in records of this version, or is one of `others` since a call failed. Below `laid` the slots hold their captures. `loose` slots were written since the Pagelog was settled.
+-- The Maplog lists `mappings` in records of this version, or is one of `others` since a call failed. Below `laid` the
+-- slots hold their captures. `loose` slots were written since the Pagelog was settled.
 pub record Vault : Type 0 where
   pub version : Version
   pub mappings : Mappings
@@ -62,11 +63,13 @@ abbrev pub IsSlotOf : ℕ → Batch → ℕ → Type 0
 IsSlotOf capacity batch slot = (place : ℕ) × (place < length batch.images) × (slot ≡ (batch.first + place) % capacity)
 
 -- outside the batch's slots nothing changes, and nothing becomes loose
-pub record LeavesOthers (capacity : ℕ) (vault : Vault) (batch : Batch) (slots : ℕ → List ℕ) (loose : ℕ → Bool) : Type 0 where
+pub record LeavesOthers (capacity : ℕ) (vault : Vault) (batch : Batch) (slots : ℕ → List ℕ) (loose : ℕ
+    → Bool) : Type 0 where
   pub same : (slot : ℕ) → (IsSlotOf capacity batch slot → ⊥) → slots slot ≡ vault.slots slot
   pub sure : (slot : ℕ) → (IsSlotOf capacity batch slot → ⊥) → vault.loose slot ≡ false → loose slot ≡ false
 
 -- the batch's slots hold its captures, and nothing is loose
 pub record HoldsBatch (capacity : ℕ) (batch : Batch) (slots : ℕ → List ℕ) (loose : ℕ → Bool) : Type 0 where
-  pub bytes : (place : ℕ) → place < length batch.images → slots ((batch.first + place) % capacity) ≡ (get_or batch.images place forgotten).bytes
+  pub bytes : (place : ℕ) → place < length batch.images
+      → slots ((batch.first + place) % capacity) ≡ (get_or batch.images place forgotten).bytes
   pub settled : (slot : ℕ) → loose slot ≡ false

@@ -1,6 +1,6 @@
 use Rattle.std.proofs.Common.{ℕ, refl, subst}
 use Rattle.disk_model.specs.Moments.{LeavesOnly}
-use Rattle.race_model.specs.Machine.{write_failed, written}
+use Rattle.race_model.specs.Machine.{write_failed, written_desk}
 use Rattle.race_model.proofs.DeskKeeps.{write_failed_keeps, write_keeps}
 use Rattle.desk.specs.Desk.{HoldsPagesOf}
 use Rattle.desk.proofs.Sent.{fault_is, least_of, may_write, one_least, write_rests}
@@ -44,7 +44,7 @@ pub returns-in-Ok-clause-whole : goal.returns-in-Ok-clause-whole
 returns-in-Ok-clause-whole g c =
     let whole = c.requires.whole in
     let done = returns-in-Ok-clause-done g c whole.desk whole.is whole.fits refl in
-    record { desk = written whole.desk done.0 whole.desk.acked; is = done.3 whole.desk.acked; fits = write_keeps whole.desk whole.fits done.0 whole.desk.acked done.2 }
+    record { desk = written_desk whole.desk done.0 whole.desk.acked; is = done.3 whole.desk.acked; fits = write_keeps whole.desk whole.fits done.0 whole.desk.acked done.2 }
 
 pub returns-in-Err-clause-whole : goal.returns-in-Err-clause-whole
 returns-in-Err-clause-whole g c =
