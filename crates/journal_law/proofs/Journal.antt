@@ -1,7 +1,6 @@
 -- The law of the journal.
 use Rattle.std.proofs.Common.{◌≡◌, ◌≢◌, ◌++◌, ◌==◌, ◌&&◌, ℕ, Bool, true, false, cond, List, [], ◌∷◌, Option, Some, None, map, filter, refl, ap, sym, subst, ◌∙◌, append_assoc, append-nil, arith}
 use Rattle.std.proofs.lemmas.Bool.Decides.{nat_tests}
-use Rattle.std.specs.Option.{option_or}
 use Rattle.std.proofs.lemmas.List.{map-append}
 use Rattle.std.proofs.lemmas.List.Elements.{filter-append}
 use Rattle.retro_base.specs.declared.device.Device.{Device}
@@ -11,7 +10,7 @@ use Rattle.history.specs.declared.journal.What.{What}
 use Rattle.history.specs.Lines.{lines_of}
 use Rattle.history.specs.Sound.{same_item}
 use Rattle.journal_law.specs.Facts.{AllFit, AreOthers, Fits, HasSeen, OwnFit}
-use Rattle.journal_law.specs.Fates.{Fate, IsReply, began_in, behind_it, fate, reply}
+use Rattle.journal_law.specs.Fates.{Fate, IsReply, fate, fate_behind, fate_with, reply}
 use Rattle.journal_law.specs.Language.{Language}
 use Rattle.journal_law.specs.Laws.{IsClosed, LawOfTheJournal}
 use Rattle.journal_law.specs.Lawful.{AtEach, HasRuns, IsCut, IsRun, ItemsRise, KeepsRules, Lawful, Opening}
@@ -161,32 +160,15 @@ module _ (L : Language) (items : Who → Option L.Item) where
 
   -- ---- replies
 
-  behind_it_assoc : (a b c : Option (Fate L.Tables)) → behind_it (behind_it a b) c ≡ behind_it a (behind_it b c)
-  behind_it_assoc (Some x) (Some y) (Some z) = ap (λ (began : Option (World L.Tables)). Some (record x { began = began })) (or_assoc x.began y.began z.began)
-    where
-      or_assoc : (f g h : Option (World L.Tables)) → option_or (option_or f g) h ≡ option_or f (option_or g h)
-      or_assoc (Some w) g h = refl
-      or_assoc None g h = refl
-  behind_it_assoc (Some x) (Some y) None = refl
-  behind_it_assoc (Some x) None c = refl
-  behind_it_assoc None b c = refl
-
-  behind_none : (a : Option (Fate L.Tables)) → behind_it a None ≡ a
-  behind_none (Some x) = refl
-  behind_none None = refl
-
-  pub fate_append : (who : Who) (now : World L.Tables) (xs ys : List Line) → fate L items who now (xs ++ ys) ≡ behind_it (fate L items who (world L items now xs) ys) (fate L items who now xs)
-  fate_append who now [] ys = sym (behind_none (fate L items who now ys))
-  fate_append who now (line ∷ xs) ys =
-      let next = step L items now line in
-      let here = cond (same_item line.who who) (Some (record { now = now; last = line.what; began = began_in now line.what })) None in
-      ap (λ (a : Option (Fate L.Tables)). behind_it a here) (fate_append who next xs ys)
-      ∙ behind_it_assoc (fate L items who (world L items next xs) ys) (fate L items who next xs) here
+  pub fate_append : (who : Who) (now : World L.Tables) (known : Option (Fate L.Tables)) (xs ys : List Line)
+      → fate_behind L items who now known (xs ++ ys) ≡ fate_behind L items who (world L items now xs) (fate_behind L items who now known xs) ys
+  fate_append who now known [] ys = refl
+  fate_append who now known (line ∷ xs) ys = fate_append who (step L items now line) (cond (same_item line.who who) (Some (fate_with now line.what known)) known) xs ys
 
   -- nothing becomes of an item by lines of other sessions
-  pub no_fate : (who : Who) (now : World L.Tables) (lines : List Line) → AreOthers who.session lines → fate L items who now lines ≡ None
-  no_fate who now [] others = refl
-  no_fate who now (line ∷ lines) others = rw (apart line.who who others.0, no_fate who (step L items now line) lines others.1) refl
+  pub no_fate : (who : Who) (now : World L.Tables) (known : Option (Fate L.Tables)) (lines : List Line) → AreOthers who.session lines → fate_behind L items who now known lines ≡ known
+  no_fate who now known [] others = refl
+  no_fate who now known (line ∷ lines) others = rw (apart line.who who others.0) (no_fate who (step L items now line) known lines others.1)
 
   pub told : (o : Opening L) (journal front : List Line) (who : Who) (item : L.Item) (text : List ℕ) → Shows L o.opened.pages o.tables → AllFit L items o.opened journal →
       HasSeen who.session front journal → IsReply L items o.opened.pages who item front text → text ≡ reply L item (fate L items who o.tables journal)
@@ -194,8 +176,8 @@ module _ (L : Language) (items : Who → Option L.Item) where
       let along = along_front o.opened.pages o.tables front seen.rest (subst (ShowsAlong L items o.opened.pages o.tables) seen.whole (shows o journal opening all)) in
       let same : fate L items who o.tables journal ≡ fate L items who o.tables front =
       ap (fate L items who o.tables) seen.whole
-      ∙ fate_append who o.tables front seen.rest
-      ∙ ap (λ (a : Option (Fate L.Tables)). behind_it a (fate L items who o.tables front)) (no_fate who (world L items o.tables front) seen.rest seen.others) in
+      ∙ fate_append who o.tables None front seen.rest
+      ∙ no_fate who (world L items o.tables front) (fate L items who o.tables front) seen.rest seen.others in
       is o.tables along ∙ ap (reply L item) (sym same)
 
 pub law : (L : Language) → LawOfTheJournal L

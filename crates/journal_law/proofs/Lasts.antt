@@ -6,7 +6,7 @@ use Rattle.history.specs.declared.journal.Line.{Line}
 use Rattle.history.specs.declared.journal.What.{What}
 use Rattle.history.specs.Lines.{begins}
 use Rattle.history.specs.Sound.{same_item}
-use Rattle.journal_law.specs.Fates.{Fate, began_in, began_of, behind_it, fate}
+use Rattle.journal_law.specs.Fates.{Fate, began_of, fate, fate_behind, fate_with}
 use Rattle.journal_law.specs.Language.{Language}
 use Rattle.journal_law.specs.Lawful.{IsOverlapOf}
 use Rattle.journal_law.specs.Own.{SinceLine, last_behind, last_of, line, own}
@@ -55,40 +55,34 @@ overlap_stays who other lines more is none = record {
 
 module _ (L : Language) (items : Who → Option L.Item) where
   -- nothing becomes of an item by lines that are not its own
-  pub no_fate_own : (who : Who) (now : World L.Tables) (lines : List Line) → own who lines ≡ [] → fate L items who now lines ≡ None
-  no_fate_own who now [] none = refl
-  no_fate_own who now (l ∷ lines) none = by_test (same_item l.who who) none (no_fate_own who (step L items now l) lines)
+  pub no_fate_own : (who : Who) (now : World L.Tables) (known : Option (Fate L.Tables)) (lines : List Line) → own who lines ≡ [] → fate_behind L items who now known lines ≡ known
+  no_fate_own who now known [] none = refl
+  no_fate_own who now known (l ∷ lines) none = by_test (same_item l.who who) none (no_fate_own who (step L items now l) known lines)
     where
       by_test : (mine : Bool) → map (λ (x : Line). x.what) (cond mine (l ∷ filter (λ (x : Line). same_item x.who who) lines) (filter (λ (x : Line). same_item x.who who) lines)) ≡ []
-          → (own who lines ≡ [] → fate L items who (step L items now l) lines ≡ None)
-          → behind_it (fate L items who (step L items now l) lines) (cond mine (Some (record { now = now; last = l.what; began = began_in now l.what })) None) ≡ None
+          → (own who lines ≡ [] → fate_behind L items who (step L items now l) known lines ≡ known)
+          → fate_behind L items who (step L items now l) (cond mine (Some (fate_with now l.what known)) known) lines ≡ known
       by_test true none rest = cc
-      by_test false none rest = rw (rest none) refl
+      by_test false none rest = rest none
 
-  pub fate_line : (who : Who) (what : What) (tables : World L.Tables) (before : List Line) → fate L items who tables (before ++ line who what ∷ [])
-      ≡ behind_it (Some (record { now = world L items tables before; last = what; began = began_in (world L items tables before) what })) (fate L items who tables before)
+  -- what a line of an item makes of it
+  pub fate_line : (who : Who) (what : What) (tables : World L.Tables) (before : List Line)
+      → fate L items who tables (before ++ line who what ∷ []) ≡ Some (fate_with (world L items tables before) what (fate L items who tables before))
   fate_line who what tables before =
-      fate_append L items who tables before (line who what ∷ [])
-      ∙ ap (λ (mine : Bool). behind_it (cond mine (Some (record { now = world L items tables before; last = what; began = began_in (world L items tables before) what })) None) (fate L items who tables before)) (same_itself who)
+      fate_append L items who tables None before (line who what ∷ [])
+      ∙ ap (λ (mine : Bool). cond mine (Some (fate_with (world L items tables before) what (fate L items who tables before))) (fate L items who tables before)) (same_itself who)
 
-  -- what the last line of an item makes of it
+  -- and so does its last one
   pub fate_last : (who : Who) (what : What) (tables : World L.Tables) (lines since rest : List Line) → SinceLine who what lines since rest
-      → fate L items who tables lines ≡ behind_it (Some (record { now = world L items tables since; last = what; began = began_in (world L items tables since) what })) (fate L items who tables since)
+      → fate L items who tables lines ≡ Some (fate_with (world L items tables since) what (fate L items who tables since))
   fate_last who what tables lines since rest at =
-      ap (fate L items who tables) at.whole ∙ fate_append L items who tables (since ++ line who what ∷ []) rest
-      ∙ ap (λ (a : Option (Fate L.Tables)). behind_it a (fate L items who tables (since ++ line who what ∷ []))) (no_fate_own who (world L items tables (since ++ line who what ∷ [])) rest at.none)
+      ap (fate L items who tables) at.whole ∙ fate_append L items who tables None (since ++ line who what ∷ []) rest
+      ∙ no_fate_own who (world L items tables (since ++ line who what ∷ [])) (fate L items who tables (since ++ line who what ∷ [])) rest at.none
       ∙ fate_line who what tables since
 
   -- the world in which an attempt or a look began is that at its line
   pub began_there : (who : Who) (what : What) (tables : World L.Tables) (lines since rest : List Line) → begins what ≡ true → SinceLine who what lines since rest
       → began_of (fate L items who tables lines) ≡ Some (world L items tables since)
   began_there who what tables lines since rest opens at =
-      ap began_of (fate_last who what tables lines since rest at) ∙ by_earlier (fate L items who tables since) (began_in (world L items tables since) what) (is_began opens)
-    where
-      is_began : begins what ≡ true → began_in (world L items tables since) what ≡ Some (world L items tables since)
-      is_began e = rw e refl
-
-      by_earlier : (earlier : Option (Fate L.Tables)) (began : Option (World L.Tables)) → began ≡ Some (world L items tables since)
-          → began_of (behind_it (Some (record { now = world L items tables since; last = what; began = began })) earlier) ≡ Some (world L items tables since)
-      by_earlier None began e = e
-      by_earlier (Some f) began e = rw e refl
+      ap began_of (fate_last who what tables lines since rest at)
+      ∙ ap (λ (opening : Bool). cond opening (Some (world L items tables since)) (began_of (fate L items who tables since))) opens

@@ -1,6 +1,6 @@
 -- What a session tells of an item is its reply, by the item's last line.
-use Rattle.std.proofs.Common.{◌≡◌, ◌+◌, ◌++◌, ℕ, true, false, List, [], ◌∷◌, Option, Some, None, refl, ap, sym, subst, ◌∙◌}
-use Rattle.std.specs.Option.{option_or, option_map_or}
+use Rattle.std.proofs.Common.{◌≡◌, ◌+◌, ◌++◌, ℕ, Bool, true, false, cond, List, [], ◌∷◌, Option, Some, None, refl, ap, sym, subst, ◌∙◌}
+use Rattle.std.specs.Option.{option_map_or}
 use Rattle.retro_base.specs.declared.device.Device.{Device}
 use Rattle.retro_base.specs.declared.refusal.Refusal.{Refusal}
 use Rattle.retro_base.specs.declared.refusal.Refusal.TheVariants as refusal
@@ -11,7 +11,7 @@ use Rattle.history.specs.declared.journal.What.{What}
 use Rattle.history.specs.declared.journal.What.TheVariants.{Done, Overlapped, RolledBack, Unlooked, Dropped, Refused, Fault}
 use Rattle.history.specs.declared.writes.PageImage.{PageImage}
 use Rattle.history.specs.Lines.{begins}
-use Rattle.journal_law.specs.Fates.{Fate, IsReply, answer_text, began_in, began_of, behind_it, fate, reply, reply_at}
+use Rattle.journal_law.specs.Fates.{Fate, IsReply, answer_text, began_of, fate, fate_with, reply, reply_at}
 use Rattle.journal_law.specs.Language.{Language, answer}
 use Rattle.journal_law.specs.Own.{SinceLine, line, own}
 use Rattle.journal_law.specs.Pages.{Pages, page_world}
@@ -27,11 +27,9 @@ module _ (L : Language) (items : Who → Option L.Item) (pages : World Pages) (w
   by_last : (tables : World L.Tables) (before : List Line) (what : What) (text : List ℕ)
       → ((began : Option (World L.Tables)) → text ≡ reply_at L item (record { now = world L items tables before; last = what; began = began }) what)
       → text ≡ reply L item (fate L items who tables (before ++ line who what ∷ []))
-  by_last tables before what text is = by_earlier (fate L items who tables before) ∙ ap (reply L item) (sym (fate_line L items who what tables before))
-    where
-      by_earlier : (earlier : Option (Fate L.Tables)) → text ≡ reply L item (behind_it (Some (record { now = world L items tables before; last = what; began = began_in (world L items tables before) what })) earlier)
-      by_earlier None = is (began_in (world L items tables before) what)
-      by_earlier (Some f) = is (option_or (began_in (world L items tables before) what) f.began)
+  by_last tables before what text is =
+      is (cond (begins what) (Some (world L items tables before)) (began_of (fate L items who tables before)))
+      ∙ ap (reply L item) (sym (fate_line L items who what tables before))
 
   module _ (before : List Line) where
     pub committed : (label : Option (List ℕ)) (writes : List PageImage) (text : List ℕ) (number : ℕ)
@@ -60,21 +58,12 @@ module _ (L : Language) (items : Who → Option L.Item) (pages : World Pages) (w
   -- a line that opens nothing leaves where the item began
   began_behind : (tables : World L.Tables) (before : List Line) (what : What) (w : World L.Tables) → begins what ≡ false → began_of (fate L items who tables before) ≡ Some w
       → (f : Fate L.Tables) × (fate L items who tables (before ++ line who what ∷ []) ≡ Some f) × (f.last ≡ what) × (f.began ≡ Some w)
-  began_behind tables before what w closes is = by_earlier (fate L items who tables before) (began_in (world L items tables before) what) (none closes) refl is
-    where
-      none : begins what ≡ false → began_in (world L items tables before) what ≡ None
-      none e = rw e refl
-
-      by_earlier : (earlier : Option (Fate L.Tables)) (here : Option (World L.Tables)) → here ≡ None
-          → fate L items who tables before ≡ earlier → began_of earlier ≡ Some w
-          → (f : Fate L.Tables) × (fate L items who tables (before ++ line who what ∷ []) ≡ Some f) × (f.last ≡ what) × (f.began ≡ Some w)
-      by_earlier None here e p is = absurd (none_some is)
-        where
-          none_some : None ≡ Some w → ⊥
-          none_some q = cc
-      by_earlier (Some g) here e p is =
-          let whole = fate_line L items who what tables before ∙ ap (behind_it (Some (record { now = world L items tables before; last = what; began = began_in (world L items tables before) what }))) p in
-          (record { now = world L items tables before; last = what; began = option_or (began_in (world L items tables before) what) g.began }, whole, refl, ap (λ (o : Option (World L.Tables)). option_or o g.began) (none closes) ∙ is)
+  began_behind tables before what w closes is = (
+    fate_with (world L items tables before) what (fate L items who tables before),
+    fate_line L items who what tables before,
+    refl,
+    ap (λ (opens : Bool). cond opens (Some (world L items tables before)) (began_of (fate L items who tables before))) closes ∙ is,
+  )
 
   -- the world in which it began is that of its last opening line
   module _ (opened : What) (opens : begins opened ≡ true) (before since rest : List Line) (at : SinceLine who opened before since rest) where
@@ -115,7 +104,7 @@ module _ (L : Language) (items : Who → Option L.Item) (pages : World Pages) (w
   pub reply_stays : (front more : List Line) (text : List ℕ) → own who more ≡ [] → IsReply L items pages who item front text → IsReply L items pages who item (front ++ more) text
   reply_stays front more text none is tables along =
       is tables (along_front L items pages tables front more along)
-      ∙ ap (reply L item) (sym (fate_append L items who tables front more ∙ ap (λ (a : Option (Fate L.Tables)). behind_it a (fate L items who tables front)) (no_fate_own L items who (world L items tables front) more none)))
+      ∙ ap (reply L item) (sym (fate_append L items who tables None front more ∙ no_fate_own L items who (world L items tables front) (fate L items who tables front) more none))
 
 pub replies_told : (L : Language) → RepliesTold L
 replies_told L = record {

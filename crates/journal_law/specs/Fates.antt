@@ -1,6 +1,6 @@
 -- What became of an item, and what is told of it.
 use Rattle.std.specs.Prelude.{◌≡◌, ◌+◌, ◌++◌, ℕ, List, [], ◌∷◌, Option, Some, None, Result, Ok, Err, if◌then◌else◌}
-use Rattle.std.specs.Option.{option_or, option_map_or}
+use Rattle.std.specs.Option.{option_map_or}
 use Rattle.retro_base.specs.declared.refusal.Refusal.{Refusal}
 use Rattle.retro_base.specs.declared.refusal.Refusal.TheVariants.{DiskFault, Overlap}
 use Rattle.retro_base.specs.declared.who.Who.{Who}
@@ -14,44 +14,44 @@ use Rattle.journal_law.specs.Pages.{Pages}
 use Rattle.journal_law.specs.Shows.{ShowsAlong, step}
 use Rattle.journal_law.specs.World.{World, newest}
 
--- what the last line of an item says, the world at its place, and the world in which its last attempt or look began
+-- what an item's last line says, the world at its place, and the world in which its last attempt or look began
 pub record Fate (X : Type 0) : Type 0 where
   pub now : World X
   pub last : What
   pub began : Option (World X)
 
--- what became of an item by later lines and by earlier ones
-abbrev pub behind_it : {X : Type 0} → Option (Fate X) → Option (Fate X) → Option (Fate X)
-behind_it (Some later) (Some earlier) = Some (record later { began = option_or later.began earlier.began })
-behind_it (Some later) None = Some later
-behind_it None earlier = earlier
-
--- the world in which an attempt or a look begins
-abbrev pub began_in : {X : Type 0} → World X → What → Option (World X)
-began_in now what = if begins what then Some now else None
+abbrev pub began_of : {X : Type 0} → Option (Fate X) → Option (World X)
+began_of None = None
+began_of (Some f) = f.began
 
 -- the world in which the last attempt or look of an item began
 abbrev pub began_at : {X : Type 0} → Fate X → World X
 began_at f = option_map_or (λ began. began) f.began f.now
 
-abbrev pub began_of : {X : Type 0} → Option (Fate X) → Option (World X)
-began_of None = None
-began_of (Some f) = f.began
+-- behind a line of the item at this world
+abbrev pub fate_with : {X : Type 0} → World X → What → Option (Fate X) → Fate X
+fate_with now what known = record { now = now; last = what; began = if begins what then Some now else began_of known }
 
 module _ (L : Language) where
   module _ (items : Who → Option L.Item) where
+    -- behind lines from this world on, where this was known of the item
+    abbrev pub fate_behind : Who → World L.Tables → Option (Fate L.Tables) → List Line → Option (Fate L.Tables)
+    fate_behind who now known [] = known
+    fate_behind who now known (line ∷ lines) =
+        fate_behind who (step L items now line)
+        (if same_item line.who who then Some (fate_with now line.what known) else known) lines
+
     -- what became of an item by the lines of a journal, from this opening on
     abbrev pub fate : Who → World L.Tables → List Line → Option (Fate L.Tables)
-    fate who opening [] = None
-    fate who opening (line ∷ lines) =
-        behind_it (fate who (step L items opening line) lines)
-        (if same_item line.who who then Some (record { now = opening; last = line.what; began = began_in opening line.what }) else None)
+    fate who opening lines = fate_behind who opening None lines
 
   abbrev pub answer_text : L.Item → Result (List ℕ) Refusal → List ℕ
   answer_text item (Ok text) = text
   answer_text item (Err why) = (L.words item).refused why
 
-  -- The reply lines of an item by its last line: a commit's are those of its statements over the tables at its place, a rollback's those over the tables with which its attempt began, a look's those of its query in the world in which it looked.
+  -- The reply lines of an item by its last line: a commit's are those of its statements over the tables at its place, a
+  -- rollback's those over the tables with which its attempt began, a look's those of its query in the world in which it
+  -- looked.
   abbrev pub reply_at : L.Item → Fate L.Tables → What → List ℕ
   reply_at item f (Done label writes) = L.replies item f.now.current ++ (L.words item).committed (newest f.now + 1) label
   reply_at item f RolledBack = L.replies item (began_at f).current ++ (L.words item).rolled_back
@@ -67,7 +67,8 @@ module _ (L : Language) where
   reply item (Some f) = reply_at item f f.last
   reply item None = (L.words item).not_run
 
-  -- What a seat knows of an item of its own that has ended: whatever tables the pages held up to there, this is its reply.
+  -- What a seat knows of an item of its own that has ended: whatever tables the pages held up to there, this is its
+  -- reply.
   abbrev pub IsReply : (Who → Option L.Item) → World Pages → Who → L.Item → List Line → List ℕ → Type 0
   IsReply items pages who item front text =
       (tables : World L.Tables) → ShowsAlong L items pages tables front → text ≡ reply item (fate items who tables front)

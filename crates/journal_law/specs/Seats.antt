@@ -22,6 +22,7 @@ use Rattle.journal_law.specs.Pages.{Pages, page_world}
 use Rattle.journal_law.specs.World.{World, as_of, newest}
 use Rattle.journal_law.specs.declared.seat.Ending.{Ending}
 use Rattle.journal_law.specs.declared.seat.Ending.TheVariants as ending
+use Rattle.journal_law.specs.declared.seat.ToldFault.{ToldFault}
 
 -- An open attempt: the lines before its Began, pages among which are all that it read of the store, its edits, and the refusal that it keeps.
 pub record Attempt : Type 0 where
@@ -50,18 +51,13 @@ abbrev pub is_looking : Work → Bool
 is_looking (Looking look) = true
 is_looking work = false
 
--- a fault of a device, as a seat was told of it
-pub record Told : Type 0 where
-  pub device : Device
-  pub count : ℕ
-
 -- what a seat sees; it was told of these faults since its last line
 pub record View : Type 0 where
   pub session : ℕ
   pub opened : Ground
   pub front : List Line
   pub work : Work
-  pub told : List Told
+  pub told : List ToldFault
 
 abbrev pub one : Who → What → List Line
 one who what = line who what ∷ []

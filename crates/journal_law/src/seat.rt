@@ -22,6 +22,13 @@ pub enum Ending {
     Failed { device: Device, count: u64 },
 }
 
+/// A fault of a device, by its count, of which a seat is told.
+#[derive(Clone, Copy, Debug)]
+pub struct ToldFault {
+    pub device: Device,
+    pub count: u64,
+}
+
 /// A store as one seat sees it. In each call, before a line of its own, other sessions may add lines.
 pub trait Seat {
     ghost use Rattle.journal_law.specs.Seats.{View};

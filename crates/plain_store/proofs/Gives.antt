@@ -17,6 +17,7 @@ use Rattle.journal_law.specs.Seats as seat
 use Rattle.journal_law.specs.World.{World}
 use Rattle.journal_law.specs.declared.seat.Ending.{Ending}
 use Rattle.journal_law.specs.declared.seat.Ending.TheVariants as ending
+use Rattle.journal_law.specs.declared.seat.ToldFault.{ToldFault}
 use Rattle.journal_law.proofs.Journal.{page_append}
 use Rattle.plain_store.specs.Page.{bytes_in}
 use Rattle.plain_store.specs.Plain.{IsOpened, IsPlain, Plain, WorkFits, ground_of, kept_of, pages_below, read_of, view_of, without_last, work_in, world_of, zeros}
@@ -67,17 +68,17 @@ pub no_fault_closes : (view : seat.View) (too_many : Bool) (why : Ending) → vi
 no_fault_closes view true why none may fault = fault
 no_fault_closes view false ending.Asked none may fault = fault
 no_fault_closes view false (ending.Refused why) none may fault = fault
-no_fault_closes view false (ending.Failed device count) none may fault = not_told (subst (λ (told : List seat.Told). Contains told (record { device = device; count = count })) none may)
+no_fault_closes view false (ending.Failed device count) none may fault = not_told (subst (λ (told : List ToldFault). Contains told (record { device = device; count = count })) none may)
   where
-    not_told : Contains {X = seat.Told} [] (record { device = device; count = count }) → ⊥
+    not_told : Contains {X = ToldFault} [] (record { device = device; count = count }) → ⊥
     not_told there = absurd (omega (arith, there.1))
 
 pub no_fault_unlooks : (view : seat.View) (why : Ending) → view.told ≡ [] → seat.MayEnd view why → IsFault (seat.unlooking why) → ⊥
 no_fault_unlooks view ending.Asked none may fault = fault
 no_fault_unlooks view (ending.Refused why) none may fault = fault
-no_fault_unlooks view (ending.Failed device count) none may fault = not_told (subst (λ (told : List seat.Told). Contains told (record { device = device; count = count })) none may)
+no_fault_unlooks view (ending.Failed device count) none may fault = not_told (subst (λ (told : List ToldFault). Contains told (record { device = device; count = count })) none may)
   where
-    not_told : Contains {X = seat.Told} [] (record { device = device; count = count }) → ⊥
+    not_told : Contains {X = ToldFault} [] (record { device = device; count = count }) → ⊥
     not_told there = absurd (omega (arith, there.1))
 
 -- ---- works

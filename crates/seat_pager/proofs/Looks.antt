@@ -6,7 +6,8 @@ use Rattle.retro_base.specs.declared.refusal.Refusal.{Refusal}
 use Rattle.retro_base.specs.declared.refusal.Refusal.TheVariants as refusal
 use Rattle.journal_law.specs.Lawful.{Ground}
 use Rattle.journal_law.specs.Pages.{Pages as Bytes}
-use Rattle.journal_law.specs.Seats.{Idle, Look, Looking, Open, PastGives, Pins, Told, View, Work, at_look, is_looking}
+use Rattle.journal_law.specs.Seats.{Idle, Look, Looking, Open, PastGives, Pins, View, Work, at_look, is_looking}
+use Rattle.journal_law.specs.declared.seat.ToldFault.{ToldFault}
 use Rattle.journal_law.specs.World.{as_of}
 use Rattle.pager.specs.Pages as pager
 use Rattle.seat_pager.specs.Past.{IsToldOf, LooksOn, Shows, is_at, pins, pins_in}
@@ -92,13 +93,13 @@ past_left honest snapshot page out old new l (Ok u) is gives = (gives.0.moves.op
 past_left honest snapshot page out old new l (Err (refusal.DiskFault device count)) is gives = (gives.0.opened, gives.1 ∙ sym is)
 past_left honest snapshot page out old new l (Err why) is gives = (gives.0.moves.opened, gives.0.work_is ∙ sym is)
 
-here : (fault : Told) (faults : List Told) → Contains (fault ∷ faults) fault
+here : (fault : ToldFault) (faults : List ToldFault) → Contains (fault ∷ faults) fault
 here fault faults = (0, omega arith, refl)
 
-there : (other fault : Told) (faults : List Told) → Contains faults fault → Contains (other ∷ faults) fault
+there : (other fault : ToldFault) (faults : List ToldFault) → Contains faults fault → Contains (other ∷ faults) fault
 there other fault faults is = (suc is.0, omega (arith, is.1), is.2)
 
-told_on : (old new : View) → new.opened ≡ old.opened → ((fault : Told) → Contains old.told fault → Contains new.told fault) → (why : Refusal) → IsToldOf old why → IsToldOf new why
+told_on : (old new : View) → new.opened ≡ old.opened → ((fault : ToldFault) → Contains old.told fault → Contains new.told fault) → (why : Refusal) → IsToldOf old why → IsToldOf new why
 told_on old new ground more refusal.OutOfMemory is = tt
 told_on old new ground more (refusal.DiskFault device count) is = (more _ is.0, subst (λ (g : Ground). count < 2 ^ 64 - 1 → g.faults device < count) (sym ground) is.1)
 told_on old new ground more why is = absurd is
@@ -106,8 +107,8 @@ told_on old new ground more why is = absurd is
 some_same : (a b : Refusal) → Some a ≡ Some b → a ≡ b
 some_same a b e = cc
 
-same_told : (old new : View) → new.told ≡ old.told → (fault : Told) → Contains old.told fault → Contains new.told fault
-same_told old new e fault is = subst (λ (ts : List Told). Contains ts fault) (sym e) is
+same_told : (old new : View) → new.told ≡ old.told → (fault : ToldFault) → Contains old.told fault → Contains new.told fault
+same_told old new e fault is = subst (λ (ts : List ToldFault). Contains ts fault) (sym e) is
 
 pub past_goes : (honest : Type 0) (snapshot page : ℕ) (out : List ℕ) (old new : View) (refused : Option Refusal) (l : Look) (u : Unit {0}) → old.work ≡ Looking l → PastGives honest snapshot page out old new l (Ok u)
     → LooksOn (record { view = old; refused = refused }) (record { view = new; refused = refused })
@@ -123,8 +124,8 @@ pub past_refused_goes : (honest : Type 0) (snapshot page : ℕ) (out : List ℕ)
 past_refused_goes honest snapshot page out old new before l (refusal.DiskFault device count) is gives = record {
   moves = gives.0;
   work = gives.1 ∙ sym is;
-  told = λ fault h. subst (λ (ts : List Told). Contains ts fault) (sym gives.2) (there _ fault old.told h);
-  reasons = λ told why refused. subst (IsToldOf new) (some_same _ why refused) (subst (λ (ts : List Told). Contains ts (record { device = device; count = count })) (sym gives.2) (here (record { device = device; count = count }) old.told), gives.3);
+  told = λ fault h. subst (λ (ts : List ToldFault). Contains ts fault) (sym gives.2) (there _ fault old.told h);
+  reasons = λ told why refused. subst (IsToldOf new) (some_same _ why refused) (subst (λ (ts : List ToldFault). Contains ts (record { device = device; count = count })) (sym gives.2) (here (record { device = device; count = count }) old.told), gives.3);
 }
 past_refused_goes honest snapshot page out old new before l why is gives = record {
   moves = gives.0.moves;

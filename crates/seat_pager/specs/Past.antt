@@ -3,7 +3,8 @@ use Rattle.std.specs.Prelude.{◌≡◌, ◌==◌, ◌&&◌, ℕ, Bool, true, fa
 use Rattle.retro_base.specs.declared.refusal.Refusal.{Refusal}
 use Rattle.retro_base.specs.declared.refusal.Refusal.TheVariants as refusal
 use Rattle.journal_law.specs.Pages.{Pages as Bytes}
-use Rattle.journal_law.specs.Seats.{IsNew, Look, Looking, Moves, Told, View, Work, at_look}
+use Rattle.journal_law.specs.Seats.{IsNew, Look, Looking, Moves, View, Work, at_look}
+use Rattle.journal_law.specs.declared.seat.ToldFault.{ToldFault}
 use Rattle.journal_law.specs.World.{as_of}
 use Rattle.pager.specs.Pages.{Pages}
 
@@ -47,5 +48,5 @@ IsTold p = (why : Refusal) → p.refused ≡ Some why → IsToldOf p.view why
 pub record LooksOn (old new : PastPaging) : Type 0 where
   pub moves : Moves old.view new.view []
   pub work : new.view.work ≡ old.view.work
-  pub told : (fault : Told) → Contains old.view.told fault → Contains new.view.told fault
+  pub told : (fault : ToldFault) → Contains old.view.told fault → Contains new.view.told fault
   pub reasons : IsTold old → IsTold new

@@ -30,7 +30,7 @@ use Rattle.session.specs.Ending.{Concludes, IsReason, LookEnds, told_alone}
 use Rattle.session.specs.OneItem.{MayRun}
 use Rattle.session.specs.Plan.{Plan, item_of}
 use Rattle.session.specs.Singles.{AsksPast, Settles, concluded, item_as_of, of_query, of_seat}
-use Rattle.session.specs.Sql.{sql, told}
+use Rattle.session.specs.Sql.{sql, answer_told}
 use Rattle.session.specs.Texts.{answer_text}
 use Rattle.session.specs.Wording.{refusal_text}
 use Rattle.session.proofs.Looks.{IsOpen, looked, refused_alone}
@@ -134,12 +134,12 @@ query_reason : (query : Select) (snapshot : ℕ) (honest : Type 0) (old new : Vi
 query_reason query snapshot honest old new (refusal.DiskFault device count) answers = inl refl
 query_reason query snapshot honest old new (refusal.Overlap session item) answers = inl refl
 query_reason query snapshot honest old new refusal.OutOfMemory answers = inl refl
-query_reason query snapshot honest old new why answers = inr (λ is_honest look held is stands tables stored. ap (told answer_text) (not_memory why refl (answers is_honest look held is stands tables stored)))
+query_reason query snapshot honest old new why answers = inr (λ is_honest look held is stands tables stored. ap (answer_told answer_text) (not_memory why refl (answers is_honest look held is stands tables stored)))
 
 -- what it ends with
 ends_with : (query : Select) (snapshot : ℕ) (honest : Type 0) (old new : View) (answer : Result Answer (Stop Refusal)) (last : Option Refusal) → AnswersPast query snapshot honest old answer
     → IsTold (record { view = new; refused = last }) → Concludes (AsksPast query snapshot honest old) new (concluded answer last)
-ends_with query snapshot honest old new (Ok answer) last answers is = λ is_honest look held at stands tables stored. ap (told answer_text) (answers is_honest look held at stands tables stored)
+ends_with query snapshot honest old new (Ok answer) last answers is = λ is_honest look held at stands tables stored. ap (answer_told answer_text) (answers is_honest look held at stands tables stored)
 ends_with query snapshot honest old new (Err (stop.Refused why)) last answers is = query_reason query snapshot honest old new why answers
 ends_with query snapshot honest old new (Err (stop.Pager fault)) last answers is = seat_reason (AsksPast query snapshot honest old) new last is
 

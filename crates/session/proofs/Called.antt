@@ -28,7 +28,7 @@ use Rattle.session.specs.OneItem.{MayRun}
 use Rattle.session.specs.OverSnapshots.{answer_at, asked_of, called, combined, numbers_of, snapshots_of, snapshots_table}
 use Rattle.session.specs.Plan.{Plan, item_of}
 use Rattle.session.specs.Singles.{Settles, of_query}
-use Rattle.session.specs.Sql.{sql, told}
+use Rattle.session.specs.Sql.{sql, answer_told}
 use Rattle.session.specs.Wording.{count_text}
 use Rattle.session.specs.declared.result_table.ResultTable.{ResultTable}
 use Rattle.session.proofs.Conclusions.{concludes_by, reason_by, reason_of}
@@ -131,16 +131,16 @@ looks_at_marks who marks old new gives look at =
 -- the reply of a call that an honest look answers
 abbrev pub RepliesOver : CallSaid → Type 0 → View → Result (List ℕ) Refusal → Type 0
 RepliesOver call honest view answered =
-    honest → (look : Look) (tables : World Tables) → view.work ≡ Looking look → Shows (sql view.opened.base.page_count) (at_look view look) tables → told count_text (called call tables) ≡ answered
+    honest → (look : Look) (tables : World Tables) → view.work ≡ Looking look → Shows (sql view.opened.base.page_count) (at_look view look) tables → answer_told count_text (called call tables) ≡ answered
 
 reply_concludes : (call : CallSaid) (honest : Type 0) (old between : View) (answer : Result Answer Refusal) (text : Result (List ℕ) Refusal) (table : Option ResultTable) → Concludes (CallsOver call honest old) between answer
     → CallEnds call.table answer text table → Concludes (RepliesOver call honest old) between text
-reply_concludes call honest old between (Ok answer) (Ok text) table concludes gives = λ is_honest look w at shows. ap (told count_text) (concludes is_honest look w at shows) ∙ ap (λ (t : List ℕ). Ok t) (sym gives.0)
+reply_concludes call honest old between (Ok answer) (Ok text) table concludes gives = λ is_honest look w at shows. ap (answer_told count_text) (concludes is_honest look w at shows) ∙ ap (λ (t : List ℕ). Ok t) (sym gives.0)
 reply_concludes call honest old between (Ok answer) (Err why) table concludes gives = subst (IsReason (RepliesOver call honest old) between) (sym gives.0) (inl refl)
 reply_concludes call honest old between (Err why) (Ok text) table concludes gives = absurd gives
 reply_concludes call honest old between (Err why) (Err other) table concludes gives =
     subst (IsReason (RepliesOver call honest old) between) (sym gives.0)
-    (reason_by (CallsOver call honest old) (RepliesOver call honest old) between why (λ called_so is_honest look w at shows. ap (told count_text) (called_so is_honest look w at shows)) concludes)
+    (reason_by (CallsOver call honest old) (RepliesOver call honest old) between why (λ called_so is_honest look w at shows. ap (answer_told count_text) (called_so is_honest look w at shows)) concludes)
 
 -- what is known of the look's end
 pub look_of : {E : Type 0} (names : List (List ℕ)) (call : CallSaid) (honest : Type 0) (old new : View) (words : Result (Option (List ℕ)) E) (table : Option ResultTable) → CallLeaves names call honest old new words table

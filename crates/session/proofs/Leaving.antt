@@ -11,7 +11,7 @@ use Rattle.history.specs.declared.journal.What.TheVariants.{LookedAll}
 use Rattle.rql_arguments.specs.declared.call.Call.{Call as CallSaid}
 use Rattle.sql_select.specs.declared.answer.Answer.{Answer}
 use Rattle.tables.specs.Tables.{Tables}
-use Rattle.journal_law.specs.Fates.{Fate, began_in, began_of, behind_it, fate}
+use Rattle.journal_law.specs.Fates.{Fate, began_of, fate, fate_with}
 use Rattle.journal_law.specs.Lawful.{Ground}
 use Rattle.journal_law.specs.LinesFit.{All}
 use Rattle.journal_law.specs.Own.{SinceLine, line, own}
@@ -39,11 +39,10 @@ abbrev leaves_by : CallSaid → What → World Tables → List ResultTable
 leaves_by call what w = left (Call call) (Some (record { now = w; last = what; began = Some w }))
 
 left_last : (call : CallSaid) (end : Result (List ℕ) Refusal) (now w : World Tables) (earlier : Option (Fate Tables)) → began_of earlier ≡ Some w
-    → left (Call call) (behind_it (Some (record { now = now; last = unlooking (ending_of end); began = began_in now (unlooking (ending_of end)) })) earlier) ≡ leaves_by call (unlooking (ending_of end)) w
-left_last call end now w None began = cc
-left_last call (Ok text) now w (Some f) began = rw began refl
-left_last call (Err (refusal.DiskFault device count)) now w (Some f) began = refl
-left_last call (Err why) now w (Some f) began = refl
+    → left (Call call) (Some (fate_with now (unlooking (ending_of end)) earlier)) ≡ leaves_by call (unlooking (ending_of end)) w
+left_last call (Ok text) now w earlier began = rw began refl
+left_last call (Err (refusal.DiskFault device count)) now w earlier began = refl
+left_last call (Err why) now w earlier began = refl
 
 -- the table that is kept is the one that is left
 kept_left : (call : CallSaid) (answer : Result Answer Refusal) (text : Result (List ℕ) Refusal) (table : Option ResultTable) (w : World Tables) → CallEnds call.table answer text table
@@ -108,7 +107,7 @@ leaves_table names who call honest marks old now new words table gives is_honest
 
 waits_left : (names : List (List ℕ)) (who : Who) (call : CallSaid) (old new : View) → Moves old new [] → LeavesTable who (item_call names call) old new None
 waits_left names who call old new moves size plan may tables along =
-    ap (left (Call call)) (sym (no_fate_own (sql size) (item_of plan) who tables new.front
+    ap (left (Call call)) (sym (no_fate_own (sql size) (item_of plan) who tables None new.front
     (ap (own who) (moves.front ∙ append-nil (old.front ++ moves.others)) ∙ own_behind who old.session old.front moves.others may.mine moves.apart ∙ may.fresh)))
 
 -- a call without a look leaves none

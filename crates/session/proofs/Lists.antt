@@ -22,7 +22,7 @@ use Rattle.session.specs.OneItem.{MayRun}
 use Rattle.session.specs.OverSnapshots.{asked_of, snapshot_row, snapshots_asked, snapshots_table}
 use Rattle.session.specs.Plan.{Plan, item_of}
 use Rattle.session.specs.Singles.{AsksMarks, Settles, item_snap_ids, of_query, row_of_mark, without_seat}
-use Rattle.session.specs.Sql.{sql, told}
+use Rattle.session.specs.Sql.{sql, answer_told}
 use Rattle.session.specs.Texts.{answer_text}
 use Rattle.session.proofs.Looks.{IsOpen, looked_all}
 use Rattle.session.proofs.Settling.{cut_settles, fresh_of, look_settles}
@@ -58,8 +58,8 @@ pub same_rows : (size : ℕ) (marks : List MarkOf) (pages : World Bytes) (w : Wo
 same_rows size marks pages w names shows = rows_shown size pages.marks w.marks shows.marks ∙ ap (map row_of_name) (sym names) ∙ sym (rows_of_marks marks)
 
 same_answer : (size : ℕ) (query : Select) (marks : List MarkOf) (pages : World Bytes) (w : World Tables) → names_of marks ≡ names_in pages → Shows (sql size) pages w
-    → told answer_text (snapshots_asked query w) ≡ told answer_text (asked_of query snapshots_table (map row_of_mark marks))
-same_answer size query marks pages w names shows = ap (λ (rows : List (List Value)). told answer_text (asked_of query snapshots_table rows)) (same_rows size marks pages w names shows)
+    → answer_told answer_text (snapshots_asked query w) ≡ answer_told answer_text (asked_of query snapshots_table (map row_of_mark marks))
+same_answer size query marks pages w names shows = ap (λ (rows : List (List Value)). answer_told answer_text (asked_of query snapshots_table rows)) (same_rows size marks pages w names shows)
 
 -- ---- a look that does not begin
 
@@ -79,8 +79,8 @@ is_now_listing who marks old new gives = ap is_looking gives.1.work_is
 
 -- what is listed, without what only a seat tells
 pub concludes_listed : (query : Select) (marks : List MarkOf) (view : View) (text : Result (List ℕ) Refusal)
-    → Gives (λ (words : List ℕ). words) text (without_seat (told answer_text (asked_of query snapshots_table (map row_of_mark marks)))) → Concludes (AsksMarks query marks) view text
-concludes_listed query marks view text gives = by_answer (told answer_text (asked_of query snapshots_table (map row_of_mark marks))) text gives
+    → Gives (λ (words : List ℕ). words) text (without_seat (answer_told answer_text (asked_of query snapshots_table (map row_of_mark marks)))) → Concludes (AsksMarks query marks) view text
+concludes_listed query marks view text gives = by_answer (answer_told answer_text (asked_of query snapshots_table (map row_of_mark marks))) text gives
   where
     reason : (answered : Result (List ℕ) Refusal) (why : Refusal) → answered ≡ Err why → IsReason (λ r. answered ≡ r) view (of_query why)
     reason answered (refusal.DiskFault device count) is = inl refl

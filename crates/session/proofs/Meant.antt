@@ -19,7 +19,8 @@ use Rattle.sql_check.specs.Check.{checked, has_unknown_name, has_wrong_type, tak
 use Rattle.sql_check.specs.Outputs.{answer_columns}
 use Rattle.sql_select.specs.Rows.{holds_at}
 use Rattle.tables.specs.Meaning.{answer_of, answer_over, assigned, changed, check, check_lengths, does, inserted, known, performed, remaining, remaining_row, reworked, second_named, set_row, updated, updated_row}
-use Rattle.tables.specs.Rows.{row_bytes, rows_of}
+use Rattle.tables.specs.Rows.{rows_of}
+use Rattle.values.specs.Row.{row_bytes}
 use Rattle.tables.specs.Tables.{Found, Tables, table_named}
 use Rattle.tables.specs.declared.contents.Contents.{Contents}
 use Rattle.tables.specs.declared.contents.NumberedRow.{NumberedRow}

@@ -9,7 +9,7 @@ use Rattle.values.specs.declared.value.Value.{Value}
 use Rattle.sql_tree.specs.declared.schema.TableSchema.{TableSchema}
 use Rattle.sql_tree.specs.declared.select.Select.{Select}
 use Rattle.sql_tree.specs.declared.statement.Column.{Column}
-use Rattle.sql_check.specs.Names.{same_name}
+use Rattle.values.specs.Name.{same_name}
 use Rattle.sql_check.specs.Outputs.{answer_columns}
 use Rattle.sql_select.specs.Select.{answer as answer_over}
 use Rattle.sql_select.specs.declared.answer.Answer.{Answer}

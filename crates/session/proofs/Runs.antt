@@ -1,5 +1,5 @@
 -- That a run is lawful, and prints the transcript of its journal.
-use Rattle.std.proofs.Common.{◌≡◌, ◌<◌, ◌+◌, ◌++◌, ◌==◌, ◌&&◌, ℕ, Bool, true, false, List, [], ◌∷◌, codes, length, Option, refl, ap, sym, subst, ◌∙◌, append-nil, arith}
+use Rattle.std.proofs.Common.{◌≡◌, ◌<◌, ◌+◌, ◌++◌, ◌==◌, ◌&&◌, ℕ, Bool, true, false, List, [], ◌∷◌, codes, length, Option, None, refl, ap, sym, subst, ◌∙◌, append-nil, arith}
 use Rattle.std.specs.Fmt.{decimal}
 use Rattle.std.specs.List.{AllByRecursion}
 use Rattle.std.proofs.lemmas.Bool.Decides.{nat_tests}
@@ -7,7 +7,7 @@ use Rattle.retro_base.specs.declared.who.Who.{Who}
 use Rattle.tables.specs.Tables.{Tables}
 use Rattle.history.specs.declared.journal.Line.{Line}
 use Rattle.history.specs.Sound.{same_item}
-use Rattle.journal_law.specs.Fates.{Fate, behind_it, fate}
+use Rattle.journal_law.specs.Fates.{fate}
 use Rattle.journal_law.specs.Own.{own}
 use Rattle.journal_law.specs.Shows.{ShowsAlong, world}
 use Rattle.journal_law.specs.World.{World, newest}
@@ -70,8 +70,8 @@ module _ (size : ℕ) (plan : Plan) (wanting : Who → Bool) (opening : World Ta
   known_stays front rest who none =
       let lines : own who (front ++ rest) ≡ own who front = own_append who front rest ∙ ap (λ w. own who front ++ w) none ∙ append-nil (own who front) in
       let became : fate (sql size) (item_of plan) who opening (front ++ rest) ≡ fate (sql size) (item_of plan) who opening front =
-      fate_append (sql size) (item_of plan) who opening front rest
-      ∙ ap (λ (a : Option (Fate Tables)). behind_it a (fate (sql size) (item_of plan) who opening front)) (no_fate_own (sql size) (item_of plan) who (world (sql size) (item_of plan) opening front) rest none) in
+      fate_append (sql size) (item_of plan) who opening None front rest
+      ∙ no_fate_own (sql size) (item_of plan) who (world (sql size) (item_of plan) opening front) (fate (sql size) (item_of plan) who opening front) rest none in
       rw (lines, became) refl
 
   kept_stays : (front rest : List Line) (phase session : ℕ) → AllByRecursion (IsBehind phase session) rest

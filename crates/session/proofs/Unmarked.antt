@@ -13,7 +13,7 @@ use Rattle.heap_laws.proofs.Stores.{chains-same, frees-same}
 use Rattle.relation.specs.Catalog.{catalog, catalog_rows}
 use Rattle.relation.specs.declared.catalog.Catalog.{Catalog}
 use Rattle.relation.specs.declared.catalog.StoredTable.{StoredTable}
-use Rattle.relation.specs.declared.catalog.Told.{Told}
+use Rattle.relation.specs.declared.catalog.CatalogEntry.{CatalogEntry}
 use Rattle.relation.specs.declared.row.CatalogRow.{CatalogRow}
 use Rattle.relation.specs.declared.row.CatalogRow.TheVariants.{Table as TableRow, Column as ColumnRow, Index as IndexRow}
 use Rattle.relation.specs.declared.row.IndexForm.{IndexForm}
@@ -42,7 +42,7 @@ module _ (size : ℕ) (pages : Pages) (edited : ℕ → Bool) where
   next_there : (first next : ℕ) → next_of size pages first (Ok next) → next_of size other first (Ok next)
   next_there first next is = (is.0, at-same size pages other first is.0 refl is.1, is.2)
 
-  rows_there : (told : List Told) → catalog_rows size pages (Ok told) → catalog_rows size other (Ok told)
+  rows_there : (told : List CatalogEntry) → catalog_rows size pages (Ok told) → catalog_rows size other (Ok told)
   rows_there told is = (is.0, scanned_there _ is.0 is.1, (is.2.0, next_there _ is.2.0 is.2.1, is.2.2))
 
   catalog_there : (found : Catalog) → catalog size pages (Ok found) → catalog size other (Ok found)
@@ -96,7 +96,7 @@ module _ (size : ℕ) (pages : Pages) (edited : ℕ → Bool) where
     found = is.found;
     read = is.read;
     held = is.held;
-    kept = zip_map (λ (row : Told) (some : List ℕ). IsKept pages (names_of is.found.tables) row.row some) (λ (row : Told) (some : List ℕ). IsKept other (names_of is.found.tables) row.row some)
+    kept = zip_map (λ (row : CatalogEntry) (some : List ℕ). IsKept pages (names_of is.found.tables) row.row some) (λ (row : CatalogEntry) (some : List ℕ). IsKept other (names_of is.found.tables) row.row some)
         (λ row some. kept_there (names_of is.found.tables) row.row some) is.told is.held is.kept;
     heap = heap_there _ _ is.heap;
     names = is.names;

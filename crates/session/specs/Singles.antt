@@ -22,7 +22,7 @@ use Rattle.session.specs.OneItem.{RunsItem, TellsItem}
 use Rattle.session.specs.OverSnapshots.{asked_of, snapshots_table}
 use Rattle.session.specs.Plan.{Item}
 use Rattle.session.specs.declared.plan.Task.TheVariants.{AsOf, DropBelow, SnapIds}
-use Rattle.session.specs.Sql.{told}
+use Rattle.session.specs.Sql.{answer_told}
 use Rattle.session.specs.Texts.{answer_text}
 
 -- The item is run, whatever the store answers, and this is told of it, where there is memory for it.
@@ -46,7 +46,7 @@ item_drop_below names below = record { names = names; task = DropBelow below }
 abbrev pub AsksPast : Select → ℕ → Type 0 → View → Result (List ℕ) Refusal → Type 0
 AsksPast query snapshot honest view answered =
     honest → (look : Look) (held : Bytes) → view.work ≡ Looking look → as_of snapshot (at_look view look) ≡ Ok held
-    → (tables : Tables) → IsStored view.opened.base.page_count (unedited held) tables → told answer_text (asked query (Some snapshot) tables) ≡ answered
+    → (tables : Tables) → IsStored view.opened.base.page_count (unedited held) tables → answer_told answer_text (asked query (Some snapshot) tables) ≡ answered
 
 -- a query has its own refusals; those that only a seat gives are none of it
 abbrev pub of_query : Refusal → Refusal
@@ -73,7 +73,7 @@ row_of_mark mark = value.Int (pos mark.number) ∷ value.Text mark.label ∷ []
 
 -- the answer of a query of the table of snapshots, of which these are the marks of the retained ones
 abbrev pub AsksMarks : Select → List MarkOf → Result (List ℕ) Refusal → Type 0
-AsksMarks query marks answered = told answer_text (asked_of query snapshots_table (map row_of_mark marks)) ≡ answered
+AsksMarks query marks answered = answer_told answer_text (asked_of query snapshots_table (map row_of_mark marks)) ≡ answered
 
 -- an answer, without what only a seat tells
 abbrev pub without_seat : Result (List ℕ) Refusal → Result (List ℕ) Refusal

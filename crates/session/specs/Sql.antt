@@ -40,19 +40,19 @@ lines_of (Transaction t) = t.statements
 lines_of task = []
 
 -- an answer as a text
-abbrev pub told : (Answer → List ℕ) → Result Answer Refusal → Result (List ℕ) Refusal
-told text (Ok answer) = Ok (text answer)
-told text (Err why) = Err why
+abbrev pub answer_told : (Answer → List ℕ) → Result Answer Refusal → Result (List ℕ) Refusal
+answer_told text (Ok answer) = Ok (text answer)
+answer_told text (Err why) = Err why
 
 -- the answer of a query as of its snapshot, over the tables there
 abbrev pub asks : Task → Tables → Result (List ℕ) Refusal
-asks (AsOf query) tables = told answer_text (asked query.query (Some query.snapshot) tables)
+asks (AsOf query) tables = answer_told answer_text (asked query.query (Some query.snapshot) tables)
 asks task tables = Ok []
 
 -- the answer of a query of the table of snapshots, and of a call: how many rows its result has
 abbrev pub asks_all : Task → World Tables → Result (List ℕ) Refusal
-asks_all (SnapIds query) world = told answer_text (snapshots_asked query world)
-asks_all (Call call) world = told count_text (called call world)
+asks_all (SnapIds query) world = answer_told answer_text (snapshots_asked query world)
+asks_all (Call call) world = answer_told count_text (called call world)
 asks_all task world = Ok []
 
 -- the language of the items of scripts, over a store of this size

@@ -31,9 +31,9 @@ use rql_arguments::{Call, Combination};
 use script::SessionName;
 use seat_pager::PastPager;
 use sql_select::Answer;
-use sql_tree::{Name, Select};
+use sql_tree::Select;
 use std::alloc::{AllocError, Global};
-use values::{Duplicate, Seq};
+use values::{Duplicate, Name, Seq};
 
 // What a call ends with over a look, by the last refusal of its seat.
 fn ended(answer: Result<Answer, Stop<Refusal>>, last: Option<Refusal>) -> Result<Answer, Refusal>

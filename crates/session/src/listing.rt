@@ -5,7 +5,7 @@ ghost use Rattle.retro_base.specs.Gives.{Gives};
 ghost use Rattle.journal_law.specs.Seats.{Idle, is_looking};
 ghost use Rattle.session.specs.Ending.{LookEnds};
 ghost use Rattle.session.specs.Singles.{AsksMarks, Settles, item_snap_ids, row_of_mark, without_seat};
-ghost use Rattle.session.specs.Sql.{told};
+ghost use Rattle.session.specs.Sql.{answer_told};
 ghost use Rattle.session.specs.Texts.{answer_text};
 ghost use Rattle.session.specs.OverSnapshots.{asked_of, snapshots_table};
 
@@ -18,9 +18,9 @@ use journal_law::Seat;
 use retro_base::{Refusal, Who};
 use script::SessionName;
 use sql_select::Answer;
-use sql_tree::{Column, Name, Select, TableSchema};
+use sql_tree::{Column, Select, TableSchema};
 use std::alloc::{AllocError, Global};
-use values::{Kind, Row, Seq, Text, Value};
+use values::{Kind, Name, Row, Seq, Text, Value};
 
 // The columns of the table of snapshots.
 fn snapshots_table(alloc: Global) -> Result<TableSchema, AllocError>
@@ -80,7 +80,7 @@ pub fn snapshots_asked(alloc: Global, query: &Select, marks: &[Mark]) -> Result<
 // The text of the answer.
 fn listed(alloc: Global, query: &Select, marks: &[Mark]) -> Result<Seq<u8>, Refusal>
     ensures { Gives (λ text. text) result
-        (without_seat (told answer_text (asked_of query.now snapshots_table (map row_of_mark marks.now)))) }
+        (without_seat (answer_told answer_text (asked_of query.now snapshots_table (map row_of_mark marks.now)))) }
 {
     match snapshots_asked(alloc, query, marks) {
         Ok(answer) => Ok(text_of(alloc, &answer)?),

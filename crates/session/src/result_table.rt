@@ -1,7 +1,7 @@
 //! The result tables of a session.
 
 use sql_select::Answer;
-use sql_tree::Name;
+use values::Name;
 
 /// What a call left under its name.
 #[derive(Debug, Drop)]

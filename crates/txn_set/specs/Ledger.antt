@@ -115,8 +115,8 @@ abbrev pub closed : Who → What → Ledger → Ledger
 closed who what ledger = record { book = closing_with ledger.book (line_of who what); works = working ledger.works who.session None }
 
 -- with a line that neither opens nor closes
-abbrev pub told : Who → What → Ledger → Ledger
-told who what ledger = record ledger { book = record ledger.book { lines = ledger.book.lines ++ line_of who what ∷ [] } }
+abbrev pub with_told_line : Who → What → Ledger → Ledger
+with_told_line who what ledger = record ledger { book = record ledger.book { lines = ledger.book.lines ++ line_of who what ∷ [] } }
 
 -- with this transaction as what its session has
 abbrev pub with_open : Who → Transaction → Ledger → Ledger

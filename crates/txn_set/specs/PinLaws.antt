@@ -12,7 +12,7 @@ use Rattle.journal_book.specs.declared.work.Transaction.{Transaction}
 use Rattle.journal_book.specs.declared.work.Work.TheVariants.{Open}
 use Rattle.journal_book.specs.Works.{work_at}
 use Rattle.txn_set.specs.declared.ledger.Ledger.{Ledger}
-use Rattle.txn_set.specs.Ledger.{closed, committed, drop_kept, faulted, fresh, given_up, is_closed, is_idle, looking, opened, taken, told, with_open}
+use Rattle.txn_set.specs.Ledger.{closed, committed, drop_kept, faulted, fresh, given_up, is_closed, is_idle, looking, opened, taken, with_told_line, with_open}
 use Rattle.txn_set.specs.WorksFit.{Closes, PinsFit}
 
 abbrev pub BeginPins : Type 0
@@ -30,7 +30,7 @@ LookAllPins = (opening : Base) (l : Ledger) (who : Who) → PinsFit opening l �
 -- a look that was refused
 abbrev pub ToldPins : Type 0
 ToldPins = (opening : Base) (l : Ledger) (who : Who) (why : Refusal) → PinsFit opening l → is_idle who (work_at l.works.slots who.session) ≡ true →
-    PinsFit opening (told who (Refused why) (given_up who l))
+    PinsFit opening (with_told_line who (Refused why) (given_up who l))
 
 abbrev pub ClosePins : Type 0
 ClosePins = (opening : Base) (l : Ledger) (who : Who) (what : What) → PinsFit opening l → IsSome (work_at l.works.slots who.session) →

@@ -10,7 +10,7 @@ ghost use Rattle.history.specs.Lines.{images_in};
 ghost use Rattle.journal_book.specs.declared.work.Transaction.{Transaction};
 ghost use Rattle.journal_book.specs.declared.work.Work.TheVariants.{Open};
 ghost use Rattle.journal_book.specs.Book.{lines_refused, writes_of};
-ghost use Rattle.txn_set.specs.Ledger.{IsKeptDrop, IsLookingAs, IsOpenAs, IsRefusedWith, MayFault, closed, closing, committed, doubted, drop_kept, drop_lines, ended, faulted, fresh, given_up, gives_up, is_closed, is_idle, keeping_drop, keeps_drop, keeps_other_drop, kept_behind, looking, no_lines, opened, taken, told, with_open};
+ghost use Rattle.txn_set.specs.Ledger.{IsKeptDrop, IsLookingAs, IsOpenAs, IsRefusedWith, MayFault, closed, closing, committed, doubted, drop_kept, drop_lines, ended, faulted, fresh, given_up, gives_up, is_closed, is_idle, keeping_drop, keeps_drop, keeps_other_drop, kept_behind, looking, no_lines, opened, taken, with_told_line, with_open};
 ghost use Rattle.std.specs.List.{AllByRecursion};
 ghost use Rattle.history.specs.Writes.{is_among, rises};
 ghost use Rattle.txn_set.specs.Refused.{captures_behind, commit_refused, edit_refused, look_refused, read_refused};
@@ -314,7 +314,7 @@ impl Ledger {
     fn tell(&mut self, who: Who, what: What) -> Result<(), AllocError>
         requires room { lines_refused self.old.book 1 ≡ None }
         requires nothing { writes_of what ≡ [] }
-        ensures done { OnOk result (self.new ≡ told who what self.old) }
+        ensures done { OnOk result (self.new ≡ with_told_line who what self.old) }
         ensures refused { OnErr result (self.new ≡ self.old) }
     {
         self.book.keep_lines(1)?;
@@ -339,7 +339,7 @@ impl Ledger {
             → (result ≡ Err why) × (self.new ≡ given_up who self.old) }
         ensures refused { (why : Refusal) → lines_refused (given_up who self.old).book 2 ≡ None
             → look_refused number oldest newest ≡ Some why
-            → IsRefusedWith (given_up who self.old) (told who (whats.Refused why) (given_up who self.old)) why result self.new }
+            → IsRefusedWith (given_up who self.old) (with_told_line who (whats.Refused why) (given_up who self.old)) why result self.new }
         ensures done { OnOk result (self.new ≡ opened who (Looked number) (looking who self.old.book.lines (number ∷ [])) (given_up who self.old)) }
         ensures memory { lines_refused (given_up who self.old).book 2 ≡ None → look_refused number oldest newest ≡ None
             → IfErr result (λ why. (why ≡ OutOfMemory) × (self.new ≡ given_up who self.old)) }

@@ -4,7 +4,7 @@ use Rattle.history.specs.Writes.{rises}
 use Rattle.history.specs.declared.journal.What.TheVariants as whats
 use Rattle.journal_book.specs.Works.{edits_of, work_at}
 use Rattle.txn_set.specs.declared.ledger.Ledger.{Ledger}
-use Rattle.txn_set.specs.Ledger.{told}
+use Rattle.txn_set.specs.Ledger.{with_told_line}
 use Rattle.txn_set.specs.WorksFit.{WorksFit}
 use Rattle.txn_set.proofs.LedgerSteps.{idle_left}
 use Rattle.txn_set.proofs.FitSteps.{by_result, fits_lone, fits_looked, idle_none, rises_one}
@@ -16,7 +16,7 @@ open_work-requires-clause-idle c = ap (λ (l : Ledger). edits_of (work_at l.work
 pub returns-in-Some-look_refused-clause-fits : goal.returns-in-Some-look_refused-clause-fits
 returns-in-Some-look_refused-clause-fits c =
     let none : work_at c.give_up_other.new.self.works.slots c.args.who.session ≡ None = ap (λ (l : Ledger). work_at l.works.slots c.args.who.session) c.give_up_other.ensures.done ∙ idle_none c.args.self.now c.args.who c.requires.idle in
-    let lone : WorksFit (told c.args.who (whats.Refused c.in-Some-look_refused.why) c.give_up_other.new.self) = fits_lone c.give_up_other.new.self c.args.who (whats.Refused c.in-Some-look_refused.why) c.give_up_other.new.self.book.workers c.give_up_other.ensures.fits none refl refl in
+    let lone : WorksFit (with_told_line c.args.who (whats.Refused c.in-Some-look_refused.why) c.give_up_other.new.self) = fits_lone c.give_up_other.new.self c.args.who (whats.Refused c.in-Some-look_refused.why) c.give_up_other.new.self.book.workers c.give_up_other.ensures.fits none refl refl in
     subst WorksFit (sym c.in_ok-tell.ensures.done) lone
 
 pub returns-clause-fits : goal.returns-clause-fits
