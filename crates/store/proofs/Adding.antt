@@ -20,7 +20,7 @@ use Rattle.store_core.specs.Drops.{is_kept_drop, without_drop}
 use Rattle.store.proofs.Trying.{attempt_other, ends_append, which}
 use Rattle.store.proofs.Workers.{more_fits, noted_fits, same_fits}
 use Rattle.txn_set.specs.declared.ledger.Ledger.{Ledger}
-use Rattle.txn_set.specs.Ledger.{closed, committed, drop_kept, faulted, given_up, gives_up, keeping_drop, keeps_drop, keeps_other_drop, line_of, opened, taken, told, with_open}
+use Rattle.txn_set.specs.Ledger.{closed, committed, drop_kept, faulted, given_up, gives_up, keeping_drop, keeps_drop, keeps_other_drop, line_of, opened, taken, with_told_line, with_open}
 
 -- lines with one more, of that session, which tells what it may
 pub record OneLine (session : ℕ) (May : What → Type 0) (old new : List Line) : Type 0 where
@@ -160,7 +160,7 @@ module _ (who : Who) (May : What → Type 0) (l new : Ledger) where
       (ap (λ (x : Ledger). x.book.lines) e) (ap (λ (x : Ledger). x.book.workers) e) ends
       (subst (IsAttempt (l.book.lines ++ line_of who what ∷ []) who.session) (sym (ap (λ (x : Ledger). work_at x.works.slots who.session) e ∙ slot_own (given_up who l).works.slots who.session (Some work))) own)
 
-  pub adds_told : (what : What) → May what → EndsAttempt l.book.lines who what → work_at (given_up who l).works.slots who.session ≡ None → new ≡ told who what (given_up who l) → AddsOwn who.session May l new
+  pub adds_told : (what : What) → May what → EndsAttempt l.book.lines who what → work_at (given_up who l).works.slots who.session ≡ None → new ≡ with_told_line who what (given_up who l) → AddsOwn who.session May l new
   adds_told what may ends none e = given_one what may (λ other ne. ap (λ (x : Ledger). work_at x.works.slots other) e ∙ given_works who l other ne)
       (ap (λ (x : Ledger). x.book.lines) e) (ap (λ (x : Ledger). x.book.workers) e) ends (none_open (l.book.lines ++ line_of who what ∷ []) (ap (λ (x : Ledger). work_at x.works.slots who.session) e ∙ none))
 

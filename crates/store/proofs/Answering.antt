@@ -152,7 +152,7 @@ module _ {D : Type 0} (is_honest : D → Type 0) (state : D → State) (faults :
   pub reads : (page : ℕ) (before after : List ℕ) (t : Transaction) (result : Result (Unit {0}) Refusal) → work_at (slots_of old) who.session ≡ Some (Open t) → CountFits result → ReadDoes is_honest state faults who page before after t result old.core new.core
       → IsVisit is_honest state faults who always old new
   reads page before after t result there few does =
-      answers t (reading page t) (read_refused old.core.ledger.book.lines t page) result does.rest does.stays does.same does.answered there refl refl few (λ why e. let r = does.refused why e in (r.0, r.1)) (read_tells old.core.ledger.book.lines t page) does.cause
+      answers t (reading page t) (read_refused old.core.ledger.book.lines t page) result does.rest does.stays does.same does.answered there refl refl few does.refused (read_tells old.core.ledger.book.lines t page) does.cause
 
   pub edits : (page : ℕ) (bytes : List ℕ) (t : Transaction) (result : Result (Unit {0}) Refusal) → work_at (slots_of old) who.session ≡ Some (Open t) → CountFits result → EditDoes is_honest state faults who page bytes t result old.core new.core
       → IsVisit is_honest state faults who always old new

@@ -20,7 +20,7 @@ use Rattle.desk.specs.declared.desk.RunningDesk.{RunningDesk}
 use Rattle.txn_set.specs.declared.ending.Ending.{Ending}
 use Rattle.txn_set.specs.declared.ending.Ending.TheVariants as ending
 use Rattle.txn_set.specs.declared.ledger.Ledger.{Ledger}
-use Rattle.txn_set.specs.Ledger.{closed, ended, fresh, given_up, is_idle, looking, told}
+use Rattle.txn_set.specs.Ledger.{closed, ended, fresh, given_up, is_idle, looking, with_told_line}
 use Rattle.txn_set.specs.Refused.{look_refused}
 use Rattle.txn_set.proofs.FitSteps.{idle_none}
 use Rattle.store_core.specs.declared.desk_core.Core.{Core}
@@ -150,7 +150,7 @@ module _ {D : Type 0} (is_honest : D → Type 0) (state : D → State) (faults :
         (λ mine own. adds_given who (IsToldIn _) old.core.ledger new.core.ledger e)
         (closes always (subst IsClosed (sym (ap (λ (l : Ledger). work_at l.works.slots who.session) e ∙ idle_none old.core.ledger who idle)) tt))
 
-    refused : (why : Refusal) → new.core.ledger ≡ told who (whats.Refused why) (given_up who old.core.ledger) → IsVisit is_honest state faults who always old new
+    refused : (why : Refusal) → new.core.ledger ≡ with_told_line who (whats.Refused why) (given_up who old.core.ledger) → IsVisit is_honest state faults who always old new
     refused why e = visit is_honest state faults who always old new start stays (counts_same faults old.core new.core does.desk) acked
         (λ mine own. adds_told who (IsToldIn _) old.core.ledger new.core.ledger (whats.Refused why) (tells_none _ (whats.Refused why) (λ d c. refl)) tt (idle_none old.core.ledger who idle) e)
         (closes always (subst IsClosed (sym (ap (λ (l : Ledger). work_at l.works.slots who.session) e ∙ idle_none old.core.ledger who idle)) tt))

@@ -1,5 +1,5 @@
 -- What a seat sees behind a visit to the desk.
-use Rattle.std.proofs.Common.{◌≡◌, ◌<◌, ◌+◌, ◌++◌, ◌==◌, ◌∙◌, ℕ, Bool, true, false, cond, List, [], ◌∷◌, drop, length, take, Option, Some, None, refl, sym, ap, subst, eq-eqb}
+use Rattle.std.proofs.Common.{◌≡◌, ◌<◌, ◌+◌, ◌++◌, ◌==◌, ◌∙◌, ℕ, Bool, true, false, cond, List, [], ◌∷◌, drop, length, reverse, take, Option, Some, None, refl, sym, ap, subst, eq-eqb}
 use Rattle.std.specs.Prelude.{Contains}
 use Rattle.std.proofs.lemmas.List.{drop-drop}
 use Rattle.std.proofs.lemmas.List.Elements.{filter-append}
@@ -32,8 +32,8 @@ use Rattle.store.specs.Seats.{IsReady, Sat, Visited, journal, slots_of}
 use Rattle.store.specs.Start.{desk_counts}
 use Rattle.store.proofs.Calling.{told_more}
 use Rattle.store.proofs.Finding.{some_is}
-use Rattle.store.specs.declared.told.ToldFault.{ToldFault}
-use Rattle.store.specs.Seen.{HasBegun, IsSeated, ground_in, pins_of_look, told_of, view_of, work_in}
+use Rattle.journal_law.specs.declared.seat.ToldFault.{ToldFault}
+use Rattle.store.specs.Seen.{HasBegun, IsSeated, ground_in, pins_of_look, view_of, work_in}
 
 -- ---- lists
 
@@ -159,7 +159,7 @@ seated_begun who asked before s lines quiet front is =
       pins = λ start look o e. absurd (cc (e, is));
       quiet = λ e. quiet;
       silent = λ u e. quiet;
-      told_it = λ d c in_it. absurd (contains_none _ (subst (λ (ts : List ToldFault). Contains (told_of ts) (record { device = d; count = c })) quiet in_it));
+      told_it = λ d c in_it. absurd (contains_none _ (subst (λ (ts : List ToldFault). Contains (reverse ts) (record { device = d; count = c })) quiet in_it));
     }
 
 -- a seat whose transaction is another one in the place of this, which is open still
@@ -175,7 +175,7 @@ seated_open who asked before s t u quiet of same began here is = record {
   pins = λ start look o e. absurd (cc (e, is));
   quiet = λ e. quiet;
   silent = λ x e. quiet;
-  told_it = λ d c in_it. absurd (contains_none _ (subst (λ (ts : List ToldFault). Contains (told_of ts) (record { device = d; count = c })) quiet in_it));
+  told_it = λ d c in_it. absurd (contains_none _ (subst (λ (ts : List ToldFault). Contains (reverse ts) (record { device = d; count = c })) quiet in_it));
 }
 
 -- a seat with an open look
@@ -188,7 +188,7 @@ seated_looking who asked before s look quiet of is pins = record {
   pins = λ start other o e. subst (λ (x : Look). x.pins ≡ pins_of_look asked (seen s) start x) (look_same look other (sym is ∙ e)) (pins start o);
   quiet = λ e. quiet;
   silent = λ t e. quiet;
-  told_it = λ d c in_it. absurd (contains_none _ (subst (λ (ts : List ToldFault). Contains (told_of ts) (record { device = d; count = c })) quiet in_it));
+  told_it = λ d c in_it. absurd (contains_none _ (subst (λ (ts : List ToldFault). Contains (reverse ts) (record { device = d; count = c })) quiet in_it));
 }
 
 module _ {D : Type 0} (is_honest : D → Type 0) (state : D → State) (faults : D → ℕ) (z : TableId) (s0 s1 : Sat D) (d0 d1 : DeskSide D) (ready : IsReady z s0) (v : Visited is_honest state faults z s0 s1 d0 d1) where

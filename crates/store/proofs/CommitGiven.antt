@@ -1,5 +1,5 @@
 -- What a commit gives.
-use Rattle.std.proofs.Common.{◌≡◌, ◌≤◌, ◌<◌, ◌+◌, ◌⊎◌, ◌||◌, ◌++◌, ◌∙◌, ℕ, Bool, true, false, cond, eqb, List, [], ◌∷◌, length, take, Option, Some, None, Result, Ok, Err, refl, sym, ap, subst, inl, inr, ⊎_elim, arith, append-nil, append_assoc}
+use Rattle.std.proofs.Common.{◌≡◌, ◌≤◌, ◌<◌, ◌+◌, ◌⊎◌, ◌||◌, ◌++◌, ◌∙◌, ℕ, Bool, true, false, cond, eqb, List, [], ◌∷◌, length, reverse, take, Option, Some, None, Result, Ok, Err, refl, sym, ap, subst, inl, inr, ⊎_elim, arith, append-nil, append_assoc}
 use Rattle.std.specs.Prelude.{IfErr, IfOk, MatchResult, is_some, nat_lt, option_map}
 use Rattle.std.specs.Option.{option_or}
 use Rattle.std.proofs.lemmas.Bool.{eqb-true, ltb-true}
@@ -56,9 +56,9 @@ use Rattle.store.proofs.Meeting.{work_stays}
 use Rattle.store.proofs.Trying.{kept_who}
 use Rattle.store_core.specs.Calls.{failed_at}
 use Rattle.store_core.proofs.Cores.{base_is}
-use Rattle.store.specs.declared.told.ToldFault.{ToldFault}
+use Rattle.journal_law.specs.declared.seat.ToldFault.{ToldFault}
 use Rattle.store.specs.Ground.{ground_of, world_of}
-use Rattle.store.specs.Seen.{HasBegun, IsSeated, ground_in, told_of, view_of, work_in}
+use Rattle.store.specs.Seen.{HasBegun, IsSeated, ground_in, view_of, work_in}
 use Rattle.store.specs.Worlds.{AreNamed}
 use Rattle.store.proofs.Agreeing.{or_none, unchanged_agrees}
 use Rattle.store.proofs.Asking.{commit_so}
@@ -147,7 +147,7 @@ module _ {D : Type 0} (is_honest : D → Type 0) (state : D → State) (faults :
   done_so what quiet c = record {
     moves = moves state faults asked asked before after s0 s1 More (one t.who what) None c;
     work_is = work_so state faults asked asked before after s0 s1 More (one t.who what) None c;
-    told_is = ap told_of quiet;
+    told_is = ap reverse quiet;
   }
 
   abbrev stays_so : (u : Transaction) (k : seat.Work) → Came s0 s1 More [] (Some (work.Open u)) → work_in asked (seen s0 ++ More) (Some (work.Open u)) ≡ k → Waits Old (New before) k
@@ -449,7 +449,7 @@ module _ {D : Type 0} (is_honest : D → Type 0) (state : D → State) (faults :
           moves = moves state faults asked asked before after s0 s1 p.waits.others [] (Some (work.Open t)) c;
           work_is = work_so state faults asked asked before after s0 s1 p.waits.others [] (Some (work.Open t)) c
               ∙ ap (λ (l : List Line). seat.Open (record Tried { since = l })) (ap (take t.began) (append-nil (seen s0 ++ p.waits.others)) ∙ take-append-le t.began (seen s0) p.waits.others few);
-          told_is = ap told_of same_told;
+          told_is = ap reverse same_told;
         },
         seated_open who asked after s1 t t (same_told ∙ quiet) of refl refl
             (subst (λ (n : ℕ). HasBegun (seen s1) n t) (sym p.stays.same.number) (subst (λ (l : List Line). HasBegun l s0.number t) p.waits.front (begun_on (seen s0) p.waits.others s0.number t begun p.waits.apart))) work_is,

@@ -1,5 +1,5 @@
 -- What a drop gives.
-use Rattle.std.proofs.Common.{◌≡◌, ◌≤◌, ◌<◌, ◌-◌, ◌⊎◌, ◌||◌, ◌++◌, ◌==◌, ◌∙◌, ℕ, zero, suc, Bool, true, false, cond, List, [], ◌∷◌, length, Option, Some, None, Result, Ok, Err, refl, sym, ap, subst, inl, inr, ⊎_elim, arith, append-nil, append_assoc}
+use Rattle.std.proofs.Common.{◌≡◌, ◌≤◌, ◌<◌, ◌-◌, ◌⊎◌, ◌||◌, ◌++◌, ◌==◌, ◌∙◌, ℕ, zero, suc, Bool, true, false, cond, List, [], ◌∷◌, length, reverse, Option, Some, None, Result, Ok, Err, refl, sym, ap, subst, inl, inr, ⊎_elim, arith, append-nil, append_assoc}
 use Rattle.std.specs.Prelude.{IfErr, MatchResult, OnOk, is_some, nat_lt, option_map}
 use Rattle.std.specs.List.{AllByRecursion}
 use Rattle.std.specs.Option.{option_or}
@@ -58,9 +58,9 @@ use Rattle.store.proofs.Passing.{new_fault}
 use Rattle.store.proofs.Recalling.{waits_on}
 use Rattle.store.proofs.Reaching.{AnswersSo, DropSo, IsNewSince, RoomRefused, same_on}
 use Rattle.store.proofs.Redropping.{drop_as}
-use Rattle.store.specs.declared.told.ToldFault.{ToldFault}
+use Rattle.journal_law.specs.declared.seat.ToldFault.{ToldFault}
 use Rattle.store.specs.Ground.{ground_of}
-use Rattle.store.specs.Seen.{ground_in, told_of, view_of, work_in}
+use Rattle.store.specs.Seen.{ground_in, view_of, work_in}
 use Rattle.store.specs.Worlds.{AreNamed}
 use Rattle.store.proofs.Coming.{Came, lines_append, moves, work_so}
 use Rattle.store.proofs.Gives.{full_is, own_names}
@@ -255,7 +255,7 @@ module _ {D : Type 0} (is_honest : D → Type 0) (state : D → State) (faults :
       adds_so what e = record {
         moves = moves state faults asked asked told told s0 s1 More (one who what) None (came_line what e);
         work_is = work_so state faults asked asked told told s0 s1 More (one who what) None (came_line what e);
-        told_is = ap told_of quiet;
+        told_is = ap reverse quiet;
       }
 
       opening_there : opening s0 ≡ Some d0.start

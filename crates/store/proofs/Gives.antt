@@ -1,5 +1,5 @@
 -- What the calls give that read no bytes.
-use Rattle.std.proofs.Common.{◌≡◌, ◌<◌, ◌-◌, ◌⊎◌, ◌++◌, ◌==◌, ◌∙◌, ℕ, Bool, true, false, cond, List, [], ◌∷◌, length, map, take, Option, Some, None, Result, Ok, Err, refl, sym, ap, subst, inl, inr, ⊎_elim, append-nil}
+use Rattle.std.proofs.Common.{◌≡◌, ◌<◌, ◌-◌, ◌⊎◌, ◌++◌, ◌==◌, ◌∙◌, ℕ, Bool, true, false, cond, List, [], ◌∷◌, length, map, reverse, take, Option, Some, None, Result, Ok, Err, refl, sym, ap, subst, inl, inr, ⊎_elim, append-nil}
 use Rattle.std.specs.Prelude.{◌||◌, nat_lt}
 use Rattle.std.specs.Option.{option_or}
 use Rattle.std.proofs.lemmas.Bool.{ltb-true}
@@ -36,7 +36,7 @@ use Rattle.archive.specs.Archive.{Running}
 use Rattle.store_core.specs.declared.desk_core.Core.{Core}
 use Rattle.store_core.proofs.Cores.{base_is}
 use Rattle.txn_set.specs.declared.ledger.Ledger.{Ledger}
-use Rattle.txn_set.specs.Ledger.{closed, closing, ended, fresh, given_up, looking, opened, told}
+use Rattle.txn_set.specs.Ledger.{closed, closing, ended, fresh, given_up, looking, opened, with_told_line}
 use Rattle.txn_set.specs.Refused.{look_refused, where_so}
 use Rattle.turn.specs.Seats.{mine, opening, seen}
 use Rattle.store.specs.declared.desk_side.DeskSide.{DeskSide}
@@ -47,10 +47,10 @@ use Rattle.store.specs.Start.{opened_base}
 use Rattle.store.proofs.Adding.{slot_own}
 use Rattle.store.proofs.Finding.{some_is}
 use Rattle.store.proofs.Leaving.{sound_journal}
-use Rattle.store.specs.declared.told.ToldFault.{ToldFault}
+use Rattle.journal_law.specs.declared.seat.ToldFault.{ToldFault}
 use Rattle.store.specs.Ending.{ending_of}
 use Rattle.store.specs.Ground.{ground_of, past_of, world_of}
-use Rattle.store.specs.Seen.{IsSeated, ground_in, told_of, view_of, work_in}
+use Rattle.store.specs.Seen.{IsSeated, ground_in, view_of, work_in}
 use Rattle.store.specs.Worlds.{AreNamed}
 use Rattle.store.proofs.Coming.{Came, came, given_none, looking_is, moves, none_there, open_is, seated_begun, seated_looking, seated_none, take_front, there, work_so}
 use Rattle.store.proofs.Named.{names_same, names_stay, others_refused, retained_held}
@@ -95,7 +95,7 @@ module _ {D : Type 0} (is_honest : D → Type 0) (state : D → State) (faults :
   adds what w other after k quiet c e = record {
     moves = moves state faults asked other before after s0 s1 v.others (one who what) w c;
     work_is = work_so state faults asked other before after s0 s1 v.others (one who what) w c ∙ e;
-    told_is = ap told_of quiet;
+    told_is = ap reverse quiet;
   }
 
   module _ (own : who.session ≡ s0.number) where
@@ -115,9 +115,9 @@ module _ {D : Type 0} (is_honest : D → Type 0) (state : D → State) (faults :
       opened_came what w e = came is_honest state faults z s0 s1 d0 d1 ready v (one who what) (Some w) (ap (λ (l : Ledger). l.book.lines) (e ∙ ap (opened who what w) same_given))
           (there is_honest state faults z s0 s1 d0 d1 ready v who own (Some w) _ e (slot_own (given_up who d0.core.ledger).works.slots who.session (Some w)))
 
-      told_came : (what : What) → d1.core.ledger ≡ told who what (given_up who d0.core.ledger) → Came s0 s1 v.others (one who what) None
-      told_came what e = came is_honest state faults z s0 s1 d0 d1 ready v (one who what) None (ap (λ (l : Ledger). l.book.lines) (e ∙ ap (told who what) same_given))
-          (there is_honest state faults z s0 s1 d0 d1 ready v who own None _ (e ∙ ap (told who what) same_given) (none_there is_honest state faults z s0 s1 d0 d1 ready v who own none))
+      told_came : (what : What) → d1.core.ledger ≡ with_told_line who what (given_up who d0.core.ledger) → Came s0 s1 v.others (one who what) None
+      told_came what e = came is_honest state faults z s0 s1 d0 d1 ready v (one who what) None (ap (λ (l : Ledger). l.book.lines) (e ∙ ap (with_told_line who what) same_given))
+          (there is_honest state faults z s0 s1 d0 d1 ready v who own None _ (e ∙ ap (with_told_line who what) same_given) (none_there is_honest state faults z s0 s1 d0 d1 ready v who own none))
 
       -- nothing is open, and nothing was told
       pub still_none : (other : Option ℕ) → before ≡ [] → (mine s1).work ≡ None → IsSeated who other before s1
@@ -251,7 +251,7 @@ module _ {D : Type 0} (is_honest : D → Type 0) (state : D → State) (faults :
             seated_looking who (Some n) before s1 look quiet refl c.work_is (λ x e. refl)
 
         -- a look that was refused with a line
-        abbrev told_so : (why : Refusal) → before ≡ [] → d1.core.ledger ≡ told who (Refused why) (given_up who d0.core.ledger) → Adds Old (New (Some n) before) who (Refused why) seat.Idle
+        abbrev told_so : (why : Refusal) → before ≡ [] → d1.core.ledger ≡ with_told_line who (Refused why) (given_up who d0.core.ledger) → Adds Old (New (Some n) before) who (Refused why) seat.Idle
         told_so why quiet e = adds (Refused why) None (Some n) before seat.Idle quiet (told_came (Refused why) e) refl
 
         number_is : (why : Refusal) → look_refused n (marks.oldest d0.core.desk.base.marks) (marks.newest d0.core.desk.base.marks) ≡ Some why
@@ -277,7 +277,7 @@ module _ {D : Type 0} (is_honest : D → Type 0) (state : D → State) (faults :
           asked_so : (r : Option Refusal) → look_refused n (marks.oldest d0.core.desk.base.marks) (marks.newest d0.core.desk.base.marks) ≡ r → lines_refused (given_up who d0.core.ledger).book 2 ≡ None → Gives why
           asked_so None e none = let m = does.looked.memory none e in memory m.0 m.1
           asked_so (Some because) e none = ⊎_elim
-              (λ (x : (why ≡ because) × (d1.core.ledger ≡ told who (Refused because) (given_up who d0.core.ledger))).
+              (λ (x : (why ≡ because) × (d1.core.ledger ≡ with_told_line who (Refused because) (given_up who d0.core.ledger))).
               ⊎_elim (λ (i : because ≡ refusal.NoSuchSnapshot n (marks.newest d0.core.desk.base.marks)). subst Gives (sym (x.0 ∙ i))
               (subst Told i (told_so because quiet x.1, others_refused d0.core.desk.base There n because marks_there named e)))
               (λ (i : because ≡ refusal.Dropped n (marks.oldest d0.core.desk.base.marks)). subst Gives (sym (x.0 ∙ i))
@@ -297,7 +297,7 @@ module _ {D : Type 0} (is_honest : D → Type 0) (state : D → State) (faults :
         none_after why does = full (lines_refused (given_up who d0.core.ledger).book 2) refl where
           asked_so : (r : Option Refusal) → look_refused n (marks.oldest d0.core.desk.base.marks) (marks.newest d0.core.desk.base.marks) ≡ r → lines_refused (given_up who d0.core.ledger).book 2 ≡ None → (mine s1).work ≡ None
           asked_so None e room = (given_came (does.looked.memory room e).1).work_is
-          asked_so (Some because) e room = ⊎_elim (λ (x : (why ≡ because) × (d1.core.ledger ≡ told who (Refused because) (given_up who d0.core.ledger))). (told_came (Refused because) x.1).work_is)
+          asked_so (Some because) e room = ⊎_elim (λ (x : (why ≡ because) × (d1.core.ledger ≡ with_told_line who (Refused because) (given_up who d0.core.ledger))). (told_came (Refused because) x.1).work_is)
               (λ (x : (why ≡ refusal.OutOfMemory) × (d1.core.ledger ≡ given_up who d0.core.ledger)). (given_came x.1).work_is) (does.looked.refused because room e)
 
           full : (r : Option Refusal) → lines_refused (given_up who d0.core.ledger).book 2 ≡ r → (mine s1).work ≡ None

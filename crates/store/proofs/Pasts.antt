@@ -31,7 +31,7 @@ use Rattle.store.specs.Past.{IsPinnedBy}
 use Rattle.store.specs.Seats.{Sat}
 use Rattle.store.specs.Start.{opened_base}
 use Rattle.store.proofs.Finding.{some_is}
-use Rattle.store.specs.declared.told.ToldFault.{ToldFault}
+use Rattle.journal_law.specs.declared.seat.ToldFault.{ToldFault}
 use Rattle.store.specs.Ground.{world_of}
 use Rattle.store.specs.Seen.{IsSeated, ground_in, pins_of_look, view_of}
 use Rattle.store.specs.Worlds.{AreMarksOf, AreNamed, IsWorldOf}

@@ -52,7 +52,7 @@ use Rattle.store.specs.Start.{AreJustOpened, IsOpenedTo, Origin, opened_base, op
 use Rattle.store.proofs.Adding.{slot_own}
 use Rattle.store.proofs.Finding.{above_so, some_is}
 use Rattle.store.proofs.Trying.{kept_who}
-use Rattle.store.specs.declared.told.ToldFault.{ToldFault}
+use Rattle.journal_law.specs.declared.seat.ToldFault.{ToldFault}
 use Rattle.store.specs.Ground.{framed, ground_of, pages_of_core, world_of}
 use Rattle.store.specs.Seen.{HasBegun, IsHonest, IsSeated, ground_in, view_of}
 use Rattle.store.proofs.Agreeing.{after_at, current_is, or_none, unchanged_agrees}

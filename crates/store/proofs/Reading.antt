@@ -24,7 +24,7 @@ use Rattle.history.proofs.SoundLaws.{base_stays_right}
 use Rattle.page_table.specs.Table.{IsFirstMet, Table}
 use Rattle.race_model.specs.Apart.{ToldBelow}
 use Rattle.race_model.specs.Fits.{HistoryFits, VaultFits}
-use Rattle.race_model.specs.Reading.{Told}
+use Rattle.race_model.specs.Reading.{PeekTold}
 use Rattle.race_model.specs.Vault.{Maplog, Vault, listing}
 use Rattle.race_model.proofs.Apart.{all_outlive_lines}
 use Rattle.race_model.proofs.Readings.{oldest-start}
@@ -81,7 +81,7 @@ module _ (history : History) (consistent : IsConsistent history) where
       let there = base_after_journal history (lines ++ more) in
       let right = base_stays_right First lines (front_is_sound First lines more sound) in
       let start : ℕ = start_of n (base_of First lines).marks in
-      let told : Told = record { snapshot = n; page = 0; start = start; upto = 0; bytes = pages_as_of (after_journal history lines) n 0 } in
+      let told : PeekTold = record { snapshot = n; page = 0; start = start; upto = 0; bytes = pages_as_of (after_journal history lines) n 0 } in
       let pages : List ℕ = pages_of (captures (after_journal history lines)) in
       let none : 0 - start ≡ 0 = omega arith in
       let below : ToldBelow 0 told (after_journal history lines) = record {

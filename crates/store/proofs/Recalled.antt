@@ -1,7 +1,7 @@
 -- What a seat sees behind calls that add no line: reads of the past, and seats that meet.
 use Rattle.std.proofs.Common.{◌≡◌, ◌<◌, ◌++◌, ◌∙◌, ℕ, List, [], ◌∷◌, drop, map, reverse, take, true, Option, Some, None, Ok, Err, refl, sym, ap, subst, ⊎_elim, append-nil, append_assoc}
 use Rattle.std.specs.Prelude.{Contains, IfErr, IfSome, Result, false}
-use Rattle.std.proofs.lemmas.List.{map-append, reverse-append, take-append-drop, take-append-le}
+use Rattle.std.proofs.lemmas.List.{reverse-append, take-append-drop, take-append-le}
 use Rattle.atomic_table.specs.Seated.{TableId}
 use Rattle.disk_model.specs.Disk.{State}
 use Rattle.retro_base.specs.declared.device.Device.{Device}
@@ -35,9 +35,9 @@ use Rattle.store.specs.Seats.{IsPage, IsReady, IsSized, Sat, StaysIn, Waits, beg
 use Rattle.store.specs.Start.{AreJustOpened, IsAbove, opened_base}
 use Rattle.store.proofs.Calling.{told_more as told_still}
 use Rattle.store.proofs.Meeting.{work_stays}
-use Rattle.store.specs.declared.told.ToldFault.{ToldFault}
+use Rattle.journal_law.specs.declared.seat.ToldFault.{ToldFault}
 use Rattle.store.specs.Ground.{world_of}
-use Rattle.store.specs.Seen.{HasBegun, IsHonest, IsSeated, ground_in, pins_of_look, told_more, told_of, view_of, work_in}
+use Rattle.store.specs.Seen.{HasBegun, IsHonest, IsSeated, ground_in, pins_of_look, told_more, view_of, work_in}
 use Rattle.store.proofs.Coming.{Came, moves}
 use Rattle.store.proofs.Grounds.{opened_world}
 use Rattle.store.proofs.Pasts.{past_stays, some_there}
@@ -45,8 +45,8 @@ use Rattle.store.proofs.ReadGiven.{begun_on}
 
 -- ---- told faults
 
-told_end : (told : List ToldFault) (fault : ToldFault) → told_of (told ++ fault ∷ []) ≡ (let t : seat.Told = record { device = fault.device; count = fault.count } in t) ∷ told_of told
-told_end told fault = ap reverse (map-append (λ (f : ToldFault). let t : seat.Told = record { device = f.device; count = f.count } in t) told (fault ∷ [])) ∙ reverse-append (map (λ (f : ToldFault). let t : seat.Told = record { device = f.device; count = f.count } in t) told) _
+told_end : (told : List ToldFault) (fault : ToldFault) → reverse (told ++ fault ∷ []) ≡ fault ∷ reverse told
+told_end told fault = reverse-append told (fault ∷ [])
 
 -- behind the room that was made for one
 pub told_on : (before room after : List ToldFault) (why : Refusal) → room ≡ before → after ≡ told_more room why → after ≡ told_more before why
@@ -125,7 +125,7 @@ module _ {D : Type 0} (state : D → State) (faults : D → ℕ) (z : TableId) (
   module _ (seated : IsSeated who asked before s0) where
     -- what is known of the faults that it was told
     keeps : (after : List ToldFault) → ((mine s0).work ≡ None → after ≡ []) → ((t : Transaction) → (mine s0).work ≡ Some (work.Open t) → after ≡ [])
-        → ((d : Device) (c : ℕ) → Contains (told_of after) (record { device = d; count = c }) → 0 < fault_times d c (mine s1).faults) → IsSeated who asked after s1
+        → ((d : Device) (c : ℕ) → Contains (reverse after) (record { device = d; count = c }) → 0 < fault_times d c (mine s1).faults) → IsSeated who asked after s1
     keeps after quiet silent told = record {
       item = λ w e. seated.item w (sym same_work ∙ e);
       no_drop = λ other e. seated.no_drop other (sym same_work ∙ e);
@@ -160,12 +160,12 @@ module _ {D : Type 0} (state : D → State) (faults : D → ℕ) (z : TableId) (
       pub past_keeps : (why : Refusal) (covered : ℕ) → IsPastCause s1 covered why → IsSeated who asked (told_more before why) s1
       past_keeps (refusal.DiskFault device count) covered cause =
           keeps (before ++ (let f : ToldFault = record { device = device; count = count } in f) ∷ []) (λ e. absurd (cc (e, is))) (λ t e. absurd (cc (e, is))) told where
-            told : (d : Device) (c : ℕ) → Contains (told_of (before ++ (let f : ToldFault = record { device = device; count = count } in f) ∷ [])) (record { device = d; count = c }) → 0 < fault_times d c (mine s1).faults
+            told : (d : Device) (c : ℕ) → Contains (reverse (before ++ (let f : ToldFault = record { device = device; count = count } in f) ∷ [])) (record { device = d; count = c }) → 0 < fault_times d c (mine s1).faults
             told d c in_it = ⊎_elim
-                (λ (x : (let t : seat.Told = record { device = d; count = c } in t) ≡ record { device = device; count = count }). subst (λ (t : seat.Told). 0 < fault_times t.device t.count (mine s1).faults) (sym x) cause)
-                (λ (x : Contains (told_of before) (record { device = d; count = c })). still_told d c (seated.told_it d c x))
-                (contains_cons (record { device = device; count = count }) (record { device = d; count = c }) (told_of before)
-                (subst (λ (ts : List seat.Told). Contains ts (record { device = d; count = c })) (told_end before (record { device = device; count = count })) in_it))
+                (λ (x : (let t : ToldFault = record { device = d; count = c } in t) ≡ record { device = device; count = count }). subst (λ (t : ToldFault). 0 < fault_times t.device t.count (mine s1).faults) (sym x) cause)
+                (λ (x : Contains (reverse before) (record { device = d; count = c })). still_told d c (seated.told_it d c x))
+                (contains_cons (record { device = device; count = count }) (record { device = d; count = c }) (reverse before)
+                (subst (λ (ts : List ToldFault). Contains ts (record { device = d; count = c })) (told_end before (record { device = device; count = count })) in_it))
       past_keeps _ covered cause = keeps_seated
 
       pub past_err : (honest : Type 0) (n page : ℕ) (out : List ℕ) (why : Refusal) (covered : ℕ) → IsPastCause s1 covered why → ((start : Start D) (d : Device) (c : ℕ) → opening s0 ≡ Some start → why ≡ refusal.DiskFault d c → IsAbove faults start d c)

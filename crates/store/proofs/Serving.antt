@@ -16,7 +16,7 @@ use Rattle.journal_book.specs.declared.work.Work.{Work}
 use Rattle.journal_book.specs.declared.work.Work.TheVariants.{Open}
 use Rattle.journal_book.specs.Book.{noting}
 use Rattle.journal_book.specs.Works.{work_at}
-use Rattle.race_model.specs.Machine.{acked_to, cut, cut_failed, settled, stopped, write_failed, written}
+use Rattle.race_model.specs.Machine.{acked_to, cut, cut_failed, settled, stopped, write_failed, written_desk}
 use Rattle.redo_log.specs.Cause.{IsMemoryOrFault}
 use Rattle.desk.specs.Cause.{IsWriteRefusal}
 use Rattle.desk.specs.declared.desk.RunningDesk.{RunningDesk}
@@ -166,7 +166,7 @@ module _ {D : Type 0} (is_honest : D → Type 0) (state : D → State) (faults :
     writes_moved : (result : Result Bool Refusal) → WriteBackDoes is_honest state faults remembers clock who result old.core new.core → Moved
     writes_moved (Ok true) does origin from_ =
         let d = does.done origin.history from_.plain from_.is refl in
-        (record { plain = written from_.plain d.0 from_.plain.acked; is = d.3 from_.plain.acked d.2; floor = from_.floor; in_version = from_.in_version }, refl)
+        (record { plain = written_desk from_.plain d.0 from_.plain.acked; is = d.3 from_.plain.acked d.2; floor = from_.floor; in_version = from_.in_version }, refl)
     writes_moved (Ok false) does origin from_ = moved_same (does.none origin.history from_.plain from_.is refl).0 origin from_
     writes_moved (Err (DiskFault d c)) does origin from_ =
         let f = does.failed origin.history from_.plain from_.plain.acked from_.is tt in

@@ -3,6 +3,7 @@ use Rattle.std.specs.Prelude.{◌≡◌, ◌↔◌, ℕ, List, length, map, Opti
 use Rattle.disk_model.specs.Disk.{State}
 use Rattle.disk_model.specs.Moments.{Clock, LeavesOnly}
 use Rattle.block_file.specs.Blocks.{SameFile}
+use Rattle.retro_base.specs.declared.refusal.Refusal.TheVariants.{OutOfMemory}
 use Rattle.retro_base.specs.declared.device.Device.TheVariants.{Log, Pages}
 use Rattle.retro_base.specs.declared.refusal.Refusal.{Refusal}
 use Rattle.retro_base.specs.declared.who.Who.{Who}
@@ -81,11 +82,12 @@ module _ {D : Type 0} (is_honest : D → Type 0) (state : D → State) where
 
     -- A page is read for the item's transaction t: its own edit, or else the page behind the journal. It is refused
     -- for what t keeps; where another item changed the page since t began; exactly where a call of the pages'
-    -- device failed; and for want of memory, but
-    -- not where the page was read before.
+    -- device failed; and for want of memory, but not where the page was read before. Behind each other
+    -- refusal the buffer is as before.
     pub record ReadDoes (who : Who) (page : ℕ) (before after : List ℕ) (t : Transaction) (result : Result (Unit {0}) Refusal) (old new : Core D) : Type 0 where
       pub refused : (why : Refusal) → read_refused old.ledger.book.lines t page ≡ Some why →
-          (result ≡ Err why) × (new.desk ≡ old.desk) × (after ≡ before)
+          (result ≡ Err why) × (new.desk ≡ old.desk)
+      pub err : IfErr result (λ why. (why ≡ OutOfMemory → ⊥) → after ≡ before)
       pub answered : HasAnswered who t (reading page t) (read_refused old.ledger.book.lines t page) old.ledger new.ledger result
       pub cause : read_refused old.ledger.book.lines t page ≡ None →
           MatchResult result (λ _. page_faults new ≡ page_faults old) (IsMemoryOrFault Pages (page_faults old) (page_faults new))

@@ -17,7 +17,7 @@ use Rattle.history.specs.declared.entry.Change.TheVariants.{Drop}
 use Rattle.history.specs.History.{History}
 use Rattle.history.specs.Marks.{newest, oldest}
 use Rattle.race_model.specs.Desk.{Desk}
-use Rattle.race_model.specs.Machine.{MayCut, MayWrite, acked_to, change_failed, cut, cut_failed, settled, stopped, write_failed, written}
+use Rattle.race_model.specs.Machine.{MayCut, MayWrite, acked_to, change_failed, cut, cut_failed, settled, stopped, write_failed, written_desk}
 use Rattle.race_model.specs.Vault.{Batch}
 use Rattle.records.specs.Entries.{change_bytes}
 use Rattle.redo_log.specs.Cause.{IsMemoryOrFault}
@@ -82,7 +82,7 @@ module _ {D : Type 0} (is_honest : D → Type 0) (state : D → State) where
       pub untouched : IfErr result (λ why. (IsDiskFault why → ⊥) → new.desk ≡ old.desk)
       pub done : (opening : History) (plain : Desk) → IsCore is_honest state opening old plain →
           IfOk result (λ wrote. wrote ≡ true → (page : ℕ) × IsLeastWritable plain page × MayWrite plain page plain.acked
-          × ((need : ℕ) → MayWrite plain page need → IsCore is_honest state opening new (written plain page need)))
+          × ((need : ℕ) → MayWrite plain page need → IsCore is_honest state opening new (written_desk plain page need)))
       pub none : (opening : History) (plain : Desk) → IsCore is_honest state opening old plain →
           IfOk result (λ wrote. wrote ≡ false → (new ≡ old) × NoneWritable plain)
       pub failed : (opening : History) (plain : Desk) (need : ℕ) → IsCore is_honest state opening old plain →

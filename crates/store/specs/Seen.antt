@@ -17,7 +17,7 @@ use Rattle.journal_law.specs.Lawful.{Ground}
 use Rattle.journal_law.specs.Own.{line}
 use Rattle.journal_law.specs.Seats as seat
 use Rattle.journal_law.specs.Seats.{View}
-use Rattle.store.specs.declared.told.ToldFault.{ToldFault}
+use Rattle.journal_law.specs.declared.seat.ToldFault.{ToldFault}
 use Rattle.store.specs.Ground.{ground_of, no_ground}
 use Rattle.store.specs.declared.start.Start.{Start}
 use Rattle.store.specs.Seats.{Sat}
@@ -25,11 +25,7 @@ use Rattle.store.specs.Start.{AreJustOpened, opened_base}
 use Rattle.turn.specs.Faults.{fault_times}
 use Rattle.turn.specs.Seats.{mine, opening, seen}
 
--- faults in the order in which they were told, as the last first
-abbrev pub told_of : List ToldFault → List seat.Told
-told_of faults = reverse (map (λ (fault : ToldFault). record { device = fault.device; count = fault.count }) faults)
-
--- and with the one for which a call was refused, at the end
+-- with the fault for which a call was refused, at the end
 abbrev pub told_more : List ToldFault → Refusal → List ToldFault
 told_more told (DiskFault device count) = told ++ record { device = device; count = count } ∷ []
 told_more told why = told
@@ -58,7 +54,7 @@ module _ {D : Type 0} (state : D → State) (faults : D → ℕ) where
     opened = ground_in (opening s);
     front = seen s;
     work = work_in asked (seen s) (mine s).work;
-    told = told_of told;
+    told = reverse told;
   }
 
 -- The store began as it was just opened, on devices of the pages and of the slots that tell what they hold.
@@ -80,4 +76,4 @@ pub record IsSeated {D : Type 0} (who : Who) (asked : Option ℕ) (told : List T
   pub pins : (start : Start D) (look : Look) → opening s ≡ Some start → (mine s).work ≡ Some (work.Looking look) → look.pins ≡ pins_of_look asked (seen s) start look
   pub quiet : (mine s).work ≡ None → told ≡ []
   pub silent : (t : Transaction) → (mine s).work ≡ Some (work.Open t) → told ≡ []
-  pub told_it : (device : Device) (count : ℕ) → Contains (told_of told) (record { device = device; count = count }) → 0 < fault_times device count (mine s).faults
+  pub told_it : (device : Device) (count : ℕ) → Contains (reverse told) (record { device = device; count = count }) → 0 < fault_times device count (mine s).faults

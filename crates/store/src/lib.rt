@@ -28,4 +28,3 @@ pub use held::Held;
 pub use laws::{laws_of_crashes, laws_of_worlds};
 pub use shared::{Seat, Store};
 pub use start::Start;
-pub use told::ToldFault;

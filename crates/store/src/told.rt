@@ -3,14 +3,8 @@
 ghost use Rattle.std.specs.Prelude.{◌≡◌, ◌<◌, vec_capacity, vec_len};
 ghost use Rattle.store.specs.Seen.{told_more};
 
-use retro_base::{Device, Refusal};
-
-/// A fault of a device, by its count.
-#[derive(Clone, Copy, Debug)]
-pub struct ToldFault {
-    pub device: Device,
-    pub count: u64,
-}
+use journal_law::ToldFault;
+use retro_base::Refusal;
 
 /// Tells the seat of the fault for which a call was refused, if it was for one.
 pub(crate) fn tell(told: &mut Vec<ToldFault>, why: Refusal)

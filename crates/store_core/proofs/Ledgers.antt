@@ -23,7 +23,7 @@ use Rattle.journal_book.specs.Book.{Book, SESSION_LINES, lines_needed, lines_ref
 use Rattle.journal_book.specs.Works.{edits_of, work_at, with_work}
 use Rattle.journal_book.proofs.Slots.{work_at_with}
 use Rattle.txn_set.specs.declared.ledger.Ledger.{Ledger}
-use Rattle.txn_set.specs.Ledger.{IsKeptDrop, closed, committed, given_up, gives_up, keeping_drop, keeps_other_drop, line_of, opened, taken, told, with_open}
+use Rattle.txn_set.specs.Ledger.{IsKeptDrop, closed, committed, given_up, gives_up, keeping_drop, keeps_other_drop, line_of, opened, taken, with_told_line, with_open}
 use Rattle.txn_set.specs.WorksFit.{WorksFit, pins_at}
 use Rattle.txn_set.proofs.FitSteps.{fits_gives_up}
 use Rattle.txn_set.proofs.LedgerSteps.{some_kept}
@@ -113,7 +113,7 @@ module _ (opening : Base) (l : Ledger) (is : IsLedger opening l) where
       }
 
   -- of a line that neither opens nor closes, where it finds room
-  pub ledger_told : (who : Who) (what : What) → work_at l.works.slots who.session ≡ None → begins what ≡ false → lines_refused l.book 1 ≡ None → Rules what → WorksFit (told who what l) → IsLedger opening (told who what l)
+  pub ledger_told : (who : Who) (what : What) → work_at l.works.slots who.session ≡ None → begins what ≡ false → lines_refused l.book 1 ≡ None → Rules what → WorksFit (with_told_line who what l) → IsLedger opening (with_told_line who what l)
   ledger_told who what none not_begun room rules fits =
       let places = has_room l.book 1 room in
       record {

@@ -25,7 +25,7 @@ use Rattle.journal_book.specs.declared.work.Work.TheVariants.{Looking}
 use Rattle.journal_book.specs.Book.{Book, SESSION_LINES, lines_needed, lines_refused}
 use Rattle.journal_book.specs.Works.{work_at}
 use Rattle.txn_set.specs.declared.ledger.Ledger.{Ledger}
-use Rattle.txn_set.specs.Ledger.{IsRefusedWith, given_up, is_idle, line_of, looking, opened, told}
+use Rattle.txn_set.specs.Ledger.{IsRefusedWith, given_up, is_idle, line_of, looking, opened, with_told_line}
 use Rattle.txn_set.specs.Refused.{look_refused, no_snapshot, where_so}
 use Rattle.txn_set.specs.WorksFit.{WorksFit, pins_at}
 use Rattle.txn_set.proofs.FitSteps.{idle_none}
@@ -94,10 +94,10 @@ room_less book e = at (ltb SESSION_LINES (lines_needed book 1)) refl where
 
 module _ {D : Type 0} (honest : D → Type 0) (state : D → State) (opening : History) (core : Core D) (plain : Desk) (is : IsCore honest state opening core plain) where
   -- a line told that neither opens nor closes
-  pub core_refused : (who : Who) (why : Refusal) → work_at core.ledger.works.slots who.session ≡ None → lines_refused core.ledger.book 1 ≡ None → WorksFit (told who (whats.Refused why) core.ledger)
-      → IsCore honest state opening (record { desk = core.desk; ledger = told who (whats.Refused why) core.ledger }) plain
+  pub core_refused : (who : Who) (why : Refusal) → work_at core.ledger.works.slots who.session ≡ None → lines_refused core.ledger.book 1 ≡ None → WorksFit (with_told_line who (whats.Refused why) core.ledger)
+      → IsCore honest state opening (record { desk = core.desk; ledger = with_told_line who (whats.Refused why) core.ledger }) plain
   core_refused who why none room fits =
-      core_quiet honest state opening core plain is (record { desk = core.desk; ledger = told who (whats.Refused why) core.ledger }) plain (line_of who (whats.Refused why)) refl refl
+      core_quiet honest state opening core plain is (record { desk = core.desk; ledger = with_told_line who (whats.Refused why) core.ledger }) plain (line_of who (whats.Refused why)) refl refl
       (ledger_told (now opening).base core.ledger is.ledger who (whats.Refused why) none refl room tt fits) is.is is.fits refl is.edits (quiet_refused why) refl refl refl
 
   core_looking : (who : Who) (number : ℕ) (lines : List Line) → work_at core.ledger.works.slots who.session ≡ None → lines_refused core.ledger.book 2 ≡ None → WorksFit (opened who (whats.Looked number) (looking who lines (number ∷ [])) core.ledger)
@@ -114,7 +114,7 @@ module _ {D : Type 0} (honest : D → Type 0) (state : D → State) (opening : H
 pub core_looks : {D : Type 0} (honest : D → Type 0) (state : D → State) (opening : History) (core : Core D) (plain : Desk) → IsCore honest state opening core plain → (who : Who) (number old new : ℕ) (ledger : Ledger) (result : Result (Unit {0}) Refusal)
     → old ≡ oldest core.desk.base.marks → new ≡ newest core.desk.base.marks → is_idle who (work_at core.ledger.works.slots who.session) ≡ true
     → ((why : Refusal) → lines_refused (given_up who core.ledger).book 2 ≡ Some why → (result ≡ Err why) × (ledger ≡ given_up who core.ledger))
-    → ((why : Refusal) → lines_refused (given_up who core.ledger).book 2 ≡ None → look_refused number old new ≡ Some why → IsRefusedWith (given_up who core.ledger) (told who (whats.Refused why) (given_up who core.ledger)) why result ledger)
+    → ((why : Refusal) → lines_refused (given_up who core.ledger).book 2 ≡ None → look_refused number old new ≡ Some why → IsRefusedWith (given_up who core.ledger) (with_told_line who (whats.Refused why) (given_up who core.ledger)) why result ledger)
     → OnOk result (ledger ≡ opened who (whats.Looked number) (looking who core.ledger.book.lines (number ∷ [])) (given_up who core.ledger))
     → (lines_refused (given_up who core.ledger).book 2 ≡ None → look_refused number old new ≡ None → IfErr result (λ why. (why ≡ OutOfMemory) × (ledger ≡ given_up who core.ledger)))
     → WorksFit ledger → IsCore honest state opening (record { desk = core.desk; ledger = ledger }) plain
@@ -131,7 +131,7 @@ core_looks {D = D} honest state opening core plain is who number old new ledger 
   none : work_at g.works.slots who.session ≡ None
   none = idle_none core.ledger who idle
 
-  told_so : (why : Refusal) (r : Result (Unit {0}) Refusal) → lines_refused g.book 2 ≡ None → IsRefusedWith g (told who (whats.Refused why) g) why r ledger → IsCore honest state opening (record { desk = core.desk; ledger = ledger }) plain
+  told_so : (why : Refusal) (r : Result (Unit {0}) Refusal) → lines_refused g.book 2 ≡ None → IsRefusedWith g (with_told_line who (whats.Refused why) g) why r ledger → IsCore honest state opening (record { desk = core.desk; ledger = ledger }) plain
   told_so why (Ok x) free h = absurd h
   told_so why (Err other) free (inl h) =
       subst (λ (l : Ledger). IsCore honest state opening (record { desk = core.desk; ledger = l }) plain) (sym h.1)

@@ -19,7 +19,7 @@ use Rattle.journal_book.specs.Works.{edits_page, work_at}
 use Rattle.race_model.specs.Desk.{Desk}
 use Rattle.race_model.specs.Machine.{changed}
 use Rattle.txn_set.specs.declared.ledger.Ledger.{Ledger}
-use Rattle.txn_set.specs.Ledger.{MayFault, faulted, given_up, kept_behind, looking, opened, told, with_open}
+use Rattle.txn_set.specs.Ledger.{MayFault, faulted, given_up, kept_behind, looking, opened, with_told_line, with_open}
 use Rattle.txn_set.specs.Refused.{look_refused}
 use Rattle.txn_set.specs.WorksFit.{Closes}
 
@@ -35,7 +35,7 @@ pub record HasLooked {T : Type 0} (who : Who) (number oldest newest : ℕ) (old 
   pub full : (why : Refusal) → lines_refused (given_up who old).book 2 ≡ Some why → (result ≡ Err why) × (new ≡ given_up who old)
   pub done : OnOk result ((look_refused number oldest newest ≡ None) × (new ≡ opened who (whats.Looked number) (looking who old.book.lines (number ∷ [])) (given_up who old)))
   pub refused : (why : Refusal) → lines_refused (given_up who old).book 2 ≡ None → look_refused number oldest newest ≡ Some why →
-      IfErr result (λ other. ((other ≡ why) × (new ≡ told who (whats.Refused why) (given_up who old))) ⊎ ((other ≡ OutOfMemory) × (new ≡ given_up who old)))
+      IfErr result (λ other. ((other ≡ why) × (new ≡ with_told_line who (whats.Refused why) (given_up who old))) ⊎ ((other ≡ OutOfMemory) × (new ≡ given_up who old)))
   pub memory : lines_refused (given_up who old).book 2 ≡ None → look_refused number oldest newest ≡ None → IfErr result (λ why. (why ≡ OutOfMemory) × (new ≡ given_up who old))
 
 -- A read or an edit of a transaction, which the ledger refuses so or not. On Ok the transaction is the next one; behind a refusal it keeps that, where it is one that a transaction keeps, and is else as before.

@@ -14,7 +14,7 @@ ghost use Rattle.history.specs.History.{History};
 ghost use Rattle.journal_book.specs.Works.{work_at};
 ghost use Rattle.page_pool.specs.Side.{held};
 ghost use Rattle.race_model.specs.Desk.{Desk};
-ghost use Rattle.race_model.specs.Machine.{MayCut, MayWrite, cut, cut_failed, settled, stopped, write_failed, written};
+ghost use Rattle.race_model.specs.Machine.{MayCut, MayWrite, cut, cut_failed, settled, stopped, write_failed, written_desk};
 ghost use Rattle.redo_log.specs.Cause.{IsMemoryOrFault};
 ghost use Rattle.desk.specs.Cause.{IsWriteRefusal};
 ghost use Rattle.desk.specs.Desk.{HoldsPagesOf, IsDesk, IsWhole, ListsLogOf};
@@ -92,7 +92,7 @@ impl<D: Disk + Drop> Core<D> {
         ensures done { (opening : History) (plain : Desk) → IsCore D.is_honest D.state opening self.old plain
             → IfOk result (λ wrote. wrote ≡ true → (page : ℕ) × IsLeastWritable plain page
             × MayWrite plain page plain.acked × ((need : ℕ) → MayWrite plain page need
-            → IsCore D.is_honest D.state opening self.new (written plain page need))) }
+            → IsCore D.is_honest D.state opening self.new (written_desk plain page need))) }
         ensures none { (opening : History) (plain : Desk) → IsCore D.is_honest D.state opening self.old plain
             → IfOk result (λ wrote. wrote ≡ false → (self.new ≡ self.old) × NoneWritable plain) }
         ensures failed { (opening : History) (plain : Desk) (need : ℕ)

@@ -1,6 +1,6 @@
 use Rattle.std.proofs.Common.{List, None, subst, sym}
 use Rattle.retro_base.specs.declared.who.Who.{Who}
-use Rattle.store.specs.declared.told.ToldFault.{ToldFault}
+use Rattle.journal_law.specs.declared.seat.ToldFault.{ToldFault}
 use Rattle.store.specs.Seen.{IsSeated}
 use Rattle.store.proofs.Coming.{seated_none}
 use Rattle.store.proofs.held.Held.new.Goals as goal

@@ -1,7 +1,7 @@
 use Rattle.std.proofs.Common.{List, Err, Ok, ap, subst, sym, take}
 use Rattle.journal_law.specs.Seats.{PastGives}
 use Rattle.turn.specs.Seats.{mine, opening, seen}
-use Rattle.store.specs.declared.told.ToldFault.{ToldFault}
+use Rattle.journal_law.specs.declared.seat.ToldFault.{ToldFault}
 use Rattle.store.specs.Seen.{IsHonest, IsSeated, view_of, work_in}
 use Rattle.store.proofs.Coming.{looking_is, some_looking}
 use Rattle.store.proofs.Pasts.{pinned_so, some_there}

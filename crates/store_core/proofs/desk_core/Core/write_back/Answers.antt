@@ -5,7 +5,7 @@ use Rattle.retro_base.specs.Cause.{IsFault}
 use Rattle.retro_base.specs.declared.device.Device.TheVariants.{Pages}
 use Rattle.history.specs.declared.journal.FailedCall.TheVariants.{Write}
 use Rattle.history.specs.declared.journal.What.TheVariants as whats
-use Rattle.race_model.specs.Machine.{write_failed, written}
+use Rattle.race_model.specs.Machine.{write_failed, written_desk}
 use Rattle.race_model.proofs.DeskKeeps.{write_keeps, write_failed_keeps}
 use Rattle.desk.specs.Desk.{HoldsPagesOf}
 use Rattle.txn_set.specs.Ledger.{line_of}
@@ -20,7 +20,7 @@ returns-in-Ok-clause-done g c = λ opening plain is e.
       found.1,
       found.2,
       λ need may.
-          core_step g.D.Disk.is_honest g.D.Disk.state opening c.args.self.now plain is c.write_back.new.self (written plain found.0 need) (found.3 need) (write_keeps plain is.fits found.0 need may) refl
+          core_step g.D.Disk.is_honest g.D.Disk.state opening c.args.self.now plain is c.write_back.new.self (written_desk plain found.0 need) (found.3 need) (write_keeps plain is.fits found.0 need may) refl
           c.write_back.ensures.held c.in-Ok.ensures.stop c.write_back.ensures.rest.2 is.doubt,
     )
 
