@@ -1,9 +1,9 @@
 //! One sequence of every call, with each call of each device failing in turn.
 
-use crate::devices::{failing, ran};
 use crate::lines::{Said, first_fault};
-use core_trial::devices::{A, B, Pair, devices, open};
-use core_trial::{Answer, Ask, Ran, Row};
+use core_trial::devices::{A, B, FLUSHER, Pair, devices};
+use core_trial::failing::failing;
+use core_trial::{Answer, Ask, Ran, Row, run_on};
 use disk_mem::{Call, MemDisk};
 use disk_model::Disk;
 use retro_base::{Device, Refusal, Who};
@@ -22,7 +22,10 @@ const NOT_ASKED: Answer = Answer::No(Refusal::BadSizes);
 
 const ASKED: Ending = Ending::Asked;
 
-const SEQUENCE: [Row; 23] = [
+pub const SEQUENCE: [Row; 31] = [
+    (Ask::Sizes, Answer::Pair(16, 64)),
+    // A header of 16 bytes, and a base of 39 in 44, are before the gate.
+    (Ask::Free, Answer::Number(16_777_216 - 60)),
     (Ask::Begin(A), DONE),
     (Ask::Mark(A, b"one"), Answer::Declared(Some(1))),
     (Ask::Begin(A), DONE),
@@ -47,13 +50,19 @@ const SEQUENCE: [Row; 23] = [
     (Ask::Settle(A), DONE),
     (Ask::CutLog(A), YES),
     (Ask::Rollback(A, ASKED), DONE),
+    (Ask::Horizon, Answer::Pair(2, 2)),
+    (Ask::Owed, Answer::Pair(0, 0)),
+    (Ask::Begin(A), DONE),
+    (Ask::Mark(A, b""), Answer::Declared(Some(3))),
+    (Ask::DropBelow(B, 3), DONE),
+    (Ask::CutLog(FLUSHER), YES),
     (Ask::Note(B, Device::Maplog, 1, true), DONE),
     (Ask::Stopped, YES),
 ];
 
-const LOG: Device = Device::Log;
+pub const LOG: Device = Device::Log;
 
-const PAGES: Device = Device::Pages;
+pub const PAGES: Device = Device::Pages;
 
 const LOG_FAULT: Answer = Answer::No(Refusal::DiskFault {
     device: LOG,
@@ -85,6 +94,11 @@ const NOT_DECLARED_2: Answer = Answer::No(Refusal::NoSuchSnapshot {
     newest: 1,
 });
 
+const NOT_DECLARED_3: Answer = Answer::No(Refusal::NoSuchSnapshot {
+    asked: 3,
+    newest: 2,
+});
+
 const FIRST_ALONE: Answer = Answer::Snapshots(Some([(1, 3, 0), (1, 3, 0)]));
 
 // A place in the sequence, and what is answered there in place of what stands there.
@@ -92,96 +106,143 @@ type Other = (usize, Answer);
 
 // The first commit fails, and closes its transaction. The desk has stopped: the second commit is refused, and its
 // transaction stays open; there is no snapshot and no capture.
-const FIRST_COMMIT_FAILS: [Other; 14] = [
-    (1, LOG_FAULT),
-    (6, LOG_STOPPED),
-    (7, NOT_DECLARED_1),
-    (8, NOT_ASKED),
-    (9, NOT_ASKED),
-    (10, Answer::Snapshots(None)),
-    (12, LOG_STOPPED),
-    (13, NO),
-    (14, NOT_ASKED),
-    (15, NOT_ASKED),
-    (16, LOG_STOPPED),
-    (17, LOG_STOPPED),
+const FIRST_COMMIT_FAILS: [Other; 18] = [
+    (3, LOG_FAULT),
+    (8, LOG_STOPPED),
+    (9, NOT_DECLARED_1),
+    (10, NOT_ASKED),
+    (11, NOT_ASKED),
+    (12, Answer::Snapshots(None)),
+    (14, LOG_STOPPED),
+    (15, NO),
+    (16, NOT_ASKED),
+    (17, NOT_ASKED),
     (18, LOG_STOPPED),
     (19, LOG_STOPPED),
+    (20, LOG_STOPPED),
+    (21, LOG_STOPPED),
+    (23, Answer::Pair(1, 0)),
+    (26, LOG_STOPPED),
+    (27, LOG_STOPPED),
+    (28, LOG_STOPPED),
 ];
 
 // The second commit fails, and makes no captures.
-const SECOND_COMMIT_FAILS: [Other; 9] = [
-    (6, LOG_FAULT),
-    (10, FIRST_ALONE),
-    (12, LOG_STOPPED),
-    (13, NO),
-    (14, NOT_ASKED),
-    (16, LOG_STOPPED),
-    (17, LOG_STOPPED),
+const SECOND_COMMIT_FAILS: [Other; 13] = [
+    (8, LOG_FAULT),
+    (12, FIRST_ALONE),
+    (14, LOG_STOPPED),
+    (15, NO),
+    (16, NOT_ASKED),
     (18, LOG_STOPPED),
     (19, LOG_STOPPED),
+    (20, LOG_STOPPED),
+    (21, LOG_STOPPED),
+    (23, Answer::Pair(1, 1)),
+    (26, LOG_STOPPED),
+    (27, LOG_STOPPED),
+    (28, LOG_STOPPED),
 ];
 
 // The drop fails; the captures go on to the archive.
-const DROP_FAILS: [Other; 5] = [
-    (12, LOG_FAULT),
-    (16, LOG_STOPPED),
-    (17, LOG_STOPPED),
+const DROP_FAILS: [Other; 10] = [
+    (14, LOG_FAULT),
     (18, LOG_STOPPED),
     (19, LOG_STOPPED),
+    (20, LOG_STOPPED),
+    (21, LOG_STOPPED),
+    (23, Answer::Pair(1, 2)),
+    (24, Answer::Pair(0, 2)),
+    (26, LOG_STOPPED),
+    (27, LOG_STOPPED),
+    (28, LOG_STOPPED),
 ];
 
 // The cut fails, and closes the transaction.
-const CUT_FAILS: [Other; 2] = [(19, LOG_FAULT), (20, NOT_ASKED)];
+const CUT_FAILS: [Other; 5] = [
+    (21, LOG_FAULT),
+    (22, NOT_ASKED),
+    (26, LOG_STOPPED),
+    (27, LOG_STOPPED),
+    (28, LOG_STOPPED),
+];
 
 // The read fails: the transaction keeps it, and stays open. Nothing is stopped; there is no second snapshot, and nothing
 // to copy or to write back.
-const READ_FAILS: [Other; 11] = [
-    (3, PAGES_FAULT),
-    (4, PAGES_FAULT),
+const READ_FAILS: [Other; 14] = [
     (5, PAGES_FAULT),
     (6, PAGES_FAULT),
-    (10, FIRST_ALONE),
-    (12, NOT_DECLARED_2),
-    (13, NO),
-    (14, NOT_ASKED),
-    (15, NOT_ASKED),
-    (16, NO),
-    (17, NO),
+    (7, PAGES_FAULT),
+    (8, PAGES_FAULT),
+    (12, FIRST_ALONE),
+    (14, NOT_DECLARED_2),
+    (15, NO),
+    (16, NOT_ASKED),
+    (17, NOT_ASKED),
+    (18, NO),
+    (19, NO),
+    (23, Answer::Pair(1, 1)),
+    (26, Answer::Declared(Some(2))),
+    (27, NOT_DECLARED_3),
 ];
 
 // So it is where the edit of page 8 fails.
-const EDIT_FAILS: [Other; 9] = [
-    (5, PAGES_FAULT),
-    (6, PAGES_FAULT),
-    (10, FIRST_ALONE),
-    (12, NOT_DECLARED_2),
-    (13, NO),
-    (14, NOT_ASKED),
-    (15, NOT_ASKED),
-    (16, NO),
-    (17, NO),
+const EDIT_FAILS: [Other; 12] = [
+    (7, PAGES_FAULT),
+    (8, PAGES_FAULT),
+    (12, FIRST_ALONE),
+    (14, NOT_DECLARED_2),
+    (15, NO),
+    (16, NOT_ASKED),
+    (17, NOT_ASKED),
+    (18, NO),
+    (19, NO),
+    (23, Answer::Pair(1, 1)),
+    (26, Answer::Declared(Some(2))),
+    (27, NOT_DECLARED_3),
 ];
 
-const PEEK_FAILS: [Other; 1] = [(8, PAGES_FAULT)];
+const PEEK_FAILS: [Other; 1] = [(10, PAGES_FAULT)];
 
 // A page is not written back, which closes the transaction.
-const FIRST_WRITE_FAILS: [Other; 5] = [
-    (16, PAGES_FAULT),
-    (17, PAGES_STOPPED),
-    (18, PAGES_STOPPED),
+const FIRST_WRITE_FAILS: [Other; 9] = [
+    (18, PAGES_FAULT),
     (19, PAGES_STOPPED),
-    (20, NOT_ASKED),
+    (20, PAGES_STOPPED),
+    (21, PAGES_STOPPED),
+    (22, NOT_ASKED),
+    (24, Answer::Pair(0, 2)),
+    (26, PAGES_STOPPED),
+    (27, PAGES_STOPPED),
+    (28, PAGES_STOPPED),
 ];
 
-const SECOND_WRITE_FAILS: [Other; 4] = [
-    (17, PAGES_FAULT),
-    (18, PAGES_STOPPED),
-    (19, PAGES_STOPPED),
-    (20, NOT_ASKED),
+const SECOND_WRITE_FAILS: [Other; 8] = [
+    (19, PAGES_FAULT),
+    (20, PAGES_STOPPED),
+    (21, PAGES_STOPPED),
+    (22, NOT_ASKED),
+    (24, Answer::Pair(0, 1)),
+    (26, PAGES_STOPPED),
+    (27, PAGES_STOPPED),
+    (28, PAGES_STOPPED),
 ];
 
-const SYNC_FAILS: [Other; 3] = [(18, PAGES_FAULT), (19, PAGES_STOPPED), (20, NOT_ASKED)];
+const SYNC_FAILS: [Other; 6] = [
+    (20, PAGES_FAULT),
+    (21, PAGES_STOPPED),
+    (22, NOT_ASKED),
+    (26, PAGES_STOPPED),
+    (27, PAGES_STOPPED),
+    (28, PAGES_STOPPED),
+];
+
+// What is behind the first cut: a commit that marks, and closes its transaction; a drop; and a cut for a worker.
+const THIRD_COMMIT_FAILS: [Other; 3] = [(26, LOG_FAULT), (27, LOG_STOPPED), (28, LOG_STOPPED)];
+
+const SECOND_DROP_FAILS: [Other; 2] = [(27, LOG_FAULT), (28, LOG_STOPPED)];
+
+const SECOND_CUT_FAILS: [Other; 1] = [(28, LOG_FAULT)];
 
 // What fails of the sequence.
 #[derive(Clone, Copy)]
@@ -196,13 +257,19 @@ enum Fails {
     FirstWrite,
     SecondWrite,
     Sync,
+    ThirdCommit,
+    SecondDrop,
+    SecondCut,
 }
 
 // The first line that then tells a fault, with whose it is.
 fn line(fails: Fails) -> (Who, Said) {
     match fails {
-        Fails::FirstCommit | Fails::SecondCommit => (A, Said::InDoubt(LOG, 1)),
-        Fails::Drop => (B, Said::InDoubt(LOG, 1)),
+        Fails::FirstCommit | Fails::SecondCommit | Fails::ThirdCommit => {
+            (A, Said::InDoubt(LOG, 1))
+        }
+        Fails::Drop | Fails::SecondDrop => (B, Said::InDoubt(LOG, 1)),
+        Fails::SecondCut => (FLUSHER, Said::Fault(LOG, 1, true)),
         Fails::Cut => (A, Said::Fault(LOG, 1, true)),
         Fails::Read | Fails::Edit => (A, Said::Fault(PAGES, 1, false)),
         Fails::Peek => (B, Said::Fault(Device::Maplog, 1, true)),
@@ -211,11 +278,11 @@ fn line(fails: Fails) -> (Who, Said) {
 }
 
 // A call of a device, by its kind and its number among those of its kind.
-type Failing = (Device, Call, u64);
+pub type Failing = (Device, Call, u64);
 
 // An opening is a sync and three reads of the log, and a sync of the pages. A commit is a write, a sync, a write and a
-// sync of the log; so is a drop, and a cut.
-const CASES: [(Failing, Fails); 22] = [
+// sync of the log; so is a drop, and the first cut. The second closes the other half before, by a write and a sync.
+const CASES: [(Failing, Fails); 36] = [
     ((LOG, Call::Write, 1), Fails::FirstCommit),
     ((LOG, Call::Sync, 2), Fails::FirstCommit),
     ((LOG, Call::Write, 2), Fails::FirstCommit),
@@ -232,6 +299,20 @@ const CASES: [(Failing, Fails); 22] = [
     ((LOG, Call::Sync, 8), Fails::Cut),
     ((LOG, Call::Write, 8), Fails::Cut),
     ((LOG, Call::Sync, 9), Fails::Cut),
+    ((LOG, Call::Write, 9), Fails::ThirdCommit),
+    ((LOG, Call::Sync, 10), Fails::ThirdCommit),
+    ((LOG, Call::Write, 10), Fails::ThirdCommit),
+    ((LOG, Call::Sync, 11), Fails::ThirdCommit),
+    ((LOG, Call::Write, 11), Fails::SecondDrop),
+    ((LOG, Call::Sync, 12), Fails::SecondDrop),
+    ((LOG, Call::Write, 12), Fails::SecondDrop),
+    ((LOG, Call::Sync, 13), Fails::SecondDrop),
+    ((LOG, Call::Write, 13), Fails::SecondCut),
+    ((LOG, Call::Sync, 14), Fails::SecondCut),
+    ((LOG, Call::Write, 14), Fails::SecondCut),
+    ((LOG, Call::Sync, 15), Fails::SecondCut),
+    ((LOG, Call::Write, 15), Fails::SecondCut),
+    ((LOG, Call::Sync, 16), Fails::SecondCut),
     ((PAGES, Call::Read, 1), Fails::Read),
     ((PAGES, Call::Read, 2), Fails::Edit),
     ((PAGES, Call::Read, 3), Fails::Peek),
@@ -272,11 +353,14 @@ fn failing_so(alloc: Global, rows: &[Row], fails: Fails) -> Result<Vec<Row>, Ref
         Fails::FirstWrite => with_others(alloc, rows, &FIRST_WRITE_FAILS),
         Fails::SecondWrite => with_others(alloc, rows, &SECOND_WRITE_FAILS),
         Fails::Sync => with_others(alloc, rows, &SYNC_FAILS),
+        Fails::ThirdCommit => with_others(alloc, rows, &THIRD_COMMIT_FAILS),
+        Fails::SecondDrop => with_others(alloc, rows, &SECOND_DROP_FAILS),
+        Fails::SecondCut => with_others(alloc, rows, &SECOND_CUT_FAILS),
     }
 }
 
 // These devices, of which that call fails.
-fn with_failing(alloc: Global, devices: &Pair, call: Failing) -> Result<Pair, Refusal> {
+pub fn with_failing(alloc: Global, devices: &Pair, call: Failing) -> Result<Pair, Refusal> {
     let (device, kind, number) = call;
     let calls = [(kind, number)];
     match device {
@@ -292,7 +376,7 @@ fn goes_so<D: Disk + Drop>(
     rows: &[Row],
     line: (Who, Said),
 ) -> Result<bool, Refusal> {
-    let ran = ran(alloc, devices, rows)?;
+    let ran = run_on(alloc, devices, rows)?;
     Ok(ran.wrong.is_none() && first_fault(ran.journal.as_slice()) == Some(line))
 }
 
@@ -344,7 +428,7 @@ fn calls(disk: &MemDisk) -> [u64; 3] {
 
 // What is left behind the sequence.
 fn sequence<D: Disk + Drop>(alloc: Global, devices: (D, D)) -> Result<Ran<D>, Refusal> {
-    ran(alloc, devices, &SEQUENCE)
+    run_on(alloc, devices, &SEQUENCE)
 }
 
 // Whether all was answered as it should be, and the calls of the log and of the pages.
@@ -366,49 +450,6 @@ fn calls_made(alloc: Global) -> Result<Made, Refusal> {
 
 #[test]
 fn no_call_of_a_device_is_left_out(rt: HostRuntime) -> Result<(), Fail> {
-    assert!(rt; calls_made(rt.alloc()) == Ok((true, [[3, 8, 9], [3, 2, 2]])));
-    Ok(())
-}
-
-// The calls of an opening, which is refused where one of them fails.
-const OPENINGS: [Failing; 5] = [
-    (LOG, Call::Sync, 1),
-    (LOG, Call::Read, 1),
-    (LOG, Call::Read, 2),
-    (LOG, Call::Read, 3),
-    (PAGES, Call::Sync, 1),
-];
-
-// Why these devices are not opened.
-fn refused<D: Disk + Drop>(alloc: Global, devices: (D, D)) -> Option<Refusal> {
-    open(alloc, devices.0, devices.1, &[]).err()
-}
-
-// Whether devices of which that call fails are refused for it.
-fn is_refused(alloc: Global, devices: &Pair, call: Failing) -> Result<bool, Refusal> {
-    let fault = Refusal::DiskFault {
-        device: call.0,
-        count: 1,
-    };
-    Ok(refused(alloc, with_failing(alloc, devices, call)?) == Some(fault))
-}
-
-// The first call whose fault does not refuse the opening.
-fn first_opened_of(alloc: Global, devices: &Pair) -> Result<Option<usize>, Refusal> {
-    for (place, call) in OPENINGS.iter().enumerate() {
-        if !is_refused(alloc, devices, *call)? {
-            return Ok(Some(place));
-        }
-    }
-    Ok(None)
-}
-
-fn first_opened(alloc: Global) -> Result<Option<usize>, Refusal> {
-    first_opened_of(alloc, &devices(alloc, 16, 64)?)
-}
-
-#[test]
-fn each_call_of_an_opening_fails(rt: HostRuntime) -> Result<(), Fail> {
-    assert!(rt; first_opened(rt.alloc()) == Ok(None));
+    assert!(rt; calls_made(rt.alloc()) == Ok((true, [[3, 15, 16], [3, 2, 2]])));
     Ok(())
 }

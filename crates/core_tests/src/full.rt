@@ -1,10 +1,9 @@
 //! Stores at the limits, at full size.
 
-use crate::devices::goes_so;
 use crate::lines::{Said, are_lines};
-use core_trial::devices::{A, B, C, COPIER, FLUSHER, Pair, devices, empty};
-use core_trial::{Answer, Ask, Ran, Row, run};
-use disk_mem::{Call, RamDisk};
+use core_trial::devices::{A, B, C, COPIER, FLUSHER, empty};
+use core_trial::{Answer, Ask, Ran, Row, goes_so, run};
+use disk_mem::RamDisk;
 use disk_model::Disk;
 use history::Line;
 use retro_base::{Device, Refusal, Who};
@@ -209,76 +208,6 @@ fn snapshots_go_so(alloc: Global) -> Result<(bool, (bool, bool)), Refusal> {
 #[test]
 fn three_openings_declare_65536_snapshots(rt: HostRuntime) -> Result<(), Fail> {
     assert!(rt; snapshots_go_so(rt.alloc()) == Ok((true, (true, true))));
-    Ok(())
-}
-
-const WRITTEN: [Row; 29] = [
-    BEGINS,
-    (Ask::EditAll(A, 0, 1024, 5), Answer::Done),
-    COMMITS,
-    BEGINS,
-    (Ask::EditAll(A, 1024, 2048, 5), Answer::Done),
-    COMMITS,
-    BEGINS,
-    (Ask::EditAll(A, 2048, 3072, 5), Answer::Done),
-    COMMITS,
-    BEGINS,
-    (Ask::EditAll(A, 3072, 4096, 5), Answer::Done),
-    COMMITS,
-    BEGINS,
-    (Ask::EditAll(A, 4096, 5120, 5), Answer::Done),
-    COMMITS,
-    BEGINS,
-    (Ask::EditAll(A, 5120, 6144, 5), Answer::Done),
-    COMMITS,
-    BEGINS,
-    (Ask::EditAll(A, 6144, 7168, 5), Answer::Done),
-    COMMITS,
-    BEGINS,
-    (Ask::EditAll(A, 7168, 8192, 5), Answer::Done),
-    COMMITS,
-    (Ask::Owed, Answer::Pair(0, 8192)),
-    (Ask::WriteAll(FLUSHER), Answer::Number(8192)),
-    (Ask::Settle(FLUSHER), Answer::Done),
-    (Ask::CutLog(FLUSHER), Answer::Is(true)),
-    (Ask::Owed, Answer::Pair(0, 0)),
-];
-
-// The last 4,096 pages that were read are in memory.
-const READ_AGAIN: [Row; 5] = [
-    BEGINS,
-    (Ask::ReadAll(A, 0, 8192, 5), Answer::Is(true)),
-    (Ask::ReadAll(A, 4096, 8192, 5), Answer::Is(true)),
-    (Ask::ReadAll(A, 0, 4096, 5), Answer::Is(true)),
-    COMMITS,
-];
-
-// Whether a store of 8,192 pages is written so, and what this leaves.
-fn written(alloc: Global) -> Result<(bool, Pair), Refusal> {
-    goes_so(alloc, devices(alloc, 8192, 64)?, &WRITTEN)
-}
-
-// These devices, where no call of the pages' was made yet.
-fn uncalled(alloc: Global, devices: Pair) -> Result<Pair, Refusal> {
-    let (log, pages) = devices;
-    let pages = pages.again(alloc, Vec::new(alloc), None)?;
-    Ok((log, pages))
-}
-
-// Whether it is read so, and how often the pages' device is read for that.
-fn read(alloc: Global, devices: Pair) -> Result<(bool, u64), Refusal> {
-    let (is_so, left) = goes_so(alloc, devices, &READ_AGAIN)?;
-    Ok((is_so, left.1.calls(Call::Read)))
-}
-
-fn read_again(alloc: Global) -> Result<(bool, (bool, u64)), Refusal> {
-    let (is_written, left) = written(alloc)?;
-    Ok((is_written, read(alloc, uncalled(alloc, left)?)?))
-}
-
-#[test]
-fn a_pool_of_8192_pages_keeps_4096(rt: HostRuntime) -> Result<(), Fail> {
-    assert!(rt; read_again(rt.alloc()) == Ok((true, (true, 8192 + 4096))));
     Ok(())
 }
 

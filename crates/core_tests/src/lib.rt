@@ -1,9 +1,7 @@
-//! Tests of the desk: transactions, looks, captures and drops of a small store, stores at their limits, and stores over
-//! devices that fail and stop.
+//! Tests of the desk: transactions, looks, captures and drops of a small store, stores at their limits, the pool of a
+//! large one, and stores over devices that fail and stop.
 #![tactic(auto)]
 
-#[cfg(test)]
-mod devices;
 #[cfg(test)]
 mod faults;
 #[cfg(test)]
@@ -11,7 +9,9 @@ mod full;
 #[cfg(test)]
 mod lines;
 #[cfg(test)]
-mod past;
+mod openings;
+#[cfg(test)]
+mod pool;
 #[cfg(test)]
 mod rows;
 #[cfg(test)]

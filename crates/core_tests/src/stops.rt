@@ -1,8 +1,8 @@
 //! A log that stops at each of the calls of an append, and one that is cut.
 
-use crate::devices::{crashed, goes_so, half_written, ran, stopping};
 use core_trial::devices::{A, FLUSHER, Pair, devices};
-use core_trial::{Answer, Ask, Row};
+use core_trial::failing::{crashed, half_written, stopping};
+use core_trial::{Answer, Ask, Row, goes_so, run_on};
 use disk_model::Disk;
 use retro_base::{Device, Refusal};
 use std::alloc::Global;
@@ -44,7 +44,7 @@ fn shows<D: Disk + Drop>(alloc: Global, devices: (D, D), want: Shown) -> Result<
         (Ask::Horizon, Answer::Pair(1, want.1)),
         (Ask::Owed, Answer::Pair(0, want.1)),
     ];
-    Ok(ran(alloc, devices, &rows)?.wrong.is_none())
+    Ok(run_on(alloc, devices, &rows)?.wrong.is_none())
 }
 
 // What becomes of the loose bytes.

@@ -52,6 +52,8 @@ pub enum Ask {
     Owed,
     Horizon,
     Free,
+    /// How many pages there are, and how many page images the archive holds.
+    Sizes,
     Stopped,
 }
 
@@ -296,6 +298,7 @@ fn asked<D: Disk + Drop>(
         Ask::Owed => Answer::Pair(trial.owed().0, trial.owed().1),
         Ask::Horizon => pair(trial.horizon()),
         Ask::Free => Answer::Number(trial.free()),
+        Ask::Sizes => pair(trial.sizes()),
         Ask::Stopped => Answer::Is(trial.stopped()),
     }
 }

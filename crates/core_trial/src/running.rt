@@ -1,6 +1,7 @@
 //! Tables of calls, one after the other, and what is left behind them.
 
 use crate::asking::{Answer, Row, first_wrong};
+use crate::devices::open;
 use crate::trial::Trial;
 use disk_model::Disk;
 use history::Journal;
@@ -46,4 +47,23 @@ pub fn run<D: Disk + Drop>(
         pages,
         journal,
     })
+}
+
+/// What is left behind the rows on a store of these devices.
+pub fn run_on<D: Disk + Drop>(
+    alloc: Global,
+    devices: (D, D),
+    rows: &[Row],
+) -> Result<Ran<D>, Refusal> {
+    run(alloc, open(alloc, devices.0, devices.1, &[])?, &[rows])
+}
+
+/// Whether the rows are answered so on a store of these devices, and what they leave.
+pub fn goes_so<D: Disk + Drop>(
+    alloc: Global,
+    devices: (D, D),
+    rows: &[Row],
+) -> Result<(bool, (D, D)), Refusal> {
+    let ran = run_on(alloc, devices, rows)?;
+    Ok((ran.wrong.is_none(), (ran.log, ran.pages)))
 }

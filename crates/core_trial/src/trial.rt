@@ -216,6 +216,12 @@ impl<D: Disk + Drop> Trial<D> {
         self.core.horizon()
     }
 
+    /// How many pages there are, and how many page images the archive holds.
+    pub fn sizes(&self) -> (u32, u32) {
+        let sizes = self.core.sizes();
+        (sizes.pages, sizes.capacity)
+    }
+
     /// The free bytes of the log's half.
     pub fn free(&self) -> u64 {
         self.core.free()

@@ -17,7 +17,7 @@ fn queue_of(alloc: Global, pages: &[u32]) -> Result<CopyQueue, Refusal> {
     }
     let mut queue = CopyQueue::new(alloc, 10);
     if images.len() > 100_000 {
-        return Err(Refusal::OutOfMemory);
+        return Err(Refusal::BadSizes);
     }
     queue.add(&images)?;
     Ok(queue)

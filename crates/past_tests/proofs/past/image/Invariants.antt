@@ -1,4 +1,4 @@
-use Rattle.core_tests.proofs.past.image.Given as goal
+use Rattle.past_tests.proofs.past.image.Given as goal
 
 abbrev pub ghosts-find : goal.ghosts-find
 ghosts-find g a = record { name = a.blank.name; parts = a.blank.parts }

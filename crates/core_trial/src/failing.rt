@@ -1,9 +1,7 @@
-//! Devices that fail and stop, what calls leave on them, and what a crash leaves of them.
+//! Devices that fail and stop, and what a crash leaves of them.
 
-use core_trial::devices::{Pair, open};
-use core_trial::{Ran, Row, run};
+use crate::devices::Pair;
 use disk_mem::{Call, MemDisk};
-use disk_model::Disk;
 use retro_base::Refusal;
 use std::alloc::Global;
 
@@ -60,23 +58,4 @@ pub fn half_written(alloc: Global, devices: &Pair) -> Result<Pair, Refusal> {
         half_crashed(alloc, &devices.0)?,
         half_crashed(alloc, &devices.1)?,
     ))
-}
-
-/// What is left behind the rows on a store of these devices.
-pub fn ran<D: Disk + Drop>(
-    alloc: Global,
-    devices: (D, D),
-    rows: &[Row],
-) -> Result<Ran<D>, Refusal> {
-    run(alloc, open(alloc, devices.0, devices.1, &[])?, &[rows])
-}
-
-/// Whether the rows are answered so on a store of these devices, and what they leave.
-pub fn goes_so<D: Disk + Drop>(
-    alloc: Global,
-    devices: (D, D),
-    rows: &[Row],
-) -> Result<(bool, (D, D)), Refusal> {
-    let ran = ran(alloc, devices, rows)?;
-    Ok((ran.wrong.is_none(), (ran.log, ran.pages)))
 }

@@ -1,9 +1,9 @@
 //! A page as of three snapshots, while its captures are copied to an archive, and behind a stop of the pages' device
 //! between a write and its sync.
 
-use crate::devices::{crashed, stopping};
 use archive_tests::{Trial as Vault, make};
 use core_trial::devices::{A, B, FLUSHER, Pair, devices, open};
+use core_trial::failing::{crashed, stopping};
 use core_trial::{Answer, Ask, Row, Trial, first_wrong};
 use disk_mem::RamDisk;
 use disk_model::{Disk, Sizes};
