@@ -35,8 +35,7 @@ fn sixty_bytes(alloc: Global) -> Result<Row, Refusal>
     let letters = vec![in alloc; b'x'; 49]?;
     let mut row = Seq::new(alloc);
     row.push(Value::Text(Text::new(Seq::from(letters))))?;
-    let code = row_codec::encode(alloc, 0, &row)?;
-    if code.len() == 60 {
+    if row_codec::encoded_length(&row) == 60 {
         Ok(row)
     } else {
         Err(Refusal::BadSizes)

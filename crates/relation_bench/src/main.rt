@@ -41,8 +41,11 @@ fn sixty_bytes(alloc: Global, letter: u8) -> Result<Row, Refusal>
     let letters = vec![in alloc; letter; 49]?;
     let mut row = Seq::new(alloc);
     row.push(Value::Text(Text::new(Seq::from(letters))))?;
-    row_codec::encode(alloc, 0, &row)?;
-    Ok(row)
+    if row_codec::encoded_length(&row) == 60 {
+        Ok(row)
+    } else {
+        Err(Refusal::BadSizes)
+    }
 }
 
 // Makes a table of that name with one column of texts.
