@@ -12,7 +12,7 @@ use txn_set::Ending;
 // How often each call is made.
 const ROUNDS: u32 = 100;
 
-// How often each commit is made, and how many batches are copied.
+// How often each transaction is made, and how many batches are copied.
 const FEWER: u32 = 16;
 
 /// What was done, and what is left.
@@ -56,28 +56,32 @@ fn read_clean<D: Disk + Drop>(trial: &mut Trial<D>, page: u32) -> Result<Page, R
     trial.read(A, page)
 }
 
-#[inline(never)]
-fn commit_of_1<D: Disk + Drop>(
+// Begins, edits so many of the pages that were changed, and commits.
+fn change<D: Disk + Drop>(
     alloc: Global,
     trial: &mut Trial<D>,
+    pages: u32,
 ) -> Result<Option<u32>, Refusal> {
+    trial.begin(alloc, A)?;
+    edit(trial, 0, pages)?;
     trial.commit(alloc, A, None)
 }
 
 #[inline(never)]
-fn commit_of_64<D: Disk + Drop>(
-    alloc: Global,
-    trial: &mut Trial<D>,
-) -> Result<Option<u32>, Refusal> {
-    trial.commit(alloc, A, None)
+fn change_1<D: Disk + Drop>(alloc: Global, trial: &mut Trial<D>) -> Result<Option<u32>, Refusal> {
+    change(alloc, trial, 1)
 }
 
 #[inline(never)]
-fn commit_that_captures<D: Disk + Drop>(
-    alloc: Global,
-    trial: &mut Trial<D>,
-) -> Result<Option<u32>, Refusal> {
-    trial.commit(alloc, A, None)
+fn change_64<D: Disk + Drop>(alloc: Global, trial: &mut Trial<D>) -> Result<Option<u32>, Refusal> {
+    change(alloc, trial, 64)
+}
+
+// Declares a snapshot first, so that each page is captured.
+#[inline(never)]
+fn capture_64<D: Disk + Drop>(alloc: Global, trial: &mut Trial<D>) -> Result<Option<u32>, Refusal> {
+    declare(alloc, trial, 1)?;
+    change(alloc, trial, 64)
 }
 
 #[inline(never)]
@@ -95,10 +99,10 @@ fn write_back<D: Disk + Drop>(trial: &mut Trial<D>) -> Result<bool, Refusal> {
     trial.write_back(FLUSHER)
 }
 
-// Where each changed page waits.
+// Whether each changed page waits for its capture.
 #[inline(never)]
-fn write_none<D: Disk + Drop>(trial: &mut Trial<D>) -> Result<bool, Refusal> {
-    trial.write_back(FLUSHER)
+fn waits<D: Disk + Drop>(trial: &mut Trial<D>) -> Result<bool, Refusal> {
+    Ok(!trial.write_back(FLUSHER)?)
 }
 
 fn begin_often<D: Disk + Drop>(alloc: Global, trial: &mut Trial<D>) -> Result<(), Refusal> {
@@ -137,25 +141,17 @@ fn read_often<D: Disk + Drop>(
     trial.rollback(A, Ending::Asked)
 }
 
-// The commits go to pages that were changed; those of the last kind are each behind a snapshot.
-fn commit_often<D: Disk + Drop>(alloc: Global, trial: &mut Trial<D>) -> Result<(), Refusal> {
+fn change_often<D: Disk + Drop>(alloc: Global, trial: &mut Trial<D>) -> Result<(), Refusal> {
     for _ in 0..FEWER {
-        trial.begin(alloc, A)?;
-        edit(trial, 0, 1)?;
-        commit_of_1(alloc, trial)?;
-        trial.begin(alloc, A)?;
-        edit(trial, 0, 64)?;
-        commit_of_64(alloc, trial)?;
+        change_1(alloc, trial)?;
+        change_64(alloc, trial)?;
     }
     Ok(())
 }
 
 fn capture_often<D: Disk + Drop>(alloc: Global, trial: &mut Trial<D>) -> Result<(), Refusal> {
     for _ in 0..FEWER {
-        declare(alloc, trial, 1)?;
-        trial.begin(alloc, A)?;
-        edit(trial, 0, 64)?;
-        commit_that_captures(alloc, trial)?;
+        capture_64(alloc, trial)?;
     }
     Ok(())
 }
@@ -201,8 +197,8 @@ pub fn measure<D: Disk + Drop>(
     begin_often(alloc, trial)?;
     look_often(alloc, trial, setting.snapshots)?;
     read_often(alloc, trial, setting.pages.saturating_sub(1))?;
-    let waited = !write_none(trial)?;
-    commit_often(alloc, trial)?;
+    let waited = waits(trial)?;
+    change_often(alloc, trial)?;
     capture_often(alloc, trial)?;
     let batches = copy(alloc, trial)?;
     let written = write_some(trial)?;
