@@ -8,7 +8,7 @@ ghost use Rattle.area_log.specs.Header.{HeaderCounts, IsCounting, IsHeader, IsUn
 ghost use Rattle.area_log.specs.Regions.{Counts, IsHalf, NoneCounts};
 
 use disk_model::{Disk, Failed};
-use gate_log::fault_of;
+use gate_log::{HEADER_BYTES, fault_of};
 use retro_base::{Device, OPEN_GATE, Refusal, get_u64};
 
 // What the header of a region tells.
@@ -55,7 +55,7 @@ fn read_header<D: Disk>(disk: &mut D, device: Device, place: u64) -> Result<Head
     ensures header { D.is_honest disk.old → IfOk result (IsHeader place (D.state disk.old).seen) }
     ensures reads { D.is_honest disk.old → OnlyReads D.remembers D.state D.clock disk.old disk.new }
 {
-    let mut bytes = [0; 16];
+    let mut bytes = [0; HEADER_BYTES];
     match disk.read_at(place, &mut bytes) {
         Ok(()) => Ok(Header {
             is_open: bytes[0] == OPEN_GATE,

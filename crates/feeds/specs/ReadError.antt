@@ -1,3 +1,4 @@
+-- Why a front of a source was not read.
 use Rattle.std.specs.Prelude.{ℕ, List, codes}
 use Rattle.retro_base.specs.declared.refusal.Refusal.{Refusal}
 use Rattle.retro_base.specs.declared.refusal.Refusal.TheVariants.{OutOfMemory, SourceFault}

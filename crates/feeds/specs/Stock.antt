@@ -1,3 +1,4 @@
+-- What a source or a sink in memory is to contracts.
 use Rattle.std.specs.Prelude.{ℕ, List}
 
 -- a source or a sink in memory: the bytes that are left or held, the numbers of the calls that fail, and how many

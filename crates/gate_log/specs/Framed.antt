@@ -1,3 +1,4 @@
+-- A body framed for an append: behind its length, and before a closed gate.
 use Rattle.std.specs.Prelude.{ℕ, ◌-◌, ◌≡◌, ◌<◌, ◌^◌, List, [], ◌∷◌, ◌++◌, length, take, drop}
 use Rattle.retro_base.specs.Framing.{sized}
 use Rattle.gate_log.specs.declared.framed.Framed.TheInside.{Inside}

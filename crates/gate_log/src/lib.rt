@@ -13,7 +13,7 @@ mod unread;
 pub use durable::{fault_of, put_durably, settle};
 pub use framed::{Framed, FramedBuilder};
 pub use laws::records_are_read_one_way;
-pub use log::GateLog;
+pub use log::{GateLog, HEADER_BYTES};
 pub use prepared::Prepared;
 pub use records::read_bytes;
 pub use unread::Unread;

@@ -20,6 +20,9 @@ use retro_base::{Device, OPEN_GATE, Refusal};
 use std::alloc::Global;
 use std::marker::Model;
 
+/// The bytes of a region's header, behind which its records stand.
+pub const HEADER_BYTES: usize = 16;
+
 /// A list of bodies in a region of a device: where the region is, and where in it the closed gate behind the
 /// last record stands.
 #[derive(Drop)]
@@ -119,8 +122,13 @@ impl GateLog {
         if region[0] != OPEN_GATE {
             return Ok(None);
         }
-        let (bodies, end) = read_records(alloc, device, place + 16, &region[16..])?;
-        let log = GateLog::at(device, place, size, 16 + end);
+        let (bodies, end) = read_records(
+            alloc,
+            device,
+            place + HEADER_BYTES as u64,
+            &region[HEADER_BYTES..],
+        )?;
+        let log = GateLog::at(device, place, size, HEADER_BYTES as u64 + end);
         Ok(Some((log, bodies)))
     }
 

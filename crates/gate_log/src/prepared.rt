@@ -13,7 +13,7 @@ ghost use Rattle.retro_base.specs.declared.refusal.Refusal.TheVariants.{OutOfMem
 
 use crate::durable::put_durably;
 use crate::framed::Framed;
-use crate::log::GateLog;
+use crate::log::{GateLog, HEADER_BYTES};
 use disk_model::Disk;
 use retro_base::{Device, OPEN_GATE, Refusal, put_u64};
 use std::alloc::Global;
@@ -51,7 +51,7 @@ impl Prepared {
         ensures fit { OnOk result (Fit size bodies.now) }
         ensures cause { IfErr result (IsPrepareRefusal size bodies.now) }
     {
-        let free = size - 16;
+        let free = size - HEADER_BYTES as u64;
         match bytes_needed(bodies) {
             Some(needed) if free < needed => Err(Refusal::NoRoom { needed, free }),
             _ => {

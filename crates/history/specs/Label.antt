@@ -1,3 +1,4 @@
+-- What the label of a commit may hold.
 use Rattle.std.specs.Prelude.{◌&&◌, nat_le, ℕ, Bool, List, length}
 use Rattle.std.specs.List.{list_all}
 use Rattle.retro_base.specs.declared.limits.TheConstants.{LABEL_BYTES}

@@ -1,3 +1,4 @@
+-- The versions of records, by number.
 use Rattle.std.specs.Prelude.{ℕ}
 use Rattle.history.specs.declared.log.Version.{Version}
 use Rattle.history.specs.declared.log.Version.TheVariants.{One, Two}

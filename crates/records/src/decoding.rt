@@ -1,10 +1,12 @@
 //! The log's records from their bytes.
 
 ghost use Rattle.std.specs.Prelude.{◌≡◌, ◌≤◌, ◌+◌, ◌^◌, length, IfOk, Some};
+ghost use Rattle.records.specs.declared.encoding.TheConstants.{BASE_HEAD_BYTES};
 ghost use Rattle.records.specs.declared.entry.Entry.{Entry};
 ghost use Rattle.records.specs.Entries.{page_width, entry_bytes, EntryFits};
 ghost use Rattle.records.specs.Reading.{Gives, take_number, take_label, take_declaration, take_mark, take_page, take_image, take_list, take_marks, base_from, take_base, take_commit, take_drop, take_entry, whole_entry, after_mark, after_page, after_image};
 
+use crate::encoding::BASE_HEAD_BYTES;
 use crate::entry::Entry;
 use history::{Base, Change, Label, Mark, PageImage, Version, Writes, is_label};
 use retro_base::{EDITED_PAGES, PAGE_BYTES, Page, get_u16, get_u32, get_u64};
@@ -264,26 +266,39 @@ fn images_of(
     Ok((images, rest))
 }
 
-// A base whose version is right. Its fields stand at fixed places: the sizes at 3 and 7, the changes at 11, the
-// captures at 19, the oldest and the newest snapshot at 27 and 31, how many pages are captured at 35, and from
-// 39 on the snapshots and these pages.
+// The places of a base's fields, behind which the snapshots and the captured pages stand.
+const PAGE_COUNT: usize = 3;
+
+const CAPACITY: usize = 7;
+
+const CHANGES: usize = 11;
+
+const CAPTURES: usize = 19;
+
+const OLDEST: usize = 27;
+
+const NEWEST: usize = 31;
+
+const CAPTURED_COUNT: usize = 35;
+
+// A base whose version is right.
 #[tactic(auto, unfolding(crate::specs::Reading::base_from))]
 fn base_behind_head(
     alloc: Global,
     version: Version,
     bytes: &[u8],
 ) -> Result<(Base, &[u8]), DecodeError>
-    requires { 39 ≤ length bytes.now }
+    requires { BASE_HEAD_BYTES ≤ length bytes.now }
     ensures { Gives (λ x. (x.0, x.1.now)) result (base_from version bytes.now) }
 {
-    let (_, rest) = bytes.split_at(39);
-    let (marks, rest) = marks_between(alloc, get_u32(bytes, 27), get_u32(bytes, 31), rest)?;
-    let (captured, rest) = pages_of(alloc, version, get_u32(bytes, 35), rest)?;
+    let (_, rest) = bytes.split_at(BASE_HEAD_BYTES);
+    let (marks, rest) = marks_between(alloc, get_u32(bytes, OLDEST), get_u32(bytes, NEWEST), rest)?;
+    let (captured, rest) = pages_of(alloc, version, get_u32(bytes, CAPTURED_COUNT), rest)?;
     let base = Base {
-        page_count: get_u32(bytes, 3),
-        capacity: get_u32(bytes, 7),
-        changes: get_u64(bytes, 11),
-        captures: get_u64(bytes, 19),
+        page_count: get_u32(bytes, PAGE_COUNT),
+        capacity: get_u32(bytes, CAPACITY),
+        changes: get_u64(bytes, CHANGES),
+        captures: get_u64(bytes, CAPTURES),
         marks,
         captured,
     };
@@ -294,7 +309,7 @@ fn base_behind_head(
 fn base_of(alloc: Global, version: Version, bytes: &[u8]) -> Result<(Base, &[u8]), DecodeError>
     ensures { Gives (λ x. (x.0, x.1.now)) result (take_base version bytes.now) }
 {
-    if bytes.len() < 39 || get_u16(bytes, 1) != version.number() {
+    if bytes.len() < BASE_HEAD_BYTES || get_u16(bytes, 1) != version.number() {
         return Err(DecodeError::Malformed);
     }
     base_behind_head(alloc, version, bytes)

@@ -15,7 +15,12 @@ use history::{Base, Change, Label, Mark, PageImage, Version, Writes, newest, old
 use retro_base::{LABEL_BYTES, PAGE_BYTES, Refusal};
 use std::alloc::Global;
 
-// The most bytes of a snapshot, and of a page image with its page.
+// The bytes of a base before its snapshots.
+pub(crate) const BASE_HEAD_BYTES: usize = 39;
+
+// The most bytes of a commit before its page images, of a snapshot, and of a page image with its page.
+const COMMIT_HEAD_BYTES: usize = 5 + LABEL_BYTES;
+
 const MARK_BYTES: usize = 9 + LABEL_BYTES;
 
 const WRITE_BYTES: usize = 4 + PAGE_BYTES;
@@ -148,7 +153,7 @@ pub fn encode_base(alloc: Global, version: Version, base: &Base) -> Result<Frame
 {
     let marks = base.marks.as_slice();
     let captured = base.captured.as_slice();
-    let room = 39 + MARK_BYTES * marks.len() + 4 * captured.len();
+    let room = BASE_HEAD_BYTES + MARK_BYTES * marks.len() + 4 * captured.len();
     let mut out = FramedBuilder::with_capacity(alloc, room)?;
     put_sizes(version, base, &mut out)?;
     put_counts(base, &mut out)?;
@@ -168,7 +173,10 @@ fn encode_commit(
     ensures memory { IfErr result (λ why. why ≡ OutOfMemory) }
 {
     let images = writes.images();
-    let mut out = FramedBuilder::with_capacity(alloc, 69 + WRITE_BYTES * images.len())?;
+    let mut out = FramedBuilder::with_capacity(
+        alloc,
+        COMMIT_HEAD_BYTES + WRITE_BYTES * images.len(),
+    )?;
     out.push(2)?;
     put_declaration(label, &mut out)?;
     out.put_u16(images.len() as u16)?;

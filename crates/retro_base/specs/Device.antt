@@ -1,3 +1,4 @@
+-- The devices by name.
 use Rattle.std.specs.Prelude.{ℕ, List, codes}
 use Rattle.retro_base.specs.declared.device.Device.{Device}
 use Rattle.retro_base.specs.declared.device.Device.TheVariants.{Log, Pages, Pagelog, Maplog, Cabinet}

@@ -1,3 +1,4 @@
+-- Numbers as bytes.
 use Rattle.std.specs.Prelude.{ℕ, List, drop}
 use Rattle.byteorder.specs.Endian.{big_number, big_bytes}
 

@@ -7,6 +7,9 @@ ghost use Rattle.script.specs.Name.{is_name_byte, is_session_name, IsSessionName
 use std::marker::Model;
 use values::Seq;
 
+// The most bytes of a session's name.
+const SESSION_NAME_BYTES: usize = 16;
+
 /// The name of a session: 1 to 16 lower-case letters and digits, neither `copier` nor `flusher`.
 /// Contracts see the bytes.
 #[derive(Debug, Drop)]
@@ -48,7 +51,7 @@ pub fn is_session_name(bytes: &[u8]) -> bool
     ensures { result ≡ is_session_name bytes.now }
 {
     bytes.len() >= 1
-        && bytes.len() <= 16
+        && bytes.len() <= SESSION_NAME_BYTES
         && all_name_bytes(bytes)
         && bytes != b"copier".as_slice()
         && bytes != b"flusher".as_slice()

@@ -1,3 +1,4 @@
+-- A list of parts, as contracts see it.
 use Rattle.std.specs.Prelude.{List}
 use Rattle.std.specs.Coded.{Coded, coded_list}
 use Rattle.sql_parts.specs.contracts.part.Part as the_part

@@ -1,3 +1,4 @@
+-- An integer narrowed to 64 bits is itself where it fits, and none where it does not.
 use Rattle.std.proofs.Common.{◌≡◌, ◌^◌, ℤ, pos, negsuc, Bool, true, false, Option, Some, None, refl, ap, if◌then◌else◌, nat_lt}
 use Rattle.std.specs.Prelude.{FitsSigned}
 use Rattle.std.specs.Int.{w64}

@@ -1,3 +1,4 @@
+-- What a text may hold.
 use Rattle.std.specs.Prelude.{◌≤◌, ℕ, List, length}
 use Rattle.std.specs.List.{AllByRecursion}
 

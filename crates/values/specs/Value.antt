@@ -1,3 +1,4 @@
+-- The kinds of values, and their order.
 use Rattle.std.specs.Prelude.{ℕ, List}
 use Rattle.std.specs.Fmt.{signed_decimal}
 use Rattle.std.specs.Cmp.Lexicographic.{slice_cmp}
