@@ -24,15 +24,18 @@ module _ (L : Language) (items : Who → Option L.Item) (ground : Ground) where
   abbrev pub with_tables : World L.Tables → Opening L
   with_tables tables = record { opened = ground; tables = tables }
 
-  -- Whatever tables the pages held up to there, the line keeps the rules over them, and the pages hold the tables behind it too.
+  -- Whatever tables the pages held up to there, the line keeps the rules over them, and the pages hold the tables
+  -- behind it too.
   abbrev pub Fits : List Line → Line → Type 0
   Fits before line = (tables : World L.Tables) → ShowsAlong L items ground.pages tables before →
-      Shows L (page_world ground.pages (before ++ line ∷ [])) (world L items tables (before ++ line ∷ [])) × KeepsRules L items (with_tables tables) before line
+      Shows L (page_world ground.pages (before ++ line ∷ [])) (world L items tables (before ++ line ∷ []))
+      × KeepsRules L items (with_tables tables) before line
 
   -- each line of this session among these fits what stands before it
   abbrev pub OwnFit : ℕ → List Line → List Line → Type 0
   OwnFit session before [] = Unit {0}
-  OwnFit session before (line ∷ lines) = (line.who.session ≡ session → Fits before line) × OwnFit session (before ++ line ∷ []) lines
+  OwnFit session before (line ∷ lines) =
+      (line.who.session ≡ session → Fits before line) × OwnFit session (before ++ line ∷ []) lines
 
   -- each session has seen a front with all its lines; these fit, and they are those of a run
   pub record SessionFits (session : ℕ) (journal : List Line) : Type 0 where

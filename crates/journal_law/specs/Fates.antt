@@ -53,7 +53,8 @@ module _ (L : Language) where
   -- rollback's those over the tables with which its attempt began, a look's those of its query in the world in which it
   -- looked.
   abbrev pub reply_at : L.Item → Fate L.Tables → What → List ℕ
-  reply_at item f (Done label writes) = L.replies item f.now.current ++ (L.words item).committed (newest f.now + 1) label
+  reply_at item f (Done label writes) =
+      L.replies item f.now.current ++ (L.words item).committed (newest f.now + 1) label
   reply_at item f RolledBack = L.replies item (began_at f).current ++ (L.words item).rolled_back
   reply_at item f Unlooked = answer_text item (answer L item (began_at f))
   reply_at item f (Dropped below) = (L.words item).dropped below
@@ -71,4 +72,5 @@ module _ (L : Language) where
   -- reply.
   abbrev pub IsReply : (Who → Option L.Item) → World Pages → Who → L.Item → List Line → List ℕ → Type 0
   IsReply items pages who item front text =
-      (tables : World L.Tables) → ShowsAlong L items pages tables front → text ≡ reply item (fate items who tables front)
+      (tables : World L.Tables) → ShowsAlong L items pages tables front
+      → text ≡ reply item (fate items who tables front)

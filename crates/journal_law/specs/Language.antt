@@ -1,4 +1,5 @@
--- What the law of the journal takes from the language of the items: which tables pages hold, and what an item does to tables and tells of them.
+-- What the law of the journal takes from the language of the items: which tables pages hold, and what an item does to
+-- tables and tells of them.
 use Rattle.std.specs.Prelude.{ℕ, Bool, List, Option, Some, None, Result}
 use Rattle.retro_base.specs.Gives.{◌>>=◌}
 use Rattle.retro_base.specs.declared.refusal.Refusal.{Refusal}
@@ -10,7 +11,8 @@ pub data End : Type 0 where
   Commit : Option (List ℕ) → End
   Rollback : End
 
--- What an item does to the journal: a transaction, a look at one snapshot or at all, a drop of the snapshots below a number, or nothing, as a line that the grammar refuses.
+-- What an item does to the journal: a transaction, a look at one snapshot or at all, a drop of the snapshots below a
+-- number, or nothing, as a line that the grammar refuses.
 pub data Kind : Type 0 where
   Transaction : End → Kind
   AsOf : ℕ → Kind

@@ -74,7 +74,9 @@ PhasesRise (line ∷ lines) = AllByRecursion (λ (later : Line). line.who.phase 
 -- in a phase the items of these lines come one after the other
 abbrev pub ItemsRise : List Line → Type 0
 ItemsRise [] = Unit {0}
-ItemsRise (line ∷ lines) = AllByRecursion (λ (later : Line). line.who.phase ≡ later.who.phase → line.who.item ≤ later.who.item) lines × ItemsRise lines
+ItemsRise (line ∷ lines) =
+    AllByRecursion (λ (later : Line). line.who.phase ≡ later.who.phase → line.who.item ≤ later.who.item) lines
+    × ItemsRise lines
 
 -- a worker of the store, or main
 abbrev pub IsWorker : Who → Type 0
@@ -88,11 +90,14 @@ IsFault what = ⊥
 abbrev pub IsKnown : {I : Type 0} → Who → Option I → What → Type 0
 IsKnown who one what = (is_some one ≡ true) ⊎ (IsWorker who × IsFault what)
 
--- The lines of each item of a session are those of a run, and behind an item that was cut short the session has no further line in its phase.
+-- The lines of each item of a session are those of a run, and behind an item that was cut short the session has no
+-- further line in its phase.
 pub record HasRuns (L : Language) (items : Who → Option L.Item) (session : ℕ) (lines : List Line) : Type 0 where
   pub order : ItemsRise (lines_of session lines)
-  pub runs : (who : Who) (item : L.Item) → who.session ≡ session → items who ≡ Some item → IsRun (L.kind item) (own who lines)
-  pub cut : (who later : Who) (item : L.Item) → who.session ≡ session → items who ≡ Some item → IsCut (L.kind item) (own who lines)
+  pub runs : (who : Who) (item : L.Item) → who.session ≡ session → items who ≡ Some item
+      → IsRun (L.kind item) (own who lines)
+  pub cut : (who later : Who) (item : L.Item) → who.session ≡ session → items who ≡ Some item
+      → IsCut (L.kind item) (own who lines)
       → later.phase ≡ who.phase → later.session ≡ session → who.item < later.item → own later lines ≡ []
 
 pub record HasShape (L : Language) (items : Who → Option L.Item) (journal : List Line) : Type 0 where
@@ -163,7 +168,8 @@ pub record IsLeastPin (pins : List Pin) (below snapshot session : ℕ) : Type 0 
   pub front : List Pin
   pub more : List Pin
   pub among : pins ≡ front ++ record { who = who; snapshot = snapshot } ∷ more
-  pub least : AllByRecursion (λ (pin : Pin). (snapshot < pin.snapshot) ⊎ ((snapshot ≡ pin.snapshot) × (session ≤ pin.who.session))) pins
+  pub least : AllByRecursion
+      (λ (pin : Pin). (snapshot < pin.snapshot) ⊎ ((snapshot ≡ pin.snapshot) × (session ≤ pin.who.session))) pins
 
 -- what stands before a drop: the first fault that stopped the store, the latest snapshot, and the pins
 pub record AtDrop : Type 0 where
@@ -180,7 +186,8 @@ abbrev pub DropRefused : AtDrop → ℕ → Refusal → Type 0
 DropRefused at below why =
     ((stop : Stop) × (at.stop ≡ Some stop) × (why ≡ Stopped stop.device stop.count))
     ⊎ ((at.stop ≡ None) × IsNone below at.newest × (why ≡ NoSuchSnapshot below at.newest))
-    ⊎ ((at.stop ≡ None) × (1 ≤ below) × (below ≤ at.newest) × ((snapshot : ℕ) × (session : ℕ) × IsLeastPin at.pins below snapshot session × (why ≡ Pinned snapshot session)))
+    ⊎ ((at.stop ≡ None) × (1 ≤ below) × (below ≤ at.newest)
+    × ((snapshot : ℕ) × (session : ℕ) × IsLeastPin at.pins below snapshot session × (why ≡ Pinned snapshot session)))
 
 -- a drop is done where none of these holds
 pub record MayDrop (at : AtDrop) (below : ℕ) : Type 0 where
@@ -208,7 +215,8 @@ RefusedAlone now at why (Some OverAll) false = ⊥
 RefusedAlone now at why (Some (DropBelow below)) looking = DropRefused at below why
 RefusedAlone now at why kind looking = Unit {0}
 
--- A look begins at the snapshot that is asked, which is retained, and is refused alone only with the refusal of its number; a drop is done or refused as it must be.
+-- A look begins at the snapshot that is asked, which is retained, and is refused alone only with the refusal of its
+-- number; a drop is done or refused as it must be.
 abbrev pub SnapshotAt : {X : Type 0} → World X → AtDrop → Option Kind → Bool → What → Type 0
 SnapshotAt now at kind looking (Looked number) = LooksAt now number kind
 SnapshotAt now at kind looking LookedAll = LooksAtAll kind
@@ -223,20 +231,25 @@ pub record ArchiveNeeds (base : Base) (label : Option (List ℕ)) (writes : List
   pub ever_is : ever ≡ (base_after base (change.Commit label writes)).captures
   pub kept_is : kept ≡ ever - oldest_start (base_after base (change.Commit label writes)).marks
 
--- A commit of these writes is refused there by a limit: page images of the journal; snapshots, of which no more are retained or numbered; captures, of which the archive holds no more, or else a store has no more over all its runs.
+-- A commit of these writes is refused there by a limit: page images of the journal; snapshots, of which no more are
+-- retained or numbered; captures, of which the archive holds no more, or else a store has no more over all its runs.
 abbrev pub IsCommitRefused : Base → List Line → Option (List ℕ) → List PageImage → Refusal → Type 0
 IsCommitRefused base lines label writes (JournalFull count images) =
     (count ≡ length lines) × (images ≡ images_in lines + length writes) × (JOURNAL_IMAGES < images)
 IsCommitRefused base lines label writes (SnapshotsFull retained) =
-    (is_some label ≡ true) × (retained ≡ length base.marks) × ((RETAINED_SNAPSHOTS ≤ retained) ⊎ (2 ^ 32 - 1 ≤ newest_mark base.marks))
+    (is_some label ≡ true) × (retained ≡ length base.marks)
+    × ((RETAINED_SNAPSHOTS ≤ retained) ⊎ (2 ^ 32 - 1 ≤ newest_mark base.marks))
 IsCommitRefused base lines label writes (ArchiveFull needed room) =
     (kept : ℕ) × (ever : ℕ) × ArchiveNeeds base label writes kept ever
-    × (((needed ≡ kept) × (room ≡ base.capacity) × (room < needed)) ⊎ ((kept ≤ base.capacity) × (needed ≡ ever) × (room ≡ MAX_CAPTURES) × (room < needed)))
+    × (((needed ≡ kept) × (room ≡ base.capacity) × (room < needed))
+    ⊎ ((kept ≤ base.capacity) × (needed ≡ ever) × (room ≡ MAX_CAPTURES) × (room < needed)))
 IsCommitRefused base lines label writes why = ⊥
 
 module _ (L : Language) where
-  -- a commit of the item would be refused so at some place since this attempt's Began, for writes of pages that its statements may edit
-  pub record MeetsLimit (ground : Ground) (who : Who) (before : List Line) (item : L.Item) (label : Option (List ℕ)) (why : Refusal) : Type 0 where
+  -- a commit of the item would be refused so at some place since this attempt's Began, for writes of pages that its
+  -- statements may edit
+  pub record MeetsLimit (ground : Ground) (who : Who) (before : List Line) (item : L.Item) (label : Option (List ℕ))
+      (why : Refusal) : Type 0 where
     pub since : List Line
     pub rest : List Line
     pub began : SinceBegan who before since rest
@@ -246,7 +259,8 @@ module _ (L : Language) where
     pub writes : List PageImage
     pub rise : IsTrue (rises 0 (pages_of writes))
     pub reached : AllByRecursion (L.Reaches item (page_world ground.pages since).current) (pages_of writes)
-    pub refused : IsCommitRefused (base_of ground.base ((since ++ line who Began ∷ []) ++ front)) ((since ++ line who Began ∷ []) ++ front) label writes why
+    pub refused : IsCommitRefused (base_of ground.base ((since ++ line who Began ∷ []) ++ front))
+        ((since ++ line who Began ∷ []) ++ front) label writes why
 
   -- from the pages at this attempt's Began a statement needs more pages than are free
   pub record LacksPages (ground : Ground) (who : Who) (before : List Line) (item : L.Item) : Type 0 where
@@ -272,12 +286,18 @@ module _ (L : Language) where
   -- an attempt of a transaction that ends so is refused only for a limit that it met
   abbrev pub IsLimit : Ground → Who → List Line → L.Item → End → Refusal → Type 0
   IsLimit ground who before item end OutOfMemory = Unit {0}
-  IsLimit ground who before item (Commit label) (ArchiveFull needed room) = MeetsLimit ground who before item label (ArchiveFull needed room)
-  IsLimit ground who before item (Commit label) (JournalFull lines images) = MeetsLimit ground who before item label (JournalFull lines images)
-  IsLimit ground who before item (Commit label) (SnapshotsFull retained) = MeetsLimit ground who before item label (SnapshotsFull retained)
-  IsLimit ground who before item end (PagesFull pages) = (pages ≡ ground.base.page_count) × LacksPages ground who before item
-  IsLimit ground who before item end (TooManyPages needed) = (needed ≡ EDITED_PAGES + 1) × ReachesTooMany ground who before item
-  IsLimit ground who before item (Commit label) (Stopped device count) = (first_stop before ≡ Some (record { device = device; count = count })) × CommitsSomething item label
+  IsLimit ground who before item (Commit label) (ArchiveFull needed room) =
+      MeetsLimit ground who before item label (ArchiveFull needed room)
+  IsLimit ground who before item (Commit label) (JournalFull lines images) =
+      MeetsLimit ground who before item label (JournalFull lines images)
+  IsLimit ground who before item (Commit label) (SnapshotsFull retained) =
+      MeetsLimit ground who before item label (SnapshotsFull retained)
+  IsLimit ground who before item end (PagesFull pages) =
+      (pages ≡ ground.base.page_count) × LacksPages ground who before item
+  IsLimit ground who before item end (TooManyPages needed) =
+      (needed ≡ EDITED_PAGES + 1) × ReachesTooMany ground who before item
+  IsLimit ground who before item (Commit label) (Stopped device count) =
+      (first_stop before ≡ Some (record { device = device; count = count })) × CommitsSomething item label
   IsLimit ground who before item end why = ⊥
 
   abbrev pub limit_by : Ground → Who → List Line → L.Item → Refusal → Kind → Type 0
@@ -315,7 +335,8 @@ module _ (L : Language) where
   unanswered_by item why OverAll looking looked = UnansweredIn item why looking looked
   unanswered_by item why kind looking looked = Unit {0}
 
-  -- a look that has begun ends with its answer only where there is one, and refused only with its refusal, or for want of memory
+  -- a look that has begun ends with its answer only where there is one, and refused only with its refusal, or for want
+  -- of memory
   abbrev pub query_end : L.Item → Kind → Option (World L.Tables) → Bool → What → Type 0
   query_end item kind looked looking Unlooked = answered_by item kind looking looked
   query_end item kind looked looking (Refused why) = unanswered_by item why kind looking looked
@@ -328,7 +349,8 @@ module _ (L : Language) where
 
 -- ---- faults
 
--- after the first fault that wrote nothing more is written: no commit that writes or declares, and no drop that raises the oldest snapshot
+-- after the first fault that wrote nothing more is written: no commit that writes or declares, and no drop that raises
+-- the oldest snapshot
 abbrev pub WritesNothing : ℕ → What → Type 0
 WritesNothing oldest (Done None []) = Unit {0}
 WritesNothing oldest (Done label writes) = ⊥
@@ -337,7 +359,8 @@ WritesNothing oldest what = Unit {0}
 
 -- the fault's count is above the device's at the opening, and a look's fault did not write
 abbrev pub FaultIsNew : (Device → ℕ) → Bool → What → Type 0
-FaultIsNew faults looking (Fault device count call) = (count < 2 ^ 64 - 1 → faults device < count) × (looking ≡ true → is_write call ≡ false)
+FaultIsNew faults looking (Fault device count call) =
+    (count < 2 ^ 64 - 1 → faults device < count) × (looking ≡ true → is_write call ≡ false)
 FaultIsNew faults looking what = Unit {0}
 
 pub record FaultAt (faults : Device → ℕ) (oldest : ℕ) (stop : Option Stop) (looking : Bool) (what : What) : Type 0 where
@@ -355,9 +378,11 @@ IsCounted faults line = CountedBy faults line.what
 -- ---- doubt
 
 module _ (L : Language) where
-  -- A change that is in doubt is the item's own: a commit with its label, whose writes make of these pages such as hold the tables behind its statements; or its drop, which may be.
+  -- A change that is in doubt is the item's own: a commit with its label, whose writes make of these pages such as hold
+  -- the tables behind its statements; or its drop, which may be.
   abbrev pub IsOwnChange : Pages → AtDrop → L.Tables → L.Item → Kind → Change → Type 0
-  IsOwnChange pages at tables item (Transaction (Commit given)) (change.Commit label writes) = (label ≡ given) × L.IsStored (written pages writes) (L.after item tables)
+  IsOwnChange pages at tables item (Transaction (Commit given)) (change.Commit label writes) =
+      (label ≡ given) × L.IsStored (written pages writes) (L.after item tables)
   IsOwnChange pages at tables item (DropBelow below) (change.Drop number) = (number ≡ below) × MayDrop at below
   IsOwnChange pages at tables item kind other = ⊥
 
@@ -387,7 +412,8 @@ at_drop pages now lines = record { stop = first_stop lines; newest = newest now;
 
 module _ (L : Language) (items : Who → Option L.Item) where
   -- the rules of one line behind others, given its item and the world at its place
-  pub record RulesAt (o : Opening L) (before : List Line) (who : Who) (one : Option L.Item) (now : World L.Tables) (what : What) : Type 0 where
+  pub record RulesAt (o : Opening L) (before : List Line) (who : Who) (one : Option L.Item) (now : World L.Tables)
+      (what : What) : Type 0 where
     pub known : IsKnown who one what
     pub ending : IsEnding (kind_of L one) what
     pub query : QueryAt L one (began_of (fate L items who o.tables before)) (is_looking who before) what
@@ -395,7 +421,8 @@ module _ (L : Language) (items : Who → Option L.Item) where
     pub snapshot : SnapshotAt now (at_drop o.opened.pages now before) (kind_of L one) (is_looking who before) what
     pub limit : LimitAt L o.opened who before one what
     pub fault : FaultAt o.opened.faults (oldest_of now.marks) (first_stop before) (is_looking who before) what
-    pub doubt : DoubtAt L (page_world o.opened.pages before).current (at_drop o.opened.pages now before) now.current one what
+    pub doubt : DoubtAt L (page_world o.opened.pages before).current
+        (at_drop o.opened.pages now before) now.current one what
     pub memory : MemoryAt (is_trying who before || is_looking who before) what
 
   abbrev pub KeepsRules : Opening L → List Line → Line → Type 0
@@ -405,7 +432,9 @@ module _ (L : Language) (items : Who → Option L.Item) where
   abbrev pub AtEach : (List Line → Line → Type 0) → List Line → Type 0
   AtEach Rule journal = (before after : List Line) (line : Line) → journal ≡ before ++ line ∷ after → Rule before line
 
-  -- A journal that a run of these items may leave, from this opening on, where the devices have counted so many faults at its end. The rules are those of shape, ends, queries, overlaps, snapshots, limits, faults with what they leave in doubt, and memory.
+  -- A journal that a run of these items may leave, from this opening on, where the devices have counted so many faults
+  -- at its end. The rules are those of shape, ends, queries, overlaps, snapshots, limits, faults with what they leave
+  -- in doubt, and memory.
   pub record Lawful (o : Opening L) (ending : Device → ℕ) (journal : List Line) : Type 0 where
     pub shape : HasShape L items journal
     pub at_each : AtEach (KeepsRules o) journal

@@ -40,12 +40,15 @@ IsAbove ground device count = count < 2 ^ 64 - 1 → ground.faults device < coun
 
 -- the answer of a look in whatever tables the pages held at its line
 abbrev pub Answers : (L : Language) → Ground → L.Item → List Line → Result (List ℕ) Refusal → Type 0
-Answers L ground item since answered = (w : World L.Tables) → Shows L (page_world ground.pages since) w → answer L item w ≡ answered
+Answers L ground item since answered = (w : World L.Tables) → Shows L (page_world ground.pages since) w
+    → answer L item w ≡ answered
 
--- What a failed call leaves in doubt of a transaction that ends so, whatever tables the pages hold: its own commit, or nothing.
+-- What a failed call leaves in doubt of a transaction that ends so, whatever tables the pages hold: its own commit, or
+-- nothing.
 abbrev pub LeavesCommit : (L : Language) → Pages → L.Item → End → FailedCall → Type 0
 LeavesCommit L pages item (Commit given) (Append (change.Commit label writes)) =
-    (label ≡ given) × ((tables : L.Tables) → L.IsStored pages tables → L.IsStored (written pages writes) (L.after item tables))
+    (label ≡ given)
+    × ((tables : L.Tables) → L.IsStored pages tables → L.IsStored (written pages writes) (L.after item tables))
 LeavesCommit L pages item end (Append change) = ⊥
 LeavesCommit L pages item end call = Unit {0}
 
@@ -61,59 +64,103 @@ LeavesNone call = Unit {0}
 
 -- for each item and each place
 abbrev pub AtEachItem : (L : Language) → ((Who → Option L.Item) → Ground → List Line → Who → L.Item → Type 0) → Type 0
-AtEachItem L P = (items : Who → Option L.Item) (ground : Ground) (before : List Line) (who : Who) (item : L.Item) → items who ≡ Some item → P items ground before who item
+AtEachItem L P = (items : Who → Option L.Item) (ground : Ground) (before : List Line) (who : Who) (item : L.Item)
+    → items who ≡ Some item → P items ground before who item
 
 -- a transaction's lines
 pub record TransactionsFit (L : Language) : Type 0 where
-  pub began : AtEachItem L (λ items ground before who item. (end : End) → L.kind item ≡ Transaction end → Fits L items ground before (line who Began))
+  pub began : AtEachItem L
+      (λ items ground before who item. (end : End) → L.kind item ≡ Transaction end
+      → Fits L items ground before (line who Began))
   -- it names an item of another session, which has had an attempt open since its own began
-  pub overlapped : AtEachItem L (λ items ground before who item. (end : End) → L.kind item ≡ Transaction end → (session number : ℕ) →
-      IsOverlapBy who before session number → Fits L items ground before (line who (Overlapped session number)))
+  pub overlapped : AtEachItem L
+      (λ items ground before who item. (end : End) → L.kind item ≡ Transaction end → (session number : ℕ)
+      → IsOverlapBy who before session number → Fits L items ground before (line who (Overlapped session number)))
   -- it met the limit
-  pub refused : AtEachItem L (λ items ground before who item. (end : End) → L.kind item ≡ Transaction end → (since rest : List Line) → SinceLine who Began before since rest →
-      (why : Refusal) → IsLimit L ground who before item end why → Fits L items ground before (line who (Refused why)))
-  pub failed : AtEachItem L (λ items ground before who item. (end : End) → L.kind item ≡ Transaction end → (since rest : List Line) → SinceLine who Began before since rest →
-      (device : Device) (count : ℕ) (call : FailedCall) → IsAbove ground device count → LeavesCommit L (page_world ground.pages before).current item end call → Fits L items ground before (line who (Fault device count call)))
-  pub rolled_back : AtEachItem L (λ items ground before who item. L.kind item ≡ Transaction Rollback → Fits L items ground before (line who RolledBack))
-  -- the writes make of pages that hold tables pages that hold the tables behind the statements; behind a stop nothing is committed
-  pub done : AtEachItem L (λ items ground before who item. (label : Option (List ℕ)) (writes : List PageImage) → L.kind item ≡ Transaction (Commit label) →
-      ((tables : L.Tables) → L.IsStored (page_world ground.pages before).current tables → L.IsStored (written (page_world ground.pages before).current writes) (L.after item tables)) →
-      (is_some (first_stop before) ≡ true → (label ≡ None) × (writes ≡ [])) → Fits L items ground before (line who (Done label writes)))
+  pub refused : AtEachItem L
+      (λ items ground before who item. (end : End) → L.kind item ≡ Transaction end → (since rest : List Line)
+      → SinceLine who Began before since rest
+      → (why : Refusal) → IsLimit L ground who before item end why
+      → Fits L items ground before (line who (Refused why)))
+  pub failed : AtEachItem L
+      (λ items ground before who item. (end : End) → L.kind item ≡ Transaction end → (since rest : List Line)
+      → SinceLine who Began before since rest
+      → (device : Device) (count : ℕ) (call : FailedCall) → IsAbove ground device count
+      → LeavesCommit L (page_world ground.pages before).current item end call
+      → Fits L items ground before (line who (Fault device count call)))
+  pub rolled_back : AtEachItem L
+      (λ items ground before who item. L.kind item ≡ Transaction Rollback
+      → Fits L items ground before (line who RolledBack))
+  -- the writes make of pages that hold tables pages that hold the tables behind the statements; behind a stop nothing
+  -- is committed
+  pub done : AtEachItem L
+      (λ items ground before who item. (label : Option (List ℕ)) (writes : List PageImage)
+      → L.kind item ≡ Transaction (Commit label)
+      → ((tables : L.Tables) → L.IsStored (page_world ground.pages before).current tables
+      → L.IsStored (written (page_world ground.pages before).current writes) (L.after item tables))
+      → (is_some (first_stop before) ≡ true → (label ≡ None) × (writes ≡ []))
+      → Fits L items ground before (line who (Done label writes)))
 
 -- a look's lines
 pub record LooksFit (L : Language) : Type 0 where
-  pub looked : AtEachItem L (λ items ground before who item. (n : ℕ) (held : Pages) → L.kind item ≡ AsOf n → as_of n (page_world ground.pages before) ≡ Ok held → Fits L items ground before (line who (Looked n)))
-  pub looked_all : AtEachItem L (λ items ground before who item. L.kind item ≡ OverAll → Fits L items ground before (line who LookedAll))
+  pub looked : AtEachItem L
+      (λ items ground before who item. (n : ℕ) (held : Pages) → L.kind item ≡ AsOf n
+      → as_of n (page_world ground.pages before) ≡ Ok held → Fits L items ground before (line who (Looked n)))
+  pub looked_all : AtEachItem L
+      (λ items ground before who item. L.kind item ≡ OverAll → Fits L items ground before (line who LookedAll))
   -- refused alone, by its number
-  pub refused : AtEachItem L (λ items ground before who item. (n : ℕ) (why : Refusal) → L.kind item ≡ AsOf n → is_looking who before ≡ false → as_of n (page_world ground.pages before) ≡ Err why →
-      Fits L items ground before (line who (Refused why)))
+  pub refused : AtEachItem L
+      (λ items ground before who item. (n : ℕ) (why : Refusal) → L.kind item ≡ AsOf n → is_looking who before ≡ false
+      → as_of n (page_world ground.pages before) ≡ Err why
+      → Fits L items ground before (line who (Refused why)))
   -- it has an answer
-  pub unlooked : AtEachItem L (λ items ground before who item. (look : LookAt) → L.kind item ≡ kind_at look → (since rest : List Line) → SinceLine who (opened_by look) before since rest →
-      (text : List ℕ) → Answers L ground item since (Ok text) → Fits L items ground before (line who Unlooked))
+  pub unlooked : AtEachItem L
+      (λ items ground before who item. (look : LookAt) → L.kind item ≡ kind_at look → (since rest : List Line)
+      → SinceLine who (opened_by look) before since rest
+      → (text : List ℕ) → Answers L ground item since (Ok text) → Fits L items ground before (line who Unlooked))
   -- it has this refusal in place of one, or memory is wanting
-  pub unanswered : AtEachItem L (λ items ground before who item. (look : LookAt) → L.kind item ≡ kind_at look → (since rest : List Line) → SinceLine who (opened_by look) before since rest →
-      (why : Refusal) → (why ≡ OutOfMemory) ⊎ Answers L ground item since (Err why) → Fits L items ground before (line who (Refused why)))
-  pub failed : AtEachItem L (λ items ground before who item. (look : LookAt) → L.kind item ≡ kind_at look → (device : Device) (count : ℕ) → IsAbove ground device count →
-      Fits L items ground before (line who (Fault device count Read)))
+  pub unanswered : AtEachItem L
+      (λ items ground before who item. (look : LookAt) → L.kind item ≡ kind_at look → (since rest : List Line)
+      → SinceLine who (opened_by look) before since rest
+      → (why : Refusal) → (why ≡ OutOfMemory) ⊎ Answers L ground item since (Err why)
+      → Fits L items ground before (line who (Refused why)))
+  pub failed : AtEachItem L
+      (λ items ground before who item. (look : LookAt) → L.kind item ≡ kind_at look → (device : Device) (count : ℕ)
+      → IsAbove ground device count
+      → Fits L items ground before (line who (Fault device count Read)))
   -- the answer at one snapshot is that over the tables which the snapshot's pages hold
-  pub as_of : AtEachItem L (λ items ground before who item. (n : ℕ) (since : List Line) (held : Pages) (answered : Result (List ℕ) Refusal) → L.kind item ≡ AsOf n → as_of n (page_world ground.pages since) ≡ Ok held →
-      ((tables : L.Tables) → L.IsStored held tables → L.asks item tables ≡ answered) → Answers L ground item since answered)
-  pub over_all : AtEachItem L (λ items ground before who item. (since : List Line) (answered : Result (List ℕ) Refusal) → L.kind item ≡ OverAll →
-      ((w : World L.Tables) → Shows L (page_world ground.pages since) w → L.asks_all item w ≡ answered) → Answers L ground item since answered)
+  pub as_of : AtEachItem L
+      (λ items ground before who item. (n : ℕ) (since : List Line) (held : Pages) (answered : Result (List ℕ) Refusal)
+      → L.kind item ≡ AsOf n → as_of n (page_world ground.pages since) ≡ Ok held
+      → ((tables : L.Tables) → L.IsStored held tables → L.asks item tables ≡ answered)
+      → Answers L ground item since answered)
+  pub over_all : AtEachItem L
+      (λ items ground before who item. (since : List Line) (answered : Result (List ℕ) Refusal) → L.kind item ≡ OverAll
+      → ((w : World L.Tables) → Shows L (page_world ground.pages since) w → L.asks_all item w ≡ answered)
+      → Answers L ground item since answered)
 
 -- a drop's lines, by what it meets at its place
 pub record DropsFit (L : Language) : Type 0 where
-  pub dropped : AtEachItem L (λ items ground before who item. (below : ℕ) → L.kind item ≡ DropBelow below → MayDrop (at_drop ground.pages (page_world ground.pages before) before) below →
-      Fits L items ground before (line who (Dropped below)))
-  pub refused : AtEachItem L (λ items ground before who item. (below : ℕ) → L.kind item ≡ DropBelow below → (why : Refusal) → DropRefused (at_drop ground.pages (page_world ground.pages before) before) below why →
-      Fits L items ground before (line who (Refused why)))
-  pub failed : AtEachItem L (λ items ground before who item. (below : ℕ) → L.kind item ≡ DropBelow below → (device : Device) (count : ℕ) (call : FailedCall) → is_looking who before ≡ false → IsAbove ground device count →
-      LeavesDrop (at_drop ground.pages (page_world ground.pages before) before) below call → Fits L items ground before (line who (Fault device count call)))
+  pub dropped : AtEachItem L
+      (λ items ground before who item. (below : ℕ) → L.kind item ≡ DropBelow below
+      → MayDrop (at_drop ground.pages (page_world ground.pages before) before) below
+      → Fits L items ground before (line who (Dropped below)))
+  pub refused : AtEachItem L
+      (λ items ground before who item. (below : ℕ) → L.kind item ≡ DropBelow below → (why : Refusal)
+      → DropRefused (at_drop ground.pages (page_world ground.pages before) before) below why
+      → Fits L items ground before (line who (Refused why)))
+  pub failed : AtEachItem L
+      (λ items ground before who item. (below : ℕ) → L.kind item ≡ DropBelow below
+      → (device : Device) (count : ℕ) (call : FailedCall) → is_looking who before ≡ false → IsAbove ground device count
+      → LeavesDrop (at_drop ground.pages (page_world ground.pages before) before) below call
+      → Fits L items ground before (line who (Fault device count call)))
 
 -- a line of each kind fits
 pub record LinesFit (L : Language) : Type 0 where
   pub transactions : TransactionsFit L
   pub looks : LooksFit L
   pub drops : DropsFit L
-  pub workers : (items : Who → Option L.Item) (ground : Ground) (before : List Line) (who : Who) (device : Device) (count : ℕ) (call : FailedCall) →
-      items who ≡ None → IsWorker who → is_looking who before ≡ false → IsAbove ground device count → LeavesNone call → Fits L items ground before (line who (Fault device count call))
+  pub workers : (items : Who → Option L.Item) (ground : Ground) (before : List Line) (who : Who) (device : Device)
+      (count : ℕ) (call : FailedCall)
+      → items who ≡ None → IsWorker who → is_looking who before ≡ false → IsAbove ground device count → LeavesNone call
+      → Fits L items ground before (line who (Fault device count call))

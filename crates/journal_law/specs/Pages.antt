@@ -21,7 +21,8 @@ page_world opening (line ∷ lines) = page_world (page_step opening line) lines
 -- the snapshots that the looks keep which are open behind a journal
 abbrev pub pins_from : World Pages → List Pin → List Line → List Pin
 pins_from opening pins [] = pins
-pins_from opening pins (line ∷ lines) = pins_from (page_step opening line) (pins_behind opening pins line.who line.what) lines
+pins_from opening pins (line ∷ lines) =
+    pins_from (page_step opening line) (pins_behind opening pins line.who line.what) lines
 
 abbrev pub pins_of : World Pages → List Line → List Pin
 pins_of opening lines = pins_from opening [] lines

@@ -26,27 +26,38 @@ module _ (L : Language) (items : Who → Option L.Item) where
     pub mine : who.session ≡ view.session
     pub is : items who ≡ Some item
 
-  -- the statements of an item make of any pages that agree with those at the attempt's Began where it read, and hold tables, by its edits, pages that hold the tables behind them
+  -- the statements of an item make of any pages that agree with those at the attempt's Began where it read, and hold
+  -- tables, by its edits, pages that hold the tables behind them
   abbrev pub Makes : View → Attempt → L.Item → Type 0
-  Makes view a item = (pages : Pages) (tables : L.Tables) → Agree a.read pages (at_began view a) → L.IsStored pages tables → L.IsStored (written pages a.edits) (L.after item tables)
+  Makes view a item = (pages : Pages) (tables : L.Tables) → Agree a.read pages (at_began view a)
+      → L.IsStored pages tables → L.IsStored (written pages a.edits) (L.after item tables)
 
   pub record SeatsSuffice : Type 0 where
     -- others' lines leave the own ones as they were
     pub waits : (old new : View) → Moves old new [] → Sane old → Sane new
-    pub adds : (old new : View) (who : Who) (what : What) (moves : Moves old new (line who what ∷ [])) → Fits L items old.opened (lines_before old new moves) (line who what) → Sane old → Sane new
+    pub adds : (old new : View) (who : Who) (what : What) (moves : Moves old new (line who what ∷ []))
+        → Fits L items old.opened (lines_before old new moves) (line who what) → Sane old → Sane new
     -- an attempt has begun, with the lines before its Began
-    pub begin : (old new : View) (who : Who) (item : L.Item) (end : End) → IsOwn old who item → L.kind item ≡ Transaction end → BeginGives who old new (Ok tt) → Sane old →
-        Sane new × ((since : List Line) × SinceLine who Began new.front since [])
-    pub commit : (old new : View) (a : Attempt) (item : L.Item) (label : Option (List ℕ)) (number : Option ℕ) → IsOwn old a.who item → L.kind item ≡ Transaction (Commit label) →
-        Makes old a item → CommitGives label old new a (Ok number) → Sane old → Sane new
-    pub look : (old new : View) (who : Who) (item : L.Item) (n : ℕ) → IsOwn old who item → L.kind item ≡ AsOf n → LookGives who n old new (Ok tt) → Sane old →
-        Sane new × ((since : List Line) × SinceLine who (Looked n) new.front since [])
-    pub look_all : (old new : View) (who : Who) (item : L.Item) (marks : List MarkOf) → IsOwn old who item → L.kind item ≡ OverAll → LookAllGives who old new (Ok marks) → Sane old →
-        Sane new × ((since : List Line) × SinceLine who LookedAll new.front since [])
+    pub begin : (old new : View) (who : Who) (item : L.Item) (end : End) → IsOwn old who item
+        → L.kind item ≡ Transaction end → BeginGives who old new (Ok tt) → Sane old
+        → Sane new × ((since : List Line) × SinceLine who Began new.front since [])
+    pub commit : (old new : View) (a : Attempt) (item : L.Item) (label : Option (List ℕ)) (number : Option ℕ)
+        → IsOwn old a.who item → L.kind item ≡ Transaction (Commit label)
+        → Makes old a item → CommitGives label old new a (Ok number) → Sane old → Sane new
+    pub look : (old new : View) (who : Who) (item : L.Item) (n : ℕ) → IsOwn old who item → L.kind item ≡ AsOf n
+        → LookGives who n old new (Ok tt) → Sane old
+        → Sane new × ((since : List Line) × SinceLine who (Looked n) new.front since [])
+    pub look_all : (old new : View) (who : Who) (item : L.Item) (marks : List MarkOf) → IsOwn old who item
+        → L.kind item ≡ OverAll → LookAllGives who old new (Ok marks) → Sane old
+        → Sane new × ((since : List Line) × SinceLine who LookedAll new.front since [])
     -- a look ends with its answer
-    pub unlook : (old new : View) (l : Look) (item : L.Item) (look : LookAt) (since rest : List Line) (text : List ℕ) → IsOwn old l.who item → L.kind item ≡ kind_at look →
-        SinceLine l.who (opened_by look) old.front since rest → Answers L old.opened item since (Ok text) → UnlookGives ending.Asked old new l → Sane old → Sane new
-    pub drop : (old new : View) (who : Who) (item : L.Item) (below : ℕ) → IsOwn old who item → L.kind item ≡ DropBelow below → DropGives who below old new (Ok tt) → Sane old → Sane new
+    pub unlook : (old new : View) (l : Look) (item : L.Item) (look : LookAt) (since rest : List Line) (text : List ℕ)
+        → IsOwn old l.who item → L.kind item ≡ kind_at look
+        → SinceLine l.who (opened_by look) old.front since rest → Answers L old.opened item since (Ok text)
+        → UnlookGives ending.Asked old new l → Sane old → Sane new
+    pub drop : (old new : View) (who : Who) (item : L.Item) (below : ℕ) → IsOwn old who item
+        → L.kind item ≡ DropBelow below → DropGives who below old new (Ok tt) → Sane old → Sane new
     -- what a commit met stays a limit that the attempt met
-    pub limit : (ground : Ground) (who : Who) (item : L.Item) (label : Option (List ℕ)) (why : Refusal) (front more : List Line) → MeetsLimit L ground who front item label why → own who more ≡ [] →
-        MeetsLimit L ground who (front ++ more) item label why
+    pub limit : (ground : Ground) (who : Who) (item : L.Item) (label : Option (List ℕ)) (why : Refusal)
+        (front more : List Line) → MeetsLimit L ground who front item label why → own who more ≡ []
+        → MeetsLimit L ground who (front ++ more) item label why

@@ -1,4 +1,5 @@
--- The store as one seat sees it: what it has seen of the journal, and the transaction or look that it has open. Between two calls other sessions may have added lines.
+-- The store as one seat sees it: what it has seen of the journal, and the transaction or look that it has open. Between
+-- two calls other sessions may have added lines.
 use Rattle.std.specs.Prelude.{◌≡◌, ◌⊎◌, ◌<◌, ◌+◌, ◌-◌, ◌^◌, ◌++◌, ℕ, Bool, true, false, List, [], ◌∷◌, length, map, Option, Some, None, is_some, Result, Ok, Err, IsTrue, Contains}
 use Rattle.retro_base.specs.declared.device.Device.{Device}
 use Rattle.retro_base.specs.declared.limits.TheConstants.{EDITED_PAGES, JOURNAL_LINES, WORKER_LINES}
@@ -24,7 +25,8 @@ use Rattle.journal_law.specs.declared.seat.Ending.{Ending}
 use Rattle.journal_law.specs.declared.seat.Ending.TheVariants as ending
 use Rattle.journal_law.specs.declared.seat.ToldFault.{ToldFault}
 
--- An open attempt: the lines before its Began, pages among which are all that it read of the store, its edits, and the refusal that it keeps.
+-- An open attempt: the lines before its Began, pages among which are all that it read of the store, its edits, and the
+-- refusal that it keeps.
 pub record Attempt : Type 0 where
   pub who : Who
   pub since : List Line
@@ -106,8 +108,11 @@ IsNew view device count = count < 2 ^ 64 - 1 → view.opened.faults device < cou
 
 abbrev pub BeginGives : Who → View → View → Result (Unit {0}) Refusal → Type 0
 BeginGives who old new (Ok u) =
-    (since : List Line) × Adds old new who Began (Open (record { who = who; since = since; read = []; edits = []; kept = None })) × (new.front ≡ since ++ one who Began)
-BeginGives who old new (Err (refusal.JournalFull lines images)) = Waits old new old.work × (JOURNAL_LINES - WORKER_LINES < lines)
+    (since : List Line)
+    × Adds old new who Began (Open (record { who = who; since = since; read = []; edits = []; kept = None }))
+    × (new.front ≡ since ++ one who Began)
+BeginGives who old new (Err (refusal.JournalFull lines images)) =
+    Waits old new old.work × (JOURNAL_LINES - WORKER_LINES < lines)
 BeginGives who old new (Err why) = Waits old new old.work × (why ≡ refusal.OutOfMemory)
 
 -- ---- what an attempt keeps
@@ -147,26 +152,40 @@ pub record AlsoReads (old : List ℕ) (page : ℕ) (new : List ℕ) : Type 0 whe
 -- a read gives, where the store's devices are honest, the page as at the attempt's Began, under its own edits
 abbrev pub ReadGives : Type 0 → ℕ → List ℕ → View → View → Attempt → Result (Unit {0}) Refusal → Type 0
 ReadGives honest page out old new a (Ok u) =
-    (read : List ℕ) × Waits old new (Open (record a { read = read })) × AlsoReads a.read page read × (honest → out ≡ written (at_began old a) a.edits page)
-ReadGives honest page out old new a (Err (refusal.Overlap session item)) = Waits old new (Open (record a { kept = Some (refusal.Overlap session item) })) × IsKeptOrWhy new a (refusal.Overlap session item)
-ReadGives honest page out old new a (Err (refusal.DiskFault device count)) = Waits old new (Open (record a { kept = Some (refusal.DiskFault device count) })) × IsKeptOrWhy new a (refusal.DiskFault device count)
-ReadGives honest page out old new a (Err (refusal.TooManyPages needed)) = Waits old new (Open a) × (a.kept ≡ Some (refusal.TooManyPages needed))
+    (read : List ℕ) × Waits old new (Open (record a { read = read })) × AlsoReads a.read page read
+    × (honest → out ≡ written (at_began old a) a.edits page)
+ReadGives honest page out old new a (Err (refusal.Overlap session item)) =
+    Waits old new (Open (record a { kept = Some (refusal.Overlap session item) }))
+    × IsKeptOrWhy new a (refusal.Overlap session item)
+ReadGives honest page out old new a (Err (refusal.DiskFault device count)) =
+    Waits old new (Open (record a { kept = Some (refusal.DiskFault device count) }))
+    × IsKeptOrWhy new a (refusal.DiskFault device count)
+ReadGives honest page out old new a (Err (refusal.TooManyPages needed)) =
+    Waits old new (Open a) × (a.kept ≡ Some (refusal.TooManyPages needed))
 ReadGives honest page out old new a (Err why) = Waits old new (Open a) × (why ≡ refusal.OutOfMemory)
 
 -- edits that write like the old ones and then this one, in rising page
 pub record AlsoEdits (old : List PageImage) (page : ℕ) (bytes : List ℕ) (new : List PageImage) : Type 0 where
-  pub writes : (base : Pages) (other : ℕ) → written base new other ≡ with_write (written base old) (record { page = page; bytes = bytes }) other
+  pub writes : (base : Pages) (other : ℕ)
+      → written base new other ≡ with_write (written base old) (record { page = page; bytes = bytes }) other
   pub rise : IsTrue (rises 0 (pages_of new))
-  pub only : (other : ℕ) → is_among other (pages_of new) ≡ true → (other ≡ page) ⊎ (is_among other (pages_of old) ≡ true)
+  pub only : (other : ℕ) → is_among other (pages_of new) ≡ true
+      → (other ≡ page) ⊎ (is_among other (pages_of old) ≡ true)
 
 -- an edit is added, or refused; the 1,025th page is refused as such
 abbrev pub EditGives : ℕ → List ℕ → View → View → Attempt → Result (Unit {0}) Refusal → Type 0
-EditGives page bytes old new a (Ok u) = (edits : List PageImage) × Waits old new (Open (record a { edits = edits })) × AlsoEdits a.edits page bytes edits
-EditGives page bytes old new a (Err (refusal.Overlap session item)) = Waits old new (Open (record a { kept = Some (refusal.Overlap session item) })) × IsKeptOrWhy new a (refusal.Overlap session item)
-EditGives page bytes old new a (Err (refusal.DiskFault device count)) = Waits old new (Open (record a { kept = Some (refusal.DiskFault device count) })) × IsKeptOrWhy new a (refusal.DiskFault device count)
+EditGives page bytes old new a (Ok u) =
+    (edits : List PageImage) × Waits old new (Open (record a { edits = edits })) × AlsoEdits a.edits page bytes edits
+EditGives page bytes old new a (Err (refusal.Overlap session item)) =
+    Waits old new (Open (record a { kept = Some (refusal.Overlap session item) }))
+    × IsKeptOrWhy new a (refusal.Overlap session item)
+EditGives page bytes old new a (Err (refusal.DiskFault device count)) =
+    Waits old new (Open (record a { kept = Some (refusal.DiskFault device count) }))
+    × IsKeptOrWhy new a (refusal.DiskFault device count)
 EditGives page bytes old new a (Err (refusal.TooManyPages needed)) =
     Waits old new (Open (record a { kept = Some (refusal.TooManyPages needed) }))
-    × ((a.kept ≡ Some (refusal.TooManyPages needed)) ⊎ ((needed ≡ EDITED_PAGES + 1) × (length a.edits ≡ EDITED_PAGES) × (is_among page (pages_of a.edits) ≡ false)))
+    × ((a.kept ≡ Some (refusal.TooManyPages needed))
+    ⊎ ((needed ≡ EDITED_PAGES + 1) × (length a.edits ≡ EDITED_PAGES) × (is_among page (pages_of a.edits) ≡ false)))
 EditGives page bytes old new a (Err why) = Waits old new (Open a) × (why ≡ refusal.OutOfMemory)
 
 -- ---- commit
@@ -189,25 +208,36 @@ pub record CommitWaits (old new : View) (a : Attempt) (label : Option (List ℕ)
   pub waits : Waits old new (Open a)
   pub is : IsCommitRefused (base_of new.opened.base new.front) new.front label a.edits why
 
--- A fault while room was made for a commit ends the attempt, whatever has become of the pages that it read; so does one of its own write, which leaves the commit in doubt: just before its line each page that was read is as at Began.
+-- A fault while room was made for a commit ends the attempt, whatever has become of the pages that it read; so does one
+-- of its own write, which leaves the commit in doubt: just before its line each page that was read is as at Began.
 abbrev pub FailsCommit : Option (List ℕ) → View → View → Attempt → Device → ℕ → Type 0
 FailsCommit label old new a device count =
-    Adds old new a.who (Fault device count Write) Idle ⊎ CommitEnds old new a (Fault device count (Append (change.Commit label a.edits)))
+    Adds old new a.who (Fault device count Write) Idle
+    ⊎ CommitEnds old new a (Fault device count (Append (change.Commit label a.edits)))
 
--- A commit writes exactly the edits, and gives the number of the snapshot that it declares; behind a stop it commits nothing. A fault ends the attempt with its line.
+-- A commit writes exactly the edits, and gives the number of the snapshot that it declares; behind a stop it commits
+-- nothing. A fault ends the attempt with its line.
 abbrev pub CommitGives : Option (List ℕ) → View → View → Attempt → Result (Option ℕ) Refusal → Type 0
 CommitGives label old new a (Ok number) =
     (ends : CommitEnds old new a (Done label a.edits)) × (number ≡ number_of label (place old new ends.adds.moves))
     × (is_some (first_stop (lines_before old new ends.adds.moves)) ≡ true → (label ≡ None) × (a.edits ≡ []))
 CommitGives label old new a (Err (refusal.DiskFault device count)) =
-    ((a.kept ≡ Some (refusal.DiskFault device count)) × Waits old new (Open a)) ⊎ (FailsCommit label old new a device count × IsNew new device count)
-CommitGives label old new a (Err (refusal.Overlap session item)) = Waits old new (Open (record a { kept = Some (refusal.Overlap session item) })) × IsKeptOrWhy new a (refusal.Overlap session item)
-CommitGives label old new a (Err (refusal.TooManyPages needed)) = Waits old new (Open a) × (a.kept ≡ Some (refusal.TooManyPages needed))
+    ((a.kept ≡ Some (refusal.DiskFault device count)) × Waits old new (Open a))
+    ⊎ (FailsCommit label old new a device count × IsNew new device count)
+CommitGives label old new a (Err (refusal.Overlap session item)) =
+    Waits old new (Open (record a { kept = Some (refusal.Overlap session item) }))
+    × IsKeptOrWhy new a (refusal.Overlap session item)
+CommitGives label old new a (Err (refusal.TooManyPages needed)) =
+    Waits old new (Open a) × (a.kept ≡ Some (refusal.TooManyPages needed))
 CommitGives label old new a (Err (refusal.Stopped device count)) =
-    Waits old new (Open a) × (first_stop new.front ≡ Some (record { device = device; count = count })) × ((is_some label ≡ true) ⊎ (0 < length a.edits))
-CommitGives label old new a (Err (refusal.JournalFull lines images)) = CommitWaits old new a label (refusal.JournalFull lines images)
-CommitGives label old new a (Err (refusal.SnapshotsFull retained)) = CommitWaits old new a label (refusal.SnapshotsFull retained)
-CommitGives label old new a (Err (refusal.ArchiveFull needed room)) = CommitWaits old new a label (refusal.ArchiveFull needed room)
+    Waits old new (Open a) × (first_stop new.front ≡ Some (record { device = device; count = count }))
+    × ((is_some label ≡ true) ⊎ (0 < length a.edits))
+CommitGives label old new a (Err (refusal.JournalFull lines images)) =
+    CommitWaits old new a label (refusal.JournalFull lines images)
+CommitGives label old new a (Err (refusal.SnapshotsFull retained)) =
+    CommitWaits old new a label (refusal.SnapshotsFull retained)
+CommitGives label old new a (Err (refusal.ArchiveFull needed room)) =
+    CommitWaits old new a label (refusal.ArchiveFull needed room)
 CommitGives label old new a (Err why) = Waits old new (Open a) × (why ≡ refusal.OutOfMemory)
 
 -- ---- rollback
@@ -236,10 +266,13 @@ RollbackGives why old new a = Adds old new a.who (closing a.kept why) Idle
 abbrev pub LookGives : Who → ℕ → View → View → Result (Unit {0}) Refusal → Type 0
 LookGives who n old new (Ok u) =
     (since : List Line) × Adds old new who (Looked n) (Looking (record { who = who; since = since; snapshot = Some n }))
-    × (new.front ≡ since ++ one who (Looked n)) × ((held : Pages) × (as_of n (page_world old.opened.pages since) ≡ Ok held))
-LookGives who n old new (Err (refusal.JournalFull lines images)) = Waits old new old.work × (JOURNAL_LINES - WORKER_LINES < lines)
+    × (new.front ≡ since ++ one who (Looked n))
+    × ((held : Pages) × (as_of n (page_world old.opened.pages since) ≡ Ok held))
+LookGives who n old new (Err (refusal.JournalFull lines images)) =
+    Waits old new old.work × (JOURNAL_LINES - WORKER_LINES < lines)
 LookGives who n old new (Err refusal.OutOfMemory) = Waits old new old.work
-LookGives who n old new (Err why) = (adds : Adds old new who (Refused why) Idle) × (as_of n (place old new adds.moves) ≡ Err why)
+LookGives who n old new (Err why) =
+    (adds : Adds old new who (Refused why) Idle) × (as_of n (place old new adds.moves) ≡ Err why)
 
 -- the numbers and labels of snapshots
 pub record Name : Type 0 where
@@ -256,18 +289,22 @@ abbrev pub LookAllGives : Who → View → View → Result (List MarkOf) Refusal
 LookAllGives who old new (Ok marks) =
     (since : List Line) × Adds old new who LookedAll (Looking (record { who = who; since = since; snapshot = None }))
     × (new.front ≡ since ++ one who LookedAll) × (names_of marks ≡ names_in (page_world old.opened.pages since))
-LookAllGives who old new (Err (refusal.JournalFull lines images)) = Waits old new old.work × (JOURNAL_LINES - WORKER_LINES < lines)
+LookAllGives who old new (Err (refusal.JournalFull lines images)) =
+    Waits old new old.work × (JOURNAL_LINES - WORKER_LINES < lines)
 LookAllGives who old new (Err why) = Waits old new old.work × (why ≡ refusal.OutOfMemory)
 
 -- the look pins the snapshot
 abbrev pub Pins : View → Look → ℕ → Type 0
-Pins view look n = ((look.snapshot ≡ Some n) ⊎ (look.snapshot ≡ None)) × ((held : Pages) × (as_of n (at_look view look) ≡ Ok held))
+Pins view look n =
+    ((look.snapshot ≡ Some n) ⊎ (look.snapshot ≡ None)) × ((held : Pages) × (as_of n (at_look view look) ≡ Ok held))
 
 -- a page as of a snapshot that the look pins, where the devices are honest; it may tell of a fault
 abbrev pub PastGives : Type 0 → ℕ → ℕ → List ℕ → View → View → Look → Result (Unit {0}) Refusal → Type 0
-PastGives honest n page out old new l (Ok u) = Waits old new (Looking l) × (honest → (held : Pages) → as_of n (at_look old l) ≡ Ok held → out ≡ held page)
+PastGives honest n page out old new l (Ok u) =
+    Waits old new (Looking l) × (honest → (held : Pages) → as_of n (at_look old l) ≡ Ok held → out ≡ held page)
 PastGives honest n page out old new l (Err (refusal.DiskFault device count)) =
-    Moves old new [] × (new.work ≡ Looking l) × (new.told ≡ record { device = device; count = count } ∷ old.told) × IsNew new device count
+    Moves old new [] × (new.work ≡ Looking l) × (new.told ≡ record { device = device; count = count } ∷ old.told)
+    × IsNew new device count
 PastGives honest n page out old new l (Err why) = Waits old new (Looking l) × (why ≡ refusal.OutOfMemory)
 
 abbrev pub unlooking : Ending → What
@@ -282,20 +319,28 @@ UnlookGives why old new l = Adds old new l.who (unlooking why) Idle
 
 -- what a drop meets at the place of its line
 abbrev pub MayDropThere : {own : List Line} → (old new : View) → Moves old new own → ℕ → Type 0
-MayDropThere old new moves below = MayDrop (at_drop old.opened.pages (place old new moves) (lines_before old new moves)) below
+MayDropThere old new moves below =
+    MayDrop (at_drop old.opened.pages (place old new moves) (lines_before old new moves)) below
 
 abbrev pub DropRefusedThere : {own : List Line} → (old new : View) → Moves old new own → ℕ → Refusal → Type 0
-DropRefusedThere old new moves below why = DropRefused (at_drop old.opened.pages (place old new moves) (lines_before old new moves)) below why
+DropRefusedThere old new moves below why =
+    DropRefused (at_drop old.opened.pages (place old new moves) (lines_before old new moves)) below why
 
--- A fault while room was made for it ends a drop; so does one of its own write, which leaves it in doubt where it may be.
+-- A fault while room was made for it ends a drop; so does one of its own write, which leaves it in doubt where it may
+-- be.
 abbrev pub FailsDrop : Who → ℕ → View → View → Device → ℕ → Type 0
 FailsDrop who below old new device count =
     Adds old new who (Fault device count Write) Idle
-    ⊎ ((adds : Adds old new who (Fault device count (Append (change.Drop below))) Idle) × MayDropThere old new adds.moves below)
+    ⊎ ((adds : Adds old new who (Fault device count (Append (change.Drop below))) Idle)
+    × MayDropThere old new adds.moves below)
 
 abbrev pub DropGives : Who → ℕ → View → View → Result (Unit {0}) Refusal → Type 0
-DropGives who below old new (Ok u) = (adds : Adds old new who (Dropped below) Idle) × MayDropThere old new adds.moves below
-DropGives who below old new (Err (refusal.DiskFault device count)) = FailsDrop who below old new device count × IsNew new device count
-DropGives who below old new (Err (refusal.JournalFull lines images)) = Waits old new old.work × (JOURNAL_LINES - WORKER_LINES < lines)
+DropGives who below old new (Ok u) =
+    (adds : Adds old new who (Dropped below) Idle) × MayDropThere old new adds.moves below
+DropGives who below old new (Err (refusal.DiskFault device count)) =
+    FailsDrop who below old new device count × IsNew new device count
+DropGives who below old new (Err (refusal.JournalFull lines images)) =
+    Waits old new old.work × (JOURNAL_LINES - WORKER_LINES < lines)
 DropGives who below old new (Err refusal.OutOfMemory) = Waits old new old.work
-DropGives who below old new (Err why) = (adds : Adds old new who (Refused why) Idle) × DropRefusedThere old new adds.moves below why
+DropGives who below old new (Err why) =
+    (adds : Adds old new who (Refused why) Idle) × DropRefusedThere old new adds.moves below why

@@ -31,4 +31,5 @@ module _ (L : Language) where
     -- the pages hold the tables at each place of a journal
     abbrev pub ShowsAlong : World Pages → World L.Tables → List Line → Type 0
     ShowsAlong pages tables [] = Shows pages tables
-    ShowsAlong pages tables (line ∷ lines) = Shows pages tables × ShowsAlong (page_step pages line) (step tables line) lines
+    ShowsAlong pages tables (line ∷ lines) =
+        Shows pages tables × ShowsAlong (page_step pages line) (step tables line) lines

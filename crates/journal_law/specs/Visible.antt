@@ -21,8 +21,10 @@ as_shown what = what
 
 -- the lines that are shown, as they are shown
 abbrev pub visible : List Line → List Line
-visible lines = map (λ line. record { who = line.who; what = as_shown line.what }) (filter (λ line. is_shown line.what) lines)
+visible lines =
+    map (λ line. record { who = line.who; what = as_shown line.what }) (filter (λ line. is_shown line.what) lines)
 
 -- The visible lines decide the tables now and at each snapshot.
 abbrev pub VisibleLinesDecide : Language → Type 0
-VisibleLinesDecide L = (items : Who → Option L.Item) (opening : World L.Tables) (one other : List Line) → visible one ≡ visible other → world L items opening one ≡ world L items opening other
+VisibleLinesDecide L = (items : Who → Option L.Item) (opening : World L.Tables) (one other : List Line)
+    → visible one ≡ visible other → world L items opening one ≡ world L items opening other

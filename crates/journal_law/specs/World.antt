@@ -41,7 +41,8 @@ abbrev pub held_by : {X : Type 0} → ℕ → ℕ → Option (Mark X) → Result
 held_by asked oldest None = Err (Dropped asked oldest)
 held_by asked oldest (Some mark) = Ok mark.held
 
--- what stood at a snapshot: refused where the number is 0 or greater than the newest, and where that snapshot is dropped
+-- what stood at a snapshot: refused where the number is 0 or greater than the newest, and where that snapshot is
+-- dropped
 abbrev pub as_of : {X : Type 0} → ℕ → World X → Result X Refusal
 as_of asked world =
     if (asked == 0) || nat_lt (newest world) asked then Err (NoSuchSnapshot asked (newest world))
@@ -50,7 +51,9 @@ as_of asked world =
 -- what stands now becomes a snapshot, where there is a label
 abbrev pub declared : {X : Type 0} → Option (List ℕ) → World X → World X
 declared None world = world
-declared (Some label) world = record world { marks = world.marks ++ record { number = newest world + 1; label = label; held = world.current } ∷ [] }
+declared (Some label) world = record world {
+  marks = world.marks ++ record { number = newest world + 1; label = label; held = world.current } ∷ [];
+}
 
 -- the snapshots from the first that is not below a number
 abbrev pub kept : {X : Type 0} → ℕ → List (Mark X) → List (Mark X)
@@ -66,7 +69,8 @@ behind after what world = world
 -- the snapshots that open looks keep from being dropped, behind a line in this world
 abbrev pub pins_behind : {X : Type 0} → World X → List Pin → Who → What → List Pin
 pins_behind world pins who (whats.Looked snapshot) = record { who = who; snapshot = snapshot } ∷ pins
-pins_behind world pins who whats.LookedAll = map (λ mark. record { who = who; snapshot = mark.number }) world.marks ++ pins
+pins_behind world pins who whats.LookedAll =
+    map (λ mark. record { who = who; snapshot = mark.number }) world.marks ++ pins
 pins_behind world pins who whats.Unlooked = unpinned who pins
 pins_behind world pins who (whats.Refused why) = unpinned who pins
 pins_behind world pins who (whats.Fault device count call) = unpinned who pins

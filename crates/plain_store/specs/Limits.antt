@@ -12,9 +12,11 @@ use Rattle.history.specs.Lines.{images_in}
 use Rattle.history.specs.Right.{IsWithinLimits}
 
 -- the limits hold behind a commit of these writes
-pub record MayCommit (base : Base) (lines : List Line) (label : Option (List ℕ)) (writes : List PageImage) : Type 0 where
+pub record MayCommit (base : Base) (lines : List Line) (label : Option (List ℕ))
+    (writes : List PageImage) : Type 0 where
   pub images : images_in lines + length writes ≤ JOURNAL_IMAGES
-  pub limits : IsWithinLimits (base_after base (Commit label writes)).capacity (base_after base (Commit label writes)).captures (base_after base (Commit label writes)).marks
+  pub limits : IsWithinLimits (base_after base (Commit label writes)).capacity
+      (base_after base (Commit label writes)).captures (base_after base (Commit label writes)).marks
 
 -- the journal has no room for the lines of a call, or memory is wanting
 abbrev pub IsNoRoom : Refusal → Type 0

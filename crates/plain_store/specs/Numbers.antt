@@ -8,8 +8,11 @@ use Rattle.history.specs.Marks.{newest, oldest}
 
 -- no snapshot has this number
 abbrev pub no_snapshot : ℕ → List Mark → Option Refusal
-no_snapshot number marks = if (number == 0) || nat_lt (newest marks) number then Some (NoSuchSnapshot number (newest marks)) else None
+no_snapshot number marks =
+    if (number == 0) || nat_lt (newest marks) number then Some (NoSuchSnapshot number (newest marks)) else None
 
 -- or it is dropped
 abbrev pub look_refused : ℕ → List Mark → Option Refusal
-look_refused number marks = option_or (no_snapshot number marks) (if nat_lt number (oldest marks) then Some (Dropped number (oldest marks)) else None)
+look_refused number marks =
+    option_or (no_snapshot number marks)
+    (if nat_lt number (oldest marks) then Some (Dropped number (oldest marks)) else None)

@@ -18,7 +18,8 @@ DoNotFall least (version ∷ past) = (least ≤ version.upto) × DoNotFall versi
 -- the bytes at a snapshot: of the first version up to it or a later one, else these
 abbrev pub bytes_at : ℕ → List ℕ → List Version → List ℕ
 bytes_at snapshot bytes [] = bytes
-bytes_at snapshot bytes (version ∷ past) = if nat_lt version.upto snapshot then bytes_at snapshot bytes past else version.bytes
+bytes_at snapshot bytes (version ∷ past) =
+    if nat_lt version.upto snapshot then bytes_at snapshot bytes past else version.bytes
 
 -- the last version is up to this snapshot
 abbrev pub ends_at : ℕ → List Version → Bool
@@ -32,7 +33,9 @@ may_change newest past = (newest == 0) || ends_at newest past
 
 -- the page, kept as it is for the newest snapshot
 abbrev pub captured : ℕ → PlainPage → PlainPage
-captured newest page = if may_change newest page.past then page else record page { past = page.past ++ record { upto = newest; bytes = page.bytes } ∷ [] }
+captured newest page = if may_change newest page.past then page else record page {
+  past = page.past ++ record { upto = newest; bytes = page.bytes } ∷ [];
+}
 
 -- no version is up to a later snapshot
 abbrev pub IsWithin : ℕ → PlainPage → Type 0
@@ -45,11 +48,13 @@ page_at pages number = slice_index_or pages number (record { bytes = []; past = 
 -- each page is as it was, or captured
 pub record AreCaptured (newest : ℕ) (old new : List PlainPage) : Type 0 where
   pub long : length new ≡ length old
-  pub each : (page : ℕ) → (page_at new page ≡ page_at old page) ⊎ (page_at new page ≡ captured newest (page_at old page))
+  pub each : (page : ℕ)
+      → (page_at new page ≡ page_at old page) ⊎ (page_at new page ≡ captured newest (page_at old page))
 
 -- each of these pages may change
 abbrev pub MayChange : ℕ → List PlainPage → List PageImage → Type 0
-MayChange newest pages writes = AllByRecursion (λ (write : PageImage). may_change newest (page_at pages write.page).past ≡ true) writes
+MayChange newest pages writes =
+    AllByRecursion (λ (write : PageImage). may_change newest (page_at pages write.page).past ≡ true) writes
 
 abbrev pub bytes_in : List PlainPage → ℕ → List ℕ
 bytes_in pages page = (page_at pages page).bytes

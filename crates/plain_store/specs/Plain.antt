@@ -22,7 +22,8 @@ use Rattle.plain_store.specs.Page.{IsWithin, PlainPage, bytes_at, bytes_in, page
 use Rattle.plain_store.specs.declared.work.Work.{Work}
 use Rattle.plain_store.specs.declared.work.Work.TheVariants as work
 
--- the session whose turn it is, what the log of a store would say, the journal, the pages, and what the session has open
+-- the session whose turn it is, what the log of a store would say, the journal, the pages, and what the session has
+-- open
 pub record Plain : Type 0 where
   pub session : ℕ
   pub base : Base
@@ -36,7 +37,14 @@ abbrev pub zeros : World Pages
 zeros = record { current = λ page. replicate PAGE_BYTES 0; marks = [] }
 
 abbrev pub empty_base : ℕ → ℕ → Base
-empty_base page_count capacity = record { page_count = page_count; capacity = capacity; changes = 0; captures = 0; marks = []; captured = [] }
+empty_base page_count capacity = record {
+  page_count = page_count;
+  capacity = capacity;
+  changes = 0;
+  captures = 0;
+  marks = [];
+  captured = [];
+}
 
 abbrev pub zero_ground : ℕ → ℕ → Ground
 zero_ground page_count capacity = record { base = empty_base page_count capacity; pages = zeros; faults = λ device. 0 }
@@ -71,8 +79,18 @@ kept_of too_many = if too_many then Some (TooManyPages (EDITED_PAGES + 1)) else 
 abbrev pub work_in : ℕ → List Line → Work → seat.Work
 work_in page_count lines work.Idle = seat.Idle
 work_in page_count lines (work.Open t) =
-    seat.Open (record { who = t.who; since = without_last lines; read = read_of page_count t.has_read; edits = t.edits; kept = kept_of t.too_many })
-work_in page_count lines (work.Looking l) = seat.Looking (record { who = l.who; since = without_last lines; snapshot = l.snapshot })
+    seat.Open (record {
+      who = t.who;
+      since = without_last lines;
+      read = read_of page_count t.has_read;
+      edits = t.edits;
+      kept = kept_of t.too_many;
+    })
+work_in page_count lines (work.Looking l) = seat.Looking (record {
+  who = l.who;
+  since = without_last lines;
+  snapshot = l.snapshot;
+})
 
 abbrev pub view_of : Plain → seat.View
 view_of store = record {
@@ -88,7 +106,9 @@ view_of store = record {
 -- the pages are those of the world, now and at each snapshot
 pub record AreHeld (world : World Pages) (pages : List PlainPage) : Type 0 where
   pub current : (page : ℕ) → page < length pages → bytes_in pages page ≡ world.current page
-  pub marks : AllByRecursion (λ (mark : Mark Pages). (page : ℕ) → page < length pages → bytes_at mark.number (page_at pages page).bytes (page_at pages page).past ≡ mark.held page) world.marks
+  pub marks : AllByRecursion
+      (λ (mark : Mark Pages). (page : ℕ) → page < length pages
+      → bytes_at mark.number (page_at pages page).bytes (page_at pages page).past ≡ mark.held page) world.marks
   pub within : (page : ℕ) → IsWithin (newest world) (page_at pages page)
 
 -- the snapshots are numbered one after the other
@@ -109,8 +129,10 @@ looked_by (Some snapshot) = Looked snapshot
 abbrev pub WorkFits : ℕ → ℕ → List Line → List Pin → Work → Type 0
 WorkFits session page_count lines pins work.Idle = pins ≡ []
 WorkFits session page_count lines pins (work.Open t) =
-    (pins ≡ []) × IsOpened session lines t.who Began × AllByRecursion (λ (edit : PageImage). edit.page < page_count) t.edits × (length t.edits ≤ EDITED_PAGES)
-WorkFits session page_count lines pins (work.Looking l) = (unpinned l.who pins ≡ []) × IsOpened session lines l.who (looked_by l.snapshot)
+    (pins ≡ []) × IsOpened session lines t.who Began
+    × AllByRecursion (λ (edit : PageImage). edit.page < page_count) t.edits × (length t.edits ≤ EDITED_PAGES)
+WorkFits session page_count lines pins (work.Looking l) =
+    (unpinned l.who pins ≡ []) × IsOpened session lines l.who (looked_by l.snapshot)
 
 -- the lines that are kept for what is open
 abbrev pub closing_lines : Work → ℕ

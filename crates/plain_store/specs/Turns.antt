@@ -21,6 +21,8 @@ pub record GoesOn (old new : Plain) : Type 0 where
 -- what a session has seen at the end of its turn it has seen in turns of others, and at the end
 pub record TurnsJoin : Type 0 where
   pub here : (store : Plain) → HasSeen store.session store.book.lines store.book.lines
-  pub on : (session : ℕ) (front : List Line) (old new : Plain) → session ≢ old.session → GoesOn old new → HasSeen session front old.book.lines → HasSeen session front new.book.lines
+  pub on : (session : ℕ) (front : List Line) (old new : Plain) → session ≢ old.session → GoesOn old new
+      → HasSeen session front old.book.lines → HasSeen session front new.book.lines
   -- its next turn begins where others have added lines
-  pub moves : (view : View) (store : Plain) → view.session ≡ store.session → ground_of store ≡ view.opened → HasSeen view.session view.front store.book.lines → Moves view (view_of store) []
+  pub moves : (view : View) (store : Plain) → view.session ≡ store.session → ground_of store ≡ view.opened
+      → HasSeen view.session view.front store.book.lines → Moves view (view_of store) []

@@ -69,7 +69,8 @@ impl PlainStore {
     pub(crate) fn commit_edits(&mut self, label: Option<Label>) -> Result<Option<u32>, Refusal>
         requires open_now { is_open self.old.work ≡ true }
         requires all { has_too_many self.old.work ≡ false }
-        ensures gives { (a : Attempt) → (view_of self.old).work ≡ Open a → CommitGives label (view_of self.old) (view_of self.new) a result }
+        ensures gives { (a : Attempt) → (view_of self.old).work ≡ Open a
+            → CommitGives label (view_of self.old) (view_of self.new) a result }
         ensures goes { GoesOn self.old self.new }
     {
         let writes = self.work.transaction().edits.images();

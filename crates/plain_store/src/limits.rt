@@ -19,7 +19,8 @@ use retro_base::{JOURNAL_IMAGES, MAX_CAPTURES, RETAINED_SNAPSHOTS, Refusal};
 
 // More page images than the journal may have.
 fn images_refused(book: &Book, writes: &[PageImage]) -> Option<Refusal>
-    ensures refused { IfSome result (λ why. (base : Base) (label : Option (List ℕ)) → IsCommitRefused base book.now.lines label writes.now why) }
+    ensures refused { IfSome result (λ why. (base : Base) (label : Option (List ℕ))
+        → IsCommitRefused base book.now.lines label writes.now why) }
     ensures free { result ≡ None → images_in book.now.lines + length writes.now ≤ JOURNAL_IMAGES }
 {
     let images = book.images() + writes.len() as u64;
@@ -35,8 +36,10 @@ fn images_refused(book: &Book, writes: &[PageImage]) -> Option<Refusal>
 // More snapshots than are retained, or numbered.
 fn snapshots_refused(base: &RunningBase, label: &Option<Label>) -> Option<Refusal>
     requires { length base.now.marks ≤ RETAINED_SNAPSHOTS }
-    ensures refused { IfSome result (λ why. (lines : List Line) (writes : List PageImage) → IsCommitRefused base.now lines label.now writes why) }
-    ensures free { result ≡ None → is_some label.now ≡ true → (length base.now.marks < RETAINED_SNAPSHOTS) × (newest base.now.marks < 2 ^ 32 - 1) }
+    ensures refused { IfSome result (λ why. (lines : List Line) (writes : List PageImage)
+        → IsCommitRefused base.now lines label.now writes why) }
+    ensures free { result ≡ None → is_some label.now ≡ true
+        → (length base.now.marks < RETAINED_SNAPSHOTS) × (newest base.now.marks < 2 ^ 32 - 1) }
 {
     let marks = base.marks();
     if label.is_none() {
@@ -58,7 +61,8 @@ fn archive_refused(
 ) -> Option<Refusal>
     requires captures { base.now.captures ≤ MAX_CAPTURES }
     requires writes { length writes.now ≤ EDITED_PAGES }
-    ensures refused { IfSome result (λ why. (lines : List Line) → IsCommitRefused base.now lines label.now writes.now why) }
+    ensures refused { IfSome result (λ why. (lines : List Line)
+        → IsCommitRefused base.now lines label.now writes.now why) }
     ensures free { let after : Base = base_after base.now (Commit label.now writes.now) in
         result ≡ None → (after.captures ≤ MAX_CAPTURES) × (after.captures - oldest_start after.marks ≤ after.capacity) }
 {

@@ -72,8 +72,8 @@ impl VersionedPage {
         }
     }
 
-    /// Keeps the bytes as those at the newest snapshot, unless they are kept. Refused for want of memory alone, and then
-    /// as before.
+    /// Keeps the bytes as those at the newest snapshot, unless they are kept. Refused for want of memory alone, and
+    /// then as before.
     pub fn capture(&mut self, newest: u32) -> Result<(), AllocError>
         requires { IsWithin newest self.old }
         ensures done { OnOk result (self.new ≡ captured newest self.old) }

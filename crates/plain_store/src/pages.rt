@@ -15,7 +15,8 @@ use std::alloc::{AllocError, Global};
 
 /// So many pages of zeros. Refused for want of memory alone.
 pub fn zero_pages(alloc: Global, count: u32) -> Result<Vec<VersionedPage>, AllocError>
-    ensures { IfOk result (λ pages. pages.items ≡ replicate count (record { bytes = replicate PAGE_BYTES 0; past = [] })) }
+    ensures { IfOk result (λ pages.
+        pages.items ≡ replicate count (record { bytes = replicate PAGE_BYTES 0; past = [] })) }
 {
     let mut pages = Vec::with_capacity(alloc, count as usize)?;
     for _ in 0..count {

@@ -32,9 +32,11 @@ impl Model for PlainStore {
 
     ghost Value = { Plain };
 
-    ghost view = { λ s. record { session = s.session; base = s.base; book = s.book; pages = s.pages.items; work = s.work } };
+    ghost view = { λ s.
+        record { session = s.session; base = s.base; book = s.book; pages = s.pages.items; work = s.work } };
 
-    ghost invariant = { λ s. IsPlain (record { session = s.session; base = s.base; book = s.book; pages = s.pages.items; work = s.work }) };
+    ghost invariant = { λ s. IsPlain
+        (record { session = s.session; base = s.base; book = s.book; pages = s.pages.items; work = s.work }) };
 }
 
 impl PlainStore {

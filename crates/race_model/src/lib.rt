@@ -1,5 +1,6 @@
 //! The desk and the vault of a store as plain data: what their devices may hold, their steps, and what holds of them
-//! between steps, whatever order these come in and wherever a crash comes. Beside it the values that go between the two.
+//! between steps, whatever order these come in and wherever a crash comes. Beside it the values that go between the
+//! two.
 #![tactic(auto)]
 
 mod batch;

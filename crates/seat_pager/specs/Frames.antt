@@ -7,9 +7,16 @@ use Rattle.seat_pager.specs.Past.{LooksOn, PastPaging}
 use Rattle.seat_pager.specs.Transaction.{GoesOn, Paging}
 
 still : (view : View) → Moves view view []
-still view = record { session = refl; opened = refl; others = []; apart = tt; front = sym (append-nil (view.front ++ []) ∙ append-nil view.front) }
+still view = record {
+  session = refl;
+  opened = refl;
+  others = [];
+  apart = tt;
+  front = sym (append-nil (view.front ++ []) ∙ append-nil view.front);
+}
 
-others_append : (session : ℕ) (xs ys : List Line) → AreOthers session xs → AreOthers session ys → AreOthers session (xs ++ ys)
+others_append : (session : ℕ) (xs ys : List Line) → AreOthers session xs → AreOthers session ys
+    → AreOthers session (xs ++ ys)
 others_append session [] ys one two = two
 others_append session (x ∷ xs) ys one two = (one.0, others_append session xs ys one.1 two)
 
@@ -18,7 +25,9 @@ moves_on a b c one two = record {
   session = two.session ∙ one.session;
   opened = two.opened ∙ one.opened;
   others = one.others ++ two.others;
-  apart = others_append a.session one.others two.others one.apart (subst (λ (n : ℕ). AreOthers n two.others) one.session two.apart);
+  apart =
+      others_append a.session one.others two.others one.apart
+      (subst (λ (n : ℕ). AreOthers n two.others) one.session two.apart);
   front =
       two.front
       ∙ ap (λ (ls : List Line). (ls ++ two.others) ++ []) (one.front ∙ append-nil (a.front ++ one.others))
@@ -40,7 +49,12 @@ goes_on p q r one two = record {
   attempt = λ a is.
       let first = one.attempt a is in
       let second = two.attempt first.attempt first.is_open in
-      record { attempt = second.attempt; is_open = second.is_open; who = second.who ∙ first.who; since = second.since ∙ first.since };
+      record {
+        attempt = second.attempt;
+        is_open = second.is_open;
+        who = second.who ∙ first.who;
+        since = second.since ∙ first.since;
+      };
   reasons = λ has. two.reasons (one.reasons has);
 }
 

@@ -37,7 +37,8 @@ pub record PastPaging : Type 0 where
 -- the refusal was for want of memory, or a fault that the seat was told of
 abbrev pub IsToldOf : View → Refusal → Type 0
 IsToldOf view refusal.OutOfMemory = Unit {0}
-IsToldOf view (refusal.DiskFault device count) = Contains view.told (record { device = device; count = count }) × IsNew view device count
+IsToldOf view (refusal.DiskFault device count) =
+    Contains view.told (record { device = device; count = count }) × IsNew view device count
 IsToldOf view why = ⊥
 
 -- why a read was refused, where one was

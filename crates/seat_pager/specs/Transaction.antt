@@ -26,14 +26,16 @@ under base asked edits = record {
   edited = λ page. is_asked page asked || (is_among page (pages_of edits) || base.edited page);
 }
 
--- The base agrees with the pages at the attempt's Began on every page that was read, and shown is the base under the edits.
+-- The base agrees with the pages at the attempt's Began on every page that was read, and shown is the base under the
+-- edits.
 pub record Tells (view : View) (asked : Option ℕ) (base shown : Pages) : Type 0 where
   pub attempt : Attempt
   pub is_open : view.work ≡ Open attempt
   pub agree : Agree attempt.read base.at (at_began view attempt)
   pub shows : shown ≡ under base asked attempt.edits
 
--- A pager over an open attempt: what its seat sees, the refusal that the attempt keeps, and the page for which an edit was refused as one too many.
+-- A pager over an open attempt: what its seat sees, the refusal that the attempt keeps, and the page for which an edit
+-- was refused as one too many.
 pub record Paging : Type 0 where
   pub view : View
   pub kept : Option Refusal

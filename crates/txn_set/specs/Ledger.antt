@@ -24,7 +24,10 @@ use Rattle.journal_book.specs.Works.{keeping_refusal, work_at, working}
 
 -- nothing so far
 abbrev pub no_lines : ℕ → Ledger
-no_lines pages = record { book = record { pages = pages; lines = []; kept = 0; workers = WORKER_LINES }; works = record { pages = pages; slots = [] } }
+no_lines pages = record {
+  book = record { pages = pages; lines = []; kept = 0; workers = WORKER_LINES };
+  works = record { pages = pages; slots = [] };
+}
 
 abbrev pub line_of : Who → What → Line
 line_of who what = record { who = who; what = what }
@@ -94,7 +97,8 @@ gives_up session ledger = record { book = giving_up ledger.book 1; works = worki
 
 -- without the line that the session keeps for a drop in another phase, if any
 abbrev pub given_up : Who → Ledger → Ledger
-given_up who ledger = if keeps_other_drop who (work_at ledger.works.slots who.session) then gives_up who.session ledger else ledger
+given_up who ledger =
+    if keeps_other_drop who (work_at ledger.works.slots who.session) then gives_up who.session ledger else ledger
 
 -- with this line, which opens the work, and a place kept for the line that closes it
 abbrev pub opened : Who → What → Work → Ledger → Ledger
@@ -105,18 +109,29 @@ opened who what work ledger = record {
 
 -- a transaction that begins behind these lines
 abbrev pub fresh : Who → List Line → Work
-fresh who lines = Open (record { who = who; began = length lines; edits = []; reads = record { keys = [] }; kept = None })
+fresh who lines = Open (record {
+  who = who;
+  began = length lines;
+  edits = [];
+  reads = record { keys = [] };
+  kept = None;
+})
 
 abbrev pub looking : Who → List Line → List ℕ → Work
 looking who lines pins = Looking (record { who = who; began = length lines; pins = pins })
 
 -- with this line, which closes what the session has
 abbrev pub closed : Who → What → Ledger → Ledger
-closed who what ledger = record { book = closing_with ledger.book (line_of who what); works = working ledger.works who.session None }
+closed who what ledger = record {
+  book = closing_with ledger.book (line_of who what);
+  works = working ledger.works who.session None;
+}
 
 -- with a line that neither opens nor closes
 abbrev pub with_told_line : Who → What → Ledger → Ledger
-with_told_line who what ledger = record ledger { book = record ledger.book { lines = ledger.book.lines ++ line_of who what ∷ [] } }
+with_told_line who what ledger = record ledger {
+  book = record ledger.book { lines = ledger.book.lines ++ line_of who what ∷ [] };
+}
 
 -- with this transaction as what its session has
 abbrev pub with_open : Who → Transaction → Ledger → Ledger
@@ -132,7 +147,9 @@ committed who label writes ledger = record ledger { book = closing_with ledger.b
 
 -- with the line of a fault at which the change of a transaction that was taken out came into doubt
 abbrev pub doubted : Who → Device → ℕ → Change → Ledger → Ledger
-doubted who device count change ledger = record ledger { book = closing_with ledger.book (line_of who (Fault device count (Append change))) }
+doubted who device count change ledger = record ledger {
+  book = closing_with ledger.book (line_of who (Fault device count (Append change)));
+}
 
 -- refused so, and its line told; or for want of memory, and nothing told
 abbrev pub IsRefusedWith : Ledger → Ledger → Refusal → Result (Unit {0}) Refusal → Ledger → Type 0
@@ -149,7 +166,10 @@ MayFault who ledger = is_some (work_at ledger.works.slots who.session) ≡ false
 
 -- with a place kept for the line of a drop
 abbrev pub keeping_drop : Who → Ledger → Ledger
-keeping_drop who ledger = record { book = record ledger.book { kept = ledger.book.kept + 1 }; works = working ledger.works who.session (Some (KeptDrop who)) }
+keeping_drop who ledger = record {
+  book = record ledger.book { kept = ledger.book.kept + 1 };
+  works = working ledger.works who.session (Some (KeptDrop who));
+}
 
 -- with the line of a fault, which closes what the session has, or is a worker's
 abbrev pub faulted : Who → Device → ℕ → FailedCall → Ledger → Ledger
@@ -158,4 +178,5 @@ faulted who device count call ledger =
     else record ledger { book = noting ledger.book (line_of who (Fault device count call)) }
 
 abbrev pub drop_kept : Who → Ledger → Ledger
-drop_kept who ledger = if keeps_drop who (work_at ledger.works.slots who.session) then ledger else keeping_drop who (given_up who ledger)
+drop_kept who ledger =
+    if keeps_drop who (work_at ledger.works.slots who.session) then ledger else keeping_drop who (given_up who ledger)

@@ -37,17 +37,22 @@ pub record IsOpenIn (lines : List Line) (t : Transaction) : Type 0 where
 
 -- the transaction edits as many pages as it may, and not this one
 abbrev pub too_many : Transaction → ℕ → Option Refusal
-too_many t page = where_so (nat_le EDITED_PAGES (length t.edits) && not (is_among page (pages_of t.edits))) (TooManyPages (EDITED_PAGES + 1))
+too_many t page =
+    where_so (nat_le EDITED_PAGES (length t.edits) && not (is_among page (pages_of t.edits)))
+    (TooManyPages (EDITED_PAGES + 1))
 
--- why a read of the page is refused: what the transaction keeps, else the last other item that changed the page since it began
+-- why a read of the page is refused: what the transaction keeps, else the last other item that changed the page since
+-- it began
 abbrev pub read_refused : List Line → Transaction → ℕ → Option Refusal
 read_refused lines t page = option_or t.kept (option_map overlap (changed_since t.who page t.began lines))
 
--- why an edit of the page is: what the transaction keeps, else the holder of the page's latch, else the last other item that changed it, else too many pages
+-- why an edit of the page is: what the transaction keeps, else the holder of the page's latch, else the last other item
+-- that changed it, else too many pages
 abbrev pub edit_refused : List Line → List (Option Work) → Transaction → ℕ → Option Refusal
 edit_refused lines slots t page =
     option_or t.kept
-    (option_or (option_map overlap (latch_holder t.who page slots)) (option_or (option_map overlap (changed_since t.who page t.began lines)) (too_many t page)))
+    (option_or (option_map overlap (latch_holder t.who page slots))
+    (option_or (option_map overlap (changed_since t.who page t.began lines)) (too_many t page)))
 
 -- the last other item that changed the least of these pages which was changed since the transaction began
 abbrev pub first_changed : List Line → Transaction → List ℕ → Option Who
@@ -64,7 +69,9 @@ stopped_refused fault declares writes = if declares || nat_lt 0 (length writes) 
 
 -- more page images than the journal may have
 abbrev pub images_refused : List Line → List PageImage → Option Refusal
-images_refused lines writes = where_so (nat_lt JOURNAL_IMAGES (images_in lines + length writes)) (JournalFull (length lines) (images_in lines + length writes))
+images_refused lines writes =
+    where_so (nat_lt JOURNAL_IMAGES (images_in lines + length writes))
+    (JournalFull (length lines) (images_in lines + length writes))
 
 -- the counts of a base, and how many of these writes capture their page
 abbrev pub counts_of : Base → List PageImage → Counts
@@ -79,7 +86,9 @@ counts_of base writes = record {
 
 -- more snapshots than may be retained, or numbered
 abbrev pub snapshots_refused : Counts → Bool → Option Refusal
-snapshots_refused counts declares = where_so (declares && (nat_le RETAINED_SNAPSHOTS counts.retained || nat_le 4294967295 counts.newest)) (SnapshotsFull counts.retained)
+snapshots_refused counts declares =
+    where_so (declares && (nat_le RETAINED_SNAPSHOTS counts.retained || nat_le 4294967295 counts.newest))
+    (SnapshotsFull counts.retained)
 
 -- the captures behind the commit
 abbrev pub captures_behind : Counts → ℕ
@@ -87,21 +96,26 @@ captures_behind counts = counts.captures + counts.captured
 
 -- the start of the oldest snapshot behind it: the first one starts there
 abbrev pub start_behind : Counts → Bool → ℕ
-start_behind counts declares = if declares && (counts.retained == 0) then captures_behind counts else counts.oldest_start
+start_behind counts declares =
+    if declares && (counts.retained == 0) then captures_behind counts else counts.oldest_start
 
 -- more captures than the archive holds, or than a store may ever have
 abbrev pub archive_refused : Counts → Bool → Option Refusal
 archive_refused counts declares =
-    option_or (where_so (nat_lt counts.capacity (captures_behind counts - start_behind counts declares)) (ArchiveFull (captures_behind counts - start_behind counts declares) counts.capacity))
+    option_or
+    (where_so (nat_lt counts.capacity (captures_behind counts - start_behind counts declares))
+    (ArchiveFull (captures_behind counts - start_behind counts declares) counts.capacity))
     (where_so (nat_lt MAX_CAPTURES (captures_behind counts)) (ArchiveFull (captures_behind counts) MAX_CAPTURES))
 
--- why a commit is refused, which declares a snapshot or not, in this order: what the transaction keeps; the stop; the last changer of the least page read that has changed; page images; snapshots; the archive
+-- why a commit is refused, which declares a snapshot or not, in this order: what the transaction keeps; the stop; the
+-- last changer of the least page read that has changed; page images; snapshots; the archive
 abbrev pub commit_refused : Option Stop → Counts → List Line → Transaction → Bool → Option Refusal
 commit_refused fault counts lines t declares =
     option_or t.kept
     (option_or (stopped_refused fault declares t.edits)
     (option_or (option_map overlap (first_changed lines t t.reads.keys))
-    (option_or (images_refused lines t.edits) (option_or (snapshots_refused counts declares) (archive_refused counts declares)))))
+    (option_or (images_refused lines t.edits)
+    (option_or (snapshots_refused counts declares) (archive_refused counts declares)))))
 
 -- no snapshot has this number
 abbrev pub no_snapshot : ℕ → ℕ → Option Refusal
@@ -109,7 +123,8 @@ no_snapshot number newest = where_so ((number == 0) || nat_lt newest number) (No
 
 -- why a look at a snapshot is refused
 abbrev pub look_refused : ℕ → ℕ → ℕ → Option Refusal
-look_refused number oldest newest = option_or (no_snapshot number newest) (where_so (nat_lt number oldest) (Dropped number oldest))
+look_refused number oldest newest =
+    option_or (no_snapshot number newest) (where_so (nat_lt number oldest) (Dropped number oldest))
 
 abbrev pub pinned_below : ℕ → Option (ℕ × ℕ) → Option Refusal
 pinned_below below None = None
@@ -117,4 +132,5 @@ pinned_below below (Some pin) = where_so (nat_lt pin.0 below) (Pinned pin.0 pin.
 
 -- why a drop of the snapshots below a number is refused
 abbrev pub drop_refused : Option Stop → ℕ → ℕ → List (Option Work) → Option Refusal
-drop_refused fault newest below slots = option_or (option_map stopped fault) (option_or (no_snapshot below newest) (pinned_below below (least_pin slots)))
+drop_refused fault newest below slots =
+    option_or (option_map stopped fault) (option_or (no_snapshot below newest) (pinned_below below (least_pin slots)))

@@ -24,7 +24,8 @@ abbrev pub MayKeep : Option Refusal → Type 0
 MayKeep None = Unit {0}
 MayKeep (Some why) = is_kept why ≡ true
 
--- A transaction fits the journal: it began there and committed nothing since, no other item changed a page that it edits since it began, and its pages are the store's, in rising number.
+-- A transaction fits the journal: it began there and committed nothing since, no other item changed a page that it
+-- edits since it began, and its pages are the store's, in rising number.
 pub record TransactionFits (pages : ℕ) (lines : List Line) (t : Transaction) : Type 0 where
   pub is_open : IsOpenIn lines t
   pub few : length t.edits ≤ EDITED_PAGES
@@ -56,14 +57,19 @@ kept_lines [] = 0
 kept_lines (None ∷ slots) = kept_lines slots
 kept_lines (Some work ∷ slots) = kept_lines slots + 1
 
--- The works fit the journal: each at its session, no page edited by two, a closing line kept for each, and what is open in the journal is what is open there.
+-- The works fit the journal: each at its session, no page edited by two, a closing line kept for each, and what is open
+-- in the journal is what is open there.
 pub record WorksFit (ledger : Ledger) : Type 0 where
   pub pages : ledger.works.pages ≡ ledger.book.pages
-  pub sessions : (session : ℕ) (work : Work) → work_at ledger.works.slots session ≡ Some work → (who_of work).session ≡ session
-  pub each : (session : ℕ) (work : Work) → work_at ledger.works.slots session ≡ Some work → WorkFits ledger.book.pages ledger.book.lines work
-  pub apart : (page one other : ℕ) → edits_page page (work_at ledger.works.slots one) ≡ true → edits_page page (work_at ledger.works.slots other) ≡ true → one ≡ other
+  pub sessions : (session : ℕ) (work : Work) → work_at ledger.works.slots session ≡ Some work
+      → (who_of work).session ≡ session
+  pub each : (session : ℕ) (work : Work) → work_at ledger.works.slots session ≡ Some work
+      → WorkFits ledger.book.pages ledger.book.lines work
+  pub apart : (page one other : ℕ) → edits_page page (work_at ledger.works.slots one) ≡ true
+      → edits_page page (work_at ledger.works.slots other) ≡ true → one ≡ other
   pub kept : ledger.book.kept ≡ kept_lines ledger.works.slots
-  pub open_items : (who : Who) → is_open who (open_in ledger.book.lines) ≡ has_begun who (work_at ledger.works.slots who.session)
+  pub open_items : (who : Who)
+      → is_open who (open_in ledger.book.lines) ≡ has_begun who (work_at ledger.works.slots who.session)
 
 -- the snapshots that the look of this item pins, if it is the session's work
 abbrev pub pins_at : Who → Option Work → List ℕ
@@ -72,9 +78,11 @@ pins_at who _ = []
 
 -- What each look pins is what the journal says that it pins, and nothing else is pinned.
 pub record PinsFit (opening : Base) (ledger : Ledger) : Type 0 where
-  pub pins : (who : Who) → pinned_by who (pins_of opening [] ledger.book.lines) ≡ pins_at who (work_at ledger.works.slots who.session)
+  pub pins : (who : Who)
+      → pinned_by who (pins_of opening [] ledger.book.lines) ≡ pins_at who (work_at ledger.works.slots who.session)
 
--- a line of this item may close the work: it begins nothing, is of the work's own item, and ends a look only where it unpins
+-- a line of this item may close the work: it begins nothing, is of the work's own item, and ends a look only where it
+-- unpins
 abbrev pub Closes : Who → What → Option Work → Type 0
 Closes who what (Some (Open t)) = (begins what ≡ false) × (t.who ≡ who)
 Closes who what (Some (Looking look)) = (ends_look what ≡ true) × (look.who ≡ who)

@@ -95,7 +95,8 @@ impl Ledger {
         requires fits { WorksFit self.old }
         requires idle { is_idle who (work_at self.old.works.slots who.session) ≡ true }
         ensures full { (why : Refusal) → lines_refused (given_up who self.old).book 2 ≡ Some why → result ≡ Err why }
-        ensures done { OnOk result (self.new ≡ opened who Began (fresh who self.old.book.lines) (given_up who self.old)) }
+        ensures done { OnOk result
+            (self.new ≡ opened who Began (fresh who self.old.book.lines) (given_up who self.old)) }
         ensures memory { lines_refused (given_up who self.old).book 2 ≡ None → IfErr result (λ why. why ≡ OutOfMemory) }
         ensures stays { OnErr result (self.new ≡ given_up who self.old) }
         ensures fits { WorksFit self.new }
@@ -339,8 +340,10 @@ impl Ledger {
             → (result ≡ Err why) × (self.new ≡ given_up who self.old) }
         ensures refused { (why : Refusal) → lines_refused (given_up who self.old).book 2 ≡ None
             → look_refused number oldest newest ≡ Some why
-            → IsRefusedWith (given_up who self.old) (with_told_line who (whats.Refused why) (given_up who self.old)) why result self.new }
-        ensures done { OnOk result (self.new ≡ opened who (Looked number) (looking who self.old.book.lines (number ∷ [])) (given_up who self.old)) }
+            → IsRefusedWith (given_up who self.old) (with_told_line who (whats.Refused why) (given_up who self.old))
+            why result self.new }
+        ensures done { OnOk result (self.new ≡ opened who (Looked number)
+            (looking who self.old.book.lines (number ∷ [])) (given_up who self.old)) }
         ensures memory { lines_refused (given_up who self.old).book 2 ≡ None → look_refused number oldest newest ≡ None
             → IfErr result (λ why. (why ≡ OutOfMemory) × (self.new ≡ given_up who self.old)) }
         ensures fits { WorksFit self.new }
@@ -402,7 +405,8 @@ impl Ledger {
     pub fn keep_drop(&mut self, who: Who) -> Result<(), Refusal>
         requires fits { WorksFit self.old }
         requires is_closed { is_closed (work_at self.old.works.slots who.session) ≡ true }
-        ensures full { (why : Refusal) → lines_refused (given_up who self.old).book (drop_lines who self.old) ≡ Some why → result ≡ Err why }
+        ensures full { (why : Refusal)
+            → lines_refused (given_up who self.old).book (drop_lines who self.old) ≡ Some why → result ≡ Err why }
         ensures done { OnOk result (self.new ≡ drop_kept who self.old) }
         ensures memory { lines_refused (given_up who self.old).book (drop_lines who self.old) ≡ None
             → IfErr result (λ why. why ≡ OutOfMemory) }

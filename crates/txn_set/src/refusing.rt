@@ -143,9 +143,10 @@ fn archive_refused(counts: &Counts, declares: bool) -> Option<Refusal>
     None
 }
 
-/// Why a commit, which declares a snapshot or not, is refused before it takes any memory: for what its transaction keeps; where it leaves a record, for
-/// the fault that stopped the desk; for the last changer of the least page that it read and that has changed since;
-/// where the page images pass the journal's limit; where the snapshots do; where the archive has too few slots.
+/// Why a commit, which declares a snapshot or not, is refused before it takes any memory: for what its transaction
+/// keeps; where it leaves a record, for the fault that stopped the desk; for the last changer of the least page that it
+/// read and that has changed since; where the page images pass the journal's limit; where the snapshots do; where the
+/// archive has too few slots.
 pub fn commit_refused(
     book: &Book,
     transaction: &Transaction,
