@@ -1,6 +1,6 @@
 //! Clean pages in memory that may go at any time.
 
-ghost use Rattle.std.specs.Prelude.{◌≡◌, ℕ, List, [], Contains, IfErr, IfNone, IfOk, IfSome};
+ghost use Rattle.std.specs.Prelude.{◌≡◌, true, false, ℕ, List, [], Contains, IfErr, IfNone, IfOk, IfSome};
 ghost use Rattle.retro_base.specs.declared.refusal.Refusal.TheVariants.{OutOfMemory};
 ghost use Rattle.retro_base.specs.declared.limits.TheConstants.{CLEAN_FRAMES};
 ghost use Rattle.page_pool.specs.Clean.{KeepsBeside, KeepsNoMore};
@@ -32,16 +32,19 @@ pub fn keep(clean: &mut LruCache<u32, Page>, page: u32, bytes: &Page)
     }
 }
 
-// Finds a page, which is then the most recently used.
-pub fn find(clean: &mut LruCache<u32, Page>, page: u32) -> Option<Page>
-    ensures found { IfSome result (λ bytes. Contains clean.old.entries (page, bytes)) }
-    ensures missed { IfNone result ((bytes : List ℕ) → Contains clean.old.entries (page, bytes) → ⊥) }
+// Copies a page into `out`, where it is kept; it is then the most recently used.
+pub fn copy(clean: &mut LruCache<u32, Page>, page: u32, out: &mut Page) -> bool
+    ensures found { result ≡ true → Contains clean.old.entries (page, out.new) }
+    ensures missed { result ≡ false → (out.new ≡ out.old)
+        × ((bytes : List ℕ) → Contains clean.old.entries (page, bytes) → ⊥) }
     ensures others { KeepsNoMore clean.old.entries clean.new.entries }
     ensures room { clean.new.cap ≡ clean.old.cap }
 {
-    let found = clean.peek(&page).copied();
-    clean.promote(&page);
-    found
+    let Some(bytes) = clean.get(&page) else {
+        return false;
+    };
+    *out = *bytes;
+    true
 }
 
 // Takes a page out.

@@ -137,8 +137,7 @@ impl<D: Disk> PagePool<D> {
             *out = frame.bytes;
             return Ok(());
         }
-        if let Some(bytes) = clean::find(&mut self.clean, page) {
-            *out = bytes;
+        if clean::copy(&mut self.clean, page, out) {
             return Ok(());
         }
         match self.file.read(page, out) {
