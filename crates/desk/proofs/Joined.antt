@@ -137,7 +137,7 @@ redone_as honest state redone pool place n m changes others a b is =
 
 pub desk_of : {D : Type 0} (honest : D → Type 0) (state : D → State) (log : LogSide D) (list : Log) (bytes : List ℕ) (mappings : Mappings) (slots : ℕ → List ℕ) (pool : Pool D) (base : Base) (queue : Pending) → IsReadable list → log.log.version ≡ list.version
     → IsLogSide honest state log list None false → IsMemoryOf honest state (contents_of list bytes mappings slots) pool base queue
-    → IsDesk honest state (record { log = log; pool = pool; queue = queue; base = base; stop = None }) (opened_desk (contents_of list bytes mappings slots))
+    → IsDesk honest state (record { log = log; pool = pool; queue = queue; base = base; stop = None; passed = record { page = 0; first = 0 } }) (opened_desk (contents_of list bytes mappings slots))
 desk_of honest state log list bytes mappings slots pool base queue read version side m = record {
   log = side;
   version = version;
@@ -149,6 +149,7 @@ desk_of honest state log list bytes mappings slots pool base queue read version 
   base = m.base;
   fits = subst (BaseFits list.version) (sym (m.base ∙ run-base (record { base = list.base; pages = block_at bytes }) list.changes)) (readable_fits list read);
   stopped = refl;
+  passed = record { known = omega arith; waits = λ e page lt dirty. absurd (omega (arith, lt)) };
 }
 
 pub fetches : {D : Type 0} (honest : D → Type 0) (state : D → State) (version : Version) (log pages : D) (mappings : Mappings) (list : Log) (r : Result (RunningDesk D) (Unopened D)) → (honest log → DeviceStandsFor LOG_REGION_BYTES (IsLog version) (state log).seen list)

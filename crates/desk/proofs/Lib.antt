@@ -2,6 +2,7 @@ pub mod Again
 pub mod Frames
 pub mod Joined
 pub mod Opens
+pub mod Passing
 pub mod Sent
 pub mod Steps
 pub mod Told

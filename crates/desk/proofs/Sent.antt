@@ -32,15 +32,16 @@ use Rattle.page_pool.specs.Frames.{count_below}
 use Rattle.page_pool.specs.Side.{soiled}
 use Rattle.race_model.specs.Desk.{Desk, behind, is_written, log_from, writes_page}
 use Rattle.race_model.specs.Fits.{DeskFits}
-use Rattle.race_model.specs.Machine.{MayCut, MayWrite, stopped, write_failed}
+use Rattle.race_model.specs.Machine.{MayCut, MayWrite, stopped, write_failed, written_desk}
 use Rattle.race_model.proofs.DeskKeeps.{may_write_back}
 use Rattle.race_model.proofs.Histories.{page_count_after}
 use Rattle.race_model.proofs.LogKeeps.{base_whole}
 use Rattle.desk.specs.declared.desk.RunningDesk.{RunningDesk}
 use Rattle.history.specs.declared.stop.Stop.{Stop}
 use Rattle.desk.specs.Cause.{IsWriteRefusal}
-use Rattle.desk.specs.Desk.{HoldsPagesOf, IsDesk, pending_of}
+use Rattle.desk.specs.Desk.{HasPassed, HoldsPagesOf, IsDesk, pending_of}
 use Rattle.desk.specs.Steps.{IsLeastWritable}
+use Rattle.desk.proofs.Passing.{still_dirty}
 use Rattle.desk.proofs.Steps.{counted}
 
 -- ---- while the pages' device is as it was
@@ -90,6 +91,13 @@ one_least desk page other this that = elim (cases_lt page other) [
     | inr le ↦ omega (arith, ge, le)
   ]
 ]
+
+-- behind the write of the least, each dirty page below it waits
+pub passed_written : (desk : Desk) (page need first : ℕ) → first ≡ desk.acked → IsLeastWritable desk page → HasPassed (record { page = page; first = first }) (written_desk desk page need)
+passed_written desk page need first is least = record {
+  known = omega (arith, is);
+  waits = λ e other lt dirty. least.least other lt (still_dirty desk page other dirty);
+}
 
 module _ {D : Type 0} (honest : D → Type 0) (state : D → State) (running : RunningDesk D) (desk : Desk) (is : IsDesk honest state running desk) where
   listed : (page : ℕ) → is_among page (pages_of running.queue.images) ≡ is_among page (pages_of (pending_of desk))

@@ -1,5 +1,5 @@
 -- The desk behind each of its steps.
-use Rattle.std.proofs.Common.{◌≡◌, ◌∙◌, inl, inr, ◌≤◌, ◌+◌, ◌-◌, ℕ, length-drop, Bool, true, false, ◌||◌, List, [], ◌∷◌, ◌++◌, length, take, drop, map, refl, sym, ap, subst, arith}
+use Rattle.std.proofs.Common.{◌≡◌, ◌∙◌, inl, inr, ◌≤◌, ◌<◌, ◌+◌, ◌-◌, ℕ, length-drop, Bool, true, false, ◌||◌, List, [], ◌∷◌, ◌++◌, length, take, drop, map, refl, sym, ap, subst, arith}
 use Rattle.std.specs.Prelude.{Option, Some, None, is_some, max}
 use Rattle.std.proofs.lemmas.List.{drop-append-le, take-append-le}
 use Rattle.std.proofs.lemmas.Bool.{both_ways}
@@ -19,7 +19,7 @@ use Rattle.history.specs.declared.entry.Change.TheVariants.{Commit, Drop}
 use Rattle.history.specs.declared.log.Log.{Log}
 use Rattle.history.specs.declared.log.Version.{Version}
 use Rattle.history.specs.declared.writes.PageImage.{PageImage}
-use Rattle.history.specs.Writes.{pages_of}
+use Rattle.history.specs.Writes.{is_among, pages_of}
 use Rattle.history.specs.Right.{IsBase, IsRight, MayFollow}
 use Rattle.history.specs.History.{State as Place, History, now, captures, captured_by, with_change, pages_after, base_after, before_write, capturing}
 use Rattle.history.proofs.Captures.{now-with}
@@ -39,10 +39,12 @@ use Rattle.race_model.specs.Machine.{acked_to, changed, change_failed, cut, cut_
 use Rattle.race_model.proofs.Histories.{page_count_after}
 use Rattle.race_model.proofs.Lists.{drop-to, pages_of-append, pages_of-drop, pages_of-length}
 use Rattle.race_model.proofs.LogKeeps.{base_whole}
+use Rattle.desk.specs.declared.desk.Passed.{Passed}
 use Rattle.desk.specs.declared.desk.RunningDesk.{RunningDesk}
+use Rattle.desk.proofs.Passing.{passed_acked, passed_as, passed_changed, still_dirty}
 use Rattle.history.specs.declared.stop.Stop.{Stop}
 use Rattle.desk.specs.Cause.{IsWriteRefusal, IsChangeRefusal, stop_behind}
-use Rattle.desk.specs.Desk.{IsDesk, IsWhole, log_of, other_log, pending_of}
+use Rattle.desk.specs.Desk.{HasPassed, IsDesk, IsWhole, log_of, other_log, pending_of}
 use Rattle.desk.specs.Steps.{IsRightChange}
 use Rattle.redo_log.proofs.Staying.{fitting_bases_stay}
 
@@ -117,16 +119,19 @@ module _ {D : Type 0} (honest : D → Type 0) (state : D → State) (old : Runni
       → queue.first ≡ old.queue.first → pages_of queue.images ≡ pages_of old.queue.images ++ pages_of (captured_by (now desk.history) change)
       → (honest old.pool.file.disk → queue.images ≡ old.queue.images ++ captured_by (now desk.history) change)
       → base ≡ base_after old.base change
-      → IsDesk honest state (record { log = log; pool = pool; queue = queue; base = base; stop = old.stop }) (changed desk change)
-  desk_changed log pool queue base change may entry side goes version file pages first listed bytes is_base =
+      → (place : ℕ) → place ≤ old.passed.page → ((page : ℕ) → page < place → writes_page page change ≡ true → is_among page (pages_of queue.images) ≡ true)
+      → IsDesk honest state (record { log = log; pool = pool; queue = queue; base = base; stop = old.stop; passed = record { page = place; first = old.passed.first } }) (changed desk change)
+  desk_changed log pool queue base change may entry side goes version file pages first listed bytes is_base place less waits =
       let after_base : base ≡ (now (with_change desk.history change)).base = is_base ∙ ap (λ (b : Base). base_after b change) is.base ∙ ap (λ (s : Place). s.base) (sym (now-with desk.history change)) in
+      let more : pages_of (pending_of (changed desk change)) ≡ pages_of (pending_of desk) ++ pages_of (captured_by (now desk.history) change) = ap pages_of (grown change) ∙ pages_of-append (pending_of desk) (captured_by (now desk.history) change) in
+      let all_listed = listed ∙ ap (λ (l : List ℕ). l ++ pages_of (captured_by (now desk.history) change)) is.pending ∙ sym more in
       record {
         log = subst (λ (b : Bool). IsLogSide honest state log (log_of (changed desk change)) (other_log (changed desk change) desk.doubt) b) (sym goes) side;
         version = version ∙ is.version;
         pages = subst (λ (p : ℕ → List ℕ). IsPageSide honest state pool p desk.pages desk.loose (λ page. desk.dirty page || writes_page page change)) (ap (λ (s : Place). s.pages) (sym (now-with desk.history change))) pages;
         whole = ap (λ (x : File D). x.blocks) file ∙ is.whole ∙ sym (page_count_after (now desk.history).base change) ∙ ap (λ (s : Place). s.base.page_count) (sym (now-with desk.history change));
         first = first ∙ is.first;
-        pending = listed ∙ ap (λ (l : List ℕ). l ++ pages_of (captured_by (now desk.history) change)) is.pending ∙ sym (ap pages_of (grown change) ∙ pages_of-append (pending_of desk) (captured_by (now desk.history) change));
+        pending = all_listed;
         bytes = λ told.
             let was : honest old.pool.file.disk = subst (λ (x : File D). honest x.disk) file told in
             bytes was ∙ ap (λ (l : List PageImage). l ++ captured_by (now desk.history) change) (is.bytes was) ∙ sym (grown change);
@@ -134,12 +139,13 @@ module _ {D : Type 0} (honest : D → Type 0) (state : D → State) (old : Runni
         fits = subst (BaseFits desk.version) (sym is_base)
             (fitting_bases_stay desk.version old.base change (subst IsBase (sym is.base) f.history.right) is.fits entry (subst (λ (b : Base). IsRight b change) (sym is.base) may.right));
         stopped = is.stopped;
+        passed = passed_changed desk change old.passed is.passed (pages_of (captured_by (now desk.history) change)) more place less (λ page lt wrote. ap (is_among page) (sym all_listed) ∙ waits page lt wrote);
       }
 
 module _ {D : Type 0} (honest : D → Type 0) (state : D → State) (old : RunningDesk D) (desk : Desk) (is : IsDesk honest state old desk) where
   pub desk_change_failed : (log : LogSide D) (queue : Pending) (stop : Option Stop) (change : Change)
       → IsLogSide honest state log (log_of desk) (other_log (change_failed desk change) (OneMore change)) true → log.log.version ≡ old.log.log.version → queue ≡ old.queue → is_some stop ≡ true
-      → IsDesk honest state (record { log = log; pool = old.pool; queue = queue; base = old.base; stop = stop }) (change_failed desk change)
+      → IsDesk honest state (record { log = log; pool = old.pool; queue = queue; base = old.base; stop = stop; passed = old.passed }) (change_failed desk change)
   desk_change_failed log queue stop change side version same stops = record {
     log = side;
     version = version ∙ is.version;
@@ -151,6 +157,7 @@ module _ {D : Type 0} (honest : D → Type 0) (state : D → State) (old : Runni
     base = is.base;
     fits = is.fits;
     stopped = sym stops;
+    passed = passed_as old.passed desk (change_failed desk change) is.passed refl refl (λ page dirty. dirty);
   }
 
   -- ---- behind a step of the pages
@@ -159,9 +166,9 @@ module _ {D : Type 0} (honest : D → Type 0) (state : D → State) (old : Runni
   desk_paged : (other : Desk) (pool : Pool D) (stop : Option Stop) → other.history ≡ desk.history → other.acked ≡ desk.acked → other.version ≡ desk.version
       → IsLogSide honest state old.log (log_of other) (other_log other other.doubt) other.stopped
       → IsPageSide honest state pool (now desk.history).pages other.pages other.loose other.dirty → pool.file.blocks ≡ old.pool.file.blocks → (honest pool.file.disk → honest old.pool.file.disk)
-      → other.stopped ≡ is_some stop
-      → IsDesk honest state (record { log = old.log; pool = pool; queue = old.queue; base = old.base; stop = stop }) other
-  desk_paged other pool stop history acked version side pages blocks back stops =
+      → other.stopped ≡ is_some stop → ((page : ℕ) → other.dirty page ≡ true → desk.dirty page ≡ true)
+      → IsDesk honest state (record { log = old.log; pool = pool; queue = old.queue; base = old.base; stop = stop; passed = old.passed }) other
+  desk_paged other pool stop history acked version side pages blocks back stops less =
       let same : pending_of desk ≡ pending_of other = ap (λ (n : ℕ). drop n (captures desk.history)) (sym acked) ∙ ap (λ (h : History). drop other.acked (captures h)) (sym history) in
       record {
         log = side;
@@ -174,6 +181,7 @@ module _ {D : Type 0} (honest : D → Type 0) (state : D → State) (old : Runni
         base = is.base ∙ ap (λ (h : History). (now h).base) (sym history);
         fits = subst (λ (v : Version). BaseFits v old.base) (sym version) is.fits;
         stopped = stops;
+        passed = passed_as old.passed desk other is.passed acked (sym same) less;
       }
 
   stopped_side : (other : Option Log) → IsLogSide honest state old.log (log_of desk) (other_log desk desk.doubt) desk.stopped → other ≡ other_log desk desk.doubt → IsLogSide honest state old.log (log_of desk) other true
@@ -184,28 +192,28 @@ module _ {D : Type 0} (honest : D → Type 0) (state : D → State) (old : Runni
   }
 
   pub desk_written : (pool : Pool D) (page need : ℕ) → IsPageSide honest state pool (now desk.history).pages (written_desk desk page need).pages (written_desk desk page need).loose (written_desk desk page need).dirty
-      → pool.file.blocks ≡ old.pool.file.blocks → (honest pool.file.disk → honest old.pool.file.disk) → IsDesk honest state (record { log = old.log; pool = pool; queue = old.queue; base = old.base; stop = old.stop }) (written_desk desk page need)
-  desk_written pool page need pages blocks back = desk_paged (written_desk desk page need) pool old.stop refl refl refl is.log pages blocks back is.stopped
+      → pool.file.blocks ≡ old.pool.file.blocks → (honest pool.file.disk → honest old.pool.file.disk) → IsDesk honest state (record { log = old.log; pool = pool; queue = old.queue; base = old.base; stop = old.stop; passed = old.passed }) (written_desk desk page need)
+  desk_written pool page need pages blocks back = desk_paged (written_desk desk page need) pool old.stop refl refl refl is.log pages blocks back is.stopped (λ other dirty. still_dirty desk page other dirty)
 
   pub desk_write_failed : (pool : Pool D) (stop : Option Stop) (page need : ℕ) (left : List ℕ) → IsPageSide honest state pool (now desk.history).pages (write_failed desk page need left).pages (write_failed desk page need left).loose desk.dirty
       → pool.file.blocks ≡ old.pool.file.blocks → (honest pool.file.disk → honest old.pool.file.disk) → is_some stop ≡ true
-      → IsDesk honest state (record { log = old.log; pool = pool; queue = old.queue; base = old.base; stop = stop }) (write_failed desk page need left)
+      → IsDesk honest state (record { log = old.log; pool = pool; queue = old.queue; base = old.base; stop = stop; passed = old.passed }) (write_failed desk page need left)
   desk_write_failed pool stop page need left pages blocks back stops =
-      desk_paged (write_failed desk page need left) pool stop refl refl refl (stopped_side (other_log (write_failed desk page need left) desk.doubt) is.log refl) pages blocks back (sym stops)
+      desk_paged (write_failed desk page need left) pool stop refl refl refl (stopped_side (other_log (write_failed desk page need left) desk.doubt) is.log refl) pages blocks back (sym stops) (λ page dirty. dirty)
 
   pub desk_settled : (pool : Pool D) → IsPageSide honest state pool (now desk.history).pages desk.pages (λ page. false) desk.dirty → pool.file.blocks ≡ old.pool.file.blocks → (honest pool.file.disk → honest old.pool.file.disk)
-      → IsDesk honest state (record { log = old.log; pool = pool; queue = old.queue; base = old.base; stop = old.stop }) (settled desk)
-  desk_settled pool pages blocks back = desk_paged (settled desk) pool old.stop refl refl refl is.log pages blocks back is.stopped
+      → IsDesk honest state (record { log = old.log; pool = pool; queue = old.queue; base = old.base; stop = old.stop; passed = old.passed }) (settled desk)
+  desk_settled pool pages blocks back = desk_paged (settled desk) pool old.stop refl refl refl is.log pages blocks back is.stopped (λ page dirty. dirty)
 
   pub desk_stopped : (pool : Pool D) (stop : Option Stop) → IsPageSide honest state pool (now desk.history).pages desk.pages desk.loose desk.dirty → pool.file.blocks ≡ old.pool.file.blocks → (honest pool.file.disk → honest old.pool.file.disk)
-      → is_some stop ≡ true → IsDesk honest state (record { log = old.log; pool = pool; queue = old.queue; base = old.base; stop = stop }) (stopped desk)
+      → is_some stop ≡ true → IsDesk honest state (record { log = old.log; pool = pool; queue = old.queue; base = old.base; stop = stop; passed = old.passed }) (stopped desk)
   desk_stopped pool stop pages blocks back stops =
-      desk_paged (stopped desk) pool stop refl refl refl (stopped_side (other_log (stopped desk) desk.doubt) is.log refl) pages blocks back (sym stops)
+      desk_paged (stopped desk) pool stop refl refl refl (stopped_side (other_log (stopped desk) desk.doubt) is.log refl) pages blocks back (sym stops) (λ page dirty. dirty)
 
   -- ---- behind an acknowledgement, and behind a cut
 
   pub desk_acked : (queue : Pending) (number : ℕ) → queue ≡ record { first = max old.queue.first number; images = drop (number - old.queue.first) old.queue.images }
-      → IsDesk honest state (record { log = old.log; pool = old.pool; queue = queue; base = old.base; stop = old.stop }) (acked_to desk number)
+      → IsDesk honest state (record { log = old.log; pool = old.pool; queue = queue; base = old.base; stop = old.stop; passed = old.passed }) (acked_to desk number)
   desk_acked queue number same =
       let gone : drop (number - desk.acked) (pending_of desk) ≡ pending_of (acked_to desk number) = drop-to desk.acked (number - desk.acked) (max desk.acked number) (captures desk.history) (omega arith) in
       record {
@@ -221,10 +229,11 @@ module _ {D : Type 0} (honest : D → Type 0) (state : D → State) (old : Runni
         base = is.base;
         fits = is.fits;
         stopped = is.stopped;
+        passed = passed_acked old.passed desk number is.passed;
       }
 
   pub desk_cut : (log : LogSide D) → IsLogSide honest state log (log_of (cut desk)) (other_log (cut desk) desk.doubt) false → desk.stopped ≡ false → log.log.version ≡ old.log.log.version
-      → IsDesk honest state (record { log = log; pool = old.pool; queue = old.queue; base = old.base; stop = old.stop }) (cut desk)
+      → IsDesk honest state (record { log = log; pool = old.pool; queue = old.queue; base = old.base; stop = old.stop; passed = old.passed }) (cut desk)
   desk_cut log side goes version = record {
     log = subst (λ (b : Bool). IsLogSide honest state log (log_of (cut desk)) (other_log (cut desk) desk.doubt) b) (sym goes) side;
     version = version ∙ is.version;
@@ -236,10 +245,11 @@ module _ {D : Type 0} (honest : D → Type 0) (state : D → State) (old : Runni
     base = is.base;
     fits = is.fits;
     stopped = is.stopped;
+    passed = passed_as old.passed desk (cut desk) is.passed refl refl (λ page dirty. dirty);
   }
 
   pub desk_cut_failed : (log : LogSide D) (stop : Option Stop) → IsLogSide honest state log (log_of desk) (other_log (cut_failed desk) (NewBase desk.version)) true → log.log.version ≡ old.log.log.version → is_some stop ≡ true
-      → IsDesk honest state (record { log = log; pool = old.pool; queue = old.queue; base = old.base; stop = stop }) (cut_failed desk)
+      → IsDesk honest state (record { log = log; pool = old.pool; queue = old.queue; base = old.base; stop = stop; passed = old.passed }) (cut_failed desk)
   desk_cut_failed log stop side version stops = record {
     log = side;
     version = version ∙ is.version;
@@ -251,7 +261,24 @@ module _ {D : Type 0} (honest : D → Type 0) (state : D → State) (old : Runni
     base = is.base;
     fits = is.fits;
     stopped = sym stops;
+    passed = passed_as old.passed desk (cut_failed desk) is.passed refl refl (λ page dirty. dirty);
   }
+
+-- the desk with another place behind which pages may be written
+pub desk_passed : {D : Type 0} (honest : D → Type 0) (state : D → State) (running : RunningDesk D) (desk : Desk) (passed : Passed) → IsDesk honest state running desk → HasPassed passed desk → IsDesk honest state (record running { passed = passed }) desk
+desk_passed honest state running desk passed is has = record {
+  log = is.log;
+  version = is.version;
+  pages = is.pages;
+  whole = is.whole;
+  first = is.first;
+  pending = is.pending;
+  bytes = is.bytes;
+  base = is.base;
+  fits = is.fits;
+  stopped = is.stopped;
+  passed = has;
+}
 
 -- ---- while a device is as it was
 
@@ -321,11 +348,11 @@ taken_back queue added kept more count is e f =
 
 -- the same log, queue and stop make the same desk
 pub desk_same : {D : Type 0} (desk : RunningDesk D) (log : LogSide D) (queue : Pending) (stop : Option Stop) → log ≡ desk.log → queue ≡ desk.queue → stop ≡ desk.stop
-    → (let r : RunningDesk D = record { log = log; pool = desk.pool; queue = queue; base = desk.base; stop = stop } in r) ≡ desk
+    → (let r : RunningDesk D = record { log = log; pool = desk.pool; queue = queue; base = desk.base; stop = stop; passed = desk.passed } in r) ≡ desk
 desk_same {D = D} desk log queue stop a b e =
-    ap (λ (l : LogSide D). let r : RunningDesk D = record { log = l; pool = desk.pool; queue = queue; base = desk.base; stop = stop } in r) a
-    ∙ ap (λ (q : Pending). let r : RunningDesk D = record { log = desk.log; pool = desk.pool; queue = q; base = desk.base; stop = stop } in r) b
-    ∙ ap (λ (o : Option Stop). let r : RunningDesk D = record { log = desk.log; pool = desk.pool; queue = desk.queue; base = desk.base; stop = o } in r) e
+    ap (λ (l : LogSide D). let r : RunningDesk D = record { log = l; pool = desk.pool; queue = queue; base = desk.base; stop = stop; passed = desk.passed } in r) a
+    ∙ ap (λ (q : Pending). let r : RunningDesk D = record { log = desk.log; pool = desk.pool; queue = q; base = desk.base; stop = stop; passed = desk.passed } in r) b
+    ∙ ap (λ (o : Option Stop). let r : RunningDesk D = record { log = desk.log; pool = desk.pool; queue = desk.queue; base = desk.base; stop = o; passed = desk.passed } in r) e
 
 -- ---- there is a number for each capture
 

@@ -6,7 +6,8 @@ use Rattle.gate_log.specs.Cause.{IsAppendRefusal}
 use Rattle.gate_log.specs.Log.{Region}
 use Rattle.history.specs.declared.stop.Stop.{Stop}
 
--- a refused write: the desk has stopped, which is told with the first fault, or the write is refused for a cause of its own
+-- a refused write: the desk has stopped, which is told with the first fault, or the write is refused for a cause of its
+-- own
 abbrev pub IsWriteRefusal : Option Stop → (Refusal → Type 0) → Refusal → Type 0
 IsWriteRefusal stop IsOwn (Stopped device count) = stop ≡ Some (record { device = device; count = count })
 IsWriteRefusal stop IsOwn e = (stop ≡ None) × IsOwn e

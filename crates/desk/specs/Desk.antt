@@ -1,17 +1,18 @@
 -- When a running desk is a plain one.
-use Rattle.std.specs.Prelude.{◌≡◌, ◌++◌, ℕ, List, [], ◌∷◌, drop, Option, Some, None, is_some}
+use Rattle.std.specs.Prelude.{◌≡◌, ◌≤◌, ◌<◌, ◌++◌, ℕ, true, List, [], ◌∷◌, drop, Option, Some, None, is_some}
 use Rattle.disk_model.specs.Disk.{State}
 use Rattle.block_file.specs.Blocks.{block_at}
 use Rattle.history.specs.declared.log.Log.{Log}
 use Rattle.history.specs.declared.writes.PageImage.{PageImage}
 use Rattle.history.specs.History.{now, captures}
-use Rattle.history.specs.Writes.{pages_of}
+use Rattle.history.specs.Writes.{is_among, pages_of}
 use Rattle.records.specs.Entries.{BaseFits}
 use Rattle.page_pool.specs.Side.{IsPageSide}
 use Rattle.race_model.specs.Desk.{ArePagesOf, Desk, Doubt, NewBase, OneMore, Sure, log_from}
 use Rattle.race_model.specs.Fits.{DeskFits}
 use Rattle.redo_log.specs.Redo.{ListsOneOf}
 use Rattle.redo_log.specs.Side.{IsLogSide}
+use Rattle.desk.specs.declared.desk.Passed.{Passed}
 use Rattle.desk.specs.declared.desk.RunningDesk.{RunningDesk}
 
 -- the log that a desk keeps
@@ -28,8 +29,18 @@ other_log desk (NewBase version) = Some (log_from version desk.history desk.hist
 abbrev pub pending_of : Desk → List PageImage
 pending_of desk = drop desk.acked (captures desk.history)
 
--- The devices are those of the plain desk; memory has its pages, the captures that are not yet acknowledged, and what the log says now; both have stopped or neither. The bytes of captures are those of the plain desk where the pages' device is honest, all else on any device.
-pub record IsDesk {D : Type 0} (is_honest : D → Type 0) (state : D → State) (running : RunningDesk D) (desk : Desk) : Type 0 where
+-- While the capture that is named is the first that pends, each dirty page below the place waits for one of its
+-- captures. The number that is named is never past the count that is acknowledged.
+pub record HasPassed (passed : Passed) (desk : Desk) : Type 0 where
+  pub known : passed.first ≤ desk.acked
+  pub waits : passed.first ≡ desk.acked → (page : ℕ) → page < passed.page → desk.dirty page ≡ true
+      → is_among page (pages_of (pending_of desk)) ≡ true
+
+-- The devices are those of the plain desk; memory has its pages, the captures that are not yet acknowledged, and what
+-- the log says now; both have stopped or neither. The bytes of captures are those of the plain desk where the pages'
+-- device is honest, all else on any device.
+pub record IsDesk {D : Type 0} (is_honest : D → Type 0) (state : D → State) (running : RunningDesk D)
+    (desk : Desk) : Type 0 where
   pub log : IsLogSide is_honest state running.log (log_of desk) (other_log desk desk.doubt) desk.stopped
   pub version : running.log.log.version ≡ desk.version
   pub pages : IsPageSide is_honest state running.pool (now desk.history).pages desk.pages desk.loose desk.dirty
@@ -40,6 +51,7 @@ pub record IsDesk {D : Type 0} (is_honest : D → Type 0) (state : D → State) 
   pub base : running.base ≡ (now desk.history).base
   pub fits : BaseFits desk.version running.base
   pub stopped : desk.stopped ≡ is_some running.stop
+  pub passed : HasPassed running.passed desk
 
 -- a plain desk that a running one is, and that fits
 pub record IsWhole {D : Type 0} (is_honest : D → Type 0) (state : D → State) (running : RunningDesk D) : Type 0 where

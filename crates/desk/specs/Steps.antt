@@ -50,7 +50,8 @@ abbrev pub SameButPages : {D : Type 0} → RunningDesk D → RunningDesk D → T
 SameButPages old new = new ≡ record old { pool = new.pool }
 
 -- the entry is a change that may follow on a desk that goes on
-pub record IsChangeOf {D : Type 0} (is_honest : D → Type 0) (state : D → State) (running : RunningDesk D) (entry : Entry) (desk : Desk) (change : Change) : Type 0 where
+pub record IsChangeOf {D : Type 0} (is_honest : D → Type 0) (state : D → State) (running : RunningDesk D)
+    (entry : Entry) (desk : Desk) (change : Change) : Type 0 where
   pub is : IsDesk is_honest state running desk
   pub fits : DeskFits desk
   pub goes : desk.stopped ≡ false
@@ -69,4 +70,8 @@ NoneWritable desk = (page : ℕ) → desk.dirty page ≡ true → is_among page 
 
 -- the first 64 of the pending captures; what is below the oldest start, and acknowledged, may be forgotten
 abbrev pub next_of : Base → Pending → Batch
-next_of base queue = record { first = queue.first; low = min (oldest_start base.marks) queue.first; images = take BATCH queue.images }
+next_of base queue = record {
+  first = queue.first;
+  low = min (oldest_start base.marks) queue.first;
+  images = take BATCH queue.images;
+}

@@ -1,6 +1,6 @@
 //! A commit or a drop that is right.
 
-ghost use Rattle.std.specs.Prelude.{◌≡◌, ◌≤◌, ◌+◌, ◌++◌, ◌||◌, ◌∷◌, [], ℕ, Bool, List, Option, None, true, false, map, length, OnOk, IfOk, IfErr, MatchResult};
+ghost use Rattle.std.specs.Prelude.{◌≡◌, ◌≤◌, ◌<◌, ◌+◌, ◌++◌, ◌||◌, ◌∷◌, [], ℕ, Bool, List, Option, None, true, false, map, length, OnOk, IfOk, IfErr, MatchResult};
 ghost use Rattle.disk_model.specs.Moments.{LeavesOnly};
 ghost use Rattle.disk_model.specs.Runs.{SameDevice};
 ghost use Rattle.retro_base.specs.declared.refusal.Refusal.TheVariants.{OutOfMemory};
@@ -8,7 +8,7 @@ ghost use Rattle.gate_log.specs.Cause.{HasRoom, IsDiskFault};
 ghost use Rattle.history.specs.declared.entry.Change.{Change};
 ghost use Rattle.history.specs.History.{base_after, before_write, capturing, pages_after};
 ghost use Rattle.history.specs.Right.{IsRight};
-ghost use Rattle.history.specs.Writes.{pages_of};
+ghost use Rattle.history.specs.Writes.{is_among, pages_of};
 ghost use Rattle.records.specs.Entries.{entry_bytes, EntryFits};
 ghost use Rattle.page_pool.specs.Side.{HoldsSame, held, IsPageSide};
 ghost use Rattle.race_model.specs.Desk.{Desk, writes_of, writes_page};
@@ -18,6 +18,7 @@ ghost use Rattle.desk.specs.Desk.{IsDesk, IsWhole, ListsLogOf};
 ghost use Rattle.desk.specs.Steps.{AreHeld, base_behind, IsChangeOf, IsRightChange, label_in, writes_in};
 
 use crate::desk::{RunningDesk, stop_behind};
+use copy_queue::CopyQueue;
 use disk_model::Disk;
 use history::{Change, Label, PageImage, RunningBase};
 use page_pool::PagePool;
@@ -127,6 +128,33 @@ pub(crate) fn enter<D: Disk>(
     }
 }
 
+// The place, or the page of a write below it of which no capture pends.
+fn lower(place: u32, queue: &CopyQueue, write: &PageImage) -> u32
+    ensures less { result ≤ place }
+    ensures waits { write.now.page < result → is_among write.now.page (pages_of queue.now.images) ≡ true }
+{
+    if place <= write.page {
+        return place;
+    }
+    if queue.pends(write.page) {
+        return place;
+    }
+    write.page
+}
+
+// The place, or the least page of a write below it of which no capture pends.
+fn lowered(place: u32, queue: &CopyQueue, writes: &[PageImage]) -> u32
+    ensures less { result ≤ place }
+    ensures waits { (page : ℕ) → page < result → is_among page (pages_of writes.now) ≡ true
+        → is_among page (pages_of queue.now.images) ≡ true }
+{
+    let mut least = place;
+    for write in writes {
+        least = lower(least, queue, write);
+    }
+    least
+}
+
 impl<D: Disk + Drop> RunningDesk<D> {
     // Takes the memory of a change.
     fn plan(&self, alloc: Global, change: &Change) -> Result<Plan, Refusal>
@@ -193,6 +221,7 @@ impl<D: Disk + Drop> RunningDesk<D> {
         match self.log.change(&framed) {
             Ok(()) => {
                 enter(&mut self.base, &mut self.pool, change, plan.label);
+                self.passed.page = lowered(self.passed.page, &self.queue, writes_of(change));
                 Ok(())
             }
             Err(why) => {

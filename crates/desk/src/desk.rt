@@ -15,6 +15,13 @@ use page_pool::PagePool;
 use redo_log::LogSide;
 use retro_base::Refusal;
 
+/// While the capture with the number `first` is the first that pends, no dirty page below `page` may be written back.
+#[derive(Clone, Copy)]
+pub struct Passed {
+    pub(crate) page: u32,
+    pub(crate) first: u64,
+}
+
 /// The desk over its two devices.
 #[derive(Drop)]
 pub struct RunningDesk<D: Disk> {
@@ -23,6 +30,7 @@ pub struct RunningDesk<D: Disk> {
     pub(crate) queue: CopyQueue,
     pub(crate) base: RunningBase,
     pub(crate) stop: Option<Stop>,
+    pub(crate) passed: Passed,
 }
 
 impl<D: Disk + Drop> RunningDesk<D> {

@@ -21,7 +21,7 @@ ghost use Rattle.desk.specs.Desk.{IsDesk, IsWhole};
 ghost use Rattle.desk.specs.Fetched.{ArePagesUnread, contents_of, FetchesDesk, IsLogUnread, IsMemoryOf, IsPagesRefusal, IsReadable, IsRedone, IsSizeRefusal, ReadsBytes};
 
 use crate::change::{enter, label_of, pre_states, writes_of};
-use crate::desk::RunningDesk;
+use crate::desk::{Passed, RunningDesk};
 use copy_queue::CopyQueue;
 use disk_model::Disk;
 use history::{Base, Change, Log, PageImage, RunningBase, Version};
@@ -314,6 +314,7 @@ fn open<D: Disk + Drop>(
             queue,
             base,
             stop: None,
+            passed: Passed { page: 0, first: 0 },
         }),
         Err(why) => Err(Unopened {
             log: log.into_disk(),

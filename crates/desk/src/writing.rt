@@ -18,7 +18,7 @@ ghost use Rattle.desk.specs.Cause.{IsWriteRefusal, stop_behind};
 ghost use Rattle.desk.specs.Desk.{HoldsPagesOf, IsDesk, IsWhole, ListsLogOf};
 ghost use Rattle.desk.specs.Steps.{IsLeastWritable, NoneWritable};
 
-use crate::desk::{RunningDesk, stop_behind};
+use crate::desk::{Passed, RunningDesk, stop_behind};
 use disk_model::Disk;
 use history::Stop;
 use retro_base::Refusal;
@@ -38,6 +38,19 @@ impl<D: Disk + Drop> RunningDesk<D> {
         }
     }
 
+    // A place below which each dirty page waits for one of its captures.
+    fn start_of_writable(&self) -> u32
+        requires { IsWhole D.is_honest D.state self.now }
+        ensures { (page : ℕ) → page < result → soiled self.now.pool page ≡ true
+            → is_among page (pages_of self.now.queue.images) ≡ true }
+    {
+        if self.passed.first == self.queue.first() {
+            self.passed.page
+        } else {
+            0
+        }
+    }
+
     // The least dirty page that no pending capture is of.
     fn next_writable(&self) -> Option<u32>
         requires { IsWhole D.is_honest D.state self.now }
@@ -47,7 +60,7 @@ impl<D: Disk + Drop> RunningDesk<D> {
             × ((other : ℕ) → other < page → soiled self.now.pool other ≡ true
             → is_among other (pages_of self.now.queue.images) ≡ true)) }
     {
-        let mut from = 0;
+        let mut from = self.start_of_writable();
         while let Some(page) = self.pool.next_dirty(from) {
             if !self.queue.pends(page) {
                 return Some(page);
@@ -86,6 +99,9 @@ impl<D: Disk + Drop> RunningDesk<D> {
     }
 
     /// Writes back the least dirty page all of whose captures are acknowledged; false exactly where there is none.
+    /// A dirty page that waits for a capture costs a look-up to pass. The pages below the last one written are not
+    /// passed again before captures are acknowledged, or a commit makes one of them one that may be written: so that
+    /// cost is bounded over many calls and not in each. A call that answers false remembers nothing.
     /// It is refused, in this order, after the first fault, which is told, and exactly where a call of the pages'
     /// device failed: then the page may have any bytes there, and the desk has stopped.
     pub fn write_back(&mut self) -> Result<bool, Refusal>
@@ -105,7 +121,8 @@ impl<D: Disk + Drop> RunningDesk<D> {
             (λ why. self.new.stop ≡ stop_behind self.old.stop why) }
         ensures done { (desk : Desk) → IsDesk D.is_honest D.state self.old desk → DeskFits desk
             → IfOk result (λ wrote. wrote ≡ true → (page : ℕ) × IsLeastWritable desk page
-            × MayWrite desk page desk.acked × ((need : ℕ) → IsDesk D.is_honest D.state self.new (written_desk desk page need))) }
+            × MayWrite desk page desk.acked
+            × ((need : ℕ) → IsDesk D.is_honest D.state self.new (written_desk desk page need))) }
         ensures none { (desk : Desk) → IsDesk D.is_honest D.state self.old desk
             → IfOk result (λ wrote. wrote ≡ false → (self.new ≡ self.old) × NoneWritable desk) }
         ensures failed { (desk : Desk) (need : ℕ) → IsDesk D.is_honest D.state self.old desk → DeskFits desk
@@ -122,7 +139,11 @@ impl<D: Disk + Drop> RunningDesk<D> {
         match self.next_writable() {
             None => Ok(false),
             Some(page) => match self.send(page) {
-                Ok(()) => Ok(true),
+                Ok(()) => {
+                    let first = self.queue.first();
+                    self.passed = Passed { page, first };
+                    Ok(true)
+                }
                 Err(why) => Err(why),
             },
         }

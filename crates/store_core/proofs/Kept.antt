@@ -1,6 +1,6 @@
 -- The line that is kept for a drop, and the core behind it.
 use Rattle.std.proofs.Common.{◌≡◌, ◌∙◌, ◌<◌, ◌&&◌, not, ℕ, zero, suc, Bool, true, false, cond, List, [], ◌∷◌, refl, sym, ap, subst, Option, Some, None, Result, Ok, Err}
-use Rattle.std.specs.Prelude.{IfErr, option_map}
+use Rattle.std.specs.Prelude.{IfErr, IsSome, option_map}
 use Rattle.std.specs.Option.{option_or}
 use Rattle.std.proofs.lemmas.Bool.{eq-eqb, lt-ltb}
 use Rattle.disk_model.specs.Disk.{State}
@@ -50,6 +50,13 @@ pin_closed None e = refl
 pin_closed (Some (KeptDrop who)) e = refl
 pin_closed (Some (Open t)) e = absurd cc
 pin_closed (Some (Looking look)) e = absurd cc
+
+-- a session that keeps a line for a drop has a work
+pub kept_some : (work : Option Work) → IsKeptDrop work → IsSome work
+kept_some (Some (KeptDrop other)) kept = refl
+kept_some (Some (Open t)) kept = absurd kept
+kept_some (Some (Looking look)) kept = absurd kept
+kept_some None kept = absurd kept
 
 pub closes_drop : (who : Who) (what : What) (work : Option Work) → IsKeptDrop work → begins what ≡ false → Closes who what work
 closes_drop who what None kept quiet = absurd kept

@@ -32,7 +32,8 @@ IsCommit (entries.Change (Commit label writes)) = Unit {0}
 IsCommit _ = ⊥
 
 -- the running desk is a plain one that goes on, behind which the commit may follow
-pub record IsMayCommit {D : Type 0} (is_honest : D → Type 0) (state : D → State) (running : RunningDesk D) (plain : Desk) (label : Option (List ℕ)) (writes : List PageImage) : Type 0 where
+pub record IsMayCommit {D : Type 0} (is_honest : D → Type 0) (state : D → State) (running : RunningDesk D)
+    (plain : Desk) (label : Option (List ℕ)) (writes : List PageImage) : Type 0 where
   pub is : IsDesk is_honest state running plain
   pub fits : DeskFits plain
   pub goes : plain.stopped ≡ false
@@ -41,12 +42,15 @@ pub record IsMayCommit {D : Type 0} (is_honest : D → Type 0) (state : D → St
 -- the transaction is the open one of the session, and its commit is not refused
 pub record IsAllowed {D : Type 0} (core : Core D) (who : Who) (label : Option (List ℕ)) (t : Transaction) : Type 0 where
   pub is_open : work_at core.ledger.works.slots who.session ≡ Some (Open t)
-  pub free : commit_refused (first_stop core.ledger.book.lines) (counts_of core.desk.base t.edits) core.ledger.book.lines t (is_some label) ≡ None
+  pub free : commit_refused (first_stop core.ledger.book.lines)
+      (counts_of core.desk.base t.edits) core.ledger.book.lines t (is_some label) ≡ None
 
 -- the transaction is the open one of the session, and its commit is refused so
-pub record IsRefusedSo {D : Type 0} (core : Core D) (who : Who) (label : Option (List ℕ)) (t : Transaction) (why : Refusal) : Type 0 where
+pub record IsRefusedSo {D : Type 0} (core : Core D) (who : Who) (label : Option (List ℕ)) (t : Transaction)
+    (why : Refusal) : Type 0 where
   pub is_open : work_at core.ledger.works.slots who.session ≡ Some (Open t)
-  pub is : commit_refused (first_stop core.ledger.book.lines) (counts_of core.desk.base t.edits) core.ledger.book.lines t (is_some label) ≡ Some why
+  pub is : commit_refused (first_stop core.ledger.book.lines)
+      (counts_of core.desk.base t.edits) core.ledger.book.lines t (is_some label) ≡ Some why
 
 -- a transaction of the item is open, and its commit is not refused
 pub record MayCommitAs {D : Type 0} (core : Core D) (who : Who) (label : Option (List ℕ)) : Type 0 where
@@ -57,7 +61,9 @@ pub record MayCommitAs {D : Type 0} (core : Core D) (who : Who) (label : Option 
 
 -- the ledger behind a commit that was not refused before it took any memory
 abbrev pub HasEnded : {T : Type 0} → Who → Option (List ℕ) → Transaction → Ledger → Ledger → Result T Refusal → Type 0
-HasEnded who label t old new result = MatchResult result (λ _. new ≡ committed who label t.edits (taken who old)) (λ why. new ≡ failed_at (Append (Commit label t.edits)) who why old)
+HasEnded who label t old new result =
+    MatchResult result (λ _. new ≡ committed who label t.edits (taken who old))
+    (λ why. new ≡ failed_at (Append (Commit label t.edits)) who why old)
 
 -- the plain desk behind a commit
 abbrev pub desk_behind : Desk → Option (List ℕ) → List PageImage → Desk

@@ -35,13 +35,15 @@ pub record HasPlaces (book : Book) : Type 0 where
   pub places : length book.lines + book.kept + book.workers ≤ JOURNAL_LINES
   pub workers : book.workers ≤ WORKER_LINES
 
--- The journal is sound behind what the log said at the opening, with places for the lines that are kept; the works of the sessions fit it, and what they pin is what it says; each edit is a whole page.
+-- The journal is sound behind what the log said at the opening, with places for the lines that are kept; the works of
+-- the sessions fit it, and what they pin is what it says; each edit is a whole page.
 pub record IsLedger (opening : Base) (ledger : Ledger) : Type 0 where
   pub sound : IsSound opening ledger.book.lines
   pub places : HasPlaces ledger.book
   pub works : WorksFit ledger
   pub pins : PinsFit opening ledger
-  pub whole : (session : ℕ) → AllByRecursion (λ edit. length edit.bytes ≡ PAGE_BYTES) (edits_of (work_at ledger.works.slots session))
+  pub whole : (session : ℕ)
+      → AllByRecursion (λ edit. length edit.bytes ≡ PAGE_BYTES) (edits_of (work_at ledger.works.slots session))
 
 -- the pages that open transactions edit are held in memory, and no other is
 pub record HoldsEdits {D : Type 0} (pool : Pool D) (slots : List (Option Work)) : Type 0 where
@@ -53,8 +55,10 @@ abbrev pub IsToldDoubt : Doubt → List Line → Type 0
 IsToldDoubt (OneMore change) lines = doubt_in lines ≡ Some change
 IsToldDoubt _ lines = Unit {0}
 
--- The running desk is the plain one, which fits; its history is that of the opening with the changes of the journal; it has stopped at the first fault that a line tells of a write or a sync; and a change that is in doubt is told.
-pub record IsCore {D : Type 0} (is_honest : D → Type 0) (state : D → State) (opening : History) (core : Core D) (plain : Desk) : Type 0 where
+-- The running desk is the plain one, which fits; its history is that of the opening with the changes of the journal; it
+-- has stopped at the first fault that a line tells of a write or a sync; and a change that is in doubt is told.
+pub record IsCore {D : Type 0} (is_honest : D → Type 0) (state : D → State) (opening : History) (core : Core D)
+    (plain : Desk) : Type 0 where
   pub ledger : IsLedger (now opening).base core.ledger
   pub is : IsDesk is_honest state core.desk plain
   pub fits : DeskFits plain
@@ -72,14 +76,19 @@ pub record IsWholeCore {D : Type 0} (is_honest : D → Type 0) (state : D → St
 
 -- the core is of each opening and plain desk that the other was
 abbrev pub StaysCore : {D : Type 0} → (D → Type 0) → (D → State) → Core D → Core D → Type 0
-StaysCore is_honest state old new = (opening : History) (plain : Desk) → IsCore is_honest state opening old plain → IsCore is_honest state opening new plain
+StaysCore is_honest state old new = (opening : History) (plain : Desk) → IsCore is_honest state opening old plain
+    → IsCore is_honest state opening new plain
 
--- The log's device lists a log, to which the mappings belong, and the core is the one that the devices open to beside them, whatever the slots have.
-pub record FetchesCore {D : Type 0} (is_honest : D → Type 0) (state : D → State) (version : Version) (log pages : D) (mappings : Mappings) (core : Core D) : Type 0 where
+-- The log's device lists a log, to which the mappings belong, and the core is the one that the devices open to beside
+-- them, whatever the slots have.
+pub record FetchesCore {D : Type 0} (is_honest : D → Type 0) (state : D → State) (version : Version) (log pages : D)
+    (mappings : Mappings) (core : Core D) : Type 0 where
   pub list : Log
   pub lists : is_honest log → DeviceStandsFor LOG_REGION_BYTES (IsLog version) (state log).seen list
   pub joined : (slots : ℕ → List ℕ) → AreJoined (contents_of list (state pages).seen mappings slots)
-  pub is : (slots : ℕ → List ℕ) → IsCore is_honest state (opened (contents_of list (state pages).seen mappings slots)) core (opened_desk (contents_of list (state pages).seen mappings slots))
+  pub is : (slots : ℕ → List ℕ)
+      → IsCore is_honest state (opened (contents_of list (state pages).seen mappings slots)) core
+      (opened_desk (contents_of list (state pages).seen mappings slots))
 
 -- the bytes of a log's device list a log with these sizes
 pub record AreSizesOf (version : Version) (bytes : List ℕ) (sizes : Sizes) : Type 0 where

@@ -58,4 +58,5 @@ is_kept_drop _ = false
 
 -- without the line that the session keeps for a drop, if any
 abbrev pub without_drop : ℕ → Ledger → Ledger
-without_drop session ledger = if is_kept_drop (work_at ledger.works.slots session) then gives_up session ledger else ledger
+without_drop session ledger =
+    if is_kept_drop (work_at ledger.works.slots session) then gives_up session ledger else ledger

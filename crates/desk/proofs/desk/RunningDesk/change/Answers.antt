@@ -3,7 +3,8 @@ use Rattle.std.specs.Prelude.{is_some}
 use Rattle.area_log.specs.Cause.{IsWriteRefusal}
 use Rattle.gate_log.specs.Cause.{IsAppendRefusal}
 use Rattle.history.specs.declared.entry.Change.{Change}
-use Rattle.history.specs.Writes.{pages_of}
+use Rattle.history.specs.declared.writes.PageImage.{PageImage}
+use Rattle.history.specs.Writes.{is_among, pages_of}
 use Rattle.history.specs.History.{now}
 use Rattle.copy_queue.specs.Pending.{Pending}
 use Rattle.race_model.specs.Machine.{change_failed, changed}
@@ -37,7 +38,7 @@ returns-in-Ok-clause-done g c = λ desk change of.
     let old = c.args.self.now in
     let here = c.in-Change.change in
     let follows = at_change here change desk (sym c.in-Change.is ∙ of.spells) of.follows in
-    subst (λ (x : Change). IsDesk honest state (record { log = c.change.new.self; pool = c.enter.new.pool; queue = c.add.new.self; base = c.enter.new.base; stop = old.stop }) (changed desk x)) (same_change here change (sym c.in-Change.is ∙ of.spells))
+    subst (λ (x : Change). IsDesk honest state (record { log = c.change.new.self; pool = c.enter.new.pool; queue = c.add.new.self; base = c.enter.new.base; stop = old.stop; passed = record { page = c.lowered-self.result; first = old.passed.first } }) (changed desk x)) (same_change here change (sym c.in-Change.is ∙ of.spells))
     (desk_changed honest state old desk of.is of.fits c.change.new.self c.enter.new.pool c.add.new.self c.enter.new.base here follows
     (entry_fits old.log.log.version desk.version c.args.entry.now here of.is.version c.in-Change.is c.requires.fits)
     (c.in-Ok.ensures.done (log_of desk) (other_log desk desk.doubt) (other_log (changed desk here) desk.doubt) here (on_side honest state old desk of.is of.goes)
@@ -48,7 +49,7 @@ returns-in-Ok-clause-done g c = λ desk change of.
     (more_pages old.queue c.add.new.self c.deref.result.now _ c.in_ok-add.ensures.done (ap pages_of c.deref.ensures.value ∙ c.in_ok-plan.ensures.pages ∙ pages_at (now desk.history) old.base here of.is.base))
     (λ told. more_images old.queue c.add.new.self c.deref.result.now _ c.in_ok-add.ensures.done
     (c.deref.ensures.value ∙ c.in_ok-plan.ensures.bytes (now desk.history).pages desk.pages desk.loose desk.dirty of.is.pages told ∙ captures_at (now desk.history) old.base here of.is.base))
-    c.enter.ensures.base)
+    c.enter.ensures.base c.lowered-self.result c.lowered-self.ensures.less (λ page lt wrote. c.lowered-self.ensures.waits page lt (ap (λ (l : List PageImage). is_among page (pages_of l)) c.writes_of.ensures ∙ wrote)))
 
 pub returns-in-Ok-clause-any_moment : goal.returns-in-Ok-clause-any_moment
 returns-in-Ok-clause-any_moment g c = λ desk change of told.
@@ -90,7 +91,7 @@ returns-clause-untouched g c = λ none.
 -- it is whole behind each outcome
 pub returns-in_err-add-clause-whole : goal.returns-in_err-add-clause-whole
 returns-in_err-add-clause-whole g c =
-    subst (λ (q : Pending). IsWhole g.D.Disk.is_honest g.D.Disk.state (record { log = c.args.self.now.log; pool = c.args.self.now.pool; queue = q; base = c.args.self.now.base; stop = c.args.self.now.stop })) (sym c.in_err-add.ensures.untouched) c.requires.whole
+    subst (λ (q : Pending). IsWhole g.D.Disk.is_honest g.D.Disk.state (record { log = c.args.self.now.log; pool = c.args.self.now.pool; queue = q; base = c.args.self.now.base; stop = c.args.self.now.stop; passed = c.args.self.now.passed })) (sym c.in_err-add.ensures.untouched) c.requires.whole
 
 pub returns-in-Ok-clause-whole : goal.returns-in-Ok-clause-whole
 returns-in-Ok-clause-whole g c =

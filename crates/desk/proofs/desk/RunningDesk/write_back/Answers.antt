@@ -1,10 +1,10 @@
-use Rattle.std.proofs.Common.{ℕ, refl, subst}
+use Rattle.std.proofs.Common.{◌∙◌, ℕ, refl, subst}
 use Rattle.disk_model.specs.Moments.{LeavesOnly}
 use Rattle.race_model.specs.Machine.{write_failed, written_desk}
 use Rattle.race_model.proofs.DeskKeeps.{write_failed_keeps, write_keeps}
 use Rattle.desk.specs.Desk.{HoldsPagesOf}
-use Rattle.desk.proofs.Sent.{fault_is, least_of, may_write, one_least, write_rests}
-use Rattle.desk.proofs.Steps.{going, is_none}
+use Rattle.desk.proofs.Sent.{fault_is, least_of, may_write, one_least, passed_written, write_rests}
+use Rattle.desk.proofs.Steps.{desk_passed, going, is_none}
 use Rattle.desk.proofs.desk.RunningDesk.write_back.Goals as goal
 
 pub returns-in-Some-clause-any_moment : goal.returns-in-Some-clause-any_moment
@@ -15,8 +15,14 @@ pub returns-in-Ok-clause-done : goal.returns-in-Ok-clause-done
 returns-in-Ok-clause-done g c = λ desk is f e.
     let page = c.in-Some-next_writable.page in
     let found = c.in-Some-next_writable.ensures in
-    let least = least_of g.D.Disk.is_honest g.D.Disk.state c.args.self.now desk is page found.0 found.1 found.2 in
-    (page, least, may_write desk page f (going c.args.self.now.stop desk.stopped is.stopped (is_none c.args.self.now.stop c.in_default.not-Some)) least, λ need. c.in-Ok.ensures.done desk need is)
+    let least = least_of g.D.Disk.is_honest g.D.Disk.state c.args.self.now desk is page found.0 found.1 found.2 in (
+      page,
+      least,
+      may_write desk page f (going c.args.self.now.stop desk.stopped is.stopped (is_none c.args.self.now.stop c.in_default.not-Some)) least,
+      λ need.
+          let wrote = c.in-Ok.ensures.done desk need is in
+          desk_passed g.D.Disk.is_honest g.D.Disk.state c.send.new.self (written_desk desk page need) _ wrote (passed_written desk page need c.first-first.result (c.first-first.ensures ∙ wrote.first) least),
+    )
 
 pub returns-in-Ok-clause-any_moment : goal.returns-in-Ok-clause-any_moment
 returns-in-Ok-clause-any_moment g c = λ desk page need left is least told.

@@ -1,7 +1,8 @@
-use Rattle.std.proofs.Common.{◌∙◌, ℕ, length, sym, ap, subst}
+use Rattle.std.proofs.Common.{◌∙◌, ℕ, length, refl, sym, ap, subst}
 use Rattle.disk_model.specs.Moments.{LeavesOnly}
 use Rattle.retro_base.specs.declared.refusal.Refusal.{Refusal}
 use Rattle.history.specs.declared.entry.Change.TheVariants.{Drop}
+use Rattle.history.specs.declared.journal.What.TheVariants as whats
 use Rattle.records.specs.Entries.{change_bytes}
 use Rattle.race_model.specs.Machine.{change_failed}
 use Rattle.redo_log.specs.Side.{LogSide}
@@ -12,11 +13,18 @@ use Rattle.store_core.specs.Core.{IsCore}
 use Rattle.store_core.proofs.Drops.{drop_goes}
 use Rattle.store_core.proofs.Dropped.{core_drop_fails, core_dropped_some, drop_may, drop_right}
 use Rattle.store_core.proofs.Faulted.{going_refusal}
+use Rattle.store_core.proofs.Kept.{closes_drop, kept_some}
 use Rattle.store_core.proofs.desk_core.Core.drop_record.Goals as goal
 
 pub send_drop-requires-clause-right : goal.send_drop-requires-clause-right
 send_drop-requires-clause-right g c =
     drop_right g.D.Disk.is_honest g.D.Disk.state c.requires.core.opening c.args.self.now c.requires.core.plain c.requires.core.is c.args.who c.args.below c.requires.kept c.requires.free c.requires.above
+
+pub close-requires-clause-work : goal.close-requires-clause-work
+close-requires-clause-work g c = kept_some _ c.requires.kept
+
+pub close-requires-clause-closes : goal.close-requires-clause-closes
+close-requires-clause-closes g c = closes_drop c.args.who (whats.Dropped c.args.below) _ c.requires.kept refl
 
 pub returns-in-Ok-clause-done : goal.returns-in-Ok-clause-done
 returns-in-Ok-clause-done g c = λ opening plain is.
