@@ -9,6 +9,7 @@ use Rattle.pager.specs.declared.index.Found.{Found}
 use Rattle.index_page.specs.declared.page.Form.{Form}
 use Rattle.index_page.specs.declared.page.Form.TheVariants as form
 use Rattle.index_page.specs.declared.page.IndexPage.{IndexPage}
+use Rattle.index_page.specs.declared.page.TheConstants.{ENTRY_BYTES}
 
 -- the first byte of a page
 abbrev pub form_byte : Form → ℕ
@@ -57,19 +58,19 @@ header page = form_byte page.form ∷ 0 ∷ field_bytes 2 (length page.entries) 
 
 -- how a page is written; the rest is zero
 unfoldable pub page_bytes : IndexPage → List ℕ
-page_bytes page = header page ++ entry_bytes page.entries ++ replicate (1016 - width page.entries) 0
+page_bytes page = header page ++ entry_bytes page.entries ++ replicate (ENTRY_BYTES - width page.entries) 0
 
--- the entries fit in a page
-abbrev pub Fits : List Found → Type 0
-Fits entries = width entries ≤ 1016
+-- the entries have room on one page
+abbrev pub HaveRoom : List Found → Type 0
+HaveRoom entries = width entries ≤ ENTRY_BYTES
 
-abbrev pub fits : List Found → Bool
-fits entries = nat_le (width entries) 1016
+abbrev pub have_room : List Found → Bool
+have_room entries = nat_le (width entries) ENTRY_BYTES
 
 -- what can be written
 pub record IsWritable (entries : List Found) : Type 0 where
   pub lawful : AllByRecursion IsFound entries
-  pub fits : Fits entries
+  pub fits : HaveRoom entries
 
 -- entries that stand first in the bytes, so many, or none where so many do not stand there
 abbrev pub AreFirstEntries : List ℕ → ℕ → Option (List Found) → Type 0
@@ -106,12 +107,16 @@ WrittenHolds = (page : IndexPage) → page.link < 2 ^ 32 → IsWritable page.ent
 
 -- fewer than four entries leave room for one more in a page
 abbrev pub FourFit : Type 0
-FourFit = (entries : List Found) → AllByRecursion IsFound entries → length entries ≤ 4 → Fits entries
+FourFit = (entries : List Found) → AllByRecursion IsFound entries → length entries ≤ 4 → HaveRoom entries
 
--- entries that are too many for a page by one fill two
+-- entries of one page and one more at most, which takes no more than 217 bytes
+abbrev pub AreOneMore : List Found → Type 0
+AreOneMore entries = width entries ≤ ENTRY_BYTES + 217
+
+-- entries of one page and one more have room on two
 abbrev pub HalvesFit : Type 0
-HalvesFit = (entries : List Found) → AllByRecursion IsFound entries → width entries ≤ 1016 + 217
-    → Fits (take (half entries) entries) × Fits (drop (half entries) entries)
+HalvesFit = (entries : List Found) → AllByRecursion IsFound entries → AreOneMore entries
+    → HaveRoom (take (half entries) entries) × HaveRoom (drop (half entries) entries)
 
 -- the value of a row of one value
 abbrev pub IsOnlyValue : List Value → Option Value → Type 0

@@ -24,18 +24,18 @@ use Rattle.pager.specs.Pages.{Pages, written}
 use Rattle.pager.specs.Root.{all_taken, root_bytes, taken}
 use Rattle.pager.specs.declared.index.Found.{Found}
 use Rattle.index_page.specs.Entries.{inserted, is_past, reaches, taken_out}
-use Rattle.index_page.specs.IndexPage.{IsWritable, fits, half, page_bytes, width}
+use Rattle.index_page.specs.IndexPage.{IsWritable, have_room, half, page_bytes, width}
 use Rattle.index_page.specs.Paging.{IsAt}
 use Rattle.index_page.proofs.Ordered.{inserted-all, order-right, taken_out-all}
 use Rattle.index_page.proofs.Placing.{taken_out-width}
 use Rattle.index_page.proofs.Taking.{at-other, at-own, no-refusal, ok_is, taken-is, unmarked-other, written-other}
 use Rattle.run_index.specs.declared.walk.Met.{Met}
 use Rattle.run_index.specs.Leading.{Ending, all-from_each, all-more, ending, leads-inside, leads-join, leads-one, leads-same, walked-never}
-use Rattle.run_index.specs.Run.{IsShape, Leads, Lists, at_target, entries_of, opens, paged, put, run_of, target, without}
+use Rattle.run_index.specs.Run.{IsShape, IsWay, Lists, at_target, entries_of, opens, paged, put, run_of, target, without}
 use Rattle.run_index.specs.Shaping.{all-join, all-left, all-right, any-append, at_target-is, back-writable, empty-shape, entries-middle, fits-any_page, front-writable, inserted-most, shaped, target-is}
 use Rattle.run_index.specs.Work.{added, made, ranged, removed, stored, taken_page}
 
-rooted-in : (size : ℕ) (pages : Pages) (root : ℕ) (shape : List (List Found)) (held : List ℕ) → 1 ≤ length shape → Leads size pages root shape held 0 → Contains held root
+rooted-in : (size : ℕ) (pages : Pages) (root : ℕ) (shape : List (List Found)) (held : List ℕ) → 1 ≤ length shape → IsWay size pages root shape held 0 → Contains held root
 rooted-in size pages root [] held some leads = absurd (omega arith)
 rooted-in size pages root (entries ∷ shape) [] some leads = absurd leads
 rooted-in size pages root (entries ∷ shape) (page ∷ held) some leads = (0, omega arith, sym leads.0)
@@ -102,7 +102,7 @@ all-same : (pages : Pages) (xs : List ℕ) → AllByRecursion (λ (q : ℕ). pag
 all-same pages [] = tt
 all-same pages (x ∷ xs) = (refl, all-same pages xs)
 
-link-narrow : (size : ℕ) (pages : Pages) (from : ℕ) (shape : List (List Found)) (held : List ℕ) → AllByRecursion (λ (page : ℕ). page < 2 ^ 32) held → Leads size pages from shape held 0 → from < 2 ^ 32
+link-narrow : (size : ℕ) (pages : Pages) (from : ℕ) (shape : List (List Found)) (held : List ℕ) → AllByRecursion (λ (page : ℕ). page < 2 ^ 32) held → IsWay size pages from shape held 0 → from < 2 ^ 32
 link-narrow size pages from [] [] narrow leads = omega arith
 link-narrow size pages from [] (page ∷ held) narrow leads = absurd leads
 link-narrow size pages from (entries ∷ shape) [] narrow leads = absurd leads
@@ -144,11 +144,11 @@ module _ (size root : ℕ) (entry : Found) (pages : Pages) (shape : List (List F
   changed-is : (change : List Found → List (List Found)) → at_target entry change shape ≡ end.before ++ (change met.held.entries ++ end.behind)
   changed-is change = ap (at_target entry change) end.shape_is ∙ at_target-is entry change end.before met.held.entries end.behind (skips-all entry end.before end.skips) end.stops
 
-  opens-is : opens entry.value entry.number shape ≡ cond (fits (inserted entry met.held.entries)) 0 1
+  opens-is : opens entry.value entry.number shape ≡ cond (have_room (inserted entry met.held.entries)) 0 1
   opens-is =
       let low : Found = record { value = entry.value; number = entry.number; page = 0 } in
       let aim : target low shape ≡ met.held.entries = ap (target low) end.shape_is ∙ target-is low end.before met.held.entries end.behind (skips-all entry end.before end.skips) end.stops in
-      ap (λ (l : List Found). cond (fits (inserted low l)) 0 1) aim ∙ ap (λ (b : Bool). cond b 0 1) (fits-any_page entry met.held.entries)
+      ap (λ (l : List Found). cond (have_room (inserted low l)) 0 1) aim ∙ ap (λ (b : Bool). cond b 0 1) (fits-any_page entry met.held.entries)
 
   module _ (base : Pages) (same : AllByRecursion (λ (q : ℕ). base.at q ≡ pages.at q) held) where
     parted : AllByRecursion (λ (q : ℕ). base.at q ≡ pages.at q) (end.front ++ met.page ∷ end.back)
@@ -160,25 +160,25 @@ module _ (size root : ℕ) (entry : Found) (pages : Pages) (shape : List (List F
         (λ q e apart. written-other base met.page q bytes apart ∙ e) one two
 
     -- the way to the page, and the way on behind it, after the page is written
-    to-page : (bytes : List ℕ) → Leads size (written base met.page bytes) root end.before end.front met.page
+    to-page : (bytes : List ℕ) → IsWay size (written base met.page bytes) root end.before end.front met.page
     to-page bytes =
         leads-same size pages (written base met.page bytes) root end.before end.front met.page
         (stays bytes end.front (all-left (λ (q : ℕ). base.at q ≡ pages.at q) end.front (met.page ∷ end.back) parted) (apart-front end.front met.page end.back there-distinct)) end.to
 
-    behind-page : (bytes : List ℕ) → Leads size (written base met.page bytes) met.held.link end.behind end.back 0
+    behind-page : (bytes : List ℕ) → IsWay size (written base met.page bytes) met.held.link end.behind end.back 0
     behind-page bytes =
         leads-same size pages (written base met.page bytes) met.held.link end.behind end.back 0
         (stays bytes end.back (all-right (λ (q : ℕ). base.at q ≡ pages.at q) end.front (met.page ∷ end.back) parted).1 (apart-back end.front met.page end.back there-distinct)) end.on
 
     -- the chain after the page is written with these entries
-    relisted : (entries : List Found) → IsWritable entries → Leads size (written base met.page (page_bytes (run_of met.held.link entries))) root (end.before ++ entries ∷ end.behind) (end.front ++ met.page ∷ end.back) 0
+    relisted : (entries : List Found) → IsWritable entries → IsWay size (written base met.page (page_bytes (run_of met.held.link entries))) root (end.before ++ entries ∷ end.behind) (end.front ++ met.page ∷ end.back) 0
     relisted entries writable =
         let bytes = page_bytes (run_of met.held.link entries) in
         leads-join size (written base met.page bytes) root met.page 0 end.before (entries ∷ end.behind) end.front (met.page ∷ end.back) (to-page bytes)
         (refl, met.held.link, at-own size base met.page (run_of met.held.link entries) end.at.low end.at.there narrow-link writable, behind-page bytes)
 
   -- the chain after the page is written with the first half of the entries, and a new page with the second
-  relisted-two : (base : Pages) (next : ℕ) (front back : List Found) → AllByRecursion (λ (q : ℕ). base.at q ≡ pages.at q) held → AllByRecursion (λ (q : ℕ). eqb q next ≡ false) held → 2 ≤ next → next < size → next < 2 ^ 32 → IsWritable front → IsWritable back → Leads size (written (written base next (page_bytes (run_of met.held.link back))) met.page (page_bytes (run_of next front))) root (end.before ++ front ∷ back ∷ end.behind) (end.front ++ met.page ∷ next ∷ end.back) 0
+  relisted-two : (base : Pages) (next : ℕ) (front back : List Found) → AllByRecursion (λ (q : ℕ). base.at q ≡ pages.at q) held → AllByRecursion (λ (q : ℕ). eqb q next ≡ false) held → 2 ≤ next → next < size → next < 2 ^ 32 → IsWritable front → IsWritable back → IsWay size (written (written base next (page_bytes (run_of met.held.link back))) met.page (page_bytes (run_of next front))) root (end.before ++ front ∷ back ∷ end.behind) (end.front ++ met.page ∷ next ∷ end.back) 0
   relisted-two base next front back same apart low there small first second =
       let bytes = page_bytes (run_of met.held.link back) in
       let more = page_bytes (run_of next front) in
@@ -190,7 +190,7 @@ module _ (size root : ℕ) (entry : Found) (pages : Pages) (shape : List (List F
       (refl, next, at-own size mid met.page (run_of next front) end.at.low end.at.there small first, (refl, met.held.link, behind, behind-page mid kept more))
 
   -- what adding does where the entries fit on the page
-  one-page : IsFound entry → AreOfKind (kind_of entry.value) (entries_of shape) → fits (inserted entry met.held.entries) ≡ true → (answer : Unit {0} × Pages) → only (Ok (tt, written pages met.page (page_bytes (run_of met.held.link (inserted entry met.held.entries))))) (Ok answer) → Adds (λ after behind. Lists size after root (put entry shape) behind) size (opens entry.value entry.number shape) held pages (Ok answer)
+  one-page : IsFound entry → AreOfKind (kind_of entry.value) (entries_of shape) → have_room (inserted entry met.held.entries) ≡ true → (answer : Unit {0} × Pages) → only (Ok (tt, written pages met.page (page_bytes (run_of met.held.link (inserted entry met.held.entries))))) (Ok answer) → Adds (λ after behind. Lists size after root (put entry shape) behind) size (opens entry.value entry.number shape) held pages (Ok answer)
   one-page found kinds fit answer e =
       let entries = inserted entry met.held.entries in
       let bytes = page_bytes (run_of met.held.link entries) in
@@ -199,9 +199,9 @@ module _ (size root : ℕ) (entry : Found) (pages : Pages) (shape : List (List F
       let none : opens entry.value entry.number shape ≡ 0 = opens-is ∙ (rw fit refl) in
       let put-is : put entry shape ≡ end.before ++ entries ∷ end.behind = changed-is (λ page. paged (inserted entry page)) ∙ (rw fit refl) in
       let writable : IsWritable entries = record { lawful = inserted-all IsFound entry met.held.entries found page-writable.lawful; fits = leb-true (width entries) 1016 fit } in
-      let leads : Leads size after root (put entry shape) held 0 =
-      subst (λ (s : List (List Found)). Leads size after root s held 0) (sym put-is)
-      (subst (λ (l : List ℕ). Leads size after root (end.before ++ entries ∷ end.behind) l 0) (sym end.held_is) (relisted pages (all-same pages held) entries writable)) in
+      let leads : IsWay size after root (put entry shape) held 0 =
+      subst (λ (s : List (List Found)). IsWay size after root s held 0) (sym put-is)
+      (subst (λ (l : List ℕ). IsWay size after root (end.before ++ entries ∷ end.behind) l 0) (sym end.held_is) (relisted pages (all-same pages held) entries writable)) in
       let lists : Lists size after root (put entry shape) held = record { narrow = is.narrow; is_shape = (shaped.of_put entry shape is.is_shape found kinds).0; leads = leads; distinct = is.distinct } in
       let there : Contains held met.page = subst (λ (l : List ℕ). Contains l met.page) (sym end.held_is) (contains-middle end.front met.page end.back) in
       let edits : EditsOnly (held ++ []) pages after = edits-one pages met.page bytes (held ++ []) (subst (λ (l : List ℕ). Contains l met.page) (sym (append-nil held)) there) in
@@ -211,7 +211,7 @@ module _ (size root : ℕ) (entry : Found) (pages : Pages) (shape : List (List F
       (subst (λ (p : Pages). Adds (λ after behind. Lists size after root (put entry shape) behind) size 0 held pages (Ok (tt, p))) same all)
 
   -- and where they do not
-  two-pages : IsApart size pages held → IsFound entry → AreOfKind (kind_of entry.value) (entries_of shape) → fits (inserted entry met.held.entries) ≡ false → (next : ℕ × Pages) → taken size pages ≡ Ok next → next.0 < 2 ^ 32 → (answer : Unit {0} × Pages) → only (Ok (tt, written (written next.1 next.0 (page_bytes (run_of met.held.link (drop (half (inserted entry met.held.entries)) (inserted entry met.held.entries))))) met.page (page_bytes (run_of next.0 (take (half (inserted entry met.held.entries)) (inserted entry met.held.entries)))))) (Ok answer) → Adds (λ after behind. Lists size after root (put entry shape) behind) size (opens entry.value entry.number shape) held pages (Ok answer)
+  two-pages : IsApart size pages held → IsFound entry → AreOfKind (kind_of entry.value) (entries_of shape) → have_room (inserted entry met.held.entries) ≡ false → (next : ℕ × Pages) → taken size pages ≡ Ok next → next.0 < 2 ^ 32 → (answer : Unit {0} × Pages) → only (Ok (tt, written (written next.1 next.0 (page_bytes (run_of met.held.link (drop (half (inserted entry met.held.entries)) (inserted entry met.held.entries))))) met.page (page_bytes (run_of next.0 (take (half (inserted entry met.held.entries)) (inserted entry met.held.entries)))))) (Ok answer) → Adds (λ after behind. Lists size after root (put entry shape) behind) size (opens entry.value entry.number shape) held pages (Ok answer)
   two-pages apart found kinds full next took small answer e =
       let entries = inserted entry met.held.entries in
       let first = take (half entries) entries in
@@ -233,8 +233,8 @@ module _ (size root : ℕ) (entry : Found) (pages : Pages) (shape : List (List F
       let took-one : all_taken size 1 pages ≡ Ok (next.0 ∷ [], next.1) = rw took refl in
       let differ : IsDistinct nat_eq list = apart 1 (next.0 ∷ []) next.1 took-one in
       let moves : IsPermutation list behind = subst (λ (l : List ℕ). IsPermutation (l ++ next.0 ∷ []) behind) (sym end.held_is) (held-moves end.front met.page next.0 end.back) in
-      let leads : Leads size after root (put entry shape) behind 0 =
-      subst (λ (s : List (List Found)). Leads size after root s behind 0) (sym put-is)
+      let leads : IsWay size after root (put entry shape) behind 0 =
+      subst (λ (s : List (List Found)). IsWay size after root s behind 0) (sym put-is)
       (relisted-two next.1 next.0 first second base (apart-front held next.0 [] differ) facts.low facts.there small (front-writable entries lawful most) (back-writable entries lawful most)) in
       let before = all-left (λ (page : ℕ). page < 2 ^ 32) end.front (met.page ∷ end.back) parts-narrow in
       let from = all-right (λ (page : ℕ). page < 2 ^ 32) end.front (met.page ∷ end.back) parts-narrow in
@@ -252,14 +252,14 @@ module _ (size root : ℕ) (entry : Found) (pages : Pages) (shape : List (List F
 
   -- what adding answers
   stored-adds : IsApart size pages held → IsFound entry → AreOfKind (kind_of entry.value) (entries_of shape) → (answer : Result (Unit {0} × Pages) Refusal) → stored size pages met.page met.held.link (inserted entry met.held.entries) answer → Adds (λ after behind. Lists size after root (put entry shape) behind) size (opens entry.value entry.number shape) held pages answer
-  stored-adds apart found kinds (Ok answer) h = step (fits (inserted entry met.held.entries)) refl h
+  stored-adds apart found kinds (Ok answer) h = step (have_room (inserted entry met.held.entries)) refl h
     where
-      step : (b : Bool) → fits (inserted entry met.held.entries) ≡ b → either {A = Unit {0} × Pages} b (only (Ok (tt, written pages met.page (page_bytes (run_of met.held.link (inserted entry met.held.entries)))))) (taken_page size pages >>= λ next. only (Ok (tt, written (written next.1 next.0 (page_bytes (run_of met.held.link (drop (half (inserted entry met.held.entries)) (inserted entry met.held.entries))))) met.page (page_bytes (run_of next.0 (take (half (inserted entry met.held.entries)) (inserted entry met.held.entries))))))) (Ok answer) → Adds (λ after behind. Lists size after root (put entry shape) behind) size (opens entry.value entry.number shape) held pages (Ok answer)
+      step : (b : Bool) → have_room (inserted entry met.held.entries) ≡ b → either {A = Unit {0} × Pages} b (only (Ok (tt, written pages met.page (page_bytes (run_of met.held.link (inserted entry met.held.entries)))))) (taken_page size pages >>= λ next. only (Ok (tt, written (written next.1 next.0 (page_bytes (run_of met.held.link (drop (half (inserted entry met.held.entries)) (inserted entry met.held.entries))))) met.page (page_bytes (run_of next.0 (take (half (inserted entry met.held.entries)) (inserted entry met.held.entries))))))) (Ok answer) → Adds (λ after behind. Lists size after root (put entry shape) behind) size (opens entry.value entry.number shape) held pages (Ok answer)
       step true fit k = one-page found kinds fit answer k
       step false full k = two-pages apart found kinds full k.0 k.1.0 k.1.1 answer k.2
-  stored-adds apart found kinds (Err why) h = step (fits (inserted entry met.held.entries)) refl h
+  stored-adds apart found kinds (Err why) h = step (have_room (inserted entry met.held.entries)) refl h
     where
-      step : (b : Bool) → fits (inserted entry met.held.entries) ≡ b → either {A = Unit {0} × Pages} b (only (Ok (tt, written pages met.page (page_bytes (run_of met.held.link (inserted entry met.held.entries)))))) (taken_page size pages >>= λ next. only (Ok (tt, written (written next.1 next.0 (page_bytes (run_of met.held.link (drop (half (inserted entry met.held.entries)) (inserted entry met.held.entries))))) met.page (page_bytes (run_of next.0 (take (half (inserted entry met.held.entries)) (inserted entry met.held.entries))))))) (Err why) → all_taken size (opens entry.value entry.number shape) pages ≡ Err why
+      step : (b : Bool) → have_room (inserted entry met.held.entries) ≡ b → either {A = Unit {0} × Pages} b (only (Ok (tt, written pages met.page (page_bytes (run_of met.held.link (inserted entry met.held.entries)))))) (taken_page size pages >>= λ next. only (Ok (tt, written (written next.1 next.0 (page_bytes (run_of met.held.link (drop (half (inserted entry met.held.entries)) (inserted entry met.held.entries))))) met.page (page_bytes (run_of next.0 (take (half (inserted entry met.held.entries)) (inserted entry met.held.entries))))))) (Err why) → all_taken size (opens entry.value entry.number shape) pages ≡ Err why
       step true fit k = no-refusal _ why k
       step false full (inl none) =
           let one : opens entry.value entry.number shape ≡ 1 = opens-is ∙ (rw full refl) in
@@ -276,9 +276,9 @@ module _ (size root : ℕ) (entry : Found) (pages : Pages) (shape : List (List F
       let same : after ≡ answer.1 = same-pages after answer e in
       let rest-is : without entry shape ≡ end.before ++ entries ∷ end.behind = changed-is (λ page. taken_out entry page ∷ []) in
       let writable : IsWritable entries = record { lawful = taken_out-all IsFound entry met.held.entries page-writable.lawful; fits = omega (arith, taken_out-width entry met.held.entries, page-writable.fits) } in
-      let leads : Leads size after root (without entry shape) held 0 =
-      subst (λ (s : List (List Found)). Leads size after root s held 0) (sym rest-is)
-      (subst (λ (l : List ℕ). Leads size after root (end.before ++ entries ∷ end.behind) l 0) (sym end.held_is) (relisted pages (all-same pages held) entries writable)) in
+      let leads : IsWay size after root (without entry shape) held 0 =
+      subst (λ (s : List (List Found)). IsWay size after root s held 0) (sym rest-is)
+      (subst (λ (l : List ℕ). IsWay size after root (end.before ++ entries ∷ end.behind) l 0) (sym end.held_is) (relisted pages (all-same pages held) entries writable)) in
       let lists : Lists size after root (without entry shape) held = record { narrow = is.narrow; is_shape = (shaped.of_without entry shape is.is_shape).0; leads = leads; distinct = is.distinct } in
       let there : Contains held met.page = subst (λ (l : List ℕ). Contains l met.page) (sym end.held_is) (contains-middle end.front met.page end.back) in
       let all : Removes (λ after. Lists size after root (without entry shape) held) held pages (Ok (tt, after)) = (edits-one pages met.page bytes held there, lists) in

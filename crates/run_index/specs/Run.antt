@@ -6,7 +6,7 @@ use Rattle.pager.specs.Index.{IsInOrder}
 use Rattle.pager.specs.Pages.{Pages}
 use Rattle.pager.specs.declared.index.Found.{Found}
 use Rattle.index_page.specs.Entries.{inserted, reaches, taken_out}
-use Rattle.index_page.specs.IndexPage.{IsWritable, fits, half}
+use Rattle.index_page.specs.IndexPage.{IsWritable, have_room, half}
 use Rattle.index_page.specs.Paging.{IsAt}
 use Rattle.index_page.specs.declared.page.Form.TheVariants as form
 use Rattle.index_page.specs.declared.page.IndexPage.{IndexPage}
@@ -35,7 +35,7 @@ at_target entry change (page ∷ rest) =
 -- entries on one page where they fit, else in two halves
 abbrev pub paged : List Found → List (List Found)
 paged entries =
-    if fits entries then entries ∷ [] else take (half entries) entries ∷ drop (half entries) entries ∷ []
+    if have_room entries then entries ∷ [] else take (half entries) entries ∷ drop (half entries) entries ∷ []
 
 -- the pages with one more entry
 abbrev pub put : Found → List (List Found) → List (List Found)
@@ -49,23 +49,23 @@ without entry = at_target entry (λ page. taken_out entry page ∷ [])
 abbrev pub opens : Value → ℕ → List (List Found) → ℕ
 opens value number shape =
     let entry : Found = record { value = value; number = number; page = 0 } in
-    if fits (inserted entry (target entry shape)) then 0 else 1
+    if have_room (inserted entry (target entry shape)) then 0 else 1
 
 -- a page of a chain
 abbrev pub run_of : ℕ → List Found → IndexPage
 run_of link entries = record { form = form.Run; link = link; entries = entries }
 
 -- these pages, from that one on, hold these entries, each page names the next, and the last names that one
-abbrev pub Leads : ℕ → Pages → ℕ → List (List Found) → List ℕ → ℕ → Type 0
-Leads size pages from [] [] to = from ≡ to
-Leads size pages from [] (page ∷ held) to = ⊥
-Leads size pages from (entries ∷ shape) [] to = ⊥
-Leads size pages from (entries ∷ shape) (page ∷ held) to =
-    (from ≡ page) × (link : ℕ) × IsAt size pages page (run_of link entries) × Leads size pages link shape held to
+abbrev pub IsWay : ℕ → Pages → ℕ → List (List Found) → List ℕ → ℕ → Type 0
+IsWay size pages from [] [] to = from ≡ to
+IsWay size pages from [] (page ∷ held) to = ⊥
+IsWay size pages from (entries ∷ shape) [] to = ⊥
+IsWay size pages from (entries ∷ shape) (page ∷ held) to =
+    (from ≡ page) × (link : ℕ) × IsAt size pages page (run_of link entries) × IsWay size pages link shape held to
 
 -- these pages are a chain that begins with the root page
 pub record Lists (size : ℕ) (pages : Pages) (root : ℕ) (shape : List (List Found)) (held : List ℕ) : Type 0 where
   pub narrow : AllByRecursion (λ page. page < 2 ^ 32) held
   pub is_shape : IsShape shape
-  pub leads : Leads size pages root shape held 0
+  pub leads : IsWay size pages root shape held 0
   pub distinct : IsDistinct nat_eq held

@@ -9,7 +9,7 @@ use Rattle.std.proofs.lemmas.List.Elements.{All-drop, All-from_recursion, All-ta
 use Rattle.pager.specs.Index.{IsFound, IsInOrder, IsShaped, with_found, without_found}
 use Rattle.pager.specs.declared.index.Found.{Found}
 use Rattle.index_page.specs.Entries.{inserted, is_behind, reaches, taken_out}
-use Rattle.index_page.specs.IndexPage.{IsWritable, fits, half, width}
+use Rattle.index_page.specs.IndexPage.{AreOneMore, IsWritable, have_room, half, width}
 use Rattle.index_page.proofs.Halving.{halves_fit}
 use Rattle.index_page.proofs.Ordered.{inserted-all, inserted-in_order, inserted-is, inserted-same, inserted-skip, inserted-stop, taken_out-all, taken_out-in_order, taken_out-is, taken_out-skip, taken_out-stop}
 use Rattle.index_page.proofs.Packing.{entry-short}
@@ -118,32 +118,32 @@ rest-stops entry page behind (inr here) = inr here
 
 -- entries on one page or two
 pub entries-paged : (entries : List Found) → entries_of (paged entries) ≡ entries
-entries-paged entries = step (fits entries)
+entries-paged entries = step (have_room entries)
   where
     step : (b : Bool) → entries_of (cond b (entries ∷ []) (take (half entries) entries ∷ drop (half entries) entries ∷ [])) ≡ entries
     step true = append-nil entries
     step false = ap (λ (l : List Found). take (half entries) entries ++ l) (append-nil (drop (half entries) entries)) ∙ take-append-drop (half entries) entries
 
-pub front-writable : (entries : List Found) → AllByRecursion IsFound entries → width entries ≤ 1016 + 217 → IsWritable (take (half entries) entries)
+pub front-writable : (entries : List Found) → AllByRecursion IsFound entries → AreOneMore entries → IsWritable (take (half entries) entries)
 front-writable entries lawful most = record {
   lawful = recursion_from_All IsFound (take (half entries) entries) (All-take IsFound (half entries) entries (All-from_recursion IsFound entries lawful));
   fits = (halves_fit entries lawful most).0;
 }
 
-pub back-writable : (entries : List Found) → AllByRecursion IsFound entries → width entries ≤ 1016 + 217 → IsWritable (drop (half entries) entries)
+pub back-writable : (entries : List Found) → AllByRecursion IsFound entries → AreOneMore entries → IsWritable (drop (half entries) entries)
 back-writable entries lawful most = record {
   lawful = recursion_from_All IsFound (drop (half entries) entries) (All-drop IsFound (half entries) entries (All-from_recursion IsFound entries lawful));
   fits = (halves_fit entries lawful most).1;
 }
 
-pub paged-writable : (entries : List Found) → AllByRecursion IsFound entries → width entries ≤ 1016 + 217 → AllByRecursion IsWritable (paged entries)
-paged-writable entries lawful most = step (fits entries) refl
+pub paged-writable : (entries : List Found) → AllByRecursion IsFound entries → AreOneMore entries → AllByRecursion IsWritable (paged entries)
+paged-writable entries lawful most = step (have_room entries) refl
   where
-    step : (b : Bool) → fits entries ≡ b → AllByRecursion IsWritable (cond b (entries ∷ []) (take (half entries) entries ∷ drop (half entries) entries ∷ []))
+    step : (b : Bool) → have_room entries ≡ b → AllByRecursion IsWritable (cond b (entries ∷ []) (take (half entries) entries ∷ drop (half entries) entries ∷ []))
     step true e = (record { lawful = lawful; fits = leb-true (width entries) 1016 e }, tt)
     step false e = (front-writable entries lawful most, (back-writable entries lawful most, tt))
 
-pub inserted-most : (entry : Found) (page : List Found) → IsFound entry → IsWritable page → width (inserted entry page) ≤ 1016 + 217
+pub inserted-most : (entry : Found) (page : List Found) → IsFound entry → IsWritable page → AreOneMore (inserted entry page)
 inserted-most entry page is writable = omega (arith, inserted-width entry page, entry-short entry is, writable.fits)
 
 -- pages with that page changed are pages again
@@ -157,7 +157,7 @@ changed-shape before change behind page is writable some order = record {
 }
 
 paged-some : (entries : List Found) → 1 ≤ length (paged entries)
-paged-some entries = step (fits entries)
+paged-some entries = step (have_room entries)
   where
     step : (b : Bool) → 1 ≤ length (cond b (entries ∷ []) (take (half entries) entries ∷ drop (half entries) entries ∷ []))
     step true = omega arith
@@ -194,7 +194,7 @@ without-in entry shape is t =
     )
 
 -- whether the entries fit does not depend on the page of the one that is added
-pub fits-any_page : (entry : Found) (page : List Found) → fits (inserted (record { value = entry.value; number = entry.number; page = 0 }) page) ≡ fits (inserted entry page)
+pub fits-any_page : (entry : Found) (page : List Found) → have_room (inserted (record { value = entry.value; number = entry.number; page = 0 }) page) ≡ have_room (inserted entry page)
 fits-any_page entry page = ap (λ (n : ℕ). leb n 1016) (inserted-same_width entry 0 page)
 
 cancel-front : (front a b : List Found) → front ++ a ≡ front ++ b → a ≡ b
@@ -230,8 +230,8 @@ opens-none-in entry shape is there t =
     let moved : front ++ (inserted entry page ++ rest) ≡ front ++ (page ++ rest) = sym (inserted-there entry front page rest t.skips (rest-stops entry page t.behind t.stops)) ∙ same in
     let one : inserted entry page ≡ page = cancel-back (inserted entry page) page rest (cancel-front front (inserted entry page ++ rest) (page ++ rest) moved) in
     let low : target (record { value = entry.value; number = entry.number; page = 0 }) shape ≡ page = ap (target (record { value = entry.value; number = entry.number; page = 0 })) t.whole ∙ target-is (record { value = entry.value; number = entry.number; page = 0 }) t.before page t.behind t.skips t.stops in
-    let fit : fits (inserted (record { value = entry.value; number = entry.number; page = 0 }) (target (record { value = entry.value; number = entry.number; page = 0 }) shape)) ≡ true =
-    ap (λ (l : List Found). fits (inserted (record { value = entry.value; number = entry.number; page = 0 }) l)) low ∙ fits-any_page entry page ∙ ap fits one ∙ le-leb (width page) 1016 writable.fits in
+    let fit : have_room (inserted (record { value = entry.value; number = entry.number; page = 0 }) (target (record { value = entry.value; number = entry.number; page = 0 }) shape)) ≡ true =
+    ap (λ (l : List Found). have_room (inserted (record { value = entry.value; number = entry.number; page = 0 }) l)) low ∙ fits-any_page entry page ∙ ap have_room one ∙ le-leb (width page) 1016 writable.fits in
     rw fit refl
 
 pub empty-shape : IsShape ([] ∷ [])

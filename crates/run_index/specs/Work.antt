@@ -10,7 +10,7 @@ use Rattle.pager.specs.Pages.{Pages, written}
 use Rattle.pager.specs.Root.{taken}
 use Rattle.pager.specs.declared.index.Found.{Found}
 use Rattle.index_page.specs.Entries.{inserted, is_past, reaches, taken_out}
-use Rattle.index_page.specs.IndexPage.{fits, half, page_bytes}
+use Rattle.index_page.specs.IndexPage.{have_room, half, page_bytes}
 use Rattle.run_index.specs.declared.walk.Met.{Met}
 use Rattle.run_index.specs.Run.{run_of}
 use Rattle.run_index.specs.Walk.{met_at, walked}
@@ -28,7 +28,7 @@ made size pages = do
 -- entries go on the page that names that one where they fit, else the second half of them goes on a new page behind it
 abbrev pub stored : ℕ → Pages → ℕ → ℕ → List Found → Result (Unit {0} × Pages) Refusal → Type 0
 stored size pages page link entries =
-    either (fits entries)
+    either (have_room entries)
     (only (Ok (tt, written pages page (page_bytes (run_of link entries)))))
     (do
       next ← taken_page size pages

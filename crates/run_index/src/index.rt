@@ -1,11 +1,11 @@
 //! The calls of the index.
 
-ghost use Rattle.std.specs.Prelude.{◌≡◌, ◌≤◌, ◌<◌, ◌+◌, ◌^◌, IfErr, length};
+ghost use Rattle.std.specs.Prelude.{◌≡◌, ◌<◌, ◌^◌, IfErr, length};
 ghost use Rattle.std.specs.List.{AllByRecursion};
 ghost use Rattle.pager.specs.Draft.{Drafts};
 ghost use Rattle.pager.specs.Index.{IsFound};
 ghost use Rattle.pager.specs.Stop.{OnlyDrafts};
-ghost use Rattle.index_page.specs.IndexPage.{width};
+ghost use Rattle.index_page.specs.IndexPage.{AreOneMore};
 ghost use Rattle.run_index.specs.Work.{stored};
 
 use crate::walk::{find, range};
@@ -32,7 +32,7 @@ fn store_run<P: Pager>(
     requires size { draft.old.size ≡ P.size pager.old }
     requires there { page < draft.old.size }
     requires few { length entries < 2 ^ 16 }
-    requires short { AllByRecursion IsFound entries → width entries ≤ 1016 + 217 }
+    requires short { AllByRecursion IsFound entries → AreOneMore entries }
     ensures stored { Drafts (λ u. u) (P.tells pager.new) draft.old.list draft.new.list
         (λ pages. stored draft.old.size pages page link entries) result }
     ensures only_drafts { OnlyDrafts P.tells P.goes P.size P.faults pager.old pager.new result }

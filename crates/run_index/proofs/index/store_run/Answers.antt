@@ -5,7 +5,7 @@ use Rattle.std.proofs.lemmas.Result.{err_from_is_err_and}
 use Rattle.pager.specs.Draft.{drafted}
 use Rattle.pager.specs.Index.{IsFound}
 use Rattle.pager.specs.Pages.{Pages, written}
-use Rattle.index_page.specs.IndexPage.{fits, half, page_bytes, width}
+use Rattle.index_page.specs.IndexPage.{have_room, half, page_bytes, width}
 use Rattle.run_index.specs.Run.{run_of}
 use Rattle.run_index.specs.Shaping.{back-writable, front-writable}
 use Rattle.run_index.proofs.Walking.{allowed_stop}
@@ -14,14 +14,14 @@ use Rattle.run_index.proofs.index.store_run.Goals as goal
 pub returns-then-width-le-ENTRY_BYTES-clause-stored : goal.returns-then-width-le-ENTRY_BYTES-clause-stored
 returns-then-width-le-ENTRY_BYTES-clause-stored g c = λ base shown told.
     let total : c.width.result ≡ width c.args.entries = rw c.as_slice.ensures at c.width.ensures.width in
-    let fit : fits c.args.entries ≡ true = le-leb (width c.args.entries) 1016 (omega (arith, total)) in
+    let fit : have_room c.args.entries ≡ true = le-leb (width c.args.entries) 1016 (omega (arith, total)) in
     rw fit (ap (λ (p : Pages). Ok (tt, p)) (sym (c.in_ok-store.ensures.drafted shown)))
 
 pub returns-in_err-next-clause-stored : goal.returns-in_err-next-clause-stored
 returns-in_err-next-clause-stored g c = λ base shown told.
     let p = err_from_is_err_and c.from_residual-in_err-next.result c.from_residual-in_err-next.ensures.1 in
     let total : c.width.result ≡ width c.args.entries = rw c.as_slice.ensures at c.width.ensures.width in
-    let full : fits c.args.entries ≡ false = lt-leb (width c.args.entries) 1016 (omega (arith, total)) in
+    let full : have_room c.args.entries ≡ false = lt-leb (width c.args.entries) 1016 (omega (arith, total)) in
     rw (p.1, p.2, full) (allowed_stop c.in_err-next.field-0.0 (λ why h. inl (h, tt)) (c.in_err-next.ensures.taken base shown told))
 
 pub store-requires-2-clause-held : goal.store-requires-2-clause-held
@@ -38,7 +38,7 @@ pub returns-clause-stored : goal.returns-clause-stored
 returns-clause-stored g c = λ base shown told.
     let entries = c.args.entries in
     let total : c.width.result ≡ width entries = rw c.as_slice.ensures at c.width.ensures.width in
-    let full : fits entries ≡ false = lt-leb (width entries) 1016 (omega (arith, total)) in
+    let full : have_room entries ≡ false = lt-leb (width entries) 1016 (omega (arith, total)) in
     let next = c.in_ok-next.next in
     let after : Pages = drafted shown c.take.new.draft.list in
     let behind : Pages = written after next (page_bytes (run_of c.args.link (drop (half entries) entries))) in
