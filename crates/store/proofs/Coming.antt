@@ -114,6 +114,17 @@ idle_is who asked before s seated e = at (mine s).work refl e where
   at (Some (work.Looking look)) is e = absurd (cc e)
   at (Some (work.KeptDrop other)) is e = absurd (seated.no_drop other is)
 
+-- a seat with nothing open sees the same, whatever it was asked
+pub idle_view : {D : Type 0} (state : D → State) (faults : D → ℕ) (who : Who) (asked : Option ℕ) (before : List ToldFault) (s : Sat D) → IsSeated who asked before s → (view_of state faults asked before s).work ≡ seat.Idle
+    → ((mine s).work ≡ None) × (view_of state faults asked before s ≡ view_of state faults None [] s)
+idle_view state faults who asked before s seated e =
+    let none : (mine s).work ≡ None = idle_is who asked before s seated e in (
+      none,
+      ap (λ (w : seat.Work). record (view_of state faults asked before s) { work = w })
+          (ap (work_in asked (seen s)) none ∙ sym (ap (work_in None (seen s)) none))
+          ∙ ap (λ (ts : List ToldFault). view_of state faults None ts s) (seated.quiet none),
+    )
+
 -- ---- what the seat keeps
 
 -- what the seat has open is of its own session

@@ -54,7 +54,8 @@ module _ {D : Type 0} (is_honest : D → Type 0) (state : D → State) where
   -- that is retained is refused, with a line that says so; else want of memory alone.
   pub record LookDoes (who : Who) (number : ℕ) (result : Result ℕ Refusal) (old new : Core D) : Type 0 where
     pub desk : new.desk ≡ old.desk
-    pub looked : HasLooked who number (oldest old.desk.base.marks) (newest old.desk.base.marks) old.ledger new.ledger result
+    pub looked : HasLooked who number (oldest old.desk.base.marks)
+        (newest old.desk.base.marks) old.ledger new.ledger result
     pub start : IfOk result (λ start. start ≡ start_of number old.desk.base.marks)
     pub stays : StaysCore is_honest state old new
 
@@ -62,7 +63,8 @@ module _ {D : Type 0} (is_honest : D → Type 0) (state : D → State) where
   -- where its two lines find no room, else want of memory alone.
   pub record LookAllDoes (who : Who) (result : Result (List Mark) Refusal) (old new : Core D) : Type 0 where
     pub desk : new.desk ≡ old.desk
-    pub looked : HasOpened who LookedAll (looking who old.ledger.book.lines (map (λ mark. mark.number) old.desk.base.marks)) old.ledger new.ledger result
+    pub looked : HasOpened who LookedAll
+        (looking who old.ledger.book.lines (map (λ mark. mark.number) old.desk.base.marks)) old.ledger new.ledger result
     pub marks : IfOk result (λ marks. marks ≡ old.desk.base.marks)
     pub stays : StaysCore is_honest state old new
 
@@ -84,13 +86,16 @@ module _ {D : Type 0} (is_honest : D → Type 0) (state : D → State) where
     -- for what t keeps; where another item changed the page since t began; exactly where a call of the pages'
     -- device failed; and for want of memory, but not where the page was read before. Behind each other
     -- refusal the buffer is as before.
-    pub record ReadDoes (who : Who) (page : ℕ) (before after : List ℕ) (t : Transaction) (result : Result (Unit {0}) Refusal) (old new : Core D) : Type 0 where
+    pub record ReadDoes (who : Who) (page : ℕ) (before after : List ℕ) (t : Transaction)
+        (result : Result (Unit {0}) Refusal) (old new : Core D) : Type 0 where
       pub refused : (why : Refusal) → read_refused old.ledger.book.lines t page ≡ Some why →
           (result ≡ Err why) × (new.desk ≡ old.desk)
       pub err : IfErr result (λ why. (why ≡ OutOfMemory → ⊥) → after ≡ before)
-      pub answered : HasAnswered who t (reading page t) (read_refused old.ledger.book.lines t page) old.ledger new.ledger result
+      pub answered : HasAnswered who t (reading page t)
+          (read_refused old.ledger.book.lines t page) old.ledger new.ledger result
       pub cause : read_refused old.ledger.book.lines t page ≡ None →
-          MatchResult result (λ _. page_faults new ≡ page_faults old) (IsMemoryOrFault Pages (page_faults old) (page_faults new))
+          MatchResult result (λ _. page_faults new ≡ page_faults old)
+          (IsMemoryOrFault Pages (page_faults old) (page_faults new))
       pub own : (bytes : List ℕ) → own_edit page t.edits ≡ Some bytes → OnOk result (after ≡ bytes)
       pub current : (opening : History) (plain : Desk) → IsCore is_honest state opening old plain →
           is_honest old.desk.pool.file.disk → own_edit page t.edits ≡ None →
@@ -104,12 +109,15 @@ module _ {D : Type 0} (is_honest : D → Type 0) (state : D → State) where
     -- The transaction t edits a page. It is refused for what t keeps; for the holder of the page's latch; where
     -- another item changed the page since t began; where it would be the 1,025th page; exactly where a call of the
     -- pages' device failed; and for want of memory.
-    pub record EditDoes (who : Who) (page : ℕ) (bytes : List ℕ) (t : Transaction) (result : Result (Unit {0}) Refusal) (old new : Core D) : Type 0 where
+    pub record EditDoes (who : Who) (page : ℕ) (bytes : List ℕ) (t : Transaction) (result : Result (Unit {0}) Refusal)
+        (old new : Core D) : Type 0 where
       pub refused : (why : Refusal) → edit_refused old.ledger.book.lines old.ledger.works.slots t page ≡ Some why →
           (result ≡ Err why) × (new.desk ≡ old.desk)
-      pub answered : HasAnswered who t (editing (record { page = page; bytes = bytes }) t) (edit_refused old.ledger.book.lines old.ledger.works.slots t page) old.ledger new.ledger result
+      pub answered : HasAnswered who t (editing (record { page = page; bytes = bytes }) t)
+          (edit_refused old.ledger.book.lines old.ledger.works.slots t page) old.ledger new.ledger result
       pub cause : edit_refused old.ledger.book.lines old.ledger.works.slots t page ≡ None →
-          MatchResult result (λ _. page_faults new ≡ page_faults old) (IsMemoryOrFault Pages (page_faults old) (page_faults new))
+          MatchResult result (λ _. page_faults new ≡ page_faults old)
+          (IsMemoryOrFault Pages (page_faults old) (page_faults new))
       pub rest : SameButPages old.desk new.desk
       pub same : SameFile is_honest old.desk.pool.file new.desk.pool.file
       pub stays : StaysCore is_honest state old new
@@ -117,12 +125,15 @@ module _ {D : Type 0} (is_honest : D → Type 0) (state : D → State) where
     -- A reader of a page as of a pinned snapshot is told the bytes that the page had at its first pending capture
     -- from the snapshot's start on, else the page as it is, and how many captures are acknowledged. The only
     -- refusal is a fault of the pages' device.
-    pub record PeekDoes (page snapshot : ℕ) (before after : List ℕ) (result : Result Peeked Refusal) (old new : Core D) : Type 0 where
+    pub record PeekDoes (page snapshot : ℕ) (before after : List ℕ) (result : Result Peeked Refusal)
+        (old new : Core D) : Type 0 where
       pub cause : FaultsAlone Pages (page_faults old) (page_faults new) result
       pub upto : IfOk result (λ peeked. peeked.acked ≡ old.desk.queue.first)
       pub told : (opening : History) (plain : Desk) → IsCore is_honest state opening old plain →
           is_honest old.desk.pool.file.disk →
-          IfOk result (λ peeked. (after ≡ (told_of plain snapshot page).bytes) × (peeked.acked ≡ (told_of plain snapshot page).upto))
+          IfOk result
+          (λ peeked. (after ≡ (told_of plain snapshot page).bytes)
+          × (peeked.acked ≡ (told_of plain snapshot page).upto))
       pub err : OnErr result (after ≡ before)
       pub ledger : new.ledger ≡ old.ledger
       pub rest : SameButPages old.desk new.desk
@@ -131,16 +142,20 @@ module _ {D : Type 0} (is_honest : D → Type 0) (state : D → State) where
 
     -- why a commit of t is refused before it takes any memory
     abbrev pub refused_so : Core D → Transaction → Option (List ℕ) → Option Refusal
-    refused_so core t label = commit_refused (first_stop core.ledger.book.lines) (counts_of core.desk.base t.edits) core.ledger.book.lines t (is_some label)
+    refused_so core t label =
+        commit_refused (first_stop core.ledger.book.lines) (counts_of core.desk.base t.edits) core.ledger.book.lines t
+        (is_some label)
 
     -- A commit of t that is not refused so. Its edits and its mark stand in the journal and on the log's device; or
     -- it is refused for want of memory, or where the log has no room, and all is as it was; or exactly where a call
     -- of that device failed, and then it is in doubt.
     pub record CommitMakes (remembers : Type 0) (clock : D →
-        Clock) (who : Who) (label : Option (List ℕ)) (t : Transaction) (result : Result (Option ℕ) Refusal) (old new : Core D) : Type 0 where
+        Clock) (who : Who) (label : Option (List ℕ)) (t : Transaction) (result : Result (Option ℕ) Refusal)
+        (old new : Core D) : Type 0 where
       pub ended : HasEnded who label t old.ledger new.ledger result
       pub cause : MatchResult result (λ _. log_faults new ≡ log_faults old)
-          (IsChangeRefusal old.desk.log.log.area.log (length (change_bytes old.desk.log.log.version (Commit label t.edits))) (log_faults old) (log_faults new))
+          (IsChangeRefusal old.desk.log.log.area.log
+          (length (change_bytes old.desk.log.log.version (Commit label t.edits))) (log_faults old) (log_faults new))
       pub untouched : IfErr result (λ why. (IsDiskFault why → ⊥) → new ≡ old)
       pub nothing : leaves_record label t.edits ≡ false → new.desk ≡ old.desk
       pub done : (opening : History) (plain : Desk) → IsCore is_honest state opening old plain →
@@ -150,15 +165,18 @@ module _ {D : Type 0} (is_honest : D → Type 0) (state : D → State) where
           IsCore is_honest state opening new (change_failed plain (Commit label t.edits)))
       pub any_moment : (opening : History) (plain : Desk) → IsCore is_honest state opening old plain →
           leaves_record label t.edits ≡ true → is_honest old.desk.log.disk →
-          LeavesOnly remembers (clock old.desk.log.disk) (clock new.desk.log.disk) (ListsLogOf (change_failed plain (Commit label t.edits)))
+          LeavesOnly remembers (clock old.desk.log.disk) (clock new.desk.log.disk)
+          (ListsLogOf (change_failed plain (Commit label t.edits)))
 
     -- A commit of the item's transaction t answers the number that it declares.
     pub record CommitDoes (remembers : Type 0) (clock : D →
-        Clock) (who : Who) (label : Option (List ℕ)) (t : Transaction) (result : Result (Option ℕ) Refusal) (old new : Core D) : Type 0 where
+        Clock) (who : Who) (label : Option (List ℕ)) (t : Transaction) (result : Result (Option ℕ) Refusal)
+        (old new : Core D) : Type 0 where
       pub pages : new.desk.pool.file ≡ old.desk.pool.file
       pub honest : is_honest old.desk.log.disk ↔ is_honest new.desk.log.disk
       pub names : old.desk.log.log.area.log.device ≡ Log
       pub refused : (why : Refusal) → refused_so old t label ≡ Some why →
-          (result ≡ Err why) × (new.desk ≡ old.desk) × (new.ledger ≡ with_open who (kept_behind why t) old.ledger) × StaysCore is_honest state old new
+          (result ≡ Err why) × (new.desk ≡ old.desk) × (new.ledger ≡ with_open who (kept_behind why t) old.ledger)
+          × StaysCore is_honest state old new
       pub number : IfOk result (λ number. number ≡ (if is_some label then Some (newest new.desk.base.marks) else None))
       pub makes : refused_so old t label ≡ None → CommitMakes remembers clock who label t result old new

@@ -92,7 +92,8 @@ module _ {D : Type 0} (is_honest : D → Type 0) (state : D → State) where
   pub record Carries (faults : D → ℕ) (remembers : Type 0) (clock : D → Clock) (batch : Batch)
       (result : Result Carried Fault) (old new : Running D) : Type 0 where
     pub stands : (start : Start D) (lines : List Line) → VaultStands is_honest state old start lines →
-        IsSound (opened_base start) lines → IsBatchIn start lines old.side.held batch → VaultStands is_honest state new start lines
+        IsSound (opened_base start) lines → IsBatchIn start lines old.side.held batch
+        → VaultStands is_honest state new start lines
     pub held : old.side.held ≤ new.side.held
     pub pagelog : faults old.pagelog.disk ≤ faults new.pagelog.disk
     pub maplog : faults old.side.disk ≤ faults new.side.disk
@@ -102,4 +103,5 @@ module _ {D : Type 0} (is_honest : D → Type 0) (state : D → State) where
         LeavesOnly remembers (clock old.pagelog.disk) (clock new.pagelog.disk)
         (λ image. SomeFailedLaying old.pagelog.blocks vault batch (λ failed. HasSlotsOf failed image))
     pub entering : (vault : Vault) → IsVault is_honest state old vault → IsToEnter batch old → is_honest old.side.disk →
-        LeavesOnly remembers (clock old.side.disk) (clock new.side.disk) (ListsMaplogOf old.side.log (enter_failed vault batch))
+        LeavesOnly remembers (clock old.side.disk) (clock new.side.disk)
+        (ListsMaplogOf old.side.log (enter_failed vault batch))

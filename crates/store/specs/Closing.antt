@@ -30,7 +30,8 @@ pub record IsSeenIn {D : Type 0} (side : DeskSide D) (s : Sat D) : Type 0 where
   pub work : (mine s).work ≡ work_at (slots_of side) s.number
 
 -- The devices are those of a desk and a vault that stand for one opening and this journal. It has the lines of so
--- many seats, which have seen them, and no others; no fault is told twice, and none above its device's count. Whatever a
+-- many seats, which have seen them, and no others; no fault is told twice, and none above its device's count. Whatever
+-- a
 -- crash leaves of the devices opens to the history behind the journal, or to it with the one change in doubt.
 pub record Closes {D : Type 0} (is_honest : D → Type 0) (state : D → State) (faults : D → ℕ) (start : Start D)
     (limit : ℕ) (seats : List (Sat D)) (left : Closed D) : Type 0 where

@@ -15,7 +15,8 @@ use Rattle.race_model.specs.Images.{IsSameWorld}
 use Rattle.replay.specs.Joined.{AreJoined}
 use Rattle.replay.specs.Opened.{Contents, opened}
 
--- no reader can tell what the contents open to from the history, or from it with the change that is in doubt, which may follow it
+-- no reader can tell what the contents open to from the history, or from it with the change that is in doubt, which may
+-- follow it
 abbrev pub OpensTo : Contents → History → Option Change → Type 0
 OpensTo contents history None = IsSameWorld (opened contents) history
 OpensTo contents history (Some change) =
@@ -23,13 +24,15 @@ OpensTo contents history (Some change) =
     ⊎ (MayFollow (now history).base change × IsSameWorld (opened contents) (with_change history change))
 
 -- the devices hold contents that belong together, in records of the version, and open so
-pub record HoldWorld (version : Version) (devices : Four (List ℕ)) (history : History) (doubt : Option Change) : Type 0 where
+pub record HoldWorld (version : Version) (devices : Four (List ℕ)) (history : History)
+    (doubt : Option Change) : Type 0 where
   pub contents : Contents
   pub hold : Hold version devices contents
   pub joined : AreJoined contents
   pub opens : OpensTo contents history doubt
 
--- Whatever a crash leaves of the four devices opens to the history behind the journal, or to it with the one change that
+-- Whatever a crash leaves of the four devices opens to the history behind the journal, or to it with the one change
+-- that
 -- the journal tells to be in doubt.
 abbrev pub CrashesOpen : {D : Type 0} → (D → State) → Version → History → List Line → Four D → Type 0
 CrashesOpen state version history lines disks = (devices : Four (List ℕ)) → AreImages state disks devices →

@@ -20,13 +20,20 @@ stays z s = record { store = refl; same = record { id = refl; number = refl; ope
 pub goes_on : {D : Type 0} (z y x : TableId) (s t u : Sat D) → GoesOn z y s t → GoesOn y x t u → GoesOn z x s u
 goes_on z y x s t u one two = record {
   store = two.store ∙ one.store;
-  same = record { id = two.same.id ∙ one.same.id; number = two.same.number ∙ one.same.number; opening = two.same.opening ∙ one.same.opening };
+  same = record {
+    id = two.same.id ∙ one.same.id;
+    number = two.same.number ∙ one.same.number;
+    opening = two.same.opening ∙ one.same.opening;
+  };
 }
 
 -- and its devices tell what they hold, or not, as before
 abbrev JustOpened : {D : Type 0} → (D → Type 0) → (D → State) → Option (Start D) → Type 0
 JustOpened is_honest state o = IfSome o (λ start.
-    (is_honest start.core.value.desk.pool.file.disk × is_honest start.archive.value.pagelog.disk) × AreJustOpened is_honest state start.core.value start.archive.value)
+    (is_honest start.core.value.desk.pool.file.disk × is_honest start.archive.value.pagelog.disk)
+    × AreJustOpened is_honest state start.core.value start.archive.value)
 
-pub honest_stays : {D : Type 0} (is_honest : D → Type 0) (state : D → State) (z w : TableId) (s t : Sat D) → GoesOn z w s t → IsHonest is_honest state s ↔ IsHonest is_honest state t
-honest_stays is_honest state z w s t goes = (subst (JustOpened is_honest state) (sym goes.same.opening), subst (JustOpened is_honest state) goes.same.opening)
+pub honest_stays : {D : Type 0} (is_honest : D → Type 0) (state : D → State) (z w : TableId) (s t : Sat D)
+    → GoesOn z w s t → IsHonest is_honest state s ↔ IsHonest is_honest state t
+honest_stays is_honest state z w s t goes =
+    (subst (JustOpened is_honest state) (sym goes.same.opening), subst (JustOpened is_honest state) goes.same.opening)

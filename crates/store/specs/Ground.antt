@@ -28,7 +28,8 @@ first_image page bytes (image ∷ images) = if image.page == page then image.byt
 module _ {D : Type 0} (state : D → State) where
   -- the pages of a core: those in memory, and the others of its device
   abbrev pub pages_of_core : Core D → Pages
-  pages_of_core core page = framed (block_at (state core.desk.pool.file.disk).seen page) (frame_at core.desk.pool.frames page)
+  pages_of_core core page =
+      framed (block_at (state core.desk.pool.file.disk).seen page) (frame_at core.desk.pool.frames page)
 
   -- a slot of an archive, or these bytes
   abbrev pub slot_or : Running D → List ℕ → Option ℕ → List ℕ
@@ -39,18 +40,30 @@ module _ {D : Type 0} (state : D → State) where
   -- pending, or else the page as it is
   abbrev pub past_of : Core D → Running D → ℕ → Pages
   past_of core archive start page =
-      slot_or archive (first_image page (pages_of_core core page) (drop (start - core.desk.queue.first) core.desk.queue.images))
+      slot_or archive
+      (first_image page (pages_of_core core page) (drop (start - core.desk.queue.first) core.desk.queue.images))
       (first_in archive.side.levels start core.desk.queue.first page)
 
   -- the pages now and at each retained snapshot
   abbrev pub world_of : Core D → Running D → World Pages
   world_of core archive = record {
     current = pages_of_core core;
-    marks = map (λ (mark : MarkOf). record { number = mark.number; label = mark.label; held = past_of core archive mark.start }) core.desk.base.marks;
+    marks =
+        map
+        (λ (mark : MarkOf). record {
+          number = mark.number;
+          label = mark.label;
+          held = past_of core archive mark.start;
+        })
+        core.desk.base.marks;
   }
 
   abbrev pub ground_of : (D → ℕ) → Start D → Ground
-  ground_of faults start = record { base = opened_base start; pages = world_of start.core.value start.archive.value; faults = opened_counts faults start }
+  ground_of faults start = record {
+    base = opened_base start;
+    pages = world_of start.core.value start.archive.value;
+    faults = opened_counts faults start;
+  }
 
 -- that of no store
 abbrev pub no_ground : Ground

@@ -16,5 +16,6 @@ pub mod Seen
 pub mod Sides
 pub mod Start
 pub mod Tried
+pub mod WorkerRounds
 pub mod Workers
 pub mod Worlds

@@ -47,19 +47,26 @@ pub record AreReadBy {D : Type 0} (extent : D → ℕ) (is_honest : D → Type 0
 
 -- The devices are refused so, the first that breaks and where: for their sizes, whatever they tell, and by their bytes
 -- where they tell them.
-pub record AreRefused {D : Type 0} (extent : D → ℕ) (is_honest : D → Type 0) (state : D → State) (version : Version) (disks : Four D) (device : Device) (broken : ℕ) : Type 0 where
+pub record AreRefused {D : Type 0} (extent : D → ℕ) (is_honest : D → Type 0) (state : D → State) (version : Version)
+    (disks : Four D) (device : Device) (broken : ℕ) : Type 0 where
   pub sizes : SizesTell (of_each extent disks) device broken
   pub breaks : AreHonest is_honest disks → DevicesBreak version (seen_of state disks) device broken
 
 -- the history that contents open to, kept from their lowest mapping on, with a Maplog in records of that version
 abbrev pub origin_of : Version → Contents → Origin
-origin_of version contents = record { history = opened contents; floor = contents.mappings.low; log = contents.log.version; maplog = version }
+origin_of version contents = record {
+  history = opened contents;
+  floor = contents.mappings.low;
+  log = contents.log.version;
+  maplog = version;
+}
 
 -- four devices
 abbrev pub four_of : {D : Type 0} → D → D → D → D → Four D
 four_of log pages pagelog maplog = record { log = log; pages = pages; pagelog = pagelog; maplog = maplog }
 
--- The log was read, which told these sizes, and the archive was opened from these two devices beside it. No call failed,
+-- The log was read, which told these sizes, and the archive was opened from these two devices beside it. No call
+-- failed,
 -- and each of the four has its size.
 pub record AreLooked {D : Type 0} (extent faults : D → ℕ) (is_honest : D → Type 0) (remembers : Type 0)
     (state : D → State) (clock : D → Clock) (version : Version) (first log pages slots maps : D) (archive : Running D)
@@ -78,28 +85,35 @@ pub record AreLooked {D : Type 0} (extent faults : D → ℕ) (is_honest : D →
   pub opened : IsOpened is_honest state version sizes.pages sizes.capacity maps archive
 
 -- These belong together, and the four devices hold them where they tell their bytes.
-pub record AreContentsOf {D : Type 0} (is_honest : D → Type 0) (state : D → State) (version : Version) (disks : Four D) (contents : Contents) : Type 0 where
+pub record AreContentsOf {D : Type 0} (is_honest : D → Type 0) (state : D → State) (version : Version) (disks : Four D)
+    (contents : Contents) : Type 0 where
   pub hold : AreHonest is_honest disks → Hold version (seen_of state disks) contents
   pub joined : AreJoined contents
 
 -- A core and an archive were just opened to the history of the four devices' contents.
-pub record AreOpenedFrom {D : Type 0} (is_honest : D → Type 0) (state : D → State) (version : Version) (disks : Four D) (core : Core D) (archive : Running D) : Type 0 where
+pub record AreOpenedFrom {D : Type 0} (is_honest : D → Type 0) (state : D → State) (version : Version) (disks : Four D)
+    (core : Core D) (archive : Running D) : Type 0 where
   pub contents : Contents
   pub are : AreContentsOf is_honest state version disks contents
   pub opened : AreJustOpened is_honest state core archive
   pub origin : opened.origin ≡ origin_of version contents
 
--- a store was opened to this history, from devices that told what they held, with log and Maplog in records of one version
-pub record IsHonestlyOpened {D : Type 0} (is_honest : D → Type 0) (state : D → State) (start : Start D) (origin : Origin) : Type 0 where
+-- a store was opened to this history, from devices that told what they held, with log and Maplog in records of one
+-- version
+pub record IsHonestlyOpened {D : Type 0} (is_honest : D → Type 0) (state : D → State) (start : Start D)
+    (origin : Origin) : Type 0 where
   pub opened : IsOpenedTo is_honest state start origin
   pub honest : AreHonest is_honest (disks_of start.core.value start.archive.value)
   pub in_version : origin.maplog ≡ origin.log
 
--- The core and the archive with which a store of these seats began: each seat tells them as its opening. They were opened
--- from the four devices, of which nothing was written and no call failed. Where the devices tell what they hold, the store
+-- The core and the archive with which a store of these seats began: each seat tells them as its opening. They were
+-- opened
+-- from the four devices, of which nothing was written and no call failed. Where the devices tell what they hold, the
+-- store
 -- was opened to the history of their contents.
 pub record BeginsWith {D : Type 0} (extent faults : D → ℕ) (is_honest : D → Type 0) (remembers : Type 0)
-    (state : D → State) (clock : D → Clock) (version : Version) (disks : Four D) (start : Start D) (seats : List (Sat D)) : Type 0 where
+    (state : D → State) (clock : D → Clock) (version : Version) (disks : Four D) (start : Start D)
+    (seats : List (Sat D)) : Type 0 where
   pub core : Core D
   pub archive : Running D
   pub opened : AreOpenedFrom is_honest state version disks core archive
@@ -110,7 +124,8 @@ pub record BeginsWith {D : Type 0} (extent faults : D → ℕ) (is_honest : D �
   pub honestly : AreHonest is_honest disks → IsHonestlyOpened is_honest state start opened.opened.origin
 
 -- what is shown of the four devices' contents: their sizes, the oldest and the newest snapshot, and how many captures
-pub record IsShownOf {D : Type 0} (is_honest : D → Type 0) (state : D → State) (version : Version) (disks : Four D) (shown : Shown) : Type 0 where
+pub record IsShownOf {D : Type 0} (is_honest : D → Type 0) (state : D → State) (version : Version) (disks : Four D)
+    (shown : Shown) : Type 0 where
   pub contents : Contents
   pub are : AreContentsOf is_honest state version disks contents
   pub pages : shown.sizes.pages ≡ (now (opened contents)).base.page_count

@@ -81,7 +81,8 @@ module _ {D : Type 0} (is_honest : D → Type 0) (state : D → State) where
     pub table_is : IsTableOf s snapshot table
 
   -- what the vault found below a number, of which the seat has then seen the journal
-  pub record FoundIn (s : Sat D) (start : Start D) (origin : Origin) (from upto page : ℕ) (before after : List ℕ) (result : Result Bool Fault) : Type 0 where
+  pub record FoundIn (s : Sat D) (start : Start D) (origin : Origin) (from upto page : ℕ) (before after : List ℕ)
+      (result : Result Bool Fault) : Type 0 where
     pub vault : Vault
     pub fits : is_honest start.core.value.desk.pool.file.disk →
         VaultFits (after_journal origin.history (seen s)) origin.floor vault
@@ -89,7 +90,8 @@ module _ {D : Type 0} (is_honest : D → Type 0) (state : D → State) where
     pub bytes : is_honest start.archive.value.pagelog.disk →
         OnOk result (after ≡ in_slot vault (capacity_of origin.history) before (first_in vault.mappings from upto page))
 
-  pub record FindsIn (old new : Sat D) (snapshot : ℕ) (table next : Table) (upto page : ℕ) (before after : List ℕ) (result : Result Bool Fault) : Type 0 where
+  pub record FindsIn (old new : Sat D) (snapshot : ℕ) (table next : Table) (upto page : ℕ) (before after : List ℕ)
+      (result : Result Bool Fault) : Type 0 where
     pub table_is : IsTableOf new snapshot next
     pub sound : (start : Start D) → opening old ≡ Some start → IsSound (opened_base start) (seen new)
     pub retained : (start : Start D) → opening old ≡ Some start →
@@ -109,4 +111,5 @@ IsPastRefusal s table fault = (fault.wrote ≡ false) × IsPastCause s table.cov
 
 -- a fault that it tells is new since the opening
 abbrev pub IsNewFault : {D : Type 0} → (D → ℕ) → Sat D → Fault → Type 0
-IsNewFault {D} faults s fault = (start : Start D) (d : Device) (c : ℕ) → opening s ≡ Some start → fault.why ≡ DiskFault d c → IsAbove faults start d c
+IsNewFault {D} faults s fault = (start : Start D) (d : Device) (c : ℕ) → opening s ≡ Some start
+    → fault.why ≡ DiskFault d c → IsAbove faults start d c

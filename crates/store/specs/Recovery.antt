@@ -43,35 +43,44 @@ changed_world change world = behind (pages_behind world.current (what_of change)
 -- what readers see of the contents is this world, or that behind the change in doubt
 abbrev pub ShowsOneOf : Contents → World Pages → Option Change → Type 0
 ShowsOneOf contents world None = IsWorldOf (opened contents) world
-ShowsOneOf contents world (Some change) = IsWorldOf (opened contents) world ⊎ IsWorldOf (opened contents) (changed_world change world)
+ShowsOneOf contents world (Some change) =
+    IsWorldOf (opened contents) world ⊎ IsWorldOf (opened contents) (changed_world change world)
 
 -- Of contents that open to the history behind a sound journal, or to it with a change that may follow, readers see the
 -- world behind that journal, or that behind the change.
 abbrev pub OpensShown : Type 0
-OpensShown = (history : History) (floor : ℕ) (world : World Pages) (lines : List Line) (doubt : Option Change) (contents : Contents) →
-    HistoryFits history floor → IsWorldOf history world → IsSound (now history).base lines →
+OpensShown = (history : History) (floor : ℕ) (world : World Pages) (lines : List Line) (doubt : Option Change)
+    (contents : Contents)
+    → HistoryFits history floor → IsWorldOf history world → IsSound (now history).base lines →
     OpensTo contents (after_journal history lines) doubt → ShowsOneOf contents (page_world world lines) doubt
 
 -- the devices hold contents that belong together, in records of the version, and of which readers see so
-pub record HoldShown (version : Version) (devices : Four (List ℕ)) (world : World Pages) (doubt : Option Change) : Type 0 where
+pub record HoldShown (version : Version) (devices : Four (List ℕ)) (world : World Pages)
+    (doubt : Option Change) : Type 0 where
   pub contents : Contents
   pub hold : Hold version devices contents
   pub joined : AreJoined contents
   pub shows : ShowsOneOf contents world doubt
 
--- Whatever a crash leaves of the four devices, readers see the world behind the lines, or that behind the one change that
+-- Whatever a crash leaves of the four devices, readers see the world behind the lines, or that behind the one change
+-- that
 -- they tell to be in doubt.
 abbrev pub CrashesShow : {D : Type 0} → (D → State) → Version → World Pages → List Line → Four D → Type 0
-CrashesShow state version world lines disks = (devices : Four (List ℕ)) → AreImages state disks devices → HoldShown version devices world (doubt_in lines)
+CrashesShow state version world lines disks = (devices : Four (List ℕ)) → AreImages state disks devices
+    → HoldShown version devices world (doubt_in lines)
 
 module _ {D : Type 0} (is_honest : D → Type 0) (state : D → State) where
   -- Of the history that a store was just opened to readers see the pages that its devices and memory tell.
   abbrev pub OpeningShows : Type 0
   OpeningShows = (core : Core D) (archive : Running D) (just : AreJustOpened is_honest state core archive) →
-      is_honest core.desk.pool.file.disk → is_honest archive.pagelog.disk → IsWorldOf just.origin.history (world_of state core archive)
+      is_honest core.desk.pool.file.disk → is_honest archive.pagelog.disk
+      → IsWorldOf just.origin.history (world_of state core archive)
 
   -- So readers see the world behind the journal of what a crash leaves of a store that is closed.
   abbrev pub ClosedShows : (D → ℕ) → Type 0
-  ClosedShows faults = (start : Start D) (limit : ℕ) (seats : List (Sat D)) (left : Closed D) → Closes is_honest state faults start limit seats left →
-      (just : AreJustOpened is_honest state start.core.value start.archive.value) → IsHonestlyOpened is_honest state start just.origin →
-      CrashesShow state just.origin.log (page_world (ground_of state faults start).pages left.journal) left.journal left.disks
+  ClosedShows faults = (start : Start D) (limit : ℕ) (seats : List (Sat D)) (left : Closed D)
+      → Closes is_honest state faults start limit seats left
+      → (just : AreJustOpened is_honest state start.core.value start.archive.value)
+      → IsHonestlyOpened is_honest state start just.origin
+      → CrashesShow state just.origin.log
+      (page_world (ground_of state faults start).pages left.journal) left.journal left.disks

@@ -49,7 +49,13 @@ module _ {D : Type 0} (is_honest : D → Type 0) (state : D → State) where
   -- The archive is known to hold the captures below a receipt's count.
   pub record AckDoes (receipt : ℕ) (old new : Core D) : Type 0 where
     pub ledger : new.ledger ≡ old.ledger
-    pub queue : new.desk ≡ record old.desk { queue = record { first = max old.desk.queue.first receipt; images = drop (receipt - old.desk.queue.first) old.desk.queue.images } }
+    pub queue : new.desk
+        ≡ record old.desk {
+          queue = record {
+            first = max old.desk.queue.first receipt;
+            images = drop (receipt - old.desk.queue.first) old.desk.queue.images;
+          };
+        }
     pub done : (opening : History) (plain : Desk) → IsCore is_honest state opening old plain →
         IsCore is_honest state opening new (acked_to plain receipt)
 
@@ -77,7 +83,8 @@ module _ {D : Type 0} (is_honest : D → Type 0) (state : D → State) where
       pub same : SameFile is_honest old.desk.pool.file new.desk.pool.file
       pub cause : MatchResult result
           (λ _. (old.desk.stop ≡ None) × (faults new.desk.pool.file.disk ≡ faults old.desk.pool.file.disk))
-          (IsWriteRefusal old.desk.stop (IsFault Pages (faults old.desk.pool.file.disk) (faults new.desk.pool.file.disk)))
+          (IsWriteRefusal old.desk.stop
+          (IsFault Pages (faults old.desk.pool.file.disk) (faults new.desk.pool.file.disk)))
       pub ledger : HasServed who old new result
       pub untouched : IfErr result (λ why. (IsDiskFault why → ⊥) → new.desk ≡ old.desk)
       pub done : (opening : History) (plain : Desk) → IsCore is_honest state opening old plain →
@@ -100,7 +107,8 @@ module _ {D : Type 0} (is_honest : D → Type 0) (state : D → State) where
       pub same : SameFile is_honest old.desk.pool.file new.desk.pool.file
       pub cause : MatchResult result
           (λ _. (old.desk.stop ≡ None) × (faults new.desk.pool.file.disk ≡ faults old.desk.pool.file.disk))
-          (IsWriteRefusal old.desk.stop (IsFault Pages (faults old.desk.pool.file.disk) (faults new.desk.pool.file.disk)))
+          (IsWriteRefusal old.desk.stop
+          (IsFault Pages (faults old.desk.pool.file.disk) (faults new.desk.pool.file.disk)))
       pub ledger : HasServed who old new result
       pub untouched : IfErr result (λ why. (IsDiskFault why → ⊥) → new.desk ≡ old.desk)
       pub done : (opening : History) (plain : Desk) → IsCore is_honest state opening old plain →

@@ -71,7 +71,8 @@ MayAskAgain _ = ⊥
 module _ {D : Type 0} (is_honest : D → Type 0) (state : D → State) where
   -- The batch has captures behind the journal that the seat has seen, from a number on that it has seen the vault hold.
   abbrev pub IsBatchAt : Sat D → Batch → Type 0
-  IsBatchAt s batch = (start : Start D) → opening s ≡ Some start → IsBatchIn is_honest state start (seen s) (held s) batch
+  IsBatchAt s batch = (start : Start D) → opening s ≡ Some start
+      → IsBatchIn is_honest state start (seen s) (held s) batch
 
   module _ (faults : D → ℕ) (z : TableId) (remembers : Type 0) (clock : D → Clock) where
     -- ---- a copy round
@@ -92,7 +93,8 @@ module _ {D : Type 0} (is_honest : D → Type 0) (state : D → State) where
     -- It was entered at last, and the desk told so in the next visit; or more than its first number was found held.
     pub data HasCopied (batch : Batch) (old new : Sat D) : Type 0 where
       EnteredIt : (count : ℕ) (middle : Sat D) → CarriesAtLast batch (Ok (Entered count)) old middle →
-          Visits is_honest state faults z (AckDoes is_honest state (batch_end batch)) middle new → HasCopied batch old new
+          Visits is_honest state faults z (AckDoes is_honest state (batch_end batch)) middle new
+          → HasCopied batch old new
       WasThere : CarriesAtLast batch (Ok There) old new → HasCopied batch old new
 
     -- the line of a fault of a device was recorded in the next visit to the desk; else nothing followed
@@ -110,7 +112,8 @@ module _ {D : Type 0} (is_honest : D → Type 0) (state : D → State) where
       pub noted : IsNoted who why middle new
 
     -- The desk was asked for a batch. The round answers false exactly where it offered none.
-    pub record CopiesRound (who : Who) (before batch : Batch) (result : Result Bool Refusal) (old new : Sat D) : Type 0 where
+    pub record CopiesRound (who : Who) (before batch : Batch) (result : Result Bool Refusal)
+        (old new : Sat D) : Type 0 where
       pub asked : Bool
       pub middle : Sat D
       pub asks : Visits is_honest state faults z (Offers before batch asked) old middle
@@ -125,8 +128,9 @@ module _ {D : Type 0} (is_honest : D → Type 0) (state : D → State) where
       pub data HasWritten : ℕ → Sat D → Sat D → Type 0 where
         Nothing : (s : Sat D) → HasWritten 0 s s
         OneMore : (count : ℕ) (old middle new : Sat D) → HasWritten count old middle →
-            Visits is_honest state faults z (WriteBackDoes is_honest state faults remembers clock who (Ok true)) middle new →
-            HasWritten (count + 1) old new
+            Visits is_honest state faults z
+            (WriteBackDoes is_honest state faults remembers clock who (Ok true)) middle new
+            → HasWritten (count + 1) old new
 
       -- behind fewer than 63 pages the desk answered that to the next
       pub record WritesNoMore (answer : Result Bool Refusal) (old new : Sat D) : Type 0 where
@@ -134,7 +138,8 @@ module _ {D : Type 0} (is_honest : D → Type 0) (state : D → State) where
         pub few : count < BATCH - 1
         pub middle : Sat D
         pub written : HasWritten count old middle
-        pub answers : Visits is_honest state faults z (WriteBackDoes is_honest state faults remembers clock who answer) middle new
+        pub answers : Visits is_honest state faults z
+            (WriteBackDoes is_honest state faults remembers clock who answer) middle new
 
       -- 63 pages, or as many as the desk told that may be written
       pub data HasWrittenAll (old new : Sat D) : Type 0 where
@@ -145,7 +150,8 @@ module _ {D : Type 0} (is_honest : D → Type 0) (state : D → State) where
       pub record HasSettled (result : Result (Unit {0}) Refusal) (old new : Sat D) : Type 0 where
         pub all : Sat D
         pub writes : HasWrittenAll old all
-        pub settles : Visits is_honest state faults z (SettleDoes is_honest state faults remembers clock who result) all new
+        pub settles : Visits is_honest state faults z
+            (SettleDoes is_honest state faults remembers clock who result) all new
 
       -- and the log was cut where less than half of its half was free, if it could be
       pub record HasCut (result : Result Bool Refusal) (old new : Sat D) : Type 0 where
@@ -164,11 +170,13 @@ module _ {D : Type 0} (is_honest : D → Type 0) (state : D → State) where
       pub record WritesRound (result : Result Bool Refusal) (old new : Sat D) : Type 0 where
         pub asked : Result Bool Refusal
         pub middle : Sat D
-        pub asks : Visits is_honest state faults z (WriteBackDoes is_honest state faults remembers clock who asked) old middle
+        pub asks : Visits is_honest state faults z
+            (WriteBackDoes is_honest state faults remembers clock who asked) old middle
         pub none : asked ≡ Ok false → (result ≡ Ok false) × (new ≡ middle)
         pub refused : (why : Refusal) → asked ≡ Err why → (result ≡ Err why) × (new ≡ middle)
         pub some : asked ≡ Ok true → MatchResult result
-            (λ more. (more ≡ true) × (was_cut : Bool) × HasCut (Ok was_cut) middle new) (λ why. WriteRefused why middle new)
+            (λ more. (more ≡ true) × (was_cut : Bool) × HasCut (Ok was_cut) middle new)
+            (λ why. WriteRefused why middle new)
 
       -- ---- a commit and a drop, for which room is made
 
@@ -179,14 +187,16 @@ module _ {D : Type 0} (is_honest : D → Type 0) (state : D → State) where
         NoCopy : (batch : Batch) (why : Refusal) → result ≡ Err why →
             CopiesRound who no_batch batch (Err why) old new → MakesRoom result old new
         NoWrite : (batch : Batch) (more : Bool) (why : Refusal) (copied : Sat D) → result ≡ Err why →
-            CopiesRound who no_batch batch (Ok more) old copied → WritesRound (Err why) copied new → MakesRoom result old new
+            CopiesRound who no_batch batch (Ok more) old copied → WritesRound (Err why) copied new
+            → MakesRoom result old new
         Cut : (batch : Batch) (more wrote : Bool) (copied written : Sat D) (was_cut : Result Bool Refusal) →
             CopiesRound who no_batch batch (Ok more) old copied → WritesRound (Ok wrote) copied written →
             Visits is_honest state faults z (CutDoes is_honest state faults remembers clock who was_cut) written new →
             MatchResult was_cut (λ _. result ≡ Ok tt) (λ why. result ≡ Err why) → MakesRoom result old new
 
       -- The desk was asked. Its answer is the last, unless the log had no room. Then room was made: where that was
-      -- refused, and not since the store has stopped, the refusal is the answer; else the desk was asked again, and so on.
+      -- refused, and not since the store has stopped, the refusal is the answer; else the desk was asked again, and so
+      -- on.
       pub data AnswersAtLast {T : Type 0} (Does : Result T Refusal → Core D → Core D → Type 0)
           (result : Result T Refusal) : Sat D → Sat D → Type 0 where
         Answered : (old new : Sat D) → Visits is_honest state faults z (Does result) old new → (IsNoRoom result → ⊥) →
@@ -195,8 +205,8 @@ module _ {D : Type 0} (is_honest : D → Type 0) (state : D → State) where
             Visits is_honest state faults z (Does (Err full)) old asked → MakesRoom (Err why) asked new →
             (MayAskAgain (Err why) → ⊥) → result ≡ Err why → AnswersAtLast Does result old new
         AskedAgain : (full : Refusal) (made : Result (Unit {0}) Refusal) (old asked roomy new : Sat D) → IsRoom full →
-            Visits is_honest state faults z (Does (Err full)) old asked → MakesRoom made asked roomy → MayAskAgain made →
-            AnswersAtLast Does result roomy new → AnswersAtLast Does result old new
+            Visits is_honest state faults z (Does (Err full)) old asked → MakesRoom made asked roomy → MayAskAgain made
+            → AnswersAtLast Does result roomy new → AnswersAtLast Does result old new
 
       -- The desk was asked for a drop, whose line it kept while it was asked again. A drop that no line tells gives up
       -- the line that it kept, if any, in one more visit.
@@ -204,4 +214,5 @@ module _ {D : Type 0} (is_honest : D → Type 0) (state : D → State) where
         pub asked : Sat D
         pub asks : AnswersAtLast (DropDoes is_honest state faults remembers clock who below) result old asked
         pub told : tells_drop result ≡ true → new ≡ asked
-        pub gives_up : tells_drop result ≡ false → Visits is_honest state faults z (GivesUpDrop is_honest state who) asked new
+        pub gives_up : tells_drop result ≡ false
+            → Visits is_honest state faults z (GivesUpDrop is_honest state who) asked new

@@ -138,14 +138,17 @@ module _ {D : Type 0} (is_honest : D → Type 0) (state : D → State) (faults :
   -- a call of the item may be made between entering the desk and leaving it, by a seat that was told so
   pub record IsVisit (who : Who) (tells : List (Device × ℕ) → Type 0) (old new : DeskSide D) : Type 0 where
     pub leaves : (most : ℕ) (mine : Holding Work) → HasOwn who tells old mine →
-        IsLaterCore faults old.start.core.value old.core → old.core.desk.queue.first ≤ most → MayLeave (of_desk is_honest state faults) (of_start faults) most mine old new
+        IsLaterCore faults old.start.core.value old.core → old.core.desk.queue.first ≤ most
+        → MayLeave (of_desk is_honest state faults) (of_start faults) most mine old new
     pub keeps : (mine : Holding Work) → HasOwn who tells old mine →
-        let behind : Holding Work = behind_desk (of_desk is_honest state faults) old new mine in KeptIsTold behind.work behind.faults
+        let behind : Holding Work = behind_desk (of_desk is_honest state faults) old new mine in
+        KeptIsTold behind.work behind.faults
 
   -- A call that tells nothing may be made so by any seat, or helper of one.
   abbrev pub IsGlance : DeskSide D → DeskSide D → Type 0
-  IsGlance old new = (most : ℕ) (mine : Holding Work) → Keeps is_honest state faults old → old.core.desk.queue.first ≤ most →
-      MayLeave (of_desk is_honest state faults) (of_start faults) most mine old new
+  IsGlance old new = (most : ℕ) (mine : Holding Work) → Keeps is_honest state faults old
+      → old.core.desk.queue.first ≤ most
+      → MayLeave (of_desk is_honest state faults) (of_start faults) most mine old new
 
   -- the seat has entered the desk, and found this
   pub record HasEntered (z : TableId) (old new : Sat D) (side : DeskSide D) : Type 0 where
@@ -165,7 +168,9 @@ module _ {D : Type 0} (is_honest : D → Type 0) (state : D → State) (faults :
 
   -- the seat may leave this
   abbrev pub MayGiveBack : TableId → Sat D → DeskSide D → Type 0
-  MayGiveBack z s side = (old : Sat D) × (before : DeskSide D) × HasEntered z old s before × MayLeave (of_desk is_honest state faults) (of_start faults) (held s) (mine old) before side
+  MayGiveBack z s side =
+      (old : Sat D) × (before : DeskSide D) × HasEntered z old s before
+      × MayLeave (of_desk is_honest state faults) (of_start faults) (held s) (mine old) before side
 
   -- A seat visited the desk, found it so, and left it so. Other seats' lines had come since what it had seen, none
   -- of its own number.
@@ -209,7 +214,9 @@ module _ {D : Type 0} (is_honest : D → Type 0) (state : D → State) (faults :
 
   -- the seat may leave this
   abbrev pub MayGiveBackVault : TableId → Sat D → Running D → Type 0
-  MayGiveBackVault z s archive = (old : Sat D) × (before : Running D) × HasEnteredVault z old s before × MayLeaveVault (of_vault is_honest state faults) (opening s) (seen s) before archive
+  MayGiveBackVault z s archive =
+      (old : Sat D) × (before : Running D) × HasEnteredVault z old s before
+      × MayLeaveVault (of_vault is_honest state faults) (opening s) (seen s) before archive
 
   -- A seat visited the vault, found it so, and left it so. It has then seen a journal for which both stand, with no
   -- more lines of its own.

@@ -33,8 +33,18 @@ told_more told why = told
 -- a work as sessions see it, behind the lines that were seen; a look is at this snapshot, or at all
 abbrev pub work_in : Option ℕ → List Line → Option Work → seat.Work
 work_in asked lines None = seat.Idle
-work_in asked lines (Some (work.Open t)) = seat.Open (record { who = t.who; since = take t.began lines; read = t.reads.keys; edits = t.edits; kept = t.kept })
-work_in asked lines (Some (work.Looking look)) = seat.Looking (record { who = look.who; since = take look.began lines; snapshot = asked })
+work_in asked lines (Some (work.Open t)) = seat.Open (record {
+  who = t.who;
+  since = take t.began lines;
+  read = t.reads.keys;
+  edits = t.edits;
+  kept = t.kept;
+})
+work_in asked lines (Some (work.Looking look)) = seat.Looking (record {
+  who = look.who;
+  since = take look.began lines;
+  snapshot = asked;
+})
 work_in asked lines (Some (work.KeptDrop who)) = seat.Idle
 
 -- a transaction has begun in its line, behind which its session has no other
@@ -47,7 +57,8 @@ module _ {D : Type 0} (state : D → State) (faults : D → ℕ) where
   ground_in (Some start) = ground_of state faults start
   ground_in None = no_ground
 
-  -- what a seat sees, where its look is at this snapshot, or at all, and which was told these faults since its last line
+  -- what a seat sees, where its look is at this snapshot, or at all, and which was told these faults since its last
+  -- line
   abbrev pub view_of : Option ℕ → List ToldFault → Sat D → View
   view_of asked told s = record {
     session = s.number;
@@ -60,20 +71,25 @@ module _ {D : Type 0} (state : D → State) (faults : D → ℕ) where
 -- The store began as it was just opened, on devices of the pages and of the slots that tell what they hold.
 abbrev pub IsHonest : {D : Type 0} → (D → Type 0) → (D → State) → Sat D → Type 0
 IsHonest is_honest state s = IfSome (opening s) (λ start.
-    (is_honest start.core.value.desk.pool.file.disk × is_honest start.archive.value.pagelog.disk) × AreJustOpened is_honest state start.core.value start.archive.value)
+    (is_honest start.core.value.desk.pool.file.disk × is_honest start.archive.value.pagelog.disk)
+    × AreJustOpened is_honest state start.core.value start.archive.value)
 
 -- what a look pins: its one snapshot, or each that was retained when it began
 abbrev pub pins_of_look : {D : Type 0} → Option ℕ → List Line → Start D → Look → List ℕ
 pins_of_look (Some snapshot) lines start look = snapshot ∷ []
-pins_of_look None lines start look = map (λ mark. mark.number) (base_of (opened_base start) (take look.began lines)).marks
+pins_of_look None lines start look =
+    map (λ mark. mark.number) (base_of (opened_base start) (take look.began lines)).marks
 
--- What the seat has open is of this item; no drop's line is kept for it. What it has open it has seen begin, what its look pins is what it is at, and it was told
+-- What the seat has open is of this item; no drop's line is kept for it. What it has open it has seen begin, what its
+-- look pins is what it is at, and it was told
 -- these faults since its last line, none but in a look.
 pub record IsSeated {D : Type 0} (who : Who) (asked : Option ℕ) (told : List ToldFault) (s : Sat D) : Type 0 where
   pub item : (w : Work) → (mine s).work ≡ Some w → who_of w ≡ who
   pub no_drop : (other : Who) → (mine s).work ≡ Some (work.KeptDrop other) → ⊥
   pub begun : (t : Transaction) → (mine s).work ≡ Some (work.Open t) → HasBegun (seen s) s.number t
-  pub pins : (start : Start D) (look : Look) → opening s ≡ Some start → (mine s).work ≡ Some (work.Looking look) → look.pins ≡ pins_of_look asked (seen s) start look
+  pub pins : (start : Start D) (look : Look) → opening s ≡ Some start → (mine s).work ≡ Some (work.Looking look)
+      → look.pins ≡ pins_of_look asked (seen s) start look
   pub quiet : (mine s).work ≡ None → told ≡ []
   pub silent : (t : Transaction) → (mine s).work ≡ Some (work.Open t) → told ≡ []
-  pub told_it : (device : Device) (count : ℕ) → Contains (reverse told) (record { device = device; count = count }) → 0 < fault_times device count (mine s).faults
+  pub told_it : (device : Device) (count : ℕ) → Contains (reverse told) (record { device = device; count = count })
+      → 0 < fault_times device count (mine s).faults

@@ -46,7 +46,8 @@ module _ {D : Type 0} (is_honest : D → Type 0) (state : D → State) where
 
   -- it is, and no device of its has had fewer faults than at the opening
   abbrev pub IsVaultSide : (D → ℕ) → Running D → Start D → List Line → Type 0
-  IsVaultSide faults archive start lines = VaultStands archive start lines × IsLaterArchive faults start.archive.value archive
+  IsVaultSide faults archive start lines =
+      VaultStands archive start lines × IsLaterArchive faults start.archive.value archive
 
   abbrev pub of_desk : (D → ℕ) → DeskMeaning (Start D) Work (DeskSide D)
   of_desk faults = record {
@@ -59,7 +60,11 @@ module _ {D : Type 0} (is_honest : D → Type 0) (state : D → State) where
   }
 
   abbrev pub of_vault : (D → ℕ) → VaultMeaning (Start D) (Running D)
-  of_vault faults = record { Fits = IsVaultSide faults; held = λ archive. archive.side.held; counts = vault_counts faults }
+  of_vault faults = record {
+    Fits = IsVaultSide faults;
+    held = λ archive. archive.side.held;
+    counts = vault_counts faults;
+  }
 
   pub vault_outlives : (archive : Running D) (start : Start D) (lines more : List Line) →
       VaultStands archive start lines → IsSound (opened_base start) (lines ++ more) →
@@ -69,7 +74,9 @@ module _ {D : Type 0} (is_honest : D → Type 0) (state : D → State) where
     slots = stands.slots;
     stands = λ origin opened.
         let found = stands.stands origin opened in
-        let outlives = λ (vault : Vault). all_outlive_lines.vault origin.floor vault origin.history lines more opened.fits.consistent (subst (λ (b : Base). IsSound b (lines ++ more)) (sym opened.base) lawful) in
+        let outlives =
+        λ (vault : Vault). all_outlive_lines.vault origin.floor vault origin.history lines more opened.fits.consistent
+        (subst (λ (b : Base). IsSound b (lines ++ more)) (sym opened.base) lawful) in
         record {
           vault = found.vault;
           is = found.is;

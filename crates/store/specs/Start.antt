@@ -22,7 +22,8 @@ use Rattle.turn.specs.Faults.{LAST, count_of}
 use Rattle.turn.specs.Meanings.{OpeningMeaning}
 use Rattle.store.specs.declared.start.Start.{Start}
 
--- a history at the opening, whose archive is kept from a floor on, with the versions of the records of its log and of its
+-- a history at the opening, whose archive is kept from a floor on, with the versions of the records of its log and of
+-- its
 -- Maplog
 pub record Origin : Type 0 where
   pub history : History
@@ -41,7 +42,8 @@ IsDeskIn version desk = (desk.version ≡ version) × IsDoubtIn version desk.dou
 
 -- the Maplog is in records of the version, whichever the device has
 abbrev pub IsVaultIn : Version → Vault → Type 0
-IsVaultIn version vault = (vault.version ≡ version) × AllByRecursion (λ (other : MaplogOf). other.version ≡ version) vault.others
+IsVaultIn version vault =
+    (vault.version ≡ version) × AllByRecursion (λ (other : MaplogOf). other.version ≡ version) vault.others
 
 -- a vault with these slots, each of which is settled
 abbrev pub with_slots : (ℕ → List ℕ) → Vault → Vault

@@ -17,7 +17,8 @@ is_began what = false
 -- whether an attempt of the item is open behind lines, where this was so before them: its last line tells
 abbrev pub trying_from : Who → Bool → List Line → Bool
 trying_from who open_before [] = open_before
-trying_from who open_before (line ∷ lines) = trying_from who (if same_item line.who who then is_began line.what else open_before) lines
+trying_from who open_before (line ∷ lines) =
+    trying_from who (if same_item line.who who then is_began line.what else open_before) lines
 
 abbrev pub is_trying : Who → List Line → Bool
 is_trying who lines = trying_from who false lines
@@ -30,7 +31,8 @@ EndsAttempt before who what = Unit {0}
 -- each of these lines is, behind those
 abbrev pub AllEndAttempts : List Line → List Line → Type 0
 AllEndAttempts before [] = Unit {0}
-AllEndAttempts before (line ∷ lines) = EndsAttempt before line.who line.what × AllEndAttempts (before ++ line ∷ []) lines
+AllEndAttempts before (line ∷ lines) =
+    EndsAttempt before line.who line.what × AllEndAttempts (before ++ line ∷ []) lines
 
 -- an open transaction is an attempt of its item that is open, and of the session that has it
 abbrev pub IsAttempt : List Line → ℕ → Option Work → Type 0

@@ -26,7 +26,9 @@ AreNamed ms ps = ⊥
 -- and of each the pages as of it
 abbrev pub AreMarksOf : History → List MarkOf → List (Mark Pages) → Type 0
 AreMarksOf history [] [] = Unit {0}
-AreMarksOf history (m ∷ ms) (p ∷ ps) = (p.number ≡ m.number) × (p.label ≡ m.label) × ((page : ℕ) → p.held page ≡ pages_as_of history m.number page) × AreMarksOf history ms ps
+AreMarksOf history (m ∷ ms) (p ∷ ps) =
+    (p.number ≡ m.number) × (p.label ≡ m.label) × ((page : ℕ) → p.held page ≡ pages_as_of history m.number page)
+    × AreMarksOf history ms ps
 AreMarksOf history ms ps = ⊥
 
 -- what a reader sees of a history
@@ -36,27 +38,33 @@ pub record IsWorldOf (history : History) (world : World Pages) : Type 0 where
 
 -- Behind the lines of a journal the snapshots have the numbers and labels that its log says.
 abbrev pub NamesStay : Type 0
-NamesStay = (base : Base) (world : World Pages) (lines : List Line) → AreNamed base.marks world.marks → AreNamed (base_of base lines).marks (page_world world lines).marks
+NamesStay = (base : Base) (world : World Pages) (lines : List Line) → AreNamed base.marks world.marks
+    → AreNamed (base_of base lines).marks (page_world world lines).marks
 
 -- So the open looks pin the same snapshots.
 abbrev pub PinsAreSame : Type 0
-PinsAreSame = (base : Base) (world : World Pages) (lines : List Line) → AreNamed base.marks world.marks → pins_of world lines ≡ sound.pins_of base [] lines
+PinsAreSame = (base : Base) (world : World Pages) (lines : List Line) → AreNamed base.marks world.marks
+    → pins_of world lines ≡ sound.pins_of base [] lines
 
 -- the names are the same lists
 abbrev pub NamesAreSame : Type 0
-NamesAreSame = (base : Base) (world : World Pages) → AreNamed base.marks world.marks → (names_of base.marks ≡ names_in world) × (marks.newest base.marks ≡ newest world)
+NamesAreSame = (base : Base) (world : World Pages) → AreNamed base.marks world.marks
+    → (names_of base.marks ≡ names_in world) × (marks.newest base.marks ≡ newest world)
 
 -- a retained snapshot has its pages
 abbrev pub RetainedAreHeld : Type 0
-RetainedAreHeld = (base : Base) (world : World Pages) (number : ℕ) → AreMarks base.captures base.marks → AreNamed base.marks world.marks → is_retained number base.marks ≡ true →
-    (held : Pages) × (as_of number world ≡ Ok held)
+RetainedAreHeld = (base : Base) (world : World Pages) (number : ℕ) → AreMarks base.captures base.marks
+    → AreNamed base.marks world.marks → is_retained number base.marks ≡ true
+    → (held : Pages) × (as_of number world ≡ Ok held)
 
 -- and no other number is a snapshot's
 abbrev pub OthersAreRefused : Type 0
-OthersAreRefused = (base : Base) (world : World Pages) (number : ℕ) (why : Refusal) → AreMarks base.captures base.marks → AreNamed base.marks world.marks →
-    look_refused number (marks.oldest base.marks) (marks.newest base.marks) ≡ Some why → as_of number world ≡ Err why
+OthersAreRefused = (base : Base) (world : World Pages) (number : ℕ) (why : Refusal) → AreMarks base.captures base.marks
+    → AreNamed base.marks world.marks
+    → look_refused number (marks.oldest base.marks) (marks.newest base.marks) ≡ Some why → as_of number world ≡ Err why
 
 -- Behind a sound journal the pages are those of the history behind it, now and as of each retained snapshot.
 abbrev pub WorldIsOfHistory : Type 0
-WorldIsOfHistory = (history : History) (world : World Pages) (lines : List Line) → IsConsistent history → IsWorldOf history world → IsSound (now history).base lines →
-    IsWorldOf (after_journal history lines) (page_world world lines)
+WorldIsOfHistory = (history : History) (world : World Pages) (lines : List Line) → IsConsistent history
+    → IsWorldOf history world → IsSound (now history).base lines
+    → IsWorldOf (after_journal history lines) (page_world world lines)

@@ -23,7 +23,8 @@ pub(crate) enum Carried {
 // be done; else enters it.
 pub(crate) fn carry<D: Disk>(archive: &mut Archive<D>, batch: &Batch) -> Result<Carried, Fault>
     requires may { MayCarry D.is_honest D.state archive.old batch.now }
-    ensures carries { Carries D.is_honest D.state D.faults D.remembers D.clock batch.now result archive.old archive.new }
+    ensures carries { Carries D.is_honest D.state D.faults D.remembers D.clock batch.now result
+        archive.old archive.new }
 {
     if archive.held() > batch.first() {
         return Ok(Carried::There);

@@ -137,7 +137,8 @@ impl<D: Disk + Drop> DeskSide<D> {
             self.old.core self.new.core }
         ensures visit { IsVisit D.is_honest D.state D.faults who always self.old self.new }
         ensures is_closed { is_closed (work_at (slots_of self.new) who.session) ≡ true }
-        ensures kept { IfErr result (λ why. IsRoom why → keeps_drop who (work_at (slots_of self.new) who.session) ≡ true) }
+        ensures kept { IfErr result (λ why. IsRoom why
+            → keeps_drop who (work_at (slots_of self.new) who.session) ≡ true) }
     {
         self.core.names_log();
         let answer = self.core.drop_below(alloc, who, below);

@@ -180,10 +180,10 @@ impl<D: Disk + Drop> Store<D> {
     }
 
     /// Drops the snapshots below a number, for a session that has nothing open. The refusals are those of
-    /// `Core::drop_below`, in that order, but for NoRoom: where the log has no room the drop's line is kept, the session
-    /// makes rounds under its own item, and asks again. Where a round is refused for want of memory, so is the drop;
-    /// where a device failed in it, the drop answers that, and the line is the fault's. Where no line tells what became
-    /// of the drop, the line that was kept for it is given up.
+    /// `Core::drop_below`, in that order, but for NoRoom: where the log has no room the drop's line is kept, the
+    /// session makes rounds under its own item, and asks again. Where a round is refused for want of memory, so is the
+    /// drop; where a device failed in it, the drop answers that, and the line is the fault's. Where no line tells what
+    /// became of the drop, the line that was kept for it is given up.
     pub fn drop_below<R: Wait>(
         &self,
         rt: &R,

@@ -42,8 +42,8 @@ impl<D: Disk + Drop> Store<D> {
     /// Reads a page for the transaction of this item: its own edit of the page, or else the page as it is; the page
     /// counts as read. It is refused, in this order, for what the transaction keeps; where another item changed the
     /// page since this one began, which names the last; exactly where a call of the pages' device failed; and for want
-    /// of memory, not where the page was read before; after each other refusal `out` is as before. The transaction keeps an
-    /// overlap and a fault.
+    /// of memory, not where the page was read before; after each other refusal `out` is as before. The transaction
+    /// keeps an overlap and a fault.
     pub fn read<R: Wait>(
         &self,
         rt: &R,

@@ -1,8 +1,8 @@
 use Rattle.std.specs.Prelude.{◌<◌}
 use Rattle.turn.specs.Tables.{table_of}
 use Rattle.store.specs.Rounds.{Passes, WritesRound}
-use Rattle.flusher.specs.Working.{AreAnswered}
-use Rattle.flusher.proofs.flushing.flusher.Given as goal
+use Rattle.store.specs.WorkerRounds.{AreAnswered}
+use Rattle.store.proofs.flusher_rounds.flusher.Given as goal
 
 abbrev pub invariant-rounds : goal.invariant-rounds
 invariant-rounds g l = record {

@@ -2,17 +2,17 @@ use Rattle.std.proofs.Common.{Ok, Err, subst, sym, ◌∙◌, arith}
 use Rattle.turn.specs.Tables.{table_of}
 use Rattle.store.specs.Rounds.{WritesRound}
 use Rattle.store.proofs.Passing.{passes_none}
-use Rattle.flusher.specs.Working.{NoneYet, OneMore, worker}
-use Rattle.flusher.proofs.WriteRounds.{ends_with, left, passes_more}
-use Rattle.flusher.proofs.Idle.{found_none, still_few}
-use Rattle.flusher.proofs.flushing.flusher.Goals as goal
+use Rattle.store.specs.WorkerRounds.{NoneYet, OneMore, worker}
+use Rattle.store.proofs.WriteRounds.{ends_with, gives_so, left, passes_more}
+use Rattle.store.proofs.Idle.{found_none, still_few}
+use Rattle.store.proofs.flusher_rounds.flusher.Goals as goal
 
 pub rounds-init : goal.rounds-init
 rounds-init g c = record { few = omega arith; passes = passes_none (table_of c.args.store.now.turn) c.args.seat.now c.requires.ready.0; answered = NoneYet c.args.seat.now }
 
 pub rounds-preserved : goal.rounds-preserved
 rounds-preserved g c = record {
-  few = still_few c.rounds.idle 1000000 c.ends_behind.new.idle c.in-Ok.more c.load-is_done.result c.ends_behind.result c.rounds.invariant.few c.ends_behind.ensures.ends c.if-ends_behind.false c.ends_behind.ensures.counted;
+  few = still_few c.rounds.idle 1000000 c.ends_behind.new.idle c.in-Ok.more c.is_set-is_done.result c.ends_behind.result c.rounds.invariant.few c.ends_behind.ensures.ends c.if-ends_behind.false c.ends_behind.ensures.counted;
   passes = passes_more g.D.Disk.is_honest g.D.Disk.state g.D.Disk.faults (table_of c.args.store.now.turn) g.D.Disk.remembers g.D.Disk.clock c.args.phase c.number.result c.args.seat.now c.rounds.seat c.write_round.new.seat c.rounds.invariant.passes c.in-Ok.more c.in-Ok.ensures.round;
   answered = OneMore c.in-Ok.more c.args.seat.now c.rounds.seat c.write_round.new.seat c.rounds.invariant.answered c.in-Ok.ensures.round;
 }
@@ -29,6 +29,9 @@ returns-then-ends_behind-clause-idle g c = (left g.D.Disk.is_honest g.D.Disk.sta
 pub returns-then-ends_behind-clause-again : goal.returns-then-ends_behind-clause-again
 returns-then-ends_behind-clause-again g c = (left g.D.Disk.is_honest g.D.Disk.state g.D.Disk.faults (table_of c.args.store.now.turn) g.D.Disk.remembers g.D.Disk.clock c.args.phase c.number.result c.args.seat.now c.rounds.seat c.write_round.new.seat c.rounds.invariant.passes c.number.ensures (Ok tt) (subst (λ b. WritesRound g.D.Disk.is_honest g.D.Disk.state g.D.Disk.faults (table_of c.args.store.now.turn) g.D.Disk.remembers g.D.Disk.clock (worker c.args.phase c.number.result) (Ok b) c.rounds.seat c.write_round.new.seat) (found_none c.in-Ok.more _ (sym c.ends_behind.ensures.ends ∙ c.if-ends_behind.true)) c.in-Ok.ensures.round) c.requires.may).again
 
+pub returns-then-ends_behind-clause-gives : goal.returns-then-ends_behind-clause-gives
+returns-then-ends_behind-clause-gives g c = gives_so g.D.Disk.is_honest g.D.Disk.state g.D.Disk.faults (table_of c.args.store.now.turn) g.D.Disk.remembers g.D.Disk.clock c.args.phase c.number.result c.args.seat.now c.rounds.seat c.write_round.new.seat c.rounds.invariant.passes c.number.ensures (Ok tt) (subst (λ b. WritesRound g.D.Disk.is_honest g.D.Disk.state g.D.Disk.faults (table_of c.args.store.now.turn) g.D.Disk.remembers g.D.Disk.clock (worker c.args.phase c.number.result) (Ok b) c.rounds.seat c.write_round.new.seat) (found_none c.in-Ok.more _ (sym c.ends_behind.ensures.ends ∙ c.if-ends_behind.true)) c.in-Ok.ensures.round) c.requires.may
+
 pub returns-in-Err-clause-rounds : goal.returns-in-Err-clause-rounds
 returns-in-Err-clause-rounds g c = ends_with g.D.Disk.is_honest g.D.Disk.state g.D.Disk.faults (table_of c.args.store.now.turn) g.D.Disk.remembers g.D.Disk.clock c.args.phase c.number.result c.args.seat.now c.rounds.seat c.write_round.new.seat c.rounds.invariant.passes c.number.ensures (Err c.in-Err.why) c.in-Err.ensures.round c.rounds.invariant.answered
 
@@ -43,3 +46,6 @@ returns-in-Err-clause-idle g c = (left g.D.Disk.is_honest g.D.Disk.state g.D.Dis
 
 pub returns-in-Err-clause-again : goal.returns-in-Err-clause-again
 returns-in-Err-clause-again g c = (left g.D.Disk.is_honest g.D.Disk.state g.D.Disk.faults (table_of c.args.store.now.turn) g.D.Disk.remembers g.D.Disk.clock c.args.phase c.number.result c.args.seat.now c.rounds.seat c.write_round.new.seat c.rounds.invariant.passes c.number.ensures (Err c.in-Err.why) c.in-Err.ensures.round c.requires.may).again
+
+pub returns-in-Err-clause-gives : goal.returns-in-Err-clause-gives
+returns-in-Err-clause-gives g c = gives_so g.D.Disk.is_honest g.D.Disk.state g.D.Disk.faults (table_of c.args.store.now.turn) g.D.Disk.remembers g.D.Disk.clock c.args.phase c.number.result c.args.seat.now c.rounds.seat c.write_round.new.seat c.rounds.invariant.passes c.number.ensures (Err c.in-Err.why) c.in-Err.ensures.round c.requires.may

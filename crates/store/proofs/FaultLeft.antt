@@ -26,7 +26,7 @@ use Rattle.store.proofs.Meeting.{work_stays}
 use Rattle.store.proofs.Passing.{serve_on}
 use Rattle.store.proofs.Reaching.{RoundEnds, RoundRefused}
 use Rattle.store.proofs.Recalling.{lines_append}
-use Rattle.flusher.specs.Working.{IsRoundRefusal, MayWork, last_answer, lines_left}
+use Rattle.store.specs.WorkerRounds.{IsRoundRefusal, MayWork, last_answer, lines_left}
 
 -- a worker's rounds find a line for a fault
 pub serves : {D : Type 0} (s : Sat D) (who : Who) → MayWork s → MayServe s who
@@ -41,7 +41,7 @@ module _ {D : Type 0} (z : TableId) (s0 s1 : Sat D) (passes : Passes z s0 s1) wh
   passes_lines : (mine s1).lines ≡ (mine s0).lines
   passes_lines = ap (λ (h : Holding Work). h.lines) passes.stays.mine_is
 
-  passes_idle : MayWork s0 → (mine s1).work ≡ None
+  pub passes_idle : MayWork s0 → (mine s1).work ≡ None
   passes_idle may = work_stays s0 s1 passes.stays ∙ may.idle
 
   pub passes_may : Who → MayWork s0 → MayWork s1
@@ -63,7 +63,7 @@ module _ {D : Type 0} (is_honest : D → Type 0) (state : D → State) (faults :
   work_there : work_at (slots_of d0) who.session ≡ None
   work_there = ap (work_at (slots_of d0)) own ∙ (sym v.work ∙ none)
 
-  noted : d1.core.ledger ≡ record d0.core.ledger { book = noting d0.core.ledger.book Told }
+  pub noted : d1.core.ledger ≡ record d0.core.ledger { book = noting d0.core.ledger.book Told }
   noted = told ∙ ap (λ (w : Option Work). cond (is_some w) (closed who (Fault d c Write) d0.core.ledger) (record d0.core.ledger { book = noting d0.core.ledger.book Told })) work_there
 
   lines_there : lines_of s0.number (journal d0) ≡ (mine s0).lines
@@ -79,7 +79,7 @@ module _ {D : Type 0} (is_honest : D → Type 0) (state : D → State) (faults :
       ∙ (ap (λ (l : List Line). l ++ lines_of s0.number (Told ∷ [])) lines_there
       ∙ ap (λ (l : List Line). (mine s0).lines ++ l) (ap (λ (n : ℕ). lines_of n (Told ∷ [])) (sym own) ∙ own_line who Told refl)))))
 
-  fault_idle : (mine s1).work ≡ None
+  pub fault_idle : (mine s1).work ≡ None
   fault_idle =
       ap (λ (h : Holding Work). h.work) v.mine
       ∙ (ap (λ (l : Ledger). work_at l.works.slots (mine s0).number) noted ∙ (ap (work_at (slots_of d0)) number_is ∙ (sym v.work ∙ none)))

@@ -24,7 +24,7 @@ use Rattle.store.specs.RoundCalls.{Offers}
 use Rattle.store.specs.Rounds.{CopiesRound}
 use Rattle.store.specs.Seats.{Sat, Visited, Visits, journal}
 use Rattle.store.specs.Start.{opened_base}
-use Rattle.flusher.specs.Working.{IsHeld}
+use Rattle.store.specs.WorkerRounds.{IsHeld}
 
 -- ---- counted up
 

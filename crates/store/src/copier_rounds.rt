@@ -2,18 +2,18 @@
 
 ghost use Rattle.std.specs.Prelude.{◌≡◌, ◌++◌, [], None, IfErr, OnOk};
 ghost use Rattle.store.specs.Seats.{IsReady, IsWhole};
+ghost use Rattle.store.specs.Seen.{view_of};
 ghost use Rattle.turn.specs.Seats.{IsSame, mine, seen};
 ghost use Rattle.turn.specs.Tables.{table_of};
-ghost use Rattle.flusher.specs.Working.{Copies, EndsWith, IsHeld, IsRoundRefusal, MayWork};
-ghost use Rattle.flusher.specs.Working.{last_answer, lines_left, worker};
+ghost use Rattle.store.specs.WorkerRounds.{Copies, EndsWith, IsHeld, IsRoundRefusal, MayWork, WorkerGives};
+ghost use Rattle.store.specs.WorkerRounds.{last_answer, lines_left, worker};
 
-use crate::resting::ends_behind;
+use crate::pace::{Done, Worker, ends_behind};
+use crate::shared::{Seat, Store};
 use disk_model::Disk;
 use race_model::Batch;
 use retro_base::{Refusal, Who};
 use std::sync::Wait;
-use std::sync::atomic::{AtomicBool, Ordering};
-use store::{Seat, Store};
 
 /// Makes copy rounds, under item 0 of the seat in this phase, until one that began when `done` was set finds nothing
 /// to copy, or 1,000,000 in a row do, or one is refused. On Ok the vault holds all that stood captured in the journal
@@ -26,7 +26,7 @@ pub fn copier<R: Wait, D: Disk + Drop>(
     seat: &mut Seat<D>,
     phase: u16,
     batch: &mut Batch,
-    done: &AtomicBool,
+    done: &Done,
 ) -> Result<(), Refusal>
     requires ready { IsReady (table_of store.now.turn) seat.old × IsWhole seat.old }
     requires may { MayWork seat.old }
@@ -39,6 +39,8 @@ pub fn copier<R: Wait, D: Disk + Drop>(
         ≡ (mine seat.old).lines ++ lines_left (worker phase seat.old.number) result }
     ensures idle { (mine seat.new).work ≡ None }
     ensures again { lines_left (worker phase seat.old.number) result ≡ [] → MayWork seat.new }
+    ensures gives { WorkerGives (worker phase seat.old.number) (view_of D.state D.faults None [] seat.old)
+        (view_of D.state D.faults None [] seat.new) result }
     ensures held { OnOk result (IsHeld seat.new (seen seat.old)) }
     ensures all_held { OnOk result (IsHeld seat.new (seen seat.new)) }
 {
@@ -49,12 +51,13 @@ pub fn copier<R: Wait, D: Disk + Drop>(
     };
     let mut idle = 0;
     'rounds: for _ in rt.forever() {
-        let is_done = done.load(Ordering::SeqCst);
+        let is_done = done.is_set();
         match store.copy_round(rt, seat, who, batch) {
             Ok(more) => {
                 if ends_behind(&mut idle, more, is_done) {
                     return Ok(());
                 }
+                done.rest(rt, Worker::Copier);
             }
             Err(why) => return Err(why),
         }

@@ -3,16 +3,16 @@
 ghost use Rattle.std.specs.Prelude.{◌≡◌, ◌++◌, [], None, IfErr};
 ghost use Rattle.store.specs.Rounds.{WritesRound};
 ghost use Rattle.store.specs.Seats.{IsReady, IsWhole};
+ghost use Rattle.store.specs.Seen.{view_of};
 ghost use Rattle.turn.specs.Seats.{IsSame, mine};
 ghost use Rattle.turn.specs.Tables.{table_of};
-ghost use Rattle.flusher.specs.Working.{EndsWith, IsRoundRefusal, MayWork, last_answer, lines_left, worker};
+ghost use Rattle.store.specs.WorkerRounds.{EndsWith, IsRoundRefusal, MayWork, WorkerGives, last_answer, lines_left, worker};
 
-use crate::resting::ends_behind;
+use crate::pace::{Done, Worker, ends_behind};
+use crate::shared::{Seat, Store};
 use disk_model::Disk;
 use retro_base::{Refusal, Who};
 use std::sync::Wait;
-use std::sync::atomic::{AtomicBool, Ordering};
-use store::{Seat, Store};
 
 /// Makes write rounds, under item 0 of the seat in this phase, until one that began when `done` was set finds no page
 /// that may be written back, or 1,000,000 in a row do, or one is refused. Each refusal is that of its last round: for
@@ -23,7 +23,7 @@ pub fn flusher<R: Wait, D: Disk + Drop>(
     rt: &R,
     seat: &mut Seat<D>,
     phase: u16,
-    done: &AtomicBool,
+    done: &Done,
 ) -> Result<(), Refusal>
     requires ready { IsReady (table_of store.now.turn) seat.old × IsWhole seat.old }
     requires may { MayWork seat.old }
@@ -36,6 +36,8 @@ pub fn flusher<R: Wait, D: Disk + Drop>(
         ≡ (mine seat.old).lines ++ lines_left (worker phase seat.old.number) result }
     ensures idle { (mine seat.new).work ≡ None }
     ensures again { lines_left (worker phase seat.old.number) result ≡ [] → MayWork seat.new }
+    ensures gives { WorkerGives (worker phase seat.old.number) (view_of D.state D.faults None [] seat.old)
+        (view_of D.state D.faults None [] seat.new) result }
 {
     let who = Who {
         phase,
@@ -44,12 +46,13 @@ pub fn flusher<R: Wait, D: Disk + Drop>(
     };
     let mut idle = 0;
     'rounds: for _ in rt.forever() {
-        let is_done = done.load(Ordering::SeqCst);
+        let is_done = done.is_set();
         match store.write_round(rt, seat, who) {
             Ok(more) => {
                 if ends_behind(&mut idle, more, is_done) {
                     return Ok(());
                 }
+                done.rest(rt, Worker::Flusher);
             }
             Err(why) => return Err(why),
         }

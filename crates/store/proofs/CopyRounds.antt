@@ -1,5 +1,5 @@
 -- What a copier's rounds leave.
-use Rattle.std.proofs.Common.{◌≡◌, ℕ, Bool, false, List, Result, Ok, subst, sym}
+use Rattle.std.proofs.Common.{◌≡◌, ℕ, Bool, false, List, Result, Ok, subst, sym, [], None, refl}
 use Rattle.atomic_table.specs.Seated.{TableId}
 use Rattle.disk_model.specs.Disk.{State}
 use Rattle.disk_model.specs.Moments.{Clock}
@@ -9,11 +9,13 @@ use Rattle.race_model.specs.Vault.{Batch}
 use Rattle.turn.specs.Seats.{seen}
 use Rattle.store.specs.Rounds.{Passes}
 use Rattle.store.specs.Seats.{Sat}
+use Rattle.store.specs.Seen.{view_of}
 use Rattle.store.proofs.Copying.{copy_ends}
 use Rattle.store.proofs.Reaching.{RoundEnds, ends_after}
-use Rattle.flusher.specs.Working.{AreAnswered, Copies, EndsWith, IsHeld, MayWork, last_answer, worker}
-use Rattle.flusher.proofs.Captures.{front_held, idle_held}
-use Rattle.flusher.proofs.Leaving.{Leaves, leaves}
+use Rattle.store.specs.WorkerRounds.{AreAnswered, Copies, EndsWith, IsHeld, MayWork, WorkerGives, last_answer, worker}
+use Rattle.store.proofs.Captures.{front_held, idle_held}
+use Rattle.store.proofs.FaultLeft.{Leaves, leaves}
+use Rattle.store.proofs.Viewed.{gives}
 
 module _ {D : Type 0} (is_honest : D → Type 0) (state : D → State) (faults : D → ℕ) (z : TableId) (remembers : Type 0) (clock : D → Clock) (phase n : ℕ) (b0 b1 b2 : Batch) (s0 s1 s2 : Sat D) (passes : Passes z s0 s1) where
   abbrev pub Round : Result Bool Refusal → Batch × Sat D → Batch × Sat D → Type 0
@@ -44,4 +46,8 @@ module _ {D : Type 0} (is_honest : D → Type 0) (state : D → State) (faults :
 
     pub left : (may : MayWork s0) → Leaves is_honest state faults z (worker phase s0.number) s0 s2 (λ i. s0.number) may result
     left may = leaves is_honest state faults z (worker phase s0.number) s0 s2 (λ i. s0.number) may result
+        (subst (λ (k : ℕ). RoundEnds is_honest state faults z (worker phase k) (last_answer result) s0 s2) own (ends (last_answer result) round))
+
+    pub gives_so : (may : MayWork s0) → WorkerGives (worker phase s0.number) (view_of state faults None [] s0) (view_of state faults None [] s2) result
+    gives_so may = gives is_honest state faults z s0 s2 may (worker phase s0.number) refl result
         (subst (λ (k : ℕ). RoundEnds is_honest state faults z (worker phase k) (last_answer result) s0 s2) own (ends (last_answer result) round))

@@ -1,17 +1,17 @@
 use Rattle.std.proofs.Common.{Ok, Err, subst, sym, ◌∙◌, arith}
 use Rattle.turn.specs.Tables.{table_of}
 use Rattle.store.proofs.Passing.{passes_none}
-use Rattle.flusher.specs.Working.{Copies, NoneYet, OneMore, worker}
-use Rattle.flusher.proofs.CopyRounds.{ends_with, holds, holds_all, left, passes_more}
-use Rattle.flusher.proofs.Idle.{found_none, still_few}
-use Rattle.flusher.proofs.copying.copier.Goals as goal
+use Rattle.store.specs.WorkerRounds.{Copies, NoneYet, OneMore, worker}
+use Rattle.store.proofs.CopyRounds.{ends_with, holds, holds_all, gives_so, left, passes_more}
+use Rattle.store.proofs.Idle.{found_none, still_few}
+use Rattle.store.proofs.copier_rounds.copier.Goals as goal
 
 pub rounds-init : goal.rounds-init
 rounds-init g c = record { few = omega arith; passes = passes_none (table_of c.args.store.now.turn) c.args.seat.now c.requires.ready.0; answered = NoneYet (c.args.batch.now, c.args.seat.now) }
 
 pub rounds-preserved : goal.rounds-preserved
 rounds-preserved g c = record {
-  few = still_few c.rounds.idle 1000000 c.ends_behind.new.idle c.in-Ok.more c.load-is_done.result c.ends_behind.result c.rounds.invariant.few c.ends_behind.ensures.ends c.if-ends_behind.false c.ends_behind.ensures.counted;
+  few = still_few c.rounds.idle 1000000 c.ends_behind.new.idle c.in-Ok.more c.is_set-is_done.result c.ends_behind.result c.rounds.invariant.few c.ends_behind.ensures.ends c.if-ends_behind.false c.ends_behind.ensures.counted;
   passes = passes_more g.D.Disk.is_honest g.D.Disk.state g.D.Disk.faults (table_of c.args.store.now.turn) g.D.Disk.remembers g.D.Disk.clock c.args.phase c.number.result c.args.batch.now c.rounds.batch c.copy_round.new.batch c.args.seat.now c.rounds.seat c.copy_round.new.seat c.rounds.invariant.passes c.in-Ok.more c.in-Ok.ensures.round;
   answered = OneMore c.in-Ok.more (c.args.batch.now, c.args.seat.now) (c.rounds.batch, c.rounds.seat) (c.copy_round.new.batch, c.copy_round.new.seat) c.rounds.invariant.answered c.in-Ok.ensures.round;
 }
@@ -27,6 +27,9 @@ returns-then-ends_behind-clause-idle g c = (left g.D.Disk.is_honest g.D.Disk.sta
 
 pub returns-then-ends_behind-clause-again : goal.returns-then-ends_behind-clause-again
 returns-then-ends_behind-clause-again g c = (left g.D.Disk.is_honest g.D.Disk.state g.D.Disk.faults (table_of c.args.store.now.turn) g.D.Disk.remembers g.D.Disk.clock c.args.phase c.number.result c.args.batch.now c.rounds.batch c.copy_round.new.batch c.args.seat.now c.rounds.seat c.copy_round.new.seat c.rounds.invariant.passes c.number.ensures (Ok tt) (subst (λ b. Copies g.D.Disk.is_honest g.D.Disk.state g.D.Disk.faults (table_of c.args.store.now.turn) g.D.Disk.remembers g.D.Disk.clock (worker c.args.phase c.number.result) (Ok b) (c.rounds.batch, c.rounds.seat) (c.copy_round.new.batch, c.copy_round.new.seat)) (found_none c.in-Ok.more _ (sym c.ends_behind.ensures.ends ∙ c.if-ends_behind.true)) c.in-Ok.ensures.round) c.requires.may).again
+
+pub returns-then-ends_behind-clause-gives : goal.returns-then-ends_behind-clause-gives
+returns-then-ends_behind-clause-gives g c = gives_so g.D.Disk.is_honest g.D.Disk.state g.D.Disk.faults (table_of c.args.store.now.turn) g.D.Disk.remembers g.D.Disk.clock c.args.phase c.number.result c.args.batch.now c.rounds.batch c.copy_round.new.batch c.args.seat.now c.rounds.seat c.copy_round.new.seat c.rounds.invariant.passes c.number.ensures (Ok tt) (subst (λ b. Copies g.D.Disk.is_honest g.D.Disk.state g.D.Disk.faults (table_of c.args.store.now.turn) g.D.Disk.remembers g.D.Disk.clock (worker c.args.phase c.number.result) (Ok b) (c.rounds.batch, c.rounds.seat) (c.copy_round.new.batch, c.copy_round.new.seat)) (found_none c.in-Ok.more _ (sym c.ends_behind.ensures.ends ∙ c.if-ends_behind.true)) c.in-Ok.ensures.round) c.requires.may
 
 pub returns-then-ends_behind-clause-held : goal.returns-then-ends_behind-clause-held
 returns-then-ends_behind-clause-held g c = holds g.D.Disk.is_honest g.D.Disk.state g.D.Disk.faults (table_of c.args.store.now.turn) g.D.Disk.remembers g.D.Disk.clock c.args.phase c.number.result c.args.batch.now c.rounds.batch c.copy_round.new.batch c.args.seat.now c.rounds.seat c.copy_round.new.seat c.rounds.invariant.passes (subst (λ b. Copies g.D.Disk.is_honest g.D.Disk.state g.D.Disk.faults (table_of c.args.store.now.turn) g.D.Disk.remembers g.D.Disk.clock (worker c.args.phase c.number.result) (Ok b) (c.rounds.batch, c.rounds.seat) (c.copy_round.new.batch, c.copy_round.new.seat)) (found_none c.in-Ok.more _ (sym c.ends_behind.ensures.ends ∙ c.if-ends_behind.true)) c.in-Ok.ensures.round)
@@ -48,3 +51,6 @@ returns-in-Err-clause-idle g c = (left g.D.Disk.is_honest g.D.Disk.state g.D.Dis
 
 pub returns-in-Err-clause-again : goal.returns-in-Err-clause-again
 returns-in-Err-clause-again g c = (left g.D.Disk.is_honest g.D.Disk.state g.D.Disk.faults (table_of c.args.store.now.turn) g.D.Disk.remembers g.D.Disk.clock c.args.phase c.number.result c.args.batch.now c.rounds.batch c.copy_round.new.batch c.args.seat.now c.rounds.seat c.copy_round.new.seat c.rounds.invariant.passes c.number.ensures (Err c.in-Err.why) c.in-Err.ensures.round c.requires.may).again
+
+pub returns-in-Err-clause-gives : goal.returns-in-Err-clause-gives
+returns-in-Err-clause-gives g c = gives_so g.D.Disk.is_honest g.D.Disk.state g.D.Disk.faults (table_of c.args.store.now.turn) g.D.Disk.remembers g.D.Disk.clock c.args.phase c.number.result c.args.batch.now c.rounds.batch c.copy_round.new.batch c.args.seat.now c.rounds.seat c.copy_round.new.seat c.rounds.invariant.passes c.number.ensures (Err c.in-Err.why) c.in-Err.ensures.round c.requires.may

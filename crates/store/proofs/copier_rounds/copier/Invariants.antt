@@ -1,8 +1,8 @@
 use Rattle.std.specs.Prelude.{◌<◌}
 use Rattle.turn.specs.Tables.{table_of}
 use Rattle.store.specs.Rounds.{Passes}
-use Rattle.flusher.specs.Working.{AreAnswered, Copies}
-use Rattle.flusher.proofs.copying.copier.Given as goal
+use Rattle.store.specs.WorkerRounds.{AreAnswered, Copies}
+use Rattle.store.proofs.copier_rounds.copier.Given as goal
 
 abbrev pub invariant-rounds : goal.invariant-rounds
 invariant-rounds g l = record {

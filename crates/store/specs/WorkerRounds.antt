@@ -1,15 +1,17 @@
 -- What a worker leaves, whose rounds come one behind the other.
-use Rattle.std.specs.Prelude.{◌≡◌, ◌≤◌, ℕ, Bool, false, List, [], ◌∷◌, None, Result, Ok, Err, IfSome}
+use Rattle.std.specs.Prelude.{◌≡◌, ◌⊎◌, ◌≤◌, ℕ, Bool, true, false, List, [], ◌∷◌, None, is_some, Result, Ok, Err, IfSome}
 use Rattle.atomic_table.specs.Seated.{TableId}
 use Rattle.disk_model.specs.Disk.{State}
 use Rattle.disk_model.specs.Moments.{Clock}
+use Rattle.retro_base.specs.declared.device.Device.{Device}
 use Rattle.retro_base.specs.declared.refusal.Refusal.{Refusal}
 use Rattle.retro_base.specs.declared.refusal.Refusal.TheVariants.{DiskFault, OutOfMemory, Stopped}
 use Rattle.retro_base.specs.declared.who.Who.{Who}
 use Rattle.history.specs.declared.journal.FailedCall.TheVariants.{Write}
 use Rattle.history.specs.declared.journal.Line.{Line}
 use Rattle.history.specs.declared.journal.What.TheVariants.{Fault}
-use Rattle.history.specs.Lines.{base_of}
+use Rattle.history.specs.Lines.{base_of, first_stop, lines_of}
+use Rattle.journal_law.specs.Seats.{Adds, Idle, IsNew, View, Waits}
 use Rattle.race_model.specs.Vault.{Batch}
 use Rattle.turn.specs.Seats.{held, mine, opening, seen}
 use Rattle.store.specs.Rounds.{CopiesRound}
@@ -35,6 +37,28 @@ last_answer (Err why) = Err why
 abbrev pub lines_left : Who → Result (Unit {0}) Refusal → List Line
 lines_left who (Err (DiskFault device count)) = record { who = who; what = Fault device count Write } ∷ []
 lines_left who result = []
+
+-- What a worker leaves at a seat, in the terms of the law: lines of others have come, and behind them the line of the
+-- fault that ended it, if one did, which is new.
+abbrev pub WorkerGives : Who → View → View → Result (Unit {0}) Refusal → Type 0
+WorkerGives who old new (Err (DiskFault device count)) = Adds old new who (Fault device count Write) Idle × IsNew new device count
+WorkerGives who old new result = Waits old new old.work
+
+-- the seat has recorded no line, or the store has stopped
+abbrev pub IsFreshOrStopped : View → Type 0
+IsFreshOrStopped view = (lines_of view.session view.front ≡ []) ⊎ (is_some (first_stop view.front) ≡ true)
+
+-- lines of others have come, and behind them the line of a fault, which is new, as the seat's first
+pub record TellsFirst (who : Who) (old new : View) : Type 0 where
+  pub first : lines_of old.session old.front ≡ []
+  pub device : Device
+  pub count : ℕ
+  pub adds : Adds old new who (Fault device count Write) Idle
+  pub is_new : IsNew new device count
+
+-- what a worker leaves that was run in a phase unless the store had stopped
+abbrev pub WorkerLeaves : Who → View → View → Type 0
+WorkerLeaves who old new = Waits old new old.work ⊎ TellsFirst who old new
 
 -- a round is refused for want of memory, where a call of a device failed, and where the store has stopped
 abbrev pub IsRoundRefusal : Refusal → Type 0
