@@ -5,6 +5,8 @@ mod made;
 #[cfg(test)]
 mod tests;
 mod visits;
+#[cfg(test)]
+mod workers;
 
 pub use made::make;
 pub use visits::{recalls, writes};
