@@ -22,7 +22,7 @@ const NOT_ASKED: Answer = Answer::No(Refusal::BadSizes);
 
 const ASKED: Ending = Ending::Asked;
 
-pub const SEQUENCE: [Row; 31] = [
+pub const SEQUENCE: [Row; 32] = [
     (Ask::Sizes, Answer::Pair(16, 64)),
     // A header of 16 bytes, and a base of 39 in 44, are before the gate.
     (Ask::Free, Answer::Number(16_777_216 - 60)),
@@ -56,6 +56,8 @@ pub const SEQUENCE: [Row; 31] = [
     (Ask::Mark(A, b""), Answer::Declared(Some(3))),
     (Ask::DropBelow(B, 3), DONE),
     (Ask::CutLog(FLUSHER), YES),
+    // A commit without a mark, of a page in memory.
+    (Ask::Set(A, 7, 2), Answer::Declared(None)),
     (Ask::Note(B, Device::Maplog, 1, true), DONE),
     (Ask::Stopped, YES),
 ];
@@ -106,7 +108,7 @@ type Other = (usize, Answer);
 
 // The first commit fails, and closes its transaction. The desk has stopped: the second commit is refused, and its
 // transaction stays open; there is no snapshot and no capture.
-const FIRST_COMMIT_FAILS: [Other; 18] = [
+const FIRST_COMMIT_FAILS: [Other; 19] = [
     (3, LOG_FAULT),
     (8, LOG_STOPPED),
     (9, NOT_DECLARED_1),
@@ -125,10 +127,11 @@ const FIRST_COMMIT_FAILS: [Other; 18] = [
     (26, LOG_STOPPED),
     (27, LOG_STOPPED),
     (28, LOG_STOPPED),
+    (29, NOT_ASKED),
 ];
 
 // The second commit fails, and makes no captures.
-const SECOND_COMMIT_FAILS: [Other; 13] = [
+const SECOND_COMMIT_FAILS: [Other; 14] = [
     (8, LOG_FAULT),
     (12, FIRST_ALONE),
     (14, LOG_STOPPED),
@@ -142,10 +145,11 @@ const SECOND_COMMIT_FAILS: [Other; 13] = [
     (26, LOG_STOPPED),
     (27, LOG_STOPPED),
     (28, LOG_STOPPED),
+    (29, NOT_ASKED),
 ];
 
 // The drop fails; the captures go on to the archive.
-const DROP_FAILS: [Other; 10] = [
+const DROP_FAILS: [Other; 11] = [
     (14, LOG_FAULT),
     (18, LOG_STOPPED),
     (19, LOG_STOPPED),
@@ -156,15 +160,17 @@ const DROP_FAILS: [Other; 10] = [
     (26, LOG_STOPPED),
     (27, LOG_STOPPED),
     (28, LOG_STOPPED),
+    (29, NOT_ASKED),
 ];
 
 // The cut fails, and closes the transaction.
-const CUT_FAILS: [Other; 5] = [
+const CUT_FAILS: [Other; 6] = [
     (21, LOG_FAULT),
     (22, NOT_ASKED),
     (26, LOG_STOPPED),
     (27, LOG_STOPPED),
     (28, LOG_STOPPED),
+    (29, NOT_ASKED),
 ];
 
 // The read fails: the transaction keeps it, and stays open. Nothing is stopped; there is no second snapshot, and nothing
@@ -205,7 +211,7 @@ const EDIT_FAILS: [Other; 12] = [
 const PEEK_FAILS: [Other; 1] = [(10, PAGES_FAULT)];
 
 // A page is not written back, which closes the transaction.
-const FIRST_WRITE_FAILS: [Other; 9] = [
+const FIRST_WRITE_FAILS: [Other; 10] = [
     (18, PAGES_FAULT),
     (19, PAGES_STOPPED),
     (20, PAGES_STOPPED),
@@ -215,9 +221,10 @@ const FIRST_WRITE_FAILS: [Other; 9] = [
     (26, PAGES_STOPPED),
     (27, PAGES_STOPPED),
     (28, PAGES_STOPPED),
+    (29, NOT_ASKED),
 ];
 
-const SECOND_WRITE_FAILS: [Other; 8] = [
+const SECOND_WRITE_FAILS: [Other; 9] = [
     (19, PAGES_FAULT),
     (20, PAGES_STOPPED),
     (21, PAGES_STOPPED),
@@ -226,23 +233,33 @@ const SECOND_WRITE_FAILS: [Other; 8] = [
     (26, PAGES_STOPPED),
     (27, PAGES_STOPPED),
     (28, PAGES_STOPPED),
+    (29, NOT_ASKED),
 ];
 
-const SYNC_FAILS: [Other; 6] = [
+const SYNC_FAILS: [Other; 7] = [
     (20, PAGES_FAULT),
     (21, PAGES_STOPPED),
     (22, NOT_ASKED),
     (26, PAGES_STOPPED),
     (27, PAGES_STOPPED),
     (28, PAGES_STOPPED),
+    (29, NOT_ASKED),
 ];
 
 // What is behind the first cut: a commit that marks, and closes its transaction; a drop; and a cut for a worker.
-const THIRD_COMMIT_FAILS: [Other; 3] = [(26, LOG_FAULT), (27, LOG_STOPPED), (28, LOG_STOPPED)];
+const THIRD_COMMIT_FAILS: [Other; 4] = [
+    (26, LOG_FAULT),
+    (27, LOG_STOPPED),
+    (28, LOG_STOPPED),
+    (29, LOG_STOPPED),
+];
 
-const SECOND_DROP_FAILS: [Other; 2] = [(27, LOG_FAULT), (28, LOG_STOPPED)];
+const SECOND_DROP_FAILS: [Other; 3] = [(27, LOG_FAULT), (28, LOG_STOPPED), (29, LOG_STOPPED)];
 
-const SECOND_CUT_FAILS: [Other; 1] = [(28, LOG_FAULT)];
+const SECOND_CUT_FAILS: [Other; 2] = [(28, LOG_FAULT), (29, LOG_STOPPED)];
+
+// The commit without a mark, which closes its transaction.
+const PLAIN_COMMIT_FAILS: [Other; 1] = [(29, LOG_FAULT)];
 
 // What fails of the sequence.
 #[derive(Clone, Copy)]
@@ -260,12 +277,13 @@ enum Fails {
     ThirdCommit,
     SecondDrop,
     SecondCut,
+    PlainCommit,
 }
 
 // The first line that then tells a fault, with whose it is.
 fn line(fails: Fails) -> (Who, Said) {
     match fails {
-        Fails::FirstCommit | Fails::SecondCommit | Fails::ThirdCommit => {
+        Fails::FirstCommit | Fails::SecondCommit | Fails::ThirdCommit | Fails::PlainCommit => {
             (A, Said::InDoubt(LOG, 1))
         }
         Fails::Drop | Fails::SecondDrop => (B, Said::InDoubt(LOG, 1)),
@@ -280,9 +298,10 @@ fn line(fails: Fails) -> (Who, Said) {
 // A call of a device, by its kind and its number among those of its kind.
 pub type Failing = (Device, Call, u64);
 
-// An opening is a sync and three reads of the log, and a sync of the pages. A commit is a write, a sync, a write and a
-// sync of the log; so is a drop, and the first cut. The second closes the other half before, by a write and a sync.
-const CASES: [(Failing, Fails); 36] = [
+// An opening is a sync and three reads of the log, and a sync of the pages. A commit, with a mark or without, is a write,
+// a sync, a write and a sync of the log; so is a drop, and the first cut. The second closes the other half before, by a
+// write and a sync.
+const CASES: [(Failing, Fails); 40] = [
     ((LOG, Call::Write, 1), Fails::FirstCommit),
     ((LOG, Call::Sync, 2), Fails::FirstCommit),
     ((LOG, Call::Write, 2), Fails::FirstCommit),
@@ -313,6 +332,10 @@ const CASES: [(Failing, Fails); 36] = [
     ((LOG, Call::Sync, 15), Fails::SecondCut),
     ((LOG, Call::Write, 15), Fails::SecondCut),
     ((LOG, Call::Sync, 16), Fails::SecondCut),
+    ((LOG, Call::Write, 16), Fails::PlainCommit),
+    ((LOG, Call::Sync, 17), Fails::PlainCommit),
+    ((LOG, Call::Write, 17), Fails::PlainCommit),
+    ((LOG, Call::Sync, 18), Fails::PlainCommit),
     ((PAGES, Call::Read, 1), Fails::Read),
     ((PAGES, Call::Read, 2), Fails::Edit),
     ((PAGES, Call::Read, 3), Fails::Peek),
@@ -356,6 +379,7 @@ fn failing_so(alloc: Global, rows: &[Row], fails: Fails) -> Result<Vec<Row>, Ref
         Fails::ThirdCommit => with_others(alloc, rows, &THIRD_COMMIT_FAILS),
         Fails::SecondDrop => with_others(alloc, rows, &SECOND_DROP_FAILS),
         Fails::SecondCut => with_others(alloc, rows, &SECOND_CUT_FAILS),
+        Fails::PlainCommit => with_others(alloc, rows, &PLAIN_COMMIT_FAILS),
     }
 }
 
@@ -450,6 +474,6 @@ fn calls_made(alloc: Global) -> Result<Made, Refusal> {
 
 #[test]
 fn no_call_of_a_device_is_left_out(rt: HostRuntime) -> Result<(), Fail> {
-    assert!(rt; calls_made(rt.alloc()) == Ok((true, [[3, 15, 16], [3, 2, 2]])));
+    assert!(rt; calls_made(rt.alloc()) == Ok((true, [[3, 17, 18], [3, 2, 2]])));
     Ok(())
 }
