@@ -10,3 +10,4 @@ pub mod Stepped
 pub mod Stored
 pub mod Table
 pub mod TakenBack
+pub mod Worked

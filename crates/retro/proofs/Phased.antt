@@ -29,13 +29,10 @@ use Rattle.session.specs.declared.kept.Kept.{Kept}
 use Rattle.session.specs.declared.plan.SessionPlan.{SessionPlan}
 use Rattle.session.specs.declared.plan.Task.{Task}
 use Rattle.session.proofs.Runs.{law_of_runs}
+use Rattle.store.proofs.WorkerEnds.{all_append}
 use Rattle.retro.specs.Phases.{AllMet, HasComeTo, HaveRun, HaveSeats, IsFresh, IsOfSeats, KeepsNoMore, KeptBefore, LeavesJournal, LeftLawful, PhasesMakeRuns, RanOver, StandTogether, StandsBefore, WereKept}
 
 -- ---- lists of lines
-
-pub all_append : (P : Line → Type 0) (xs ys : List Line) → AllByRecursion P xs → AllByRecursion P ys → AllByRecursion P (xs ++ ys)
-all_append P [] ys one two = two
-all_append P (x ∷ xs) ys one two = (one.0, all_append P xs ys one.1 two)
 
 all_front : (P : Line → Type 0) (xs ys : List Line) → AllByRecursion P (xs ++ ys) → AllByRecursion P xs
 all_front P [] ys all = tt
@@ -75,7 +72,7 @@ less_or_not (suc a) (suc b) = by_rest (less_or_not a b)
     by_rest (inl less) = inl (omega (arith, less))
     by_rest (inr more) = inr (omega (arith, more))
 
-none_of : (number : ℕ) (lines : List Line) → lines_of number lines ≡ [] → AreOthers number lines
+pub none_of : (number : ℕ) (lines : List Line) → lines_of number lines ≡ [] → AreOthers number lines
 none_of number [] none = tt
 none_of number (line ∷ lines) none = by_test (line.who.session == number) refl (λ rest. none_of number lines rest)
   where
@@ -124,7 +121,7 @@ module _ (size : ℕ) (plan : Plan) where
             same later of_session ∙ runs.cut who later item mine is (subst (IsCut ((sql size).kind item)) (same who mine) cut) phase of_session behind;
       }
 
-  run_none : (kind : Kind) → IsRun kind []
+  pub run_none : (kind : Kind) → IsRun kind []
   run_none (kinds.Transaction end) = (tt, omega arith)
   run_none kind = tt
 
@@ -132,7 +129,7 @@ module _ (size : ℕ) (plan : Plan) where
   no_runs session = record { order = tt; runs = λ who item mine is. run_none ((sql size).kind item); cut = λ who later item mine is cut phase of_session behind. refl }
 
   -- to a seat that has run its session come lines of others
-  left_on : (phase : ℕ) (old new met : View) → SessionLeft size plan phase old new → Waits new met new.work → SessionLeft size plan phase old met
+  pub left_on : (phase : ℕ) (old new met : View) → SessionLeft size plan phase old new → Waits new met new.work → SessionLeft size plan phase old met
   left_on phase old new met left waits_there =
       let moves = waits_there.moves in
       let front : met.front ≡ new.front ++ moves.others = moves.front ∙ append-nil (new.front ++ moves.others) in

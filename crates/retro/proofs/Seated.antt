@@ -3,13 +3,12 @@ use Rattle.std.proofs.Common.{◌≡◌, ◌≢◌, ◌⊎◌, ◌<◌, ◌+◌,
 use Rattle.std.proofs.lemmas.List.{append_cancel_left}
 use Rattle.std.specs.Prelude.{◌↔◌}
 use Rattle.history.specs.declared.journal.Line.{Line}
-use Rattle.journal_law.specs.Facts.{AreOthers}
 use Rattle.journal_law.specs.Seats.{Idle, View, Waits}
 use Rattle.retro.specs.Meeting.{HaveMet}
 use Rattle.retro.specs.Slots.{AllCome, AreHonest, AreSeated, AreTogether, IsSeated, SitsAt, seat_at, view_at, view_in}
 use Rattle.retro.specs.Steps.{Begins, HasMetEach, MetAll, PairMet}
 use Rattle.retro.specs.declared.slots.Slot.{Slot}
-use Rattle.retro.proofs.Phased.{all_append}
+use Rattle.store.proofs.WorkerEnds.{waits_none, waits_on}
 
 pub same_or_not : (a b : ℕ) → (a ≡ b) ⊎ (a ≢ b)
 same_or_not zero zero = inl refl
@@ -111,28 +110,6 @@ module _ (S : Type 0) (view : S → View) where
         (honest_stays a.seat t (come.each n a.seat t a.sits is)).0 (are n a.seat a.sits)
 
 -- ---- meetings
-
-waits_none : (v : View) → Waits v v v.work
-waits_none v = record {
-  moves = record { session = refl; opened = refl; others = []; apart = tt; front = sym (append-nil (v.front ++ []) ∙ append-nil v.front) };
-  work_is = refl;
-  told_is = refl;
-}
-
-waits_on : (a b c : View) → Waits a b a.work → Waits b c b.work → Waits a c a.work
-waits_on a b c one two = record {
-  moves = record {
-    session = two.moves.session ∙ one.moves.session;
-    opened = two.moves.opened ∙ one.moves.opened;
-    others = one.moves.others ++ two.moves.others;
-    apart = all_append (λ (line : Line). line.who.session ≢ a.session) one.moves.others two.moves.others one.moves.apart
-        (subst (λ (s : ℕ). AreOthers s two.moves.others) one.moves.session two.moves.apart);
-    front = two.moves.front ∙ ap (λ (ls : List Line). ls ++ []) (ap (λ (ls : List Line). ls ++ two.moves.others) (one.moves.front ∙ append-nil (a.front ++ one.moves.others))
-        ∙ append_assoc a.front one.moves.others two.moves.others);
-  };
-  work_is = two.work_is ∙ one.work_is;
-  told_is = two.told_is ∙ one.told_is;
-}
 
 begins_none : (front lines : List Line) → front ≡ lines → Begins front lines
 begins_none front lines same = ([], sym same ∙ sym (append-nil front))

@@ -12,12 +12,17 @@ use Rattle.session.specs.Replies.{kept_at_place, kept_by_place}
 use Rattle.session.specs.Run.{AreKept, IsReady, IsSessionOf, RunsSession, SessionLeft, WasKept}
 use Rattle.session.specs.declared.kept.Kept.{Kept}
 use Rattle.session.specs.declared.plan.SessionPlan.{SessionPlan}
+use Rattle.retro_base.specs.declared.limits.TheConstants.{SESSIONS}
+use Rattle.store.specs.WorkerRounds.{IsFreshOrStopped}
+use Rattle.store.proofs.WorkerEnds.{rests_on}
+use Rattle.retro.specs.Working.{AreWorkers, MayWorkOn, WorkedAt, WorkedTwice}
 use Rattle.retro.specs.Phases.{HasComeTo, HaveRun, KeepsNoMore, StandTogether, WereKept}
 use Rattle.retro.specs.Slots.{AllCome, AreAnswers, AreHonest, AreSeated, IsSeated, SitsAt, answered_at, seat_at, seat_in, view_at, view_in}
 use Rattle.retro.specs.Steps.{AllRan, MetAll, PhaseRuns, RanAt, RanThrough, RunsPhases}
 use Rattle.retro.specs.declared.slots.Slot.{Slot}
 use Rattle.retro.proofs.Phased.{begins, kept_none, less_or_not, no_session, on, runs, stand_behind}
-use Rattle.retro.proofs.Seated.{one_seat, sees}
+use Rattle.retro.proofs.Seated.{one_seat, seat_within, sees}
+use Rattle.retro.proofs.Worked.{StayedAt, left_none, stayed_same, stayed_twice}
 
 -- ---- lists
 
@@ -32,6 +37,18 @@ get_behind [] (y ∷ ys) zs place same past = absurd (omega (arith, same))
 get_behind (x ∷ xs) [] zs place same past = absurd (omega (arith, same))
 get_behind (x ∷ xs) (y ∷ ys) zs zero same past = absurd (omega (arith, past))
 get_behind (x ∷ xs) (y ∷ ys) zs (suc place) same past = get_behind xs ys zs place (omega (arith, same)) (omega (arith, past))
+
+get_rest : {A : Type 0} (xs ys : List A) (long place : ℕ) → length xs ≡ long → slice_get (xs ++ ys) (long + place) ≡ slice_get ys place
+get_rest [] ys zero place same = ap (slice_get ys) (let e : 0 + place ≡ place = omega arith in e)
+get_rest [] ys (suc long) place same = absurd (omega (arith, same))
+get_rest (x ∷ xs) ys zero place same = absurd (omega (arith, same))
+get_rest (x ∷ xs) ys (suc long) place same = ap (slice_get (x ∷ xs ++ ys)) (let e : suc long + place ≡ suc (long + place) = omega arith in e) ∙ get_rest xs ys long place (omega (arith, same))
+
+-- a number past another lies so far behind it
+behind_by : (low n : ℕ) → low ≤ n → (k : ℕ) × (n ≡ low + k)
+behind_by zero n le = (n, omega arith)
+behind_by (suc low) zero le = absurd (omega (arith, le))
+behind_by (suc low) (suc n) le = let k = behind_by low n (omega (arith, le)) in let e = k.1 in (k.0, omega (arith, e))
 
 pub there_is : {A : Type 0} (xs : List A) (place : ℕ) → place < length xs → (x : A) × (slice_get xs place ≡ Some x)
 there_is [] place less = absurd (omega (arith, less))
@@ -67,22 +84,6 @@ of_nobody kept place past = ap (λ (found : Option (List Kept)). option_map_or (
 abbrev pub size_of : View → ℕ
 size_of view = view.opened.base.page_count
 
-left_none : (size : ℕ) (plan : Plan) (phase : ℕ) (view : View) → IsReady size plan phase view → SessionLeft size plan phase view view
-left_none size plan phase view ready = record {
-  session = refl;
-  opened = refl;
-  more = [];
-  front = nothing view.front;
-  of_phase = tt;
-  idle = ready.idle;
-  fits = ready.fits;
-  runs = ready.runs;
-}
-  where
-    nothing : (lines : List Line) → lines ≡ lines ++ []
-    nothing [] = refl
-    nothing (line ∷ lines) = ap (λ (ls : List Line). line ∷ ls) (nothing lines)
-
 not_failed : {T : Type 0} (E : Type 0) (t : T) → IsErr {T = T} {E = E} (Ok t) → ⊥
 not_failed E t failed = cc
 
@@ -95,42 +96,106 @@ session_of : (plan : Plan) (phase place : ℕ) (sessions : List SessionPlan) (se
     → IsSessionOf plan phase place names session.tasks
 session_of plan phase place sessions session names is there named = record { names_are = rw is (sym named); tasks_are = rw (is, there) refl }
 
--- The slots of the sessions are the first ones. The sessions have run in them, and what they answered was taken out.
-module _ {S : Type 0} (view : S → View) (goes : S → S → Type 0) (is_honest : S → Type 0) (phase : ℕ) (sessions : List SessionPlan) (old first mid last rest : List (Slot S)) (split : old ≡ first ++ rest) (count : length first ≡ length sessions)
-    (mid_count : length mid ≡ length first) (last_count : length last ≡ length mid) (same : (n : ℕ) → seat_at last n ≡ seat_at mid n) (names : List (List ℕ)) (ran : AllRan view goes is_honest phase names sessions first mid) where
+-- The slots of the sessions are the first ones, and those of the workers the last.
+module _ {S : Type 0} (view : S → View) (old front workers first idle : List (Slot S)) (whole : old ≡ front ++ workers) (long : length front ≡ SESSIONS) (split : front ≡ first ++ idle) (seated : AreSeated view old) where
+  pub are_seated : AreSeated view first
+  are_seated n less =
+      let one = ap length whole ∙ length-append front workers in
+      let two = ap length split ∙ length-append first idle in
+      let was : seat_at old n ≡ seat_at first n = ap (λ (xs : List (Slot S)). seat_at xs n) whole ∙ ap seat_in (get_front front workers n (omega (arith, less, two))) ∙ ap (λ (xs : List (Slot S)). seat_at xs n) split
+      ∙ ap seat_in (get_front first idle n less) in
+      subst (IsSeated view n) was (seated n (omega (arith, less, one, two)))
+
+  pub are_workers : MayWorkOn view old → AreWorkers view workers
+  are_workers rest place less =
+      let one = ap length whole ∙ length-append front workers in
+      let inside : SESSIONS + place < length old = omega (arith, less, one, long) in
+      let was : seat_at old (SESSIONS + place) ≡ seat_at workers place = ap (λ (xs : List (Slot S)). seat_at xs (SESSIONS + place)) whole ∙ ap seat_in (get_rest front workers SESSIONS place long) in (
+        subst (IsSeated view (SESSIONS + place)) was (seated (SESSIONS + place) inside),
+        subst (λ (o : Option S). IsFreshOrStopped (view_in view o)) was (rest (SESSIONS + place) (omega arith) inside),
+      )
+
+-- The sessions have run in their slots, and what they answered was taken out; the workers have run in theirs.
+module _ {S : Type 0} (view : S → View) (goes : S → S → Type 0) (stays : (s : S) → goes s s) (goes_on : (s t u : S) → goes s t → goes t u → goes s u) (is_honest : S → Type 0) (phase : ℕ) (sessions : List SessionPlan) (few : length sessions ≤ SESSIONS)
+    (old front workers first idle mid last new : List (Slot S)) (whole : old ≡ front ++ workers) (long : length front ≡ SESSIONS) (split : front ≡ first ++ idle) (count : length first ≡ length sessions)
+    (mid_count : length mid ≡ length first) (last_count : length last ≡ length mid) (same : (n : ℕ) → seat_at last n ≡ seat_at mid n) (names : List (List ℕ)) (ran : AllRan view goes is_honest phase names sessions first mid)
+    (worked : WorkedTwice view goes phase workers new) (seated : AreSeated view old) where
   abbrev after : List (Slot S)
-  after = last ++ rest
+  after = (last ++ idle) ++ new
+
+  new_count : length new ≡ length workers
+  new_count = worked.last_count ∙ worked.count
+
+  front_after : length (last ++ idle) ≡ SESSIONS
+  front_after = length-append last idle ∙ ap (λ (n : ℕ). n + length idle) (last_count ∙ mid_count) ∙ sym (length-append first idle) ∙ sym (ap length split) ∙ long
+
+  pub after_count : length after ≡ length old
+  after_count = length-append (last ++ idle) new ∙ ap (λ (n : ℕ). n + length new) front_after ∙ ap (λ (n : ℕ). SESSIONS + n) new_count
+      ∙ sym (ap (λ (n : ℕ). n + length workers) long) ∙ sym (length-append front workers) ∙ sym (ap length whole)
+
+  was_front : (n : ℕ) → n < SESSIONS → seat_at old n ≡ seat_at front n
+  was_front n less = ap (λ (xs : List (Slot S)). seat_at xs n) whole ∙ ap seat_in (get_front front workers n (omega (arith, less, long)))
+
+  is_front : (n : ℕ) → n < SESSIONS → seat_at after n ≡ seat_at (last ++ idle) n
+  is_front n less = ap seat_in (get_front (last ++ idle) new n (omega (arith, less, front_after)))
 
   ran_at : (n : ℕ) (session : SessionPlan) → n < length sessions → slice_get sessions n ≡ Some session → RanAt view goes is_honest phase n names session.tasks (seat_at old n) (seat_at after n) (answered_at mid n)
   ran_at n session less there =
-      let was : seat_at old n ≡ seat_at first n = ap (λ (xs : List (Slot S)). seat_at xs n) split ∙ ap seat_in (get_front first rest n (omega (arith, less, count))) in
-      let is : seat_at after n ≡ seat_at mid n = ap seat_in (get_front last rest n (omega (arith, less, count, mid_count, last_count))) ∙ same n in
+      let within : n < SESSIONS = omega (arith, less, few) in
+      let was : seat_at old n ≡ seat_at first n = was_front n within ∙ ap (λ (xs : List (Slot S)). seat_at xs n) split ∙ ap seat_in (get_front first idle n (omega (arith, less, count))) in
+      let is : seat_at after n ≡ seat_at mid n = is_front n within ∙ ap seat_in (get_front last idle n (omega (arith, less, count, mid_count, last_count))) ∙ same n in
       subst (λ (seat : Option S). RanAt view goes is_honest phase n names session.tasks seat (seat_at after n) (answered_at mid n)) (sym was)
       (subst (λ (seat : Option S). RanAt view goes is_honest phase n names session.tasks (seat_at first n) seat (answered_at mid n)) (sym is) (ran n session there))
 
-  rests_at : (n : ℕ) → length sessions ≤ n → seat_at after n ≡ seat_at old n
-  rests_at n past = ap seat_in (get_behind last first rest n (last_count ∙ mid_count) (omega (arith, past, count))) ∙ sym (ap (λ (xs : List (Slot S)). seat_at xs n) split)
+  rests_at : (n : ℕ) → length sessions ≤ n → n < SESSIONS → seat_at after n ≡ seat_at old n
+  rests_at n past within = is_front n within ∙ ap seat_in (get_behind last first idle n (last_count ∙ mid_count) (omega (arith, past, count))) ∙ sym (was_front n within ∙ ap (λ (xs : List (Slot S)). seat_at xs n) split)
 
-  pub all_come : ((s : S) → goes s s) → AreSeated view old → AllCome view goes old after
-  all_come stays seated = record {
-    count = long;
-    seated = λ n less. seated_at n less (less_or_not n (length sessions));
-    each = λ n s t was is. gone n s t was is (less_or_not n (length sessions));
+  stayed_worker : (place : ℕ) → SESSIONS + place < length old → StayedAt view goes phase (SESSIONS + place) (seat_at old (SESSIONS + place)) (seat_at after (SESSIONS + place))
+  stayed_worker place less =
+      let was : seat_at old (SESSIONS + place) ≡ seat_at workers place = ap (λ (xs : List (Slot S)). seat_at xs (SESSIONS + place)) whole ∙ ap seat_in (get_rest front workers SESSIONS place long) in
+      let is : seat_at after (SESSIONS + place) ≡ seat_at new place = ap seat_in (get_rest (last ++ idle) new SESSIONS place front_after) in
+      let inside : place < length workers = let l = ap length whole ∙ length-append front workers in omega (arith, less, l, long) in
+      let later : place < length worked.between = let c = worked.count in omega (arith, inside, c) in
+      subst (λ (o : Option S). StayedAt view goes phase (SESSIONS + place) (seat_at old (SESSIONS + place)) o) (sym is)
+      (stayed_twice view goes phase (SESSIONS + place) (seat_at old (SESSIONS + place)) (seated (SESSIONS + place) less) goes_on (omega arith) (seat_at worked.between place) (seat_at new place)
+      (subst (λ (o : Option S). WorkedAt view goes phase (SESSIONS + place) o (seat_at worked.between place)) (sym was) (worked.beside place inside)) (worked.again place later))
+
+  stayed : (n : ℕ) → length sessions ≤ n → n < length old → (n < SESSIONS) ⊎ (SESSIONS ≤ n) → StayedAt view goes phase n (seat_at old n) (seat_at after n)
+  stayed n past less (inl within) = stayed_same view goes phase n (seat_at old n) (seated n less) stays (seat_at after n) (rests_at n past within)
+  stayed n past less (inr behind) =
+      let k = behind_by SESSIONS n behind in
+      subst (λ (m : ℕ). StayedAt view goes phase m (seat_at old m) (seat_at after m)) (sym k.1) (stayed_worker k.0 (subst (λ (m : ℕ). m < length old) k.1 less))
+
+  stayed_at : (n : ℕ) → length sessions ≤ n → n < length old → StayedAt view goes phase n (seat_at old n) (seat_at after n)
+  stayed_at n past less = stayed n past less (less_or_not n SESSIONS)
+
+  pub all_come : AllCome view goes old after
+  all_come = record {
+    count = after_count;
+    seated = λ n less. seated_at n (subst (λ (k : ℕ). n < k) after_count less) (less_or_not n (length sessions));
+    each = λ n s t was is. gone n s t was is (seat_within old n s was) (less_or_not n (length sessions));
   }
     where
-      long : length after ≡ length old
-      long = length-append last rest ∙ ap (λ (n : ℕ). n + length rest) (last_count ∙ mid_count) ∙ sym (length-append first rest) ∙ sym (ap length split)
-
-      seated_at : (n : ℕ) → n < length after → (n < length sessions) ⊎ (length sessions ≤ n) → IsSeated view n (seat_at after n)
+      seated_at : (n : ℕ) → n < length old → (n < length sessions) ⊎ (length sessions ≤ n) → IsSeated view n (seat_at after n)
       seated_at n less (inl has) = let one = there_is sessions n has in let at = ran_at n one.0 has one.1 in record { seat = at.behind; sits = at.is; number_is = at.number_is; idle = at.idle }
-      seated_at n less (inr past) = subst (IsSeated view n) (sym (rests_at n past)) (seated n (subst (λ (k : ℕ). n < k) long less))
+      seated_at n less (inr past) = let at = stayed_at n past less in record { seat = at.behind; sits = at.is; number_is = at.number_is; idle = at.idle }
 
-      gone : (n : ℕ) (s t : S) → SitsAt old n s → SitsAt after n t → (n < length sessions) ⊎ (length sessions ≤ n) → goes s t
-      gone n s t was is (inl has) =
+      moved : (s t a b : S) (one two : Option S) → one ≡ Some s → two ≡ Some t → one ≡ Some a → two ≡ Some b → goes a b → goes s t
+      moved s t a b one two was is sat sits went = subst (λ (x : S). goes x t) (one_seat S a s (sym sat ∙ was)) (subst (goes a) (one_seat S b t (sym sits ∙ is)) went)
+
+      gone : (n : ℕ) (s t : S) → SitsAt old n s → SitsAt after n t → n < length old → (n < length sessions) ⊎ (length sessions ≤ n) → goes s t
+      gone n s t was is less (inl has) =
           let one = there_is sessions n has in
           let at = ran_at n one.0 has one.1 in
-          subst (λ (a : S). goes a t) (one_seat S at.before s (sym at.was ∙ was)) (subst (goes at.before) (one_seat S at.behind t (sym at.is ∙ is)) at.stays)
-      gone n s t was is (inr past) = subst (goes s) (one_seat S s t (sym was ∙ sym (rests_at n past) ∙ is)) (stays s)
+          moved s t at.before at.behind (seat_at old n) (seat_at after n) was is at.was at.is at.stays
+      gone n s t was is less (inr past) = let at = stayed_at n past less in moved s t at.before at.behind (seat_at old n) (seat_at after n) was is at.was at.is at.stays
+
+  -- workers may run there again
+  pub all_rest : MayWorkOn view old → MayWorkOn view after
+  all_rest rest n behind less =
+      let inside : n < length old = subst (λ (k : ℕ). n < k) after_count less in
+      let at = stayed_at n (omega (arith, few, behind)) inside in
+      subst IsFreshOrStopped (sym (sees S view after n at.behind at.is)) (at.rests (subst IsFreshOrStopped (sees S view old n at.before at.was) (rest n behind inside)))
 
   module _ (plan : Plan) (is : IsPhaseOf plan phase sessions) (named : names ≡ names_of sessions) (honest : AreHonest is_honest old) where
     runs_at : (n : ℕ) → n < length sessions → RunsSession (size_of (view_at view old n)) plan phase (view_at view old n) (view_at view after n) (answered_at mid n)
@@ -141,19 +206,30 @@ module _ {S : Type 0} (view : S → View) (goes : S → S → Type 0) (is_honest
         (subst (λ (v : View). RunsSession (size_of (view at.before)) plan phase (view at.before) v (answered_at mid n)) (sym (sees S view after n at.behind at.is))
         (at.ran (honest n at.before at.was) plan (session_of plan phase n sessions one.0 names is one.1 named)))
 
-    left_at : (n : ℕ) → (n < length sessions) ⊎ (length sessions ≤ n) → IsReady (size_of (view_at view old n)) plan phase (view_at view old n)
+    left_at : (n : ℕ) → n < length old → (n < length sessions) ⊎ (length sessions ≤ n) → IsReady (size_of (view_at view old n)) plan phase (view_at view old n)
         → SessionLeft (size_of (view_at view old n)) plan phase (view_at view old n) (view_at view after n)
-    left_at n (inl less) ready = (runs_at n less ready).0
-    left_at n (inr past) ready = subst (SessionLeft (size_of (view_at view old n)) plan phase (view_at view old n)) (sym (ap (view_in view) (rests_at n past))) (left_none (size_of (view_at view old n)) plan phase (view_at view old n) ready)
+    left_at n inside (inl less) = λ ready. (runs_at n less ready).0
+    left_at n inside (inr past) =
+        let at = stayed_at n past inside in
+        subst (λ (v : View). IsReady (size_of v) plan phase v → SessionLeft (size_of v) plan phase v (view_at view after n)) (sym (sees S view old n at.before at.was))
+        (subst (λ (v : View). IsReady (size_of (view at.before)) plan phase (view at.before) → SessionLeft (size_of (view at.before)) plan phase (view at.before) v) (sym (sees S view after n at.behind at.is))
+        (at.left (size_of (view at.before)) plan))
 
     pub all_ran : (answered : Result (List (List Kept)) AllocError) → IfOk answered (AreAnswers mid) → RanThrough plan phase (length old) (length sessions) (view_at view old) (view_at view after) answered
     all_ran (Ok kept) are = record {
-      left = λ n less. left_at n (less_or_not n (length sessions));
+      left = λ n less. left_at n less (less_or_not n (length sessions));
       long = are.0 ∙ mid_count ∙ count;
       kept = λ n less ready.
           subst (AreKept {E = AllocError} (size_of (view_at view old n)) plan phase (view_at view after n)) (are.1 n (omega (arith, less, mid_count, count))) (runs_at n less ready).1;
     }
-    all_ran (Err why) are = record { left = λ n less. left_at n (less_or_not n (length sessions)); long = tt; kept = tt }
+    all_ran (Err why) are = record { left = λ n less. left_at n less (less_or_not n (length sessions)); long = tt; kept = tt }
+
+-- ---- seats that have met
+
+pub rest_met : {S : Type 0} (view : S → View) (old new : List (Slot S)) → length new ≡ length old → MetAll (length old) (view_at view old) (view_at view new) → MayWorkOn view old → MayWorkOn view new
+rest_met view old new count met rest n behind less =
+    let inside : n < length old = subst (λ (k : ℕ). n < k) count less in
+    rests_on (view_at view old n) (view_at view new n) (met.1 n inside).0.moves (rest n behind inside)
 
 -- ---- a phase
 

@@ -9,7 +9,6 @@ use Rattle.disk_model.specs.Moments.{Clock}
 use Rattle.disk_model.specs.declared.four.Four.{Four}
 use Rattle.retro_base.specs.declared.device.Device.{Device}
 use Rattle.retro_base.specs.declared.device.Device.TheVariants.{Log, Pages, Pagelog, Maplog, Cabinet}
-use Rattle.retro_base.specs.declared.limits.TheConstants.{SESSIONS}
 use Rattle.history.specs.declared.entry.Mark.{Mark as MarkOf}
 use Rattle.history.specs.declared.journal.Line.{Line}
 use Rattle.history.specs.declared.log.Version.{Version}
@@ -49,6 +48,9 @@ use Rattle.store.specs.Worlds.{IsWorldOf}
 use Rattle.store.specs.declared.held.Held.{Held}
 use Rattle.retro.specs.Phases.{HaveSeats, IsFresh, LeavesJournal, LeftLawful, RanOver, StandTogether}
 use Rattle.retro.specs.Slots.{AllCome, AreHonest as AllHonest, AreSeated, AreTogether, SitsAt, seat_in, view_at}
+use Rattle.store.specs.WorkerRounds.{IsFreshOrStopped}
+use Rattle.retro.specs.Working.{MayWorkOn}
+use Rattle.retro.specs.declared.working.TheConstants.{SEATS}
 use Rattle.retro.specs.Steps.{RunsPhases}
 use Rattle.retro.specs.Storing.{AreFresh, AreHeld, AreIn, ComeFrom, IsAmong, IsHeld, Leaves, OpenAs, opening_with, store_of, view_held}
 use Rattle.retro.specs.declared.slots.Slot.{Slot}
@@ -138,6 +140,13 @@ module _ {R D : Type 0} (state : D → State) (faults : D → ℕ) (z : TableId)
     all_seated k less =
         let there = in_slot k less in
         record { seat = there.1; sits = there.3; number_is = there.4.number_is ∙ (fresh k there.0 there.2).1; idle = there.4.idle }
+
+    -- no seat has recorded a line
+    pub all_fresh : MayWorkOn (view_held state faults) slots
+    all_fresh k behind less =
+        let there = in_slot k less in
+        subst IsFreshOrStopped (sym (sees (Held R D) (view_held state faults) slots k there.1 there.3))
+        (inl (ap (λ (lines : List Line). lines_of (view_held state faults there.1).session lines) (there.4.front_is ∙ (fresh k there.0 there.2).3)))
 
     of_store : (k : ℕ) (held : Held R D) → SitsAt slots k held → store_of held ≡ z
     of_store k held sits =
@@ -303,9 +312,9 @@ newest_same state core archive = at core.desk.base.marks
     at [] = refl
     at (m ∷ ms) = behind m ms
 
-pub have_seats : (plan : Plan) → AllByRecursion SessionsFit plan → HaveSeats plan SESSIONS
+have_seats : (plan : Plan) → AllByRecursion SessionsFit plan → HaveSeats plan SEATS
 have_seats [] fit = tt
-have_seats (sessions ∷ plan) fit = (fit.0.0, have_seats plan fit.1)
+have_seats (sessions ∷ plan) fit = (omega (arith, fit.0.0), have_seats plan fit.1)
 
 module _ {D : Type 0} (extent faults : D → ℕ) (is_honest : D → Type 0) (remembers : Type 0) (state : D → State) (clock : D → Clock) (disks : Four D) (start : Start D) (seats : List (Sat D))
     (begun : BeginsWith extent faults is_honest remembers state clock One disks start seats) where
@@ -378,7 +387,7 @@ module _ {D : Type 0} (extent faults : D → ℕ) (is_honest : D → Type 0) (re
             (subst (λ (a : Running D). is_honest a.pagelog.disk) (sym begun.begins.1) (begun.read.pagelog.same.honest.0 honest.pagelog)));
       }
 
-  module _ (limit : ℕ) (limit_is : limit ≡ SESSIONS) (risen : List (Sat D)) (left : Closed D) (closes : Closes is_honest state faults start limit risen left) where
+  module _ (limit : ℕ) (limit_is : limit ≡ SEATS) (risen : List (Sat D)) (left : Closed D) (closes : Closes is_honest state faults start limit risen left) where
     pub crashes_so : ClosedShows is_honest state faults → AreHonest is_honest disks → CrashesShow state One (page_world Opened.pages left.journal) left.journal left.disks
     unfolding just_from
     crashes_so closed_shows honest =
@@ -387,8 +396,8 @@ module _ {D : Type 0} (extent faults : D → ℕ) (is_honest : D → Type 0) (re
         subst (λ (v : Version). CrashesShow state v (page_world Opened.pages left.journal) left.journal left.disks) version
         (closed_shows start limit risen left closes (just_from start begun.begins.0 begun.begins.1) honestly)
 
-    module _ {E : Type 0} (plan : Plan) (kept : Result (List (List (List Kept))) E) (come : ComeFrom plan Opened SESSIONS risen kept) where
-      leaves : LeavesJournal (of_each faults left.disks) SESSIONS come.views left.journal
+    module _ {E : Type 0} (plan : Plan) (kept : Result (List (List (List Kept))) E) (come : ComeFrom plan Opened SEATS risen kept) where
+      leaves : LeavesJournal (of_each faults left.disks) SEATS come.views left.journal
       leaves = record {
         each = λ number less.
             let one = come.each number less in
@@ -402,10 +411,10 @@ module _ {D : Type 0} (extent faults : D → ℕ) (is_honest : D → Type 0) (re
         counted = subst (λ (j : List Line). AllByRecursion (IsCounted (of_each faults left.disks)) j) (sym closes.lines) closes.counted;
       }
 
-      module _ (seats_fit : HaveSeats plan SESSIONS) (tables : World Tables) (shows : ShowsTables (sql Opened.base.page_count) Opened.pages tables) where
-        lawful_by : (k : Result (List (List (List Kept))) E) → RunsPhases plan Opened SESSIONS come.views k → LeftLawful Opened.base.page_count plan (opening_with Opened tables) (of_each faults left.disks) left.journal
-        lawful_by (Ok all) runs = (phases_make_runs Opened.base.page_count).left plan (opening_with Opened tables) (of_each faults left.disks) SESSIONS (length plan + 1) runs.front left.journal come.views shows leaves runs.together
-        lawful_by (Err why) runs = (phases_make_runs Opened.base.page_count).left plan (opening_with Opened tables) (of_each faults left.disks) SESSIONS runs.0 runs.1 left.journal come.views shows leaves runs.2
+      module _ (seats_fit : HaveSeats plan SEATS) (tables : World Tables) (shows : ShowsTables (sql Opened.base.page_count) Opened.pages tables) where
+        lawful_by : (k : Result (List (List (List Kept))) E) → RunsPhases plan Opened SEATS come.views k → LeftLawful Opened.base.page_count plan (opening_with Opened tables) (of_each faults left.disks) left.journal
+        lawful_by (Ok all) runs = (phases_make_runs Opened.base.page_count).left plan (opening_with Opened tables) (of_each faults left.disks) SEATS (length plan + 1) runs.front left.journal come.views shows leaves runs.together
+        lawful_by (Err why) runs = (phases_make_runs Opened.base.page_count).left plan (opening_with Opened tables) (of_each faults left.disks) SEATS runs.0 runs.1 left.journal come.views shows leaves runs.2
 
         pub lawful_so : LeftLawful Opened.base.page_count plan (opening_with Opened tables) (of_each faults left.disks) left.journal
         lawful_so = lawful_by kept come.runs
@@ -413,12 +422,12 @@ module _ {D : Type 0} (extent faults : D → ℕ) (is_honest : D → Type 0) (re
         pub printed_so : (newest_then : ℕ) → newest_then ≡ newest start.core.value.desk.base.marks → (text : List ℕ) (all : List (List (List Kept))) → kept ≡ Ok all → text ≡ printed plan (kept_by_place all) newest_then left.journal
             → RanOver Opened.base.page_count plan (opening_with Opened tables) (of_each faults left.disks) left.journal text
         printed_so newest_then newest_is text all is text_is =
-            (phases_make_runs Opened.base.page_count).prints plan (opening_with Opened tables) (of_each faults left.disks) SESSIONS (length plan + 1) left.journal all come.views text shows (omega arith) seats_fit leaves
-            (subst (λ (k : Result (List (List (List Kept))) E). RunsPhases plan Opened SESSIONS come.views k) is come.runs)
+            (phases_make_runs Opened.base.page_count).prints plan (opening_with Opened tables) (of_each faults left.disks) SEATS (length plan + 1) left.journal all come.views text shows (omega arith) seats_fit leaves
+            (subst (λ (k : Result (List (List (List Kept))) E). RunsPhases plan Opened SEATS come.views k) is come.runs)
             (text_is ∙ ap (λ (n : ℕ). printed plan (kept_by_place all) n left.journal) (newest_is ∙ newest_same state start.core.value start.archive.value))
 
     -- what a run leaves
-    pub leaves_so : {E : Type 0} → OpeningShows is_honest state → ClosedShows is_honest state faults → (plan : Plan) → PlanFits plan → length seats ≡ SESSIONS → (kept : Result (List (List (List Kept))) E)
+    pub leaves_so : {E : Type 0} → OpeningShows is_honest state → ClosedShows is_honest state faults → (plan : Plan) → PlanFits plan → length seats ≡ SEATS → (kept : Result (List (List (List Kept))) E)
         → ((ground : Ground) → ((k : ℕ) (s : Sat D) → slice_get seats k ≡ Some s → IsHonest is_honest state s × (ground_in state faults (opening s) ≡ ground)) → ComeFrom plan ground (length seats) risen kept)
         → (newest_then : ℕ) → newest_then ≡ newest start.core.value.desk.base.marks → (ended : Ended) → ended.journal ≡ left.journal
         → IfOk ended.text (λ text. (all : List (List (List Kept))) × (kept ≡ Ok all) × (text.items ≡ printed plan (kept_by_place all) newest_then left.journal)) → Leaves faults is_honest state plan disks left.disks ended

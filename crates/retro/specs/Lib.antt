@@ -11,3 +11,4 @@ pub mod Steps
 pub mod Stores
 pub mod Storing
 pub mod Words
+pub mod Working

@@ -13,19 +13,20 @@ use feeds::{Sink, Source};
 use fold_kit::Folds;
 use history::{Line, What};
 use retro_base::Refusal;
-use session::{Items, NoGate, Plan};
+use session::{Gate, Items, Plan};
 use std::alloc::Global;
 use std::sync::Wait;
 use std::thread::Threads;
 
 // Runs a plan over the store in the folder.
-fn run_in<R: Threads + Wait + Sync, C: Cabinet, F: Folds + Sync>(
+fn run_in<R: Threads + Wait + Sync, C: Cabinet, F: Folds + Sync, G: Gate + Sync>(
     alloc: Global,
     rt: &R,
     threads: usize,
     cabinet: &mut C,
     dir: &str,
     folds: &F,
+    gate: &G,
     plan: &Plan,
 ) -> Result<Ended, Refusal>
     requires threads { 0 < threads }
@@ -36,7 +37,6 @@ fn run_in<R: Threads + Wait + Sync, C: Cabinet, F: Folds + Sync>(
     let Ok(disks) = cabinet.fetch(dir) else {
         return Err(cabinet_fault(cabinet));
     };
-    let gate = &NoGate;
     let (disks, ended) = run_on(alloc, rt, threads, disks, &Items { gate, folds }, plan);
     cabinet.put_back(dir, disks);
     ended
@@ -80,7 +80,7 @@ fn tell<K: Sink>(sink: &mut K, ended: Ended) -> Status
 }
 
 // Reads a script, runs it over the store in the folder, and writes the transcript. Answers how it ended.
-fn kept<R: Threads + Wait + Sync, S: Source, K: Sink, C: Cabinet, F: Folds + Sync>(
+fn kept<R: Threads + Wait + Sync, S: Source, K: Sink, C: Cabinet, F: Folds + Sync, G: Gate + Sync>(
     alloc: Global,
     rt: &R,
     threads: usize,
@@ -89,6 +89,7 @@ fn kept<R: Threads + Wait + Sync, S: Source, K: Sink, C: Cabinet, F: Folds + Syn
     cabinet: &mut C,
     dir: &str,
     folds: &F,
+    gate: &G,
 ) -> Status
     requires threads { 0 < threads }
     ensures runs { RunsIn (S.left source.old) (S.left source.new) (S.faults source.old) (S.faults source.new) K.held K.faults
@@ -100,14 +101,21 @@ fn kept<R: Threads + Wait + Sync, S: Source, K: Sink, C: Cabinet, F: Folds + Syn
         Ok(plan) => plan,
         Err(refusal) => return refuse_script(alloc, sink, refusal),
     };
-    match run_in(alloc, rt, threads, cabinet, dir, folds, &plan) {
+    match run_in(alloc, rt, threads, cabinet, dir, folds, gate, &plan) {
         Ok(ended) => tell(sink, ended),
         Err(refusal) => refuse(alloc, sink, refusal),
     }
 }
 
 /// Reads a script, runs it over the store in the folder, and writes the transcript. Answers the exit status.
-pub fn keep<R: Threads + Wait + Sync, S: Source, K: Sink, C: Cabinet, F: Folds + Sync>(
+pub fn keep<
+    R: Threads + Wait + Sync,
+    S: Source,
+    K: Sink,
+    C: Cabinet,
+    F: Folds + Sync,
+    G: Gate + Sync,
+>(
     alloc: Global,
     rt: &R,
     threads: usize,
@@ -116,6 +124,7 @@ pub fn keep<R: Threads + Wait + Sync, S: Source, K: Sink, C: Cabinet, F: Folds +
     cabinet: &mut C,
     dir: &str,
     folds: &F,
+    gate: &G,
 ) -> u8
     requires threads { 0 < threads }
     ensures runs { RunsIn (S.left source.old) (S.left source.new) (S.faults source.old) (S.faults source.new) K.held K.faults
@@ -124,5 +133,5 @@ pub fn keep<R: Threads + Wait + Sync, S: Source, K: Sink, C: Cabinet, F: Folds +
     ensures status { IsStatus result }
     ensures words { (result ≢ 2) × (result ≢ 9) }
 {
-    kept(alloc, rt, threads, source, sink, cabinet, dir, folds).number()
+    kept(alloc, rt, threads, source, sink, cabinet, dir, folds, gate).number()
 }

@@ -11,6 +11,8 @@ mod calls;
 #[cfg(test)]
 mod drops;
 mod formatting;
+#[cfg(test)]
+mod held_up;
 mod keeping;
 mod laws;
 mod memory;
@@ -33,6 +35,7 @@ mod storing;
 #[cfg(test)]
 mod tests;
 mod words;
+mod working;
 
 use disk_file::FileCabinet;
 use feeds::{StdSink, StdSource};
@@ -40,6 +43,7 @@ use fold_kit::{Combiner, FoldSet, How};
 use program::retro;
 use retro_base::SESSIONS;
 use saying::lack_memory;
+use session::NoGate;
 use std::alloc::AllocError;
 use std::env;
 use std::env::Env;
@@ -80,6 +84,7 @@ fn main(rt: HostRuntime) -> ExitCode {
         &mut sink,
         &mut cabinet,
         &folds,
+        &NoGate,
     );
     ExitCode::from(status)
 }

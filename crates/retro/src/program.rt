@@ -18,6 +18,7 @@ use crate::words::{Command, Mistake, command_of};
 use disk_model::Cabinet;
 use feeds::{Sink, Source};
 use fold_kit::Folds;
+use session::Gate;
 use std::alloc::Global;
 use std::sync::Wait;
 use std::thread::Threads;
@@ -49,12 +50,20 @@ fn refuse<K: Sink>(sink: &mut K, mistake: Mistake) -> u8
 ///   a seat of its own. The transcript is written whole also where its journal tells a fault of a device; the status is
 ///   then 6 in place of 0.
 ///
-/// The sessions of a phase run at once, in at most so many threads: with one they run in turn.
+/// The sessions of a phase run at once, in at most so many threads: with one they run in turn. The copier and the flusher
+/// run beside them, in threads of their own. The gate is called at each point of an item.
 ///
 /// The last three end with 6 where a call of the cabinet or of a device failed; `show` and `run` with 7 where the bytes
 /// are no store's; with 5 where the sink failed; with 8 where memory ran out; else with 0. The devices are back in the
 /// cabinet.
-pub fn retro<R: Threads + Wait + Sync, S: Source, K: Sink, C: Cabinet, F: Folds + Sync>(
+pub fn retro<
+    R: Threads + Wait + Sync,
+    S: Source,
+    K: Sink,
+    C: Cabinet,
+    F: Folds + Sync,
+    G: Gate + Sync,
+>(
     rt: &R,
     alloc: Global,
     threads: usize,
@@ -63,6 +72,7 @@ pub fn retro<R: Threads + Wait + Sync, S: Source, K: Sink, C: Cabinet, F: Folds 
     sink: &mut K,
     cabinet: &mut C,
     folds: &F,
+    gate: &G,
 ) -> u8
     requires threads { 0 < threads }
     ensures status { IsStatus result }
@@ -91,9 +101,9 @@ pub fn retro<R: Threads + Wait + Sync, S: Source, K: Sink, C: Cabinet, F: Folds 
         sink.old sink.new result }
 {
     match command_of(words) {
-        Ok(Command::Run { dir: None }) => run(alloc, rt, threads, source, sink, folds),
+        Ok(Command::Run { dir: None }) => run(alloc, rt, threads, source, sink, folds, gate),
         Ok(Command::Run { dir: Some(dir) }) => keep(
-            alloc, rt, threads, source, sink, cabinet, dir, folds,
+            alloc, rt, threads, source, sink, cabinet, dir, folds, gate,
         ),
         Ok(Command::Format { dir, sizes }) => format(alloc, sink, cabinet, dir, sizes),
         Ok(Command::Show { dir }) => show(alloc, sink, cabinet, dir),

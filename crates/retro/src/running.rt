@@ -17,7 +17,7 @@ use feeds::{Sink, Source, read_front};
 use fold_kit::Folds;
 use retro_base::Refusal;
 use script::{SCRIPT_BYTES, front_law};
-use session::{Items, NoGate, Plan, plan_of};
+use session::{Gate, Items, Plan, plan_of};
 use std::alloc::{AllocError, Global};
 use std::sync::Wait;
 use std::thread::Threads;
@@ -40,12 +40,13 @@ pub fn plan_from<S: Source>(alloc: Global, source: &mut S) -> Result<Plan, Refus
 }
 
 // The transcript of the script that the source gives, or why there is none.
-fn transcript<R: Threads + Wait + Sync, S: Source, F: Folds + Sync>(
+fn transcript<R: Threads + Wait + Sync, S: Source, F: Folds + Sync, G: Gate + Sync>(
     alloc: Global,
     rt: &R,
     threads: usize,
     source: &mut S,
     folds: &F,
+    gate: &G,
 ) -> Result<Vec<u8>, Refusal>
     requires threads { 0 < threads }
     ensures source_fault { result ≡ Err Refusal.SourceFault → Rose (S.faults source.old) (S.faults source.new) }
@@ -55,7 +56,6 @@ fn transcript<R: Threads + Wait + Sync, S: Source, F: Folds + Sync>(
     ensures bad_script { (n : ℕ) → result ≡ Err (Refusal.BadScript n) → IfSome (S.left source.old) (IsTheBadLine n) }
 {
     let plan = plan_from(alloc, source)?;
-    let gate = &NoGate;
     let text = run_in_memory(alloc, rt, threads, &Items { gate, folds }, &plan)?;
     Ok(text)
 }
@@ -90,13 +90,14 @@ pub fn refuse<K: Sink>(alloc: Global, sink: &mut K, refusal: Refusal) -> Status
 }
 
 // Reads and runs the script and writes its transcript, or the line that stands in its place.
-fn perform<R: Threads + Wait + Sync, S: Source, K: Sink, F: Folds + Sync>(
+fn perform<R: Threads + Wait + Sync, S: Source, K: Sink, F: Folds + Sync, G: Gate + Sync>(
     alloc: Global,
     rt: &R,
     threads: usize,
     source: &mut S,
     sink: &mut K,
     folds: &F,
+    gate: &G,
 ) -> Status
     requires threads { 0 < threads }
     ensures status { IsOfRuns result }
@@ -119,7 +120,7 @@ fn perform<R: Threads + Wait + Sync, S: Source, K: Sink, F: Folds + Sync>(
     ensures good_script { (bytes : List ℕ) (script : Script) → S.left source.old ≡ Some bytes
         → ReadsAs bytes (Ok script) → result ≢ Status.BadScript }
 {
-    match transcript(alloc, rt, threads, source, folds) {
+    match transcript(alloc, rt, threads, source, folds, gate) {
         Ok(text) => write(sink, text.as_slice()),
         Err(refusal) => refuse(alloc, sink, refusal),
     }
@@ -127,13 +128,14 @@ fn perform<R: Threads + Wait + Sync, S: Source, K: Sink, F: Folds + Sync>(
 
 /// Reads a script from the source, runs it over an empty store in memory, and writes the transcript of every reply to the
 /// sink, or one line that says why there is none. Answers the exit status.
-pub fn run<R: Threads + Wait + Sync, S: Source, K: Sink, F: Folds + Sync>(
+pub fn run<R: Threads + Wait + Sync, S: Source, K: Sink, F: Folds + Sync, G: Gate + Sync>(
     alloc: Global,
     rt: &R,
     threads: usize,
     source: &mut S,
     sink: &mut K,
     folds: &F,
+    gate: &G,
 ) -> u8
     requires threads { 0 < threads }
     ensures status { IsStatus result }
@@ -154,5 +156,5 @@ pub fn run<R: Threads + Wait + Sync, S: Source, K: Sink, F: Folds + Sync>(
         → S.faults source.new ≡ S.faults source.old → S.faults source.old < 2 ^ 64 - 1
         → K.faults sink.new ≡ K.faults sink.old → K.faults sink.old < 2 ^ 64 - 1 → (result ≡ 0) ⊎ (result ≡ 8) }
 {
-    perform(alloc, rt, threads, source, sink, folds) as u8
+    perform(alloc, rt, threads, source, sink, folds, gate) as u8
 }

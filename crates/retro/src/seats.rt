@@ -1,8 +1,13 @@
-//! Seats of one store, which may meet.
+//! Seats of one store, which may meet, and at which a worker may run.
 
+ghost use Rattle.std.specs.Prelude.{◌≡◌};
+ghost use Rattle.journal_law.specs.Seats.{Idle};
+ghost use Rattle.store.specs.WorkerRounds.{IsFreshOrStopped, WorkerLeaves, worker as worker_name};
+ghost use Rattle.store.specs.Workers.{IsWorker};
 ghost use Rattle.retro.specs.Meeting.{HaveMet};
 
 use journal_law::Seat;
+use store::{Done, Worker};
 
 /// A seat of a store, which may meet the others of its store.
 pub trait Meets: Seat {
@@ -19,4 +24,16 @@ pub trait Meets: Seat {
     ghost one_goes: { (s t u : Self) → Self.goes s t → together s u → together t u };
 
     ghost other_goes: { (s t u : Self) → Self.goes s t → together u s → together u t };
+}
+
+/// A seat at which a worker may run.
+pub trait Works: Meets {
+    /// Runs a worker in a phase, until its rounds end, unless the store has stopped.
+    fn work(&mut self, worker: Worker, phase: u16, done: &Done)
+        requires worker { IsWorker (Self.view self.old).session }
+        requires idle { (Self.view self.old).work ≡ Idle }
+        requires may { IsFreshOrStopped (Self.view self.old) }
+        ensures leaves { WorkerLeaves (worker_name phase (Self.view self.old).session) (Self.view self.old)
+            (Self.view self.new) }
+        ensures goes { Self.goes self.old self.new };
 }

@@ -160,7 +160,8 @@ const MADE: [Row; 2] = [
     ),
 ];
 
-// An append to the log writes twice, so its third write is the first of the second commit. Behind the fault nothing is written.
+// An append to the log writes twice, so its third write is the first of the second commit. Behind the fault nothing is
+// committed.
 const FAULTY: [Row; 1] = [(
     &["run", "d"],
     b"SESSION a\nINSERT INTO t VALUES (2)\nCOMMIT WITH SNAPSHOT 'two'\n\
@@ -262,5 +263,63 @@ fn is_committed_without_a_text<R: Threads + Wait + Sync>(
 #[test]
 fn a_failing_sink_takes_nothing_from_the_store(rt: HostRuntime) -> Result<(), Fail> {
     assert!(rt; is_committed_without_a_text(&rt, rt.alloc())?);
+    Ok(())
+}
+
+// The page of a table as one item leaves it, and as a second one does.
+const FIRST_ITEM: &[u8] =
+    b"PHASE\nSESSION a\nCREATE TABLE t(a INT, b TEXT);\nINSERT INTO t VALUES (1,'x');\nCOMMIT WITH SNAPSHOT 'one';\n";
+
+const SECOND_ITEM: &[u8] = b"PHASE\nSESSION a\nINSERT INTO t VALUES (2,'y');\nCOMMIT;\n";
+
+// Behind the start of a Maplog stands the run of its mappings: from number 0 on, one, of page 2.
+const ONE_MAPPING: &[u8] = b"\x02\0\0\0\0\0\0\0\0\0\0\0\x01\0\x02";
+
+const ONE_CAPTURE: &[u8] = b"version 1\npages 16\ncapacity 64\noldest 1\nnewest 1\ncaptures 1\n";
+
+// Page 2, slot 0, and whether the Maplog has the mapping.
+type Copied = (Vec<u8>, Vec<u8>, bool);
+
+fn copied(alloc: Global, cabinet: &mut MemCabinet) -> Option<Copied> {
+    let disks = cabinet.fetch("d").ok()?;
+    let page = disks.pages.bytes().get(2048..3072)?.to_vec(alloc).ok()?;
+    let slot = disks.pagelog.bytes().get(0..1024)?.to_vec(alloc).ok()?;
+    let maplog = disks.maplog.bytes();
+    let mut mappings = maplog.windows(ONE_MAPPING.len());
+    let is_mapped = mappings.any(|body| body == ONE_MAPPING);
+    cabinet.put_back("d", disks);
+    Some((page, slot, is_mapped))
+}
+
+// What the devices hold behind each of two runs, in which the workers ran too, and what is shown of the store then.
+fn copied_behind<R: Threads + Wait + Sync>(
+    rt: &R,
+    alloc: Global,
+) -> Option<(Copied, Copied, Vec<u8>)> {
+    let mut cabinet = MemCabinet::new(alloc, Vec::new(alloc));
+    let formats: &[&str] = &["format", "d", "16", "64"];
+    told(rt, alloc, &mut cabinet, formats, b"", &[]).ok()?;
+    told(rt, alloc, &mut cabinet, &["run", "d"], FIRST_ITEM, &[]).ok()?;
+    let first = copied(alloc, &mut cabinet)?;
+    told(rt, alloc, &mut cabinet, &["run", "d"], SECOND_ITEM, &[]).ok()?;
+    let second = copied(alloc, &mut cabinet)?;
+    let (_, shown) = told(rt, alloc, &mut cabinet, &["show", "d"], b"", &[]).ok()?;
+    Some((first, second, shown))
+}
+
+// Whether the page was written back behind each run, and what the first left of it was copied behind the second.
+fn is_copied<R: Threads + Wait + Sync>(rt: &R, alloc: Global) -> bool {
+    let Some((first, second, shown)) = copied_behind(rt, alloc) else {
+        return false;
+    };
+    let zero = [0; 1024];
+    let is_written = first.0.as_slice() != zero.as_slice() && second.0 != first.0;
+    let was_not = first.1.as_slice() == zero.as_slice() && !first.2;
+    is_written && was_not && second.1 == first.0 && second.2 && shown.as_slice() == ONE_CAPTURE
+}
+
+#[test]
+fn what_a_run_captured_is_in_the_archive_behind_it(rt: HostRuntime) -> Result<(), Fail> {
+    assert!(rt; is_copied(&rt, rt.alloc()));
     Ok(())
 }

@@ -1,4 +1,4 @@
-//! Runs a plan over the four devices of a store, at which each session has a seat of its own.
+//! Runs a plan over the four devices of a store, at which each session and each worker has a seat of its own.
 
 ghost use Rattle.std.specs.Prelude.{◌≡◌, ◌<◌, ◌≤◌, ℕ, List, [], Some, Ok, IfOk, length, slice_get, vec_capacity};
 ghost use Rattle.std.proofs.Common.{◌∙◌, sym};
@@ -11,20 +11,20 @@ ghost use Rattle.store.specs.Closing.{AreReady};
 ghost use Rattle.store.specs.Seats.{Sat};
 ghost use Rattle.turn.specs.Seats.{opening};
 ghost use Rattle.turn.specs.Tables.{table_of};
-ghost use Rattle.retro.specs.Phases.{HaveSeats};
 ghost use Rattle.retro.specs.Storing.{AreFresh, AreHeld, AreIn, ComeFrom, IsAmong, RunsOn};
 
 use crate::phases::run_phases;
-use crate::seats::Meets;
+use crate::seats::{Meets, Works};
 use crate::slots::Slot;
+use crate::working::SEATS;
 use disk_model::{Disk, Four};
 use history::{Journal, Version};
-use retro_base::{Refusal, SESSIONS};
+use retro_base::Refusal;
 use session::{Kept, Plan, RunItems, print};
 use std::alloc::{AllocError, Global};
 use std::sync::Wait;
 use std::thread::Threads;
-use store::{Closed, Held, Seat, Store, laws_of_crashes};
+use store::{Closed, Done, Held, Seat, Store, Worker, laws_of_crashes};
 use values::Seq;
 
 /// What a run over a store leaves beside its devices: the journal, and its transcript unless memory was wanting for it.
@@ -45,6 +45,12 @@ impl<'a, R: Wait, D: Disk + Drop> Meets for Held<'a, R, D> {
 
     fn meet(&mut self, other: &mut Self) {
         Held::meet(self, other);
+    }
+}
+
+impl<'a, R: Wait, D: Disk + Drop> Works for Held<'a, R, D> {
+    fn work(&mut self, worker: Worker, phase: u16, done: &Done) {
+        Held::work(self, worker, phase, done);
     }
 }
 
@@ -107,7 +113,7 @@ fn run_seated<R: Threads + Wait + Sync, D: Disk + Drop + Send, I: RunItems + Syn
     requires ready { AreReady (table_of store.now.turn) seats.items }
     requires fresh { AreFresh store.now.pages seats.items }
     requires fits { PlanFits plan.now }
-    requires enough { HaveSeats plan.now (length seats.items) }
+    requires enough { length seats.items ≡ SEATS }
     ensures count { length result.0.items ≡ length seats.items }
     ensures ready { AreReady (table_of store.now.turn) result.0.items }
     ensures ran { (opened : Ground)
@@ -142,7 +148,7 @@ fn text_of(
 }
 
 /// Runs a plan over the store on four devices, which are opened as `Store::fetch` opens them, and refused so. They come
-/// back: each session has had a seat of its own, and the store is closed behind the run.
+/// back: each session and each worker has had a seat of its own, and the store is closed behind the run.
 pub fn run_on<R: Threads + Wait + Sync, D: Disk + Drop + Send, I: RunItems + Sync>(
     alloc: Global,
     rt: &R,
@@ -157,7 +163,7 @@ pub fn run_on<R: Threads + Wait + Sync, D: Disk + Drop + Send, I: RunItems + Syn
 {
     // A law for the proof: what readers see of the pages that a store opens with, and that it leaves.
     laws_of_crashes::<D>();
-    match Store::fetch(alloc, Version::One, disks, SESSIONS as u32) {
+    match Store::fetch(alloc, Version::One, disks, SEATS as u32) {
         Err((disks, why)) => (disks, Err(why)),
         Ok((store, seats)) => {
             let newest = store.newest();

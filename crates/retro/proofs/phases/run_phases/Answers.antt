@@ -21,6 +21,7 @@ run_phase-requires-clause-together g c κs within =
 pub loop-index-init : goal.loop-index-init
 loop-index-init g c = record {
   come = come_none g.row.S.Denot g.S.Seat.view g.S.Seat.goes g.S.Seat.stays g.S.Seat.goes_on c.args.slots.now c.requires.seated;
+  may = c.requires.may;
   long = ap length c.new-kept.ensures;
   ran = λ honest opened front together.
       subst (λ (k : List (List (List Kept))). HasComeTo opened.base.page_count c.args.plan.now opened (length c.args.slots.now) 1 (kept_by_place k) (view_at g.S.Seat.view c.args.slots.now)) (sym c.new-kept.ensures)
@@ -73,6 +74,7 @@ loop-index-preserved g c =
     phase_at c.args.plan.now c.loop-index.index c.as_slice.result.now (subst (λ (p : Plan). slice_get p c.loop-index.index ≡ Some c.sessions-item.result) plan read ∙ ap (λ (s : List SessionPlan). Some s) (sym c.as_slice.ensures)) in
     record {
       come = come_on g.row.S.Denot g.S.Seat.view g.S.Seat.goes g.S.Seat.stays g.S.Seat.goes_on c.args.slots.now c.loop-index.slots c.run_phase.new.slots before.come c.run_phase.ensures.come;
+      may = c.run_phase.ensures.may;
       long = ap length c.in_ok-push.ensures.ok ∙ length-append c.loop-index.kept (c.in_ok-one.one ∷ []) ∙ ap (λ (n : ℕ). n + 1) before.long;
       ran = λ honest opened front together.
           let there = honest_on g.row.S.Denot g.S.Seat.view g.S.Seat.goes g.S.Seat.stays g.S.Seat.goes_on g.S.Seat.is_honest g.S.Seat.honest_stays c.args.slots.now c.loop-index.slots c.requires.seated before.come honest in
@@ -92,3 +94,6 @@ returns g c =
       ran = λ honest opened front together.
           subst (λ (n : ℕ). HasComeTo opened.base.page_count c.args.plan.now opened (length c.args.slots.now) (n + 1) (kept_by_place c.loop-index.kept) (view_at g.S.Seat.view c.loop-index.slots)) all (before.ran honest opened front together);
     }
+
+pub run_phase-requires-clause-count : goal.run_phase-requires-clause-count
+run_phase-requires-clause-count g c κs within = c.loop-index.invariant.come.count ∙ c.requires.count

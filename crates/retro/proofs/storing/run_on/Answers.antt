@@ -1,14 +1,13 @@
-use Rattle.std.proofs.Common.{◌∙◌, refl, subst, sym}
+use Rattle.std.proofs.Common.{◌∙◌, refl}
 use Rattle.store.specs.Seats.{start_of}
-use Rattle.retro.specs.Phases.{HaveSeats}
-use Rattle.retro.proofs.Stored.{have_seats, leaves_so}
+use Rattle.retro.proofs.Stored.{leaves_so}
 use Rattle.retro.proofs.storing.run_on.Goals as goal
 
 pub run_seated-seats-requires-clause-fresh : goal.run_seated-seats-requires-clause-fresh
 run_seated-seats-requires-clause-fresh g c κs within = λ k s there. let is = c.in-Ok.ensures.new k s there in (c.in-Ok.ensures.sized k s there, is.0, is.1, is.2)
 
 pub run_seated-seats-requires-clause-enough : goal.run_seated-seats-requires-clause-enough
-run_seated-seats-requires-clause-enough g c κs within = subst (HaveSeats c.args.plan.now) (sym c.in-Ok.ensures.seats.1) (have_seats c.args.plan.now c.requires.fits.1)
+run_seated-seats-requires-clause-enough g c κs within = c.in-Ok.ensures.seats.1
 
 pub returns-in-Ok : goal.returns-in-Ok
 returns-in-Ok g c =

@@ -6,13 +6,14 @@ use Rattle.turn.specs.Tables.{table_of}
 use Rattle.store.specs.Frames.{GoesOn}
 use Rattle.store.specs.Seen.{IsHonest}
 use Rattle.store.specs.declared.held.Held.{Held}
-use Rattle.retro.specs.Phases.{HaveSeats, StandTogether}
+use Rattle.retro.specs.Phases.{StandTogether}
 use Rattle.retro.specs.Slots.{AllCome, AreHonest, AreSeated, AreTogether, view_at}
 use Rattle.retro.specs.Steps.{RunsPhases}
+use Rattle.retro.specs.Working.{MayWorkOn}
 use Rattle.retro.specs.declared.slots.Slot.{Slot}
 use Rattle.retro.specs.Storing.{AreIn, IsAmong, store_of, view_held}
 use Rattle.retro.proofs.Crossing.{held_send}
-use Rattle.retro.proofs.Stored.{all_begin, all_honest, all_in, all_seated, all_stood, all_together, back_again, held_long, none_stood}
+use Rattle.retro.proofs.Stored.{all_begin, all_fresh, all_honest, all_in, all_seated, all_stood, all_together, back_again, held_long, none_stood}
 use Rattle.retro.proofs.storing.run_seated.Goals as goal
 
 pub returns-in_default-clause-ran : goal.returns-in_default-clause-ran
@@ -24,10 +25,16 @@ returns-in_default-with_capacity-clause-ran g c = λ opened each. none_stood g.D
 pub run_phases-kept-requires-send-S : goal.run_phases-kept-requires-send-S
 run_phases-kept-requires-send-S g c κs within = let runs = c.type_bounds.sync-R in search (held_send (param 1 g.row.D) g.D.Disk c.type_bounds.send-D, sendable) depth 8
 
-pub run_phases-kept-requires-clause-room : goal.run_phases-kept-requires-clause-room
-run_phases-kept-requires-clause-room g c κs within =
+pub run_phases-kept-requires-clause-count : goal.run_phases-kept-requires-clause-count
+run_phases-kept-requires-clause-count g c κs within =
     let value : c.as_mut_slice.result.now ≡ c.sit_down-slots.result.items = c.as_mut_slice.ensures.value in
-    subst (λ (n : ℕ). HaveSeats c.args.plan.now n) (sym (ap length value ∙ held_long g.D.Disk.state g.D.Disk.faults (table_of c.args.store.now.turn) c.args.seats.items c.sit_down-slots.result.items c.sit_down-slots.ensures)) c.requires.enough
+    ap length value ∙ held_long g.D.Disk.state g.D.Disk.faults (table_of c.args.store.now.turn) c.args.seats.items c.sit_down-slots.result.items c.sit_down-slots.ensures ∙ c.requires.enough
+
+pub run_phases-kept-requires-clause-may : goal.run_phases-kept-requires-clause-may
+run_phases-kept-requires-clause-may g c κs within =
+    let value : c.as_mut_slice.result.now ≡ c.sit_down-slots.result.items = c.as_mut_slice.ensures.value in
+    subst (λ (xs : List (Slot (Held g.row.R.Denot g.row.D.Denot))). MayWorkOn (view_held g.D.Disk.state g.D.Disk.faults) xs) (sym value)
+    (all_fresh g.D.Disk.state g.D.Disk.faults (table_of c.args.store.now.turn) c.args.store.now.pages c.args.seats.items c.sit_down-slots.result.items c.sit_down-slots.ensures c.requires.fresh)
 
 pub run_phases-kept-requires-clause-seated : goal.run_phases-kept-requires-clause-seated
 run_phases-kept-requires-clause-seated g c κs within =
