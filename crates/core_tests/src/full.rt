@@ -5,10 +5,11 @@ use core_trial::devices::{A, B, C, COPIER, FLUSHER, empty};
 use core_trial::{Answer, Ask, Ran, Row, goes_so, run};
 use disk_mem::RamDisk;
 use disk_model::Disk;
-use history::Line;
+use history::{Line, Version};
 use retro_base::{Device, Refusal, Who};
 use std::alloc::Global;
 use std::test::Fail;
+use store_core::sizes;
 use txn_set::Ending;
 
 const ASKED: Ending = Ending::Asked;
@@ -166,7 +167,7 @@ const FIRST_OPENING: [Row; 1] = [(Ask::Marks(A, 32_767), Answer::Declared(Some(3
 
 const SECOND_OPENING: [Row; 1] = [(Ask::Marks(A, 32_767), Answer::Declared(Some(65_534)))];
 
-const THIRD_OPENING: [Row; 11] = [
+const THIRD_OPENING: [Row; 12] = [
     (Ask::Horizon, Answer::Pair(1, 65_534)),
     (Ask::Marks(A, 2), Answer::Declared(Some(65_536))),
     (
@@ -184,30 +185,39 @@ const THIRD_OPENING: [Row; 11] = [
     (Ask::DropBelow(B, 2), Answer::Done),
     (Ask::Mark(A, b"more"), Answer::Declared(Some(65_537))),
     (Ask::Horizon, Answer::Pair(2, 65_537)),
+    (Ask::CutLog(FLUSHER), Answer::Is(true)),
 ];
 
-// Whether the first opening goes so, and what it leaves.
+// The base of the log that was cut has them all.
+const FOURTH_OPENING: [Row; 1] = [(Ask::Horizon, Answer::Pair(2, 65_537))];
+
+// Whether the first opening goes so, and the sizes are told of the log that it leaves; and what it leaves.
 fn first_opening(alloc: Global) -> Result<(bool, (RamDisk, RamDisk)), Refusal> {
     let ran = left(alloc, 16, &[&FIRST_OPENING])?;
-    Ok((ran.wrong.is_none(), (ran.log, ran.pages)))
+    let goes = ran.wrong.is_none();
+    let (mut log, pages) = (ran.log, ran.pages);
+    let told = sizes(alloc, Version::One, &mut log)?;
+    Ok((goes && told.pages == 16, (log, pages)))
 }
 
-// Whether the two behind it go so.
-fn later_openings<D: Disk + Drop>(alloc: Global, devices: (D, D)) -> Result<(bool, bool), Refusal> {
+// Whether the three behind it go so.
+fn later_openings<D: Disk + Drop>(alloc: Global, devices: (D, D)) -> Result<bool, Refusal> {
     let (second, left) = goes_so(alloc, devices, &SECOND_OPENING)?;
-    let (third, _left) = goes_so(alloc, left, &THIRD_OPENING)?;
-    Ok((second, third))
+    let (third, left) = goes_so(alloc, left, &THIRD_OPENING)?;
+    let (fourth, _left) = goes_so(alloc, left, &FOURTH_OPENING)?;
+    Ok(second && third && fourth)
 }
 
-// Whether 65,536 snapshots over three openings go so.
-fn snapshots_go_so(alloc: Global) -> Result<(bool, (bool, bool)), Refusal> {
+// Whether 65,536 snapshots over three openings go so, and an opening of the log that was cut behind them.
+fn snapshots_go_so(alloc: Global) -> Result<bool, Refusal> {
     let (first, left) = first_opening(alloc)?;
-    Ok((first, later_openings(alloc, left)?))
+    let later = later_openings(alloc, left)?;
+    Ok(first && later)
 }
 
 #[test]
 fn three_openings_declare_65536_snapshots(rt: HostRuntime) -> Result<(), Fail> {
-    assert!(rt; snapshots_go_so(rt.alloc()) == Ok((true, (true, true))));
+    assert!(rt; snapshots_go_so(rt.alloc()) == Ok(true));
     Ok(())
 }
 
