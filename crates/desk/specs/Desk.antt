@@ -29,8 +29,8 @@ other_log desk (NewBase version) = Some (log_from version desk.history desk.hist
 abbrev pub pending_of : Desk → List PageImage
 pending_of desk = drop desk.acked (captures desk.history)
 
--- While the capture that is named is the first that pends, each dirty page below the place waits for one of its
--- captures. The number that is named is never past the count that is acknowledged.
+-- While just that many captures are acknowledged, each dirty page below the place waits for one of its captures. The
+-- number is never past the count that is acknowledged.
 pub record HasPassed (passed : Passed) (desk : Desk) : Type 0 where
   pub known : passed.first ≤ desk.acked
   pub waits : passed.first ≡ desk.acked → (page : ℕ) → page < passed.page → desk.dirty page ≡ true

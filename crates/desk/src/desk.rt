@@ -15,7 +15,7 @@ use page_pool::PagePool;
 use redo_log::LogSide;
 use retro_base::Refusal;
 
-/// While the capture with the number `first` is the first that pends, no dirty page below `page` may be written back.
+/// While just `first` captures are acknowledged, no dirty page below `page` may be written back.
 #[derive(Clone, Copy)]
 pub struct Passed {
     pub(crate) page: u32,

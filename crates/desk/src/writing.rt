@@ -99,9 +99,9 @@ impl<D: Disk + Drop> RunningDesk<D> {
     }
 
     /// Writes back the least dirty page all of whose captures are acknowledged; false exactly where there is none.
-    /// A dirty page that waits for a capture costs a look-up to pass. The pages below the last one written are not
-    /// passed again before captures are acknowledged, or a commit makes one of them one that may be written: so that
-    /// cost is bounded over many calls and not in each. A call that answers false remembers nothing.
+    /// A dirty page that waits for a capture costs a look-up to pass. Between two acknowledgements the calls that answer
+    /// true pass each such page once, and once more for each commit that makes a lower page one that may be written. A
+    /// call that answers false passes all that wait behind the last one written, each time.
     /// It is refused, in this order, after the first fault, which is told, and exactly where a call of the pages'
     /// device failed: then the page may have any bytes there, and the desk has stopped.
     pub fn write_back(&mut self) -> Result<bool, Refusal>
