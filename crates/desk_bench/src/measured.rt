@@ -15,6 +15,9 @@ const ROUNDS: u32 = 100;
 // How often each transaction is made, and how many batches are copied.
 const FEWER: u32 = 16;
 
+// How many pages are written back behind others that wait.
+const BEHIND: u32 = 32;
+
 /// What was done, and what is left.
 #[derive(Clone, Copy)]
 pub struct Counts {
@@ -166,17 +169,37 @@ fn copy_some<D: Disk + Drop>(trial: &mut Trial<D>, batch: &mut Batch) -> Result<
     Ok(FEWER)
 }
 
-// Copies all that is pending; how many batches that takes.
-fn copy<D: Disk + Drop>(alloc: Global, trial: &mut Trial<D>) -> Result<u32, Refusal> {
-    let mut batch = Batch::new(alloc)?;
-    let some = copy_some(trial, &mut batch)?;
-    for count in some..u32::MAX {
-        if !trial.next_batch(&mut batch) {
+// Writes pages back behind others that wait for their captures: all of them in one function, since one like `write_back`
+// would be folded with it.
+#[inline(never)]
+fn write_behind<D: Disk + Drop>(trial: &mut Trial<D>) -> Result<u32, Refusal> {
+    for count in 0..BEHIND {
+        if !trial.write_back(FLUSHER)? {
+            return Ok(count);
+        }
+    }
+    Ok(BEHIND)
+}
+
+// Copies what is still pending; how many batches that takes.
+fn copy_rest<D: Disk + Drop>(trial: &mut Trial<D>, batch: &mut Batch) -> Result<u32, Refusal> {
+    for count in 0..u32::MAX {
+        if !trial.next_batch(batch) {
             return Ok(count);
         }
         trial.ack(batch.first().saturating_add(batch.len() as u64))?;
     }
     Ok(u32::MAX)
+}
+
+// Copies all that is pending, and writes some pages back while the first 64 still wait; how many batches and pages
+// these are.
+fn copy<D: Disk + Drop>(alloc: Global, trial: &mut Trial<D>) -> Result<(u32, u32), Refusal> {
+    let mut batch = Batch::new(alloc)?;
+    let some = copy_some(trial, &mut batch)?;
+    let written = write_behind(trial)?;
+    let rest = copy_rest(trial, &mut batch)?;
+    Ok((some.saturating_add(rest), written))
 }
 
 fn write_some<D: Disk + Drop>(trial: &mut Trial<D>) -> Result<u32, Refusal> {
@@ -200,8 +223,8 @@ pub fn measure<D: Disk + Drop>(
     let waited = waits(trial)?;
     change_often(alloc, trial)?;
     capture_often(alloc, trial)?;
-    let batches = copy(alloc, trial)?;
-    let written = write_some(trial)?;
+    let (batches, behind) = copy(alloc, trial)?;
+    let written = behind.saturating_add(write_some(trial)?);
     let (pending, dirty) = trial.owed();
     Ok(Counts {
         waited,

@@ -98,6 +98,24 @@ fn captures<R: Wait, D: Disk + Drop>(rt: &R, store: &Store<D>, seat: &mut Seat<D
 // What a copier answers, if it runs, and then a flusher.
 type Answers = (Option<Result<(), Refusal>>, Result<(), Refusal>);
 
+// What a copier answers that is done from the start, if it runs.
+fn copies<R: Wait, D: Disk + Drop>(
+    rt: &R,
+    store: &Store<D>,
+    copying: &mut Seat<D>,
+    batch: &mut Batch,
+    done: &Done,
+    is_copied: bool,
+) -> Option<Result<(), Refusal>>
+    requires copying { IsReady (table_of store.now.turn) copying.old × IsWhole copying.old × MayWork copying.old }
+    ensures copying { IsReady (table_of store.now.turn) copying.new × IsWhole copying.new }
+{
+    if !is_copied {
+        return None;
+    }
+    Some(copier(store, rt, copying, PHASE, batch, done))
+}
+
 // What they answer behind a capture, where they are done from the start.
 fn works<R: Wait, D: Disk + Drop>(
     rt: &R,
@@ -124,11 +142,7 @@ fn works<R: Wait, D: Disk + Drop>(
     };
     let done = Done::new();
     done.set();
-    let copied = if is_copied {
-        Some(copier(store, rt, copying, PHASE, &mut batch, &done))
-    } else {
-        None
-    };
+    let copied = copies(rt, store, copying, &mut batch, &done, is_copied);
     let flushed = flusher(store, rt, flushing, PHASE, &done);
     Some((copied, flushed))
 }
