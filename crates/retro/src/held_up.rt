@@ -11,11 +11,15 @@ use std::alloc::Global;
 use std::sync::Wait;
 use std::sync::atomic::{AtomicBool, Ordering};
 use std::test::Fail;
-use std::thread;
-use std::thread::Threads;
+use std::thread::{Parker, Threads};
+use std::time::Duration;
 
-// The most turns of a wait. The tests fail where one ran out.
-const TURNS: u32 = 100_000_000;
+// The most turns of a wait, of a millisecond each. The tests fail where one ran out.
+const TURNS: u32 = 100_000;
+
+fn turn<R: Wait>(rt: &R) {
+    Parker::new().park_timeout(rt, Duration::from_millis(1));
+}
 
 // Places that a session has come to, and whether a wait for one ran out.
 #[derive(Drop)]
@@ -35,18 +39,20 @@ impl Places {
     }
 
     // Waits until a session has come to the place.
-    fn wait(&self, place: &AtomicBool) {
+    fn wait<R: Wait>(&self, rt: &R, place: &AtomicBool) {
         for _ in 0..TURNS {
             if place.load(Ordering::SeqCst) {
                 return;
             }
-            thread::yield_now();
+            turn(rt);
         }
         self.ran_out.store(true, Ordering::SeqCst);
     }
 
     fn all_came(&self) -> bool {
-        !self.ran_out.load(Ordering::SeqCst)
+        self.first.load(Ordering::SeqCst)
+            && self.second.load(Ordering::SeqCst)
+            && !self.ran_out.load(Ordering::SeqCst)
     }
 }
 
@@ -57,18 +63,19 @@ fn come(place: &AtomicBool) {
 // A look of the first session is held open until the second one is at the end of its third item, which begins its first
 // behind the look.
 #[derive(Drop)]
-struct LookHeld {
+struct LookHeld<'a, R: Wait> {
+    rt: &'a R,
     places: Places,
 }
 
-impl Gate for LookHeld {
+impl<'a, R: Wait> Gate for LookHeld<'a, R> {
     fn at(&self, point: Point, session: u16, item: u32) {
         match (point, session, item) {
-            (Point::BeforeCommit, 1, 1) => self.places.wait(&self.places.first),
+            (Point::BeforeCommit, 1, 1) => self.places.wait(self.rt, &self.places.first),
             (Point::BeforeCommit, 1, 3) => come(&self.places.second),
             (Point::AfterLook, 0, 1) => {
                 come(&self.places.first);
-                self.places.wait(&self.places.second);
+                self.places.wait(self.rt, &self.places.second);
             }
             _ => {}
         }
@@ -77,9 +84,9 @@ impl Gate for LookHeld {
 
 // A script of two sessions in its second phase, and its transcript in front of the end of the look and the last commit,
 // which come in either order, and behind them.
-type Held = (&'static [u8], &'static [u8], &'static [u8]);
+type Row = (&'static [u8], &'static [u8], &'static [u8]);
 
-const HELD: [Held; 2] = [
+const ROWS: [Row; 2] = [
     // The second session commits while the look is open, which pins what a drop asks for.
     (
         b"SESSION m\nCREATE TABLE t(a INT)\nINSERT INTO t VALUES (1)\nCOMMIT WITH SNAPSHOT\nPHASE\nSESSION a\n\
@@ -104,8 +111,8 @@ const HELD: [Held; 2] = [
     ),
 ];
 
-fn is_told(outcome: &Outcome, held: Held) -> bool {
-    let (_, front, end) = held;
+fn is_told(outcome: &Outcome, row: Row) -> bool {
+    let (_, front, end) = row;
     let Some(rest) = outcome.text.as_slice().strip_prefix(front) else {
         return false;
     };
@@ -118,46 +125,48 @@ fn is_told(outcome: &Outcome, held: Held) -> bool {
 }
 
 // Whether a run is told so while the look is held.
-fn is_held<R: AllocGlobal + Threads + Wait + Sync>(rt: &R, held: Held) -> Result<bool, Fail> {
+fn is_held<R: AllocGlobal + Threads + Wait + Sync>(rt: &R, row: Row) -> Result<bool, Fail> {
     let gate = LookHeld {
+        rt,
         places: Places::new(),
     };
-    let outcome = run_gated(rt, held.0, &gate)?;
-    Ok(is_told(&outcome, held) && gate.places.all_came())
+    let outcome = run_gated(rt, row.0, &gate)?;
+    Ok(is_told(&outcome, row) && gate.places.all_came())
 }
 
 #[test]
 fn a_look_stays_open_while_another_session_commits(rt: HostRuntime) -> Result<(), Fail> {
-    for held in HELD {
-        assert!(rt; is_held(&rt, held)?);
+    for row in ROWS {
+        assert!(rt; is_held(&rt, row)?);
     }
     Ok(())
 }
 
 // The second session's first commit is held until that of the first is done, and then for some turns more; the first
-// session is held behind it until the second is at its second commit. So both are inside their items while a worker does
-// what the first commit left to do.
+// session is held behind it until the second is at its second commit. So both are inside their items while what the
+// first one captured is copied.
 #[derive(Drop)]
-struct BothHeld {
+struct CopyHeld<'a, R: Wait> {
+    rt: &'a R,
     places: Places,
 }
 
-// Turns in which a worker begins.
-const MORE_TURNS: u32 = 10_000_000;
+// Turns in which the copier makes a round.
+const MORE_TURNS: u32 = 2_000;
 
-impl Gate for BothHeld {
+impl<'a, R: Wait> Gate for CopyHeld<'a, R> {
     fn at(&self, point: Point, session: u16, item: u32) {
         match (point, session, item) {
             (Point::BeforeCommit, 1, 1) => {
-                self.places.wait(&self.places.first);
+                self.places.wait(self.rt, &self.places.first);
                 for _ in 0..MORE_TURNS {
-                    thread::yield_now();
+                    turn(self.rt);
                 }
             }
             (Point::BeforeCommit, 1, 2) => come(&self.places.second),
             (Point::AfterCommit, 0, 1) => {
                 come(&self.places.first);
-                self.places.wait(&self.places.second);
+                self.places.wait(self.rt, &self.places.second);
             }
             _ => {}
         }
@@ -174,27 +183,16 @@ const COPY_FAILS: &[u8] =
     b"phase 1\nsession a\nitem 1\nok 1\ncommitted\nsession b\nitem 1\nrefused 16 Stopped maplog 1\n\
       item 2\ncommitted\njournal\n1 a 1 done\n1 copier 0 fault maplog 1\n1 b 1 refused 16\n1 b 2 done\n";
 
-const WRITE_FAILS: &[u8] =
-    b"phase 1\nsession a\nitem 1\nok 1\ncommitted\nsession b\nitem 1\nrefused 16 Stopped pages 1\n\
-      item 2\ncommitted\njournal\n1 a 1 done\n1 flusher 0 fault pages 1\n1 b 1 refused 16\n1 b 2 done\n";
-
-// The devices of a store, the first write on whose Maplog fails, or on whose pages.
-fn with_failing(alloc: Global, disks: Four<MemDisk>, is_maplog: bool) -> Option<Four<MemDisk>> {
+// The devices of a store, the first write on whose Maplog fails.
+fn with_failing_maplog(alloc: Global, disks: Four<MemDisk>) -> Option<Four<MemDisk>> {
     let Four {
         log,
         pages,
         pagelog,
         maplog,
     } = disks;
-    let none = Vec::new(alloc);
-    let first = vec![in alloc; (Call::Write, 1)].ok()?;
-    let (of_maplog, of_pages) = if is_maplog {
-        (first, none)
-    } else {
-        (none, first)
-    };
-    let maplog = maplog.again(alloc, of_maplog, None).ok()?;
-    let pages = pages.again(alloc, of_pages, None).ok()?;
+    let failing = vec![in alloc; (Call::Write, 1)].ok()?;
+    let maplog = maplog.again(alloc, failing, None).ok()?;
     Some(Four {
         log,
         pages,
@@ -203,11 +201,10 @@ fn with_failing(alloc: Global, disks: Four<MemDisk>, is_maplog: bool) -> Option<
     })
 }
 
-// What the run of the two inserts answers over a store of the two tables, of which that device fails.
-fn run_beside<R: AllocGlobal + Threads + Wait + Sync>(
+// What the run of the two inserts answers over a store of the two tables.
+fn insert_both<R: AllocGlobal + Threads + Wait + Sync>(
     rt: &R,
-    gate: &BothHeld,
-    is_maplog: bool,
+    gate: &CopyHeld<'_, R>,
 ) -> Option<(u8, Vec<u8>)> {
     let alloc = rt.alloc();
     let mut cabinet = MemCabinet::new(alloc, Vec::new(alloc));
@@ -215,7 +212,7 @@ fn run_beside<R: AllocGlobal + Threads + Wait + Sync>(
     told(rt, alloc, &mut cabinet, formats, b"", &[]).ok()?;
     told(rt, alloc, &mut cabinet, &["run", "d"], TWO_TABLES, &[]).ok()?;
     let disks = cabinet.fetch("d").ok()?;
-    cabinet.put_back("d", with_failing(alloc, disks, is_maplog)?);
+    cabinet.put_back("d", with_failing_maplog(alloc, disks)?);
     told_at(
         rt,
         alloc,
@@ -229,29 +226,22 @@ fn run_beside<R: AllocGlobal + Threads + Wait + Sync>(
     .ok()
 }
 
-// Whether it ends with status 6 and this text, while both sessions were inside.
-fn ends_beside<R: AllocGlobal + Threads + Wait + Sync>(
-    rt: &R,
-    is_maplog: bool,
-    text: &[u8],
-) -> bool {
-    let gate = BothHeld {
+// Whether the copy failed while both sessions were inside.
+fn is_copied_beside<R: AllocGlobal + Threads + Wait + Sync>(rt: &R) -> bool {
+    let gate = CopyHeld {
+        rt,
         places: Places::new(),
     };
-    match run_beside(rt, &gate, is_maplog) {
-        Some((status, told)) => status == 6 && told.as_slice() == text && gate.places.all_came(),
+    match insert_both(rt, &gate) {
+        Some((status, text)) => {
+            status == 6 && text.as_slice() == COPY_FAILS && gate.places.all_came()
+        }
         None => false,
     }
 }
 
 #[test]
 fn what_a_commit_captured_is_copied_beside_it(rt: HostRuntime) -> Result<(), Fail> {
-    assert!(rt; ends_beside(&rt, true, COPY_FAILS));
-    Ok(())
-}
-
-#[test]
-fn what_a_commit_wrote_is_written_back_beside_it(rt: HostRuntime) -> Result<(), Fail> {
-    assert!(rt; ends_beside(&rt, false, WRITE_FAILS));
+    assert!(rt; is_copied_beside(&rt));
     Ok(())
 }

@@ -50,8 +50,8 @@ fn refuse<K: Sink>(sink: &mut K, mistake: Mistake) -> u8
 ///   a seat of its own. The transcript is written whole also where its journal tells a fault of a device; the status is
 ///   then 6 in place of 0.
 ///
-/// The sessions of a phase run at once, in at most so many threads: with one they run in turn. The copier and the flusher
-/// run beside them, in threads of their own. The gate is called at each point of an item.
+/// The sessions of a phase run at once, in at most so many threads: with one they run in turn. The copier and the
+/// flusher run beside them, in threads of their own. The gate is called at each point of an item.
 ///
 /// The last three end with 6 where a call of the cabinet or of a device failed; `show` and `run` with 7 where the bytes
 /// are no store's; with 5 where the sink failed; with 8 where memory ran out; else with 0. The devices are back in the
