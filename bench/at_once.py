@@ -2,7 +2,8 @@
 """at_once.py PROGRAM [SESSIONS]: wall time of work done by so many sessions at once, beside one session that does all of it.
 
 Readers ask a sum as of one snapshot; writers each change a table of their own and commit. Both over the files of a
-folder, the opening taken off. Ratios are of one run. It works in a folder of its own under the current one.
+folder, the opening taken off. Last, how many commits with a snapshot one writer makes a second, alone and beside as
+many readers, who end behind it. Ratios are of one run. It works in a folder of its own under the current one.
 """
 import os
 import subprocess
@@ -10,7 +11,7 @@ import sys
 import tempfile
 import time
 
-ROWS, ASKS, WRITES = 10_000, 10, 30
+ROWS, ASKS, WRITES, COMMITS, LONGER = 10_000, 10, 30, 100, 60
 
 
 def run(program, lines):
@@ -28,6 +29,17 @@ def both(program, sessions, part):
     return run(program, at_once) - opening, run(program, alone) - opening
 
 
+def writer_beside(program, readers):
+    """How many commits a second one writer makes beside readers of the past, until its last write of the log."""
+    writer = ["SESSION w", *["UPDATE t0 SET b = b + 1 WHERE a < 100", "COMMIT WITH SNAPSHOT"] * COMMITS]
+    others = [line for k in range(readers) for line in [f"SESSION r{k}", *["SELECT AS OF 1 SUM(b) FROM t"] * LONGER]]
+    start = time.time()
+    run(program, ["PHASE", *writer, *others])
+    written = os.stat(os.path.join("books", "log")).st_mtime
+    assert not readers or written < time.time() - 0.05, "the readers ended first"
+    return COMMITS / (written - start)
+
+
 def main():
     program, sessions = os.path.abspath(sys.argv[1]), int(sys.argv[2]) if len(sys.argv) > 2 else 8
     with tempfile.TemporaryDirectory(dir=".") as folder:
@@ -39,9 +51,11 @@ def main():
             run(program, ["PHASE", "SESSION a", f"CREATE TABLE {name}(a INT, b INT)", *(f"INSERT INTO {name} VALUES {r}" for r in made), "COMMIT WITH SNAPSHOT"])
         reads = both(program, sessions, lambda k: ["SELECT AS OF 1 SUM(b) FROM t"] * ASKS)
         writes = both(program, sessions, lambda k: [f"UPDATE t{k} SET b = b + 1 WHERE a < 100", "COMMIT"] * WRITES)
+        rate, slowed = (writer_beside(program, readers) for readers in (0, sessions))
         os.chdir("..")
     for name, (at_once, alone) in {"readers of the past": reads, "writers": writes}.items():
         print(f"{sessions} {name}: {at_once:.3f} s at once, {alone:.3f} s one after the other, {alone / at_once:.2f} times")
+    print(f"1 writer: {rate:.0f} commits a second alone, {slowed:.0f} beside {sessions} readers, {slowed / rate:.2f} of it")
 
 
 main()
