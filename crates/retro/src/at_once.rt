@@ -97,14 +97,14 @@ fn raising_script(alloc: Global) -> Result<Vec<u8>, AllocError> {
 // What a transcript tells of the two: how many transactions were committed without a snapshot, how many were refused
 // for the other session's sake, and the value of the last row.
 #[derive(Drop)]
-struct Told<'a> {
+struct Tally<'a> {
     committed: u64,
     refused: u64,
     value: &'a [u8],
 }
 
-fn told(text: &[u8]) -> Told<'_> {
-    let mut told = Told {
+fn tally_of(text: &[u8]) -> Tally<'_> {
+    let mut tally = Tally {
         committed: 0,
         refused: 0,
         value: b"",
@@ -113,7 +113,7 @@ fn told(text: &[u8]) -> Told<'_> {
     let mut refusal: &[u8] = b"";
     for line in text.split(|byte| *byte == b'\n') {
         if is_row {
-            told.value = line;
+            tally.value = line;
         }
         is_row = line == b"rows 1".as_slice();
         if line == b"session a".as_slice() {
@@ -121,22 +121,23 @@ fn told(text: &[u8]) -> Told<'_> {
         } else if line == b"session b".as_slice() {
             refusal = b"refused 8 Overlap a";
         } else if line == b"committed".as_slice() {
-            told.committed = told.committed.saturating_add(1);
+            tally.committed = tally.committed.saturating_add(1);
         } else if line == refusal {
-            told.refused = told.refused.saturating_add(1);
+            tally.refused = tally.refused.saturating_add(1);
         }
     }
-    told
+    tally
 }
 
 // Whether each of the hundred was committed or refused so, and the row was raised once for each that was committed.
 fn is_sum_told<R: AllocGlobal + Threads + Wait + Sync>(rt: &R) -> Result<bool, Fail> {
     let script = raising_script(rt.alloc())?;
     let outcome = run_at_once(rt, script.as_slice())?;
-    let told = told(outcome.text.as_slice());
-    let sum = format!(in rt.alloc(); "{}", told.committed)?;
-    let all = told.committed.saturating_add(told.refused);
-    Ok(outcome.status == 0 && 0 < told.committed && all == 100 && told.value == sum.as_bytes())
+    let tally = tally_of(outcome.text.as_slice());
+    let sum = format!(in rt.alloc(); "{}", tally.committed)?;
+    let all = tally.committed.saturating_add(tally.refused);
+    let is_all = 0 < tally.committed && all == 100;
+    Ok(outcome.status == 0 && is_all && tally.value == sum.as_bytes())
 }
 
 #[test]

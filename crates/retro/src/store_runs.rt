@@ -278,9 +278,9 @@ const ONE_MAPPING: &[u8] = b"\x02\0\0\0\0\0\0\0\0\0\0\0\x01\0\x02";
 const ONE_CAPTURE: &[u8] = b"version 1\npages 16\ncapacity 64\noldest 1\nnewest 1\ncaptures 1\n";
 
 // Page 2, slot 0, and whether the Maplog has the mapping.
-type Copied = (Vec<u8>, Vec<u8>, bool);
+type OnDevices = (Vec<u8>, Vec<u8>, bool);
 
-fn copied(alloc: Global, cabinet: &mut MemCabinet) -> Option<Copied> {
+fn copied(alloc: Global, cabinet: &mut MemCabinet) -> Option<OnDevices> {
     let disks = cabinet.fetch("d").ok()?;
     let page = disks.pages.bytes().get(2048..3072)?.to_vec(alloc).ok()?;
     let slot = disks.pagelog.bytes().get(0..1024)?.to_vec(alloc).ok()?;
@@ -295,7 +295,7 @@ fn copied(alloc: Global, cabinet: &mut MemCabinet) -> Option<Copied> {
 fn copied_behind<R: Threads + Wait + Sync>(
     rt: &R,
     alloc: Global,
-) -> Option<(Copied, Copied, Vec<u8>)> {
+) -> Option<(OnDevices, OnDevices, Vec<u8>)> {
     let mut cabinet = MemCabinet::new(alloc, Vec::new(alloc));
     let formats: &[&str] = &["format", "d", "16", "64"];
     told(rt, alloc, &mut cabinet, formats, b"", &[]).ok()?;
