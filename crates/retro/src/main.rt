@@ -11,8 +11,6 @@ mod calls;
 #[cfg(test)]
 mod drops;
 mod formatting;
-#[cfg(test)]
-mod held_up;
 mod keeping;
 mod laws;
 mod memory;

@@ -7,7 +7,7 @@ use feeds::{MemSink, MemSource};
 use fold_kit::{Combiner, FoldSet, How};
 use mem_cabinet::MemCabinet;
 use retro_base::SESSIONS;
-use session::{Gate, NoGate};
+use session::NoGate;
 use std::alloc::{AllocError, Global};
 use std::sync::Wait;
 use std::test::Fail;
@@ -19,14 +19,13 @@ pub struct Outcome {
     pub text: Vec<u8>,
 }
 
-fn run_in<R: AllocGlobal + Threads + Wait + Sync, G: Gate + Sync>(
-    rt: &R,
+fn run_in(
+    rt: &(impl AllocGlobal + Threads + Wait + Sync),
     threads: usize,
     words: &[&str],
     script: &[u8],
     failing_reads: &[u64],
     failing_writes: &[u64],
-    gate: &G,
 ) -> Result<Outcome, Fail>
     requires { 0 < threads }
 {
@@ -52,7 +51,7 @@ fn run_in<R: AllocGlobal + Threads + Wait + Sync, G: Gate + Sync>(
         &mut sink,
         &mut cabinet,
         &folds,
-        gate,
+        &NoGate,
     );
     let text = sink.bytes().to_vec(alloc)?;
     Ok(Outcome { status, text })
@@ -65,7 +64,7 @@ fn run_with(
     failing_reads: &[u64],
     failing_writes: &[u64],
 ) -> Result<Outcome, Fail> {
-    run_in(rt, 1, words, script, failing_reads, failing_writes, &NoGate)
+    run_in(rt, 1, words, script, failing_reads, failing_writes)
 }
 
 /// Runs a script whose sessions of a phase run in turn.
@@ -81,16 +80,7 @@ pub fn run_at_once(
     rt: &(impl AllocGlobal + Threads + Wait + Sync),
     script: &[u8],
 ) -> Result<Outcome, Fail> {
-    run_gated(rt, script, &NoGate)
-}
-
-/// That, with a gate.
-pub fn run_gated<R: AllocGlobal + Threads + Wait + Sync, G: Gate + Sync>(
-    rt: &R,
-    script: &[u8],
-    gate: &G,
-) -> Result<Outcome, Fail> {
-    run_in(rt, SESSIONS, &["run"], script, &[], &[], gate)
+    run_in(rt, SESSIONS, &["run"], script, &[], &[])
 }
 
 #[test]
