@@ -103,26 +103,26 @@ pub record IsListed {Shape : Type 0} (IsShape : Shape → Type 0)
       → lists size after root shape held
 
 -- an index is made on the page that was next to be taken, and refused exactly where none can be taken
-abbrev pub Makes : {Shape : Type 0} → (ℕ → Pages → ℕ → Shape → List ℕ → Type 0) → Shape → ℕ → Pages
+abbrev pub MakesIndex : {Shape : Type 0} → (ℕ → Pages → ℕ → Shape → List ℕ → Type 0) → Shape → ℕ → Pages
     → Result (ℕ × Pages) Refusal → Type 0
-Makes lists empty size pages (Ok answer) =
+MakesIndex lists empty size pages (Ok answer) =
     (before : Pages) × (taken size pages ≡ Ok (answer.0, before)) × EditsOnly (answer.0 ∷ []) before answer.1
     × lists size answer.1 answer.0 empty (answer.0 ∷ [])
-Makes lists empty size pages (Err why) = taken size pages ≡ Err why
+MakesIndex lists empty size pages (Err why) = taken size pages ≡ Err why
 
 -- an entry is added on the pages that are held and on so many that are taken, and refused exactly where so many cannot
 -- be taken
-abbrev pub Adds : (Pages → List ℕ → Type 0) → ℕ → ℕ → List ℕ → Pages → Result (Unit {0} × Pages) Refusal → Type 0
-Adds lists size opens held pages (Ok answer) =
+abbrev pub AddsFound : (Pages → List ℕ → Type 0) → ℕ → ℕ → List ℕ → Pages → Result (Unit {0} × Pages) Refusal → Type 0
+AddsFound lists size opens held pages (Ok answer) =
     (opened : List ℕ) × (before : Pages) × (all_taken size opens pages ≡ Ok (opened, before))
     × EditsOnly (held ++ opened) before answer.1 × (behind : List ℕ) × IsPermutation (held ++ opened) behind
     × lists answer.1 behind
-Adds lists size opens held pages (Err why) = all_taken size opens pages ≡ Err why
+AddsFound lists size opens held pages (Err why) = all_taken size opens pages ≡ Err why
 
 -- an entry is taken out on the pages that are held; that is never refused
-abbrev pub Removes : (Pages → Type 0) → List ℕ → Pages → Result (Unit {0} × Pages) Refusal → Type 0
-Removes lists held pages (Ok answer) = EditsOnly held pages answer.1 × lists answer.1
-Removes lists held pages (Err why) = ⊥
+abbrev pub RemovesFound : (Pages → Type 0) → List ℕ → Pages → Result (Unit {0} × Pages) Refusal → Type 0
+RemovesFound lists held pages (Ok answer) = EditsOnly held pages answer.1 × lists answer.1
+RemovesFound lists held pages (Err why) = ⊥
 
 -- What the calls of an index do to pages that hold a shape.
 pub record IsIndexing {Shape : Type 0} (empty : Shape) (entries : Shape → List Found)
@@ -132,19 +132,19 @@ pub record IsIndexing {Shape : Type 0} (empty : Shape) (entries : Shape → List
     (added removed : ℕ → ℕ → Found → Pages → Result (Unit {0} × Pages) Refusal → Type 0)
     (ranged : ℕ → ℕ → Value → Value → Pages → Result (List Found) Refusal → Type 0) : Type 0 where
   pub make : (size : ℕ) (pages : Pages) (answer : Result (ℕ × Pages) Refusal)
-      → made size pages answer → Makes lists empty size pages answer
+      → made size pages answer → MakesIndex lists empty size pages answer
   pub add : (size root : ℕ) (entry : Found) (pages : Pages) (shape : Shape) (held : List ℕ)
       (answer : Result (Unit {0} × Pages) Refusal)
       → lists size pages root shape held → IsApart size pages held → IsFound entry
       → AreOfKind (kind_of entry.value) (entries shape)
       → added size root entry pages answer
-      → Adds (λ after behind. lists size after root (put entry shape) behind) size
+      → AddsFound (λ after behind. lists size after root (put entry shape) behind) size
       (opens entry.value entry.number shape) held pages answer
   pub remove : (size root : ℕ) (entry : Found) (pages : Pages) (shape : Shape) (held : List ℕ)
       (answer : Result (Unit {0} × Pages) Refusal)
       → lists size pages root shape held → AreOfKind (kind_of entry.value) (entries shape)
       → removed size root entry pages answer
-      → Removes (λ after. lists size after root (without entry shape) held) held pages answer
+      → RemovesFound (λ after. lists size after root (without entry shape) held) held pages answer
   pub range : (size root : ℕ) (low high : Value) (pages : Pages) (shape : Shape) (held : List ℕ)
       (answer : Result (List Found) Refusal)
       → lists size pages root shape held → AreOfKind (kind_of low) (entries shape) → kind_of high ≡ kind_of low

@@ -2,7 +2,7 @@
 
 ghost use Rattle.std.specs.Prelude.{◌≡◌, ◌<◌, [], OnErr, OnOk};
 ghost use Rattle.pager.specs.Draft.{drafted, Reads, Writes};
-ghost use Rattle.pager.specs.Pages.{Pages, written};
+ghost use Rattle.pager.specs.Pages.{Pages, with_bytes};
 ghost use Rattle.pager.specs.Root.{page_in};
 ghost use Rattle.pager.specs.Stop.{IsCaused, OnlyReads};
 
@@ -72,7 +72,7 @@ impl Draft {
     pub fn put(&mut self, page: u32, bytes: &Page) -> Result<(), AllocError>
         requires { page < self.old.size }
         ensures drafted { OnOk result
-            ((pages : Pages) → drafted pages self.new.list ≡ written (drafted pages self.old.list) page bytes.now) }
+            ((pages : Pages) → drafted pages self.new.list ≡ with_bytes (drafted pages self.old.list) page bytes.now) }
         ensures err { OnErr result (self.new.list ≡ self.old.list) }
         ensures size { self.new.size ≡ self.old.size }
     {

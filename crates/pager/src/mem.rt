@@ -2,7 +2,7 @@
 
 ghost use Rattle.std.specs.Prelude.{◌≡◌, ◌≤◌, ◌<◌, ◌^◌, ◌++◌, ◌∷◌, ◌↔◌, [], IsErr, IsTrue, OnErr, OnOk, Contains, cond, length, slice_index_or, slice_set};
 ghost use Rattle.retro_base.specs.Cause.{HasCause, raised};
-ghost use Rattle.pager.specs.Pages.{written};
+ghost use Rattle.pager.specs.Pages.{with_bytes};
 ghost use Rattle.pager.specs.MemPages.{shown};
 
 use crate::traits::{EditPager, Pager};
@@ -139,7 +139,7 @@ impl EditPager for MemPager {
             }) }
         ensures err { OnErr result
             (self.new ≡ record self.old { calls = raised self.old.calls; faults = raised self.old.faults }) }
-        ensures shown { OnOk result (shown self.new ≡ written (shown self.old) page bytes.now) }
+        ensures shown { OnOk result (shown self.new ≡ with_bytes (shown self.old) page bytes.now) }
         ensures steady { OnErr result (shown self.new ≡ shown self.old) }
         ensures cause { HasCause self.old.faults self.new.faults result }
     {

@@ -2,7 +2,7 @@
 
 ghost use Rattle.std.specs.Prelude.{◌≡◌, ◌<◌, ◌⊎◌, ℕ, OnErr, OnOk};
 ghost use Rattle.retro_base.specs.Cause.{HasCause};
-ghost use Rattle.pager.specs.Pages.{Pages, Leads, Narrows, asked, written};
+ghost use Rattle.pager.specs.Pages.{Pages, Leads, Narrows, with_mark, with_bytes};
 
 use retro_base::Page;
 
@@ -52,9 +52,9 @@ pub trait EditPager: Pager {
     fn edit(&mut self, page: u32, bytes: &Page) -> Result<(), Self::Fault>
         requires { page < Self.size self.old }
         ensures ok { OnOk result
-            (Leads (Self.tells self.old) (Self.tells self.new) (λ was now. now ≡ written was page bytes.now)) }
+            (Leads (Self.tells self.old) (Self.tells self.new) (λ was now. now ≡ with_bytes was page bytes.now)) }
         ensures err { OnErr result
-            (Leads (Self.tells self.old) (Self.tells self.new) (λ was now. (now ≡ was) ⊎ (now ≡ asked was page))) }
+            (Leads (Self.tells self.old) (Self.tells self.new) (λ was now. (now ≡ was) ⊎ (now ≡ with_mark was page))) }
         ensures goes { Self.goes self.old self.new }
         ensures size { Self.size self.new ≡ Self.size self.old }
         ensures cause { HasCause (Self.faults self.old) (Self.faults self.new) result };

@@ -1,5 +1,5 @@
 use Rattle.std.proofs.Common.{◌≡◌, ◌∙◌, true, refl, sym, ap, arith}
-use Rattle.pager.specs.Pages.{Pages, written}
+use Rattle.pager.specs.Pages.{Pages, with_bytes}
 use Rattle.pager.specs.Root.{is_root, in_front}
 use Rattle.pager.proofs.Overlays.{is_root-free}
 use Rattle.pager.proofs.free_list.free.Goals as goal
@@ -14,5 +14,5 @@ returns-clause-freed g c = λ base shown told.
     let yes : is_root c.args.draft.now.size (in_front c.args.page c.in_ok-root.root) ≡ true = rw (← c.size-size.ensures) (sym c.is_root.ensures ∙ c.if-not-is_root.false) in
     let pages =
     c.in_ok-put-2.ensures.drafted shown
-    ∙ ap (λ (p : Pages). written p 0 c.page.result) (c.in_ok-put.ensures.drafted shown) in
+    ∙ ap (λ (p : Pages). with_bytes p 0 c.page.result) (c.in_ok-put.ensures.drafted shown) in
     rw (root, yes, pages, c.page.ensures, c.free_page.ensures) refl

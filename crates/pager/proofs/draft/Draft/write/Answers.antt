@@ -1,6 +1,6 @@
 use Rattle.std.proofs.Common.{ℕ, List, ◌-◌, ◌∙◌, ap, length, refl, sym, subst, slice_get, drop, inl, inr, arith}
 use Rattle.pager.specs.Draft.{drafted}
-use Rattle.pager.specs.Pages.{Pages, IsPartOf, asked, written}
+use Rattle.pager.specs.Pages.{Pages, IsPartOf, with_mark, with_bytes}
 use Rattle.pager.proofs.Overlays.{drafted-from, drafted-none, inside-at, part-asked, part-made}
 use Rattle.pager.proofs.draft.Draft.write.Goals as goal
 
@@ -28,7 +28,7 @@ loop-place-preserved-in_default-edit g c =
             was.0,
             was.1,
             made.2
-                ∙ ap (λ (p : Pages). written p edit.0 edit.1) was.2
+                ∙ ap (λ (p : Pages). with_bytes p edit.0 edit.1) was.2
                 ∙ drafted-from was.0 list c.loop-place.place edit c.loop-place-test.true (c.in-Some.ensures.entry ∙ ap (λ d. slice_get d.list (c.loop-place.place - 1)) c.self.view_is),
           );
       goes = g.met.P.Pager.goes_on _ _ _ c.loop-place.invariant.goes c.in_default-edit.ensures.goes;
@@ -51,7 +51,7 @@ returns-in-Err-clause-writes g c = λ base shown told.
           (elim asked_for.2 [
             | inl same ↦ subst (IsPartOf was.0 (drafted was.0 edits)) (sym (same ∙ made)) (part-made was.0 edits place unique)
             | inr same ↦
-                subst (IsPartOf was.0 (drafted was.0 edits)) (sym (same ∙ ap (λ (p : Pages). asked p edit.0) made))
+                subst (IsPartOf was.0 (drafted was.0 edits)) (sym (same ∙ ap (λ (p : Pages). with_mark p edit.0) made))
                 (part-asked was.0 edits place (place - 1) edit unique c.in-Some.ensures.entry)
           ]),
     )
