@@ -12,7 +12,7 @@ use Rattle.std.proofs.lemmas.List.Elements.{All-from_recursion}
 use Rattle.values.proofs.Orders.{value_total}
 use Rattle.pager.specs.Index.{IsInOrder, found_cmp, with_found, without_found}
 use Rattle.pager.specs.declared.index.Found.{Found}
-use Rattle.index_page.specs.Entries.{inserted, is_behind, reaches, taken_out}
+use Rattle.index_page.specs.Entries.{entry_inserted, is_behind, reaches, taken_out}
 
 -- comparing entries is a total order
 pub found_total : IsTotalOrder found_cmp
@@ -42,7 +42,7 @@ above_from_greater a b e less above =
     found_total.antisymm b e ∙ ap ordering_reverse (found_total.trans e a b under less)
 
 -- entries below the place are left as they are
-pub inserted-skip : (entry : Found) (front rest : List Found) → reaches entry front ≡ false → inserted entry (front ++ rest) ≡ front ++ inserted entry rest
+pub inserted-skip : (entry : Found) (front rest : List Found) → reaches entry front ≡ false → entry_inserted entry (front ++ rest) ≡ front ++ entry_inserted entry rest
 inserted-skip entry [] rest h = refl
 inserted-skip entry (found ∷ front) rest h =
     let parts = or_parts (is_behind entry found) (reaches entry front) h in
@@ -55,11 +55,11 @@ taken_out-skip entry (found ∷ front) rest h =
     rw (below_from (found_cmp found entry) parts.0) (ap (λ (l : List Found). found ∷ l) (taken_out-skip entry front rest parts.1))
 
 -- entries behind the place are left as they are
-pub inserted-stop : (entry : Found) (front rest : List Found) → reaches entry front ≡ true → inserted entry (front ++ rest) ≡ inserted entry front ++ rest
+pub inserted-stop : (entry : Found) (front rest : List Found) → reaches entry front ≡ true → entry_inserted entry (front ++ rest) ≡ entry_inserted entry front ++ rest
 inserted-stop entry [] rest h = absurd cc
 inserted-stop entry (found ∷ front) rest h = step (found_cmp found entry) refl (inserted-stop entry front rest)
   where
-    step : (o : Ordering) → found_cmp found entry ≡ o → (reaches entry front ≡ true → inserted entry (front ++ rest) ≡ inserted entry front ++ rest) → inserted entry (found ∷ front ++ rest) ≡ inserted entry (found ∷ front) ++ rest
+    step : (o : Ordering) → found_cmp found entry ≡ o → (reaches entry front ≡ true → entry_inserted entry (front ++ rest) ≡ entry_inserted entry front ++ rest) → entry_inserted entry (found ∷ front ++ rest) ≡ entry_inserted entry (found ∷ front) ++ rest
     step Less e more = rw e (ap (λ (l : List Found). found ∷ l) (more (rw e at h)))
     step Equal e more = rw e refl
     step Greater e more = rw e refl
@@ -94,12 +94,12 @@ above-all first entry [] go h = tt
 above-all first entry (found ∷ rest) go h = (go found h.0, above-all first entry rest go h.1)
 
 -- of entries in order, the one that is added stands behind those below it and before those above
-pub inserted-is : (entry : Found) (entries : List Found) → IsInOrder entries → inserted entry entries ≡ with_found entry entries
+pub inserted-is : (entry : Found) (entries : List Found) → IsInOrder entries → entry_inserted entry entries ≡ with_found entry entries
 unfolding IsStrictlySortedBy
 inserted-is entry [] h = refl
 inserted-is entry (found ∷ rest) h = step (found_cmp found entry) refl (inserted-is entry rest h.1)
   where
-    step : (o : Ordering) → found_cmp found entry ≡ o → inserted entry rest ≡ with_found entry rest → inserted entry (found ∷ rest) ≡ with_found entry (found ∷ rest)
+    step : (o : Ordering) → found_cmp found entry ≡ o → entry_inserted entry rest ≡ with_found entry rest → entry_inserted entry (found ∷ rest) ≡ with_found entry (found ∷ rest)
     step Less e more = rw e (ap (λ (l : List Found). found ∷ l) more)
     step Equal e more =
         let above = above-all found entry rest (λ x less. above_from_less found x entry less e) h.0 in
@@ -126,21 +126,21 @@ taken_out-is entry (found ∷ rest) h = step (found_cmp found entry) refl (taken
         rw e (ap (λ (l : List Found). found ∷ l) (sym (none-same entry rest (above-all found entry rest (λ x less. above_from_greater found x entry less e) h.0))))
 
 -- what holds of each entry, and of one more
-pub inserted-all : (P : Found → Type 0) (entry : Found) (entries : List Found) → P entry → AllByRecursion P entries → AllByRecursion P (inserted entry entries)
+pub inserted-all : (P : Found → Type 0) (entry : Found) (entries : List Found) → P entry → AllByRecursion P entries → AllByRecursion P (entry_inserted entry entries)
 inserted-all P entry [] one all = (one, tt)
 inserted-all P entry (found ∷ rest) one all = step (found_cmp found entry) refl (inserted-all P entry rest one all.1)
   where
-    step : (o : Ordering) → found_cmp found entry ≡ o → AllByRecursion P (inserted entry rest) → AllByRecursion P (inserted entry (found ∷ rest))
+    step : (o : Ordering) → found_cmp found entry ≡ o → AllByRecursion P (entry_inserted entry rest) → AllByRecursion P (entry_inserted entry (found ∷ rest))
     step Less e more = rw e (all.0, more)
     step Equal e more = rw e (one, all.1)
     step Greater e more = rw e (one, all)
 
 -- the entry that is added is among them
-pub inserted-one : (P : Found → Type 0) (entry : Found) (entries : List Found) → AllByRecursion P (inserted entry entries) → P entry
+pub inserted-one : (P : Found → Type 0) (entry : Found) (entries : List Found) → AllByRecursion P (entry_inserted entry entries) → P entry
 inserted-one P entry [] all = all.0
 inserted-one P entry (found ∷ rest) all = step (found_cmp found entry) refl all (inserted-one P entry rest)
   where
-    step : (o : Ordering) → found_cmp found entry ≡ o → AllByRecursion P (inserted entry (found ∷ rest)) → (AllByRecursion P (inserted entry rest) → P entry) → P entry
+    step : (o : Ordering) → found_cmp found entry ≡ o → AllByRecursion P (entry_inserted entry (found ∷ rest)) → (AllByRecursion P (entry_inserted entry rest) → P entry) → P entry
     step Less e all more = more (rw e at all).1
     step Equal e all more = (rw e at all).0
     step Greater e all more = (rw e at all).0
@@ -159,7 +159,7 @@ taken_out-all P entry (found ∷ rest) all = step (found_cmp found entry) refl (
     step Greater e more = rw e all
 
 -- entries in order stay so
-pub inserted-in_order : (entry : Found) (entries : List Found) → IsInOrder entries → IsInOrder (inserted entry entries)
+pub inserted-in_order : (entry : Found) (entries : List Found) → IsInOrder entries → IsInOrder (entry_inserted entry entries)
 unfolding IsStrictlySortedBy
 inserted-in_order entry [] h = (tt, tt)
 inserted-in_order entry (found ∷ rest) h = step (found_cmp found entry) refl (inserted-in_order entry rest h.1)
@@ -171,7 +171,7 @@ inserted-in_order entry (found ∷ rest) h = step (found_cmp found entry) refl (
     all first [] go rest_is = tt
     all first (x ∷ xs) go rest_is = (go x rest_is.0, all first xs go rest_is.1)
 
-    step : (o : Ordering) → found_cmp found entry ≡ o → IsInOrder (inserted entry rest) → IsInOrder (inserted entry (found ∷ rest))
+    step : (o : Ordering) → found_cmp found entry ≡ o → IsInOrder (entry_inserted entry rest) → IsInOrder (entry_inserted entry (found ∷ rest))
     step Less e more = rw e (inserted-all (λ (x : Found). found_cmp found x ≡ Less) entry rest e h.0, more)
     step Equal e more = rw e (all entry rest (λ x less. sym (found_total.congr found entry x e) ∙ less) h.0, h.1)
     step Greater e more =
@@ -208,7 +208,7 @@ order-right [] b h = h
 order-right (x ∷ a) b h = order-right a b h.1
 
 -- an entry of those in order is added without a change
-pub inserted-same : (entry : Found) (entries : List Found) (k : ℕ) → IsInOrder entries → k < length entries → get_or entries k entry ≡ entry → inserted entry entries ≡ entries
+pub inserted-same : (entry : Found) (entries : List Found) (k : ℕ) → IsInOrder entries → k < length entries → get_or entries k entry ≡ entry → entry_inserted entry entries ≡ entries
 unfolding IsStrictlySortedBy
 inserted-same entry [] k h lt at = absurd (omega arith)
 inserted-same entry (found ∷ rest) zero h lt at =

@@ -21,7 +21,7 @@ use Rattle.pager.specs.declared.index.Found.{Found}
 use Rattle.index_page.specs.declared.page.Form.{Form}
 use Rattle.index_page.specs.declared.page.Form.TheVariants as form
 use Rattle.index_page.specs.declared.page.IndexPage.{IndexPage}
-use Rattle.index_page.specs.IndexPage.{row_of, entry_code, entry_bytes, width, IsFirstEntry, IsOnlyValue, HoldsOne, WrittenHolds, page_bytes, header, form_byte}
+use Rattle.index_page.specs.IndexPage.{row_of, entry_code, entry_bytes, width, IsFirstFound, IsOnlyValue, HoldsOneIndex, WrittenHoldsIndex, page_bytes, header, form_byte}
 
 -- what may be indexed may stand in a row, and takes at most 202 bytes
 pub value-is : (value : Value) → IsIndexed value → IsValue value
@@ -169,7 +169,7 @@ same_entries es bs x y long is also e =
     without (m ∷ ms) none = absurd cc
 
 -- where no entry stands behind the entries read so far, no more entries stand there
-pub no_more : (bytes behind : List ℕ) (count end : ℕ) (read entries : List Found) → length read < count → AllByRecursion IsFound read → bytes ≡ entry_bytes read ++ drop end bytes → IsFirstEntry (drop end bytes) None → length entries ≡ count → AllByRecursion IsFound entries → bytes ≡ entry_bytes entries ++ behind → ⊥
+pub no_more : (bytes behind : List ℕ) (count end : ℕ) (read entries : List Found) → length read < count → AllByRecursion IsFound read → bytes ≡ entry_bytes read ++ drop end bytes → IsFirstFound (drop end bytes) None → length entries ≡ count → AllByRecursion IsFound entries → bytes ≡ entry_bytes entries ++ behind → ⊥
 no_more bytes behind count end read entries short is so_far none long also e =
     let front = same_front read entries (drop end bytes) behind (omega arith) is also (sym so_far ∙ e) in
     stuck front.0 (omega (arith, ap length front.1, length-append read front.0)) front.2 front.3
@@ -180,12 +180,12 @@ no_more bytes behind count end read entries short is so_far none long also e =
         none v (entry_bytes vs ++ behind) lawful.0 (is ∙ ap (λ (b : List ℕ). b ++ behind) (flat_map-cons entry_code v vs) ∙ append_assoc (entry_code v) (entry_bytes vs) behind)
 
 -- fewer than six bytes begin with no entry
-pub short_for_entry : (bytes : List ℕ) → length bytes < 6 → IsFirstEntry bytes None
+pub short_for_entry : (bytes : List ℕ) → length bytes < 6 → IsFirstFound bytes None
 short_for_entry bytes short entry behind is e =
     omega (arith, ap length e, length-append (entry_code entry) behind, length-entry entry)
 
 -- an entry does not reach past the bytes
-pub past_the_end : (bytes : List ℕ) → 6 ≤ length bytes → length bytes < 6 + number_at 2 bytes 0 → IsFirstEntry bytes None
+pub past_the_end : (bytes : List ℕ) → 6 ≤ length bytes → length bytes < 6 + number_at 2 bytes 0 → IsFirstFound bytes None
 past_the_end bytes some over entry behind is e =
     let parts = entry_parts bytes entry behind is e in
     omega (arith, parts.long, ap length parts.row, length-append (row_of entry) behind, length-drop 6 bytes)
@@ -198,17 +198,17 @@ row_there bytes entry behind is e =
     subst (λ (code : List ℕ). IsEncoded code entry.number (entry.value ∷ [])) (sym part) (row-encoded entry is)
 
 -- an entry whose bytes are no row's is none
-pub no_row_there : (bytes : List ℕ) → IsDecoded (take (number_at 2 bytes 0) (drop 6 bytes)) None → IsFirstEntry bytes None
+pub no_row_there : (bytes : List ℕ) → IsDecoded (take (number_at 2 bytes 0) (drop 6 bytes)) None → IsFirstFound bytes None
 no_row_there bytes none entry behind is e = none entry.number (entry.value ∷ []) (row_there bytes entry behind is e)
 
 -- nor is one whose row has no value, or several
-pub no_value_there : (bytes : List ℕ) (number : ℕ) (row : List Value) → IsEncoded (take (number_at 2 bytes 0) (drop 6 bytes)) number row → IsOnlyValue row None → IsFirstEntry bytes None
+pub no_value_there : (bytes : List ℕ) (number : ℕ) (row : List Value) → IsEncoded (take (number_at 2 bytes 0) (drop 6 bytes)) number row → IsOnlyValue row None → IsFirstFound bytes None
 no_value_there bytes number row there none entry behind is e =
     let one = one_row (take (number_at 2 bytes 0) (drop 6 bytes)) number entry.number row (entry.value ∷ []) there (row_there bytes entry behind is e) in
     none entry.value one.1
 
 -- an entry whose bytes are those of a row of one value
-pub entry_there : (bytes : List ℕ) (number : ℕ) (value : Value) → ((i : ℕ) → get_or bytes i 0 < 256) → 6 + number_at 2 bytes 0 ≤ length bytes → IsEncoded (take (number_at 2 bytes 0) (drop 6 bytes)) number (value ∷ []) → IsFirstEntry bytes (Some (record { value = value; number = number; page = number_at 4 bytes 2 }, 6 + number_at 2 bytes 0))
+pub entry_there : (bytes : List ℕ) (number : ℕ) (value : Value) → ((i : ℕ) → get_or bytes i 0 < 256) → 6 + number_at 2 bytes 0 ≤ length bytes → IsEncoded (take (number_at 2 bytes 0) (drop 6 bytes)) number (value ∷ []) → IsFirstFound bytes (Some (record { value = value; number = number; page = number_at 4 bytes 2 }, 6 + number_at 2 bytes 0))
 unfolding row_of
 entry_there bytes number value small room is =
     let n = number_at 2 bytes 0 in
@@ -238,7 +238,7 @@ same_form form.Leaf form.Run e = absurd (omega arith)
 same_form form.Leaf form.Inner e = absurd (omega arith)
 same_form form.Leaf form.Leaf e = refl
 
-pub holds_one : HoldsOne
+pub holds_one : HoldsOneIndex
 holds_one bytes p q is also =
     made (same_form p.form q.form (sym is.form ∙ also.form)) (sym is.link ∙ also.link)
     (same_entries p.entries q.entries is.behind also.behind (sym is.count ∙ also.count) is.lawful also.lawful (sym is.packed ∙ also.packed))
@@ -247,7 +247,7 @@ holds_one bytes p q is also =
     made a b c = λ i. record { form = a i; link = b i; entries = c i }
 
 -- a page that was written holds what was written
-pub written_holds : WrittenHolds
+pub written_holds : WrittenHoldsIndex
 unfolding page_bytes
 written_holds page link is =
     let f1 = form_byte page.form in

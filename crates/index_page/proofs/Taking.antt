@@ -4,11 +4,11 @@ use Rattle.std.specs.Prelude.{slice_index}
 use Rattle.std.proofs.lemmas.Bool.{and_parts, eq-eqb, leb-true, ltb-true}
 use Rattle.retro_base.specs.Gives.{◌>>=◌}
 use Rattle.retro_base.specs.declared.refusal.Refusal.{Refusal}
-use Rattle.pager.specs.Pages.{Pages, written, broken}
+use Rattle.pager.specs.Pages.{Pages, with_bytes, broken}
 use Rattle.pager.specs.Root.{behind_first, first_free, is_root, never_used, next_page, root_bytes, root_in, root_of, taken}
 use Rattle.pager.specs.declared.root.Root.{Root}
-use Rattle.index_page.specs.IndexPage.{IsWritable, page_bytes}
-use Rattle.index_page.specs.Paging.{IsAt}
+use Rattle.index_page.specs.IndexPage.{AreWritable, page_bytes}
+use Rattle.index_page.specs.Paging.{IsIndexAt}
 use Rattle.index_page.specs.declared.page.IndexPage.{IndexPage}
 use Rattle.index_page.proofs.Packing.{written_holds}
 
@@ -17,7 +17,7 @@ pub record Taken (size : ℕ) (pages : Pages) (page : ℕ) (after : Pages) : Typ
   pub low : 2 ≤ page
   pub there : page < size
   pub root : Root
-  pub is : after ≡ written pages 0 (root_bytes root)
+  pub is : after ≡ with_bytes pages 0 (root_bytes root)
 
 -- an answer has one value, and is no refusal
 pub ok_is : {A : Type 0} (r : Result A Refusal) (x y : A) → r ≡ Ok x → r ≡ Ok y → x ≡ y
@@ -61,7 +61,7 @@ taken-is size pages page after took = from-root (root_in size pages) refl
     step : (root : Root) → root_in size pages ≡ Ok root → (n : Result (ℕ × Root) Refusal) → next_page size pages root ≡ n → Taken size pages page after
     step root e (Ok found) f =
         let wanted : ℕ × Pages = (page, after) in
-        let made : ℕ × Pages = (found.0, written pages 0 (root_bytes found.1)) in
+        let made : ℕ × Pages = (found.0, with_bytes pages 0 (root_bytes found.1)) in
         let same : wanted ≡ made = ok_is (taken size pages) wanted made took (rw (e, f) refl) in
         let one : page ≡ found.0 = ap (λ (p : ℕ × Pages). p.0) same in
         let bounds = next-bounds size pages root found (root-good size pages root e) f in
@@ -78,16 +78,16 @@ taken-is size pages page after took = from-root (root_in size pages) refl
     from-root (Err why) e = no-refusal (page, after) why (sym took ∙ (rw e refl))
 
 -- another page is as it was
-pub written-other : (pages : Pages) (page other : ℕ) (bytes : List ℕ) → eqb other page ≡ false → (written pages page bytes).at other ≡ pages.at other
+pub written-other : (pages : Pages) (page other : ℕ) (bytes : List ℕ) → eqb other page ≡ false → (with_bytes pages page bytes).at other ≡ pages.at other
 written-other pages page other bytes e = rw e refl
 
-pub unmarked-other : (pages : Pages) (page other : ℕ) (bytes : List ℕ) → eqb other page ≡ false → (written pages page bytes).edited other ≡ pages.edited other
+pub unmarked-other : (pages : Pages) (page other : ℕ) (bytes : List ℕ) → eqb other page ≡ false → (with_bytes pages page bytes).edited other ≡ pages.edited other
 unmarked-other pages page other bytes e = rw e refl
 
 -- a page that was written holds what was written
-pub at-own : (size : ℕ) (pages : Pages) (page : ℕ) (held : IndexPage) → 2 ≤ page → page < size → held.link < 2 ^ 32 → IsWritable held.entries → IsAt size (written pages page (page_bytes held)) page held
+pub at-own : (size : ℕ) (pages : Pages) (page : ℕ) (held : IndexPage) → 2 ≤ page → page < size → held.link < 2 ^ 32 → AreWritable held.entries → IsIndexAt size (with_bytes pages page (page_bytes held)) page held
 at-own size pages page held low there link is = record { low = low; there = there; holds = rw (eq-eqb page page refl) (written_holds held link is) }
 
 -- another one holds what it held
-pub at-other : (size : ℕ) (pages : Pages) (page other : ℕ) (bytes : List ℕ) (held : IndexPage) → eqb page other ≡ false → IsAt size pages page held → IsAt size (written pages other bytes) page held
+pub at-other : (size : ℕ) (pages : Pages) (page other : ℕ) (bytes : List ℕ) (held : IndexPage) → eqb page other ≡ false → IsIndexAt size pages page held → IsIndexAt size (with_bytes pages other bytes) page held
 at-other size pages page other bytes held differ is = record { low = is.low; there = is.there; holds = rw differ is.holds }

@@ -1,6 +1,6 @@
 -- What adding and taking out make of the entries of a page.
-use Rattle.std.specs.Prelude.{◌==◌, not, ℕ, suc, Bool, List, [], ◌∷◌, if◌then◌else◌}
-use Rattle.std.specs.List.{list_any}
+use Rattle.std.specs.Prelude.{◌==◌, not, ℕ, Bool, List, [], ◌∷◌, if◌then◌else◌}
+use Rattle.std.specs.List.{list_any, position_or_len}
 use Rattle.std.specs.Ordering.{is_gt, is_lt, match_ordering}
 use Rattle.values.specs.Value.{value_cmp}
 use Rattle.values.specs.declared.value.Value.{Value}
@@ -15,17 +15,16 @@ is_behind entry found = not (is_lt (found_cmp found entry))
 abbrev pub reaches : Found → List Found → Bool
 reaches entry = list_any (is_behind entry)
 
--- how many entries stand before the place of another
-abbrev pub place : Found → List Found → ℕ
-place entry [] = 0
-place entry (found ∷ rest) = if is_behind entry found then 0 else suc (place entry rest)
+-- the place of another entry: that of the first one that does, or the end
+abbrev pub entry_place : Found → List Found → ℕ
+entry_place entry = position_or_len (is_behind entry)
 
 -- the entries with one more, before the first that is not below it, which gives way where it is of its value and row
 -- number
-abbrev pub inserted : Found → List Found → List Found
-inserted entry [] = entry ∷ []
-inserted entry (found ∷ rest) =
-    match_ordering (found_cmp found entry) (found ∷ inserted entry rest) (entry ∷ rest) (entry ∷ found ∷ rest)
+abbrev pub entry_inserted : Found → List Found → List Found
+entry_inserted entry [] = entry ∷ []
+entry_inserted entry (found ∷ rest) =
+    match_ordering (found_cmp found entry) (found ∷ entry_inserted entry rest) (entry ∷ rest) (entry ∷ found ∷ rest)
 
 -- the entries without one, where it is the first that is not below it
 abbrev pub taken_out : Found → List Found → List Found

@@ -18,9 +18,9 @@ form_byte form.Inner = 5
 form_byte form.Leaf = 6
 
 -- the form that a first byte tells
-abbrev pub IsForm : ℕ → Option Form → Type 0
-IsForm byte None = (form : Form) → byte ≡ form_byte form → ⊥
-IsForm byte (Some form) = byte ≡ form_byte form
+abbrev pub IsPageForm : ℕ → Option Form → Type 0
+IsPageForm byte None = (form : Form) → byte ≡ form_byte form → ⊥
+IsPageForm byte (Some form) = byte ≡ form_byte form
 
 -- an entry's value as a row under the entry's number
 unfoldable pub row_of : Found → List ℕ
@@ -39,7 +39,7 @@ abbrev pub width : List Found → ℕ
 width entries = length (entry_bytes entries)
 
 -- What the bytes of a page hold. What stands behind the entries is not read.
-pub record Holds (bytes : List ℕ) (page : IndexPage) : Type 0 where
+pub record HoldsIndex (bytes : List ℕ) (page : IndexPage) : Type 0 where
   pub form : slice_index bytes 0 ≡ form_byte page.form
   pub count : number_at 2 bytes 2 ≡ length page.entries
   pub link : number_at 4 bytes 4 ≡ page.link
@@ -48,9 +48,9 @@ pub record Holds (bytes : List ℕ) (page : IndexPage) : Type 0 where
   pub lawful : AllByRecursion IsFound page.entries
 
 -- what the bytes hold, or none where they are no index's page
-abbrev pub IsHeld : List ℕ → Option IndexPage → Type 0
-IsHeld bytes None = (page : IndexPage) → Holds bytes page → ⊥
-IsHeld bytes (Some page) = Holds bytes page
+abbrev pub IsHeldIndex : List ℕ → Option IndexPage → Type 0
+IsHeldIndex bytes None = (page : IndexPage) → HoldsIndex bytes page → ⊥
+IsHeldIndex bytes (Some page) = HoldsIndex bytes page
 
 -- the bytes of a page before its entries
 abbrev pub header : IndexPage → List ℕ
@@ -68,23 +68,23 @@ abbrev pub have_room : List Found → Bool
 have_room entries = nat_le (width entries) ENTRY_BYTES
 
 -- what can be written
-pub record IsWritable (entries : List Found) : Type 0 where
+pub record AreWritable (entries : List Found) : Type 0 where
   pub lawful : AllByRecursion IsFound entries
   pub fits : HaveRoom entries
 
 -- entries that stand first in the bytes, so many, or none where so many do not stand there
-abbrev pub AreFirstEntries : List ℕ → ℕ → Option (List Found) → Type 0
-AreFirstEntries bytes count None =
+abbrev pub AreFirstFound : List ℕ → ℕ → Option (List Found) → Type 0
+AreFirstFound bytes count None =
     (entries : List Found) (behind : List ℕ) → length entries ≡ count → AllByRecursion IsFound entries → bytes
     ≡ entry_bytes entries ++ behind → ⊥
-AreFirstEntries bytes count (Some entries) =
+AreFirstFound bytes count (Some entries) =
     (length entries ≡ count) × AllByRecursion IsFound entries × (behind : List ℕ)
     × (bytes ≡ entry_bytes entries ++ behind)
 
 -- the entry that stands first in the bytes, and how many bytes it takes, or none where no entry stands there
-abbrev pub IsFirstEntry : List ℕ → Option (Found × ℕ) → Type 0
-IsFirstEntry bytes None = (entry : Found) (behind : List ℕ) → IsFound entry → bytes ≡ entry_code entry ++ behind → ⊥
-IsFirstEntry bytes (Some found) =
+abbrev pub IsFirstFound : List ℕ → Option (Found × ℕ) → Type 0
+IsFirstFound bytes None = (entry : Found) (behind : List ℕ) → IsFound entry → bytes ≡ entry_code entry ++ behind → ⊥
+IsFirstFound bytes (Some found) =
     IsFound found.0 × (found.1 ≤ length bytes) × (bytes ≡ entry_code found.0 ++ drop found.1 bytes)
 
 -- how many more of the first entries it takes to fill half of so many bytes
@@ -98,12 +98,13 @@ abbrev pub half : List Found → ℕ
 half entries = more_for_half (width entries) 0 entries
 
 -- bytes hold one thing alone
-abbrev pub HoldsOne : Type 0
-HoldsOne = (bytes : List ℕ) (p q : IndexPage) → Holds bytes p → Holds bytes q → p ≡ q
+abbrev pub HoldsOneIndex : Type 0
+HoldsOneIndex = (bytes : List ℕ) (p q : IndexPage) → HoldsIndex bytes p → HoldsIndex bytes q → p ≡ q
 
 -- a page that was written holds what was written
-abbrev pub WrittenHolds : Type 0
-WrittenHolds = (page : IndexPage) → page.link < 2 ^ 32 → IsWritable page.entries → Holds (page_bytes page) page
+abbrev pub WrittenHoldsIndex : Type 0
+WrittenHoldsIndex =
+    (page : IndexPage) → page.link < 2 ^ 32 → AreWritable page.entries → HoldsIndex (page_bytes page) page
 
 -- fewer than four entries leave room for one more in a page
 abbrev pub FourFit : Type 0

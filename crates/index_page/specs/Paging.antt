@@ -5,17 +5,17 @@ use Rattle.values.specs.declared.value.Kind.{Kind}
 use Rattle.pager.specs.Index.{AreOfKind}
 use Rattle.pager.specs.Pages.{Pages, broken}
 use Rattle.index_page.specs.declared.page.IndexPage.{IndexPage}
-use Rattle.index_page.specs.IndexPage.{Holds}
+use Rattle.index_page.specs.IndexPage.{HoldsIndex}
 
 -- the page of that number is one of the store's behind its first two, and holds this
-pub record IsAt (size : ℕ) (pages : Pages) (page : ℕ) (held : IndexPage) : Type 0 where
+pub record IsIndexAt (size : ℕ) (pages : Pages) (page : ℕ) (held : IndexPage) : Type 0 where
   pub low : 2 ≤ page
   pub there : page < size
-  pub holds : Holds (pages.at page) held
+  pub holds : HoldsIndex (pages.at page) held
 
 -- the same with values of one kind
 abbrev pub IsOfKind : Kind → ℕ → Pages → ℕ → IndexPage → Type 0
-IsOfKind kind size pages page held = IsAt size pages page held × AreOfKind kind held.entries
+IsOfKind kind size pages page held = IsIndexAt size pages page held × AreOfKind kind held.entries
 
 -- what a page holds; one that is not there, whose bytes are no index's page, or that has a value of another kind, is
 -- broken

@@ -1,10 +1,10 @@
 //! What adding and taking out make of the entries of a page.
 
-ghost use Rattle.std.specs.Prelude.{◌≡◌, ◌≤◌, ◌++◌, ◌&&◌, not, IfOk, OnOk, length};
+ghost use Rattle.std.specs.Prelude.{◌≡◌, ◌≤◌, ◌++◌, ◌&&◌, not, IfOk, OnOk, length, position};
 ghost use Rattle.std.specs.Ordering.{is_eq, is_gt, is_lt};
 ghost use Rattle.values.specs.Value.{value_cmp};
 ghost use Rattle.pager.specs.Index.{between, found_cmp, same_found};
-ghost use Rattle.index_page.specs.Entries.{inserted, is_past, place, taken_out};
+ghost use Rattle.index_page.specs.Entries.{entry_inserted, is_behind, is_past, entry_place, taken_out};
 
 use pager::Found;
 use std::alloc::{AllocError, AllocFailed, Global};
@@ -53,19 +53,19 @@ fn is_same(a: &Found, b: &Found) -> bool
     is_like(a, b) && a.page == b.page
 }
 
-/// How many entries stand before the place of an entry: those in front that are below it.
+// Where the first entry stands that is not below another.
+fn first_behind(entries: &[Found], entry: &Found) -> Option<usize>
+    ensures { result ≡ position (is_behind entry.now) entries.now }
+{
+    entries.iter().position(|found| !is_below(found, entry))
+}
+
+/// The place of an entry: that of the first one that is not below it, or the end.
 pub fn place_of(entries: &[Found], entry: &Found) -> usize
-    ensures place { result ≡ place entry.now entries.now }
+    ensures place { result ≡ entry_place entry.now entries.now }
     ensures among { result ≤ length entries.now }
 {
-    let mut place = 0;
-    for found in entries {
-        if !is_below(found, entry) {
-            return place;
-        }
-        place += 1;
-    }
-    place
+    first_behind(entries, entry).unwrap_or(entries.len())
 }
 
 /// A copy of an entry.
@@ -85,7 +85,7 @@ fn discard(_found: Found) {}
 
 /// The entries with one more at its place, where an entry of its value and row number gives way to it.
 pub fn insert(entries: Seq<Found>, entry: Found) -> Result<Seq<Found>, AllocFailed<Found>>
-    ensures { IfOk result (λ after. after ≡ inserted entry entries) }
+    ensures { IfOk result (λ after. after ≡ entry_inserted entry entries) }
 {
     let mut entries = Vec::from(entries);
     let place = place_of(&entries, &entry);

@@ -1,15 +1,15 @@
 //! What index pages hold.
 
-ghost use Rattle.index_page.specs.IndexPage.{FourFit, HalvesFit, HoldsOne, WrittenHolds};
+ghost use Rattle.index_page.specs.IndexPage.{FourFit, HalvesFit, HoldsOneIndex, WrittenHoldsIndex};
 
 /// The bytes of a page hold one thing alone.
 pub fn holds_one()
-    ensures { HoldsOne }
+    ensures { HoldsOneIndex }
 {}
 
 /// A page that was written holds what was written.
 pub fn written_holds()
-    ensures { WrittenHolds }
+    ensures { WrittenHoldsIndex }
 {}
 
 /// Up to four entries fit in a page.

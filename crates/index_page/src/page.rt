@@ -5,7 +5,7 @@ ghost use Rattle.std.specs.List.{AllByRecursion};
 ghost use Rattle.retro_base.specs.declared.refusal.Refusal.TheVariants.{OutOfMemory};
 ghost use Rattle.pager.specs.Index.{IsFound, IsIndexed};
 ghost use Rattle.row_codec.specs.RowCode.{value_code};
-ghost use Rattle.index_page.specs.IndexPage.{IsForm, IsHeld, IsWritable, entry_bytes, entry_code, form_byte, half, more_for_half, page_bytes, width};
+ghost use Rattle.index_page.specs.IndexPage.{IsPageForm, IsHeldIndex, AreWritable, entry_bytes, entry_code, form_byte, half, more_for_half, page_bytes, width};
 
 use crate::entries::copy_of;
 use crate::reading::first_entries;
@@ -31,7 +31,7 @@ pub enum Form {
 impl Form {
     // The form that a first byte tells.
     fn of(byte: u8) -> Option<Form>
-        ensures { IsForm byte result }
+        ensures { IsPageForm byte result }
     {
         match byte {
             4 => Some(Form::Run),
@@ -63,7 +63,7 @@ pub struct IndexPage {
 
 /// What the page holds. None where it is no index page.
 pub fn held(alloc: Global, page: &Page) -> Result<Option<IndexPage>, Refusal>
-    ensures held { IfOk result (IsHeld page.now) }
+    ensures held { IfOk result (IsHeldIndex page.now) }
     ensures memory { IfErr result (λ why. why ≡ OutOfMemory) }
 {
     let bytes = page.bytes();
@@ -84,7 +84,7 @@ pub fn held(alloc: Global, page: &Page) -> Result<Option<IndexPage>, Refusal>
 
 /// The page that holds this.
 pub fn page_of(alloc: Global, held: &IndexPage) -> Result<Page, Refusal>
-    requires { IsWritable held.now.entries }
+    requires { AreWritable held.now.entries }
     ensures page { IfOk result (λ page. page ≡ page_bytes held.now) }
     ensures memory { IfErr result (λ why. why ≡ OutOfMemory) }
 {

@@ -4,9 +4,9 @@ ghost use Rattle.std.specs.Prelude.{◌≡◌, ◌<◌, IfErr, IfOk, MatchBool, 
 ghost use Rattle.retro_base.specs.declared.refusal.Refusal.TheVariants.{OutOfMemory};
 ghost use Rattle.pager.specs.Index.{AreOfKind};
 ghost use Rattle.pager.specs.Draft.{drafted, Reads};
-ghost use Rattle.pager.specs.Pages.{Pages, written};
+ghost use Rattle.pager.specs.Pages.{Pages, with_bytes};
 ghost use Rattle.pager.specs.Stop.{OnlyReads};
-ghost use Rattle.index_page.specs.IndexPage.{IsWritable, page_bytes};
+ghost use Rattle.index_page.specs.IndexPage.{AreWritable, page_bytes};
 ghost use Rattle.index_page.specs.Paging.{index_page};
 
 use crate::page::{IndexPage, held, page_of};
@@ -31,7 +31,7 @@ pub fn load<P: Pager>(
         (λ pages. index_page kind draft.now.size pages page) result }
     ensures only_reads { OnlyReads P.tells P.goes P.size P.faults pager.old pager.new result }
     ensures there { OnOk result (page < draft.now.size) }
-    ensures writable { IfOk result (λ held. IsWritable held.entries) }
+    ensures writable { IfOk result (λ held. AreWritable held.entries) }
 {
     if page < FIRST_PAGE {
         return Err(Stop::Refused(broken(page)));
@@ -61,10 +61,10 @@ fn are_of_kind(entries: &[Found], kind: Kind) -> bool
 /// Drafts that a page holds this.
 pub fn store(alloc: Global, draft: &mut Draft, page: u32, held: &IndexPage) -> Result<(), Refusal>
     requires there { page < draft.old.size }
-    requires held { IsWritable held.now.entries }
+    requires held { AreWritable held.now.entries }
     ensures drafted { OnOk result
         ((pages : Pages) → drafted pages draft.new.list
-        ≡ written (drafted pages draft.old.list) page (page_bytes held.now)) }
+        ≡ with_bytes (drafted pages draft.old.list) page (page_bytes held.now)) }
     ensures memory { IfErr result (λ why. why ≡ OutOfMemory) }
     ensures size { draft.new.size ≡ draft.old.size }
 {

@@ -2,7 +2,7 @@
 
 ghost use Rattle.std.specs.Prelude.{◌≡◌, IfErr, IfOk};
 ghost use Rattle.retro_base.specs.declared.refusal.Refusal.TheVariants.{OutOfMemory};
-ghost use Rattle.index_page.specs.IndexPage.{AreFirstEntries, IsFirstEntry, IsOnlyValue};
+ghost use Rattle.index_page.specs.IndexPage.{AreFirstFound, IsFirstFound, IsOnlyValue};
 
 use pager::Found;
 use retro_base::{Refusal, get_u16, get_u32};
@@ -16,7 +16,7 @@ pub fn first_entries(
     bytes: &[u8],
     count: usize,
 ) -> Result<Option<Seq<Found>>, Refusal>
-    ensures found { IfOk result (AreFirstEntries bytes.now count) }
+    ensures found { IfOk result (AreFirstFound bytes.now count) }
     ensures memory { IfErr result (λ why. why ≡ OutOfMemory) }
 {
     let mut entries = Seq::new(alloc);
@@ -35,7 +35,7 @@ pub fn first_entries(
 
 // The entry that stands first in the bytes, and how many bytes it takes. None where no entry stands there.
 fn first_entry(alloc: Global, bytes: &[u8]) -> Result<Option<(Found, usize)>, Refusal>
-    ensures found { IfOk result (IsFirstEntry bytes.now) }
+    ensures found { IfOk result (IsFirstFound bytes.now) }
     ensures memory { IfErr result (λ why. why ≡ OutOfMemory) }
 {
     if bytes.len() < 6 {
