@@ -14,7 +14,7 @@ use Rattle.pager.specs.Stop.{Allowed, AllowedStop}
 use Rattle.pager.specs.declared.index.Found.{Found}
 use Rattle.pager.specs.declared.stop.Stop.{Stop}
 use Rattle.pager.specs.declared.stop.Stop.TheVariants as stop
-use Rattle.index_page.specs.Entries.{inserted, reaches}
+use Rattle.index_page.specs.Entries.{entry_inserted, reaches}
 use Rattle.index_page.specs.declared.page.IndexPage.{IndexPage}
 use Rattle.run_index.specs.declared.walk.Met.{Met}
 use Rattle.run_index.specs.Walk.{IsRun, Passes, is_end, met_at}
@@ -51,6 +51,6 @@ collected low high passed met before after so_far more =
     ∙ sym (flat_map-append (λ (m : Met). between low high m.held.entries) passed (met ∷ []) ∙ ap (λ (l : List Found). flat_map (λ (m : Met). between low high m.held.entries) passed ++ l) (append-nil (between low high met.held.entries)))
 
 -- an entry is added on the page that was found
-pub added-there : (size root : ℕ) (entry : Found) (pages : Pages) (met : Met) → met_at (reaches entry) (kind_of entry.value) size pages root (Ok met) → (answer : Result (Unit {0} × Pages) Refusal) → stored size pages met.page met.held.link (inserted entry met.held.entries) answer → added size root entry pages answer
+pub added-there : (size root : ℕ) (entry : Found) (pages : Pages) (met : Met) → met_at (reaches entry) (kind_of entry.value) size pages root (Ok met) → (answer : Result (Unit {0} × Pages) Refusal) → stored size pages met.page met.held.link (entry_inserted entry met.held.entries) answer → added size root entry pages answer
 added-there size root entry pages met found (Ok y) h = (met, found, h)
 added-there size root entry pages met found (Err why) h = inr (met, found, h)

@@ -19,13 +19,13 @@ use Rattle.values.proofs.Orders.{value_total}
 use Rattle.values.specs.Value.{kind_of, value_cmp}
 use Rattle.values.specs.declared.value.Value.{Value}
 use Rattle.pager.specs.Allows.{◌>>=◌, only, either}
-use Rattle.pager.specs.Index.{Adds, AreOfKind, EditsOnly, IsApart, IsFound, IsIndexing, IsInOrder, IsListed, Makes, Removes, between, found_cmp}
-use Rattle.pager.specs.Pages.{Pages, written}
+use Rattle.pager.specs.Index.{AddsFound, AreOfKind, EditsOnly, IsApart, IsFound, IsIndexing, IsInOrder, IsListed, MakesIndex, RemovesFound, between, found_cmp}
+use Rattle.pager.specs.Pages.{Pages, with_bytes}
 use Rattle.pager.specs.Root.{all_taken, root_bytes, taken}
 use Rattle.pager.specs.declared.index.Found.{Found}
-use Rattle.index_page.specs.Entries.{inserted, is_past, reaches, taken_out}
-use Rattle.index_page.specs.IndexPage.{IsWritable, have_room, half, page_bytes, width}
-use Rattle.index_page.specs.Paging.{IsAt}
+use Rattle.index_page.specs.Entries.{entry_inserted, is_past, reaches, taken_out}
+use Rattle.index_page.specs.IndexPage.{AreWritable, have_room, half, page_bytes, width}
+use Rattle.index_page.specs.Paging.{IsIndexAt}
 use Rattle.index_page.proofs.Ordered.{inserted-all, order-right, taken_out-all}
 use Rattle.index_page.proofs.Placing.{taken_out-width}
 use Rattle.index_page.proofs.Taking.{at-other, at-own, no-refusal, ok_is, taken-is, unmarked-other, written-other}
@@ -56,18 +56,18 @@ listed = record {
 }
 
 -- one page or two are edited
-edits-one : (before : Pages) (p : ℕ) (bytes : List ℕ) (list : List ℕ) → Contains list p → EditsOnly list before (written before p bytes)
+edits-one : (before : Pages) (p : ℕ) (bytes : List ℕ) (list : List ℕ) → Contains list p → EditsOnly list before (with_bytes before p bytes)
 edits-one before p bytes list there = λ q. elim (eqb_tells q p) [
   | inl is ↦ inl (subst (λ (x : ℕ). Contains list x) (sym is.1) there)
   | inr differ ↦ inr (written-other before p q bytes differ.0, unmarked-other before p q bytes differ.0)
 ]
 
-edits-two : (before : Pages) (n p : ℕ) (bytes more : List ℕ) (list : List ℕ) → Contains list n → Contains list p → EditsOnly list before (written (written before n bytes) p more)
+edits-two : (before : Pages) (n p : ℕ) (bytes more : List ℕ) (list : List ℕ) → Contains list n → Contains list p → EditsOnly list before (with_bytes (with_bytes before n bytes) p more)
 edits-two before n p bytes more list one two = λ q. elim (eqb_tells q p) [
   | inl is ↦ inl (subst (λ (x : ℕ). Contains list x) (sym is.1) two)
   | inr differ ↦ elim (eqb_tells q n) [
     | inl is ↦ inl (subst (λ (x : ℕ). Contains list x) (sym is.1) one)
-    | inr apart ↦ inr (written-other (written before n bytes) p q more differ.0 ∙ written-other before n q bytes apart.0, unmarked-other (written before n bytes) p q more differ.0 ∙ unmarked-other before n q bytes apart.0)
+    | inr apart ↦ inr (written-other (with_bytes before n bytes) p q more differ.0 ∙ written-other before n q bytes apart.0, unmarked-other (with_bytes before n bytes) p q more differ.0 ∙ unmarked-other before n q bytes apart.0)
   ]
 ]
 
@@ -129,8 +129,8 @@ same-answer given answer e = ok_is (Ok given) given answer refl e
 -- A chain, and the page in which an entry belongs. Its other pages are the same under `base`.
 module _ (size root : ℕ) (entry : Found) (pages : Pages) (shape : List (List Found)) (held : List ℕ) (is : Lists size pages root shape held)
     (passed : List Met) (met : Met) (end : Ending (reaches entry) size pages root shape held passed met) where
-  page-writable : IsWritable met.held.entries
-  page-writable = (all-right IsWritable end.before (met.held.entries ∷ end.behind) (subst (λ (s : List (List Found)). AllByRecursion IsWritable s) end.shape_is is.is_shape.writable)).0
+  page-writable : AreWritable met.held.entries
+  page-writable = (all-right AreWritable end.before (met.held.entries ∷ end.behind) (subst (λ (s : List (List Found)). AllByRecursion AreWritable s) end.shape_is is.is_shape.writable)).0
 
   there-distinct : IsDistinct nat_eq (end.front ++ met.page ∷ end.back)
   there-distinct = subst (λ (l : List ℕ). IsDistinct nat_eq l) end.held_is is.distinct
@@ -144,61 +144,61 @@ module _ (size root : ℕ) (entry : Found) (pages : Pages) (shape : List (List F
   changed-is : (change : List Found → List (List Found)) → at_target entry change shape ≡ end.before ++ (change met.held.entries ++ end.behind)
   changed-is change = ap (at_target entry change) end.shape_is ∙ at_target-is entry change end.before met.held.entries end.behind (skips-all entry end.before end.skips) end.stops
 
-  opens-is : opens entry.value entry.number shape ≡ cond (have_room (inserted entry met.held.entries)) 0 1
+  opens-is : opens entry.value entry.number shape ≡ cond (have_room (entry_inserted entry met.held.entries)) 0 1
   opens-is =
       let low : Found = record { value = entry.value; number = entry.number; page = 0 } in
       let aim : target low shape ≡ met.held.entries = ap (target low) end.shape_is ∙ target-is low end.before met.held.entries end.behind (skips-all entry end.before end.skips) end.stops in
-      ap (λ (l : List Found). cond (have_room (inserted low l)) 0 1) aim ∙ ap (λ (b : Bool). cond b 0 1) (fits-any_page entry met.held.entries)
+      ap (λ (l : List Found). cond (have_room (entry_inserted low l)) 0 1) aim ∙ ap (λ (b : Bool). cond b 0 1) (fits-any_page entry met.held.entries)
 
   module _ (base : Pages) (same : AllByRecursion (λ (q : ℕ). base.at q ≡ pages.at q) held) where
     parted : AllByRecursion (λ (q : ℕ). base.at q ≡ pages.at q) (end.front ++ met.page ∷ end.back)
     parted = subst (λ (l : List ℕ). AllByRecursion (λ (q : ℕ). base.at q ≡ pages.at q) l) end.held_is same
 
-    stays : (bytes : List ℕ) (list : List ℕ) → AllByRecursion (λ (q : ℕ). base.at q ≡ pages.at q) list → AllByRecursion (λ (q : ℕ). eqb q met.page ≡ false) list → AllByRecursion (λ (q : ℕ). (written base met.page bytes).at q ≡ pages.at q) list
+    stays : (bytes : List ℕ) (list : List ℕ) → AllByRecursion (λ (q : ℕ). base.at q ≡ pages.at q) list → AllByRecursion (λ (q : ℕ). eqb q met.page ≡ false) list → AllByRecursion (λ (q : ℕ). (with_bytes base met.page bytes).at q ≡ pages.at q) list
     stays bytes list one two =
-        all-two (λ (q : ℕ). base.at q ≡ pages.at q) (λ (q : ℕ). eqb q met.page ≡ false) (λ (q : ℕ). (written base met.page bytes).at q ≡ pages.at q) list
+        all-two (λ (q : ℕ). base.at q ≡ pages.at q) (λ (q : ℕ). eqb q met.page ≡ false) (λ (q : ℕ). (with_bytes base met.page bytes).at q ≡ pages.at q) list
         (λ q e apart. written-other base met.page q bytes apart ∙ e) one two
 
     -- the way to the page, and the way on behind it, after the page is written
-    to-page : (bytes : List ℕ) → IsWay size (written base met.page bytes) root end.before end.front met.page
+    to-page : (bytes : List ℕ) → IsWay size (with_bytes base met.page bytes) root end.before end.front met.page
     to-page bytes =
-        leads-same size pages (written base met.page bytes) root end.before end.front met.page
+        leads-same size pages (with_bytes base met.page bytes) root end.before end.front met.page
         (stays bytes end.front (all-left (λ (q : ℕ). base.at q ≡ pages.at q) end.front (met.page ∷ end.back) parted) (apart-front end.front met.page end.back there-distinct)) end.to
 
-    behind-page : (bytes : List ℕ) → IsWay size (written base met.page bytes) met.held.link end.behind end.back 0
+    behind-page : (bytes : List ℕ) → IsWay size (with_bytes base met.page bytes) met.held.link end.behind end.back 0
     behind-page bytes =
-        leads-same size pages (written base met.page bytes) met.held.link end.behind end.back 0
+        leads-same size pages (with_bytes base met.page bytes) met.held.link end.behind end.back 0
         (stays bytes end.back (all-right (λ (q : ℕ). base.at q ≡ pages.at q) end.front (met.page ∷ end.back) parted).1 (apart-back end.front met.page end.back there-distinct)) end.on
 
     -- the chain after the page is written with these entries
-    relisted : (entries : List Found) → IsWritable entries → IsWay size (written base met.page (page_bytes (run_of met.held.link entries))) root (end.before ++ entries ∷ end.behind) (end.front ++ met.page ∷ end.back) 0
+    relisted : (entries : List Found) → AreWritable entries → IsWay size (with_bytes base met.page (page_bytes (run_of met.held.link entries))) root (end.before ++ entries ∷ end.behind) (end.front ++ met.page ∷ end.back) 0
     relisted entries writable =
         let bytes = page_bytes (run_of met.held.link entries) in
-        leads-join size (written base met.page bytes) root met.page 0 end.before (entries ∷ end.behind) end.front (met.page ∷ end.back) (to-page bytes)
+        leads-join size (with_bytes base met.page bytes) root met.page 0 end.before (entries ∷ end.behind) end.front (met.page ∷ end.back) (to-page bytes)
         (refl, met.held.link, at-own size base met.page (run_of met.held.link entries) end.at.low end.at.there narrow-link writable, behind-page bytes)
 
   -- the chain after the page is written with the first half of the entries, and a new page with the second
-  relisted-two : (base : Pages) (next : ℕ) (front back : List Found) → AllByRecursion (λ (q : ℕ). base.at q ≡ pages.at q) held → AllByRecursion (λ (q : ℕ). eqb q next ≡ false) held → 2 ≤ next → next < size → next < 2 ^ 32 → IsWritable front → IsWritable back → IsWay size (written (written base next (page_bytes (run_of met.held.link back))) met.page (page_bytes (run_of next front))) root (end.before ++ front ∷ back ∷ end.behind) (end.front ++ met.page ∷ next ∷ end.back) 0
+  relisted-two : (base : Pages) (next : ℕ) (front back : List Found) → AllByRecursion (λ (q : ℕ). base.at q ≡ pages.at q) held → AllByRecursion (λ (q : ℕ). eqb q next ≡ false) held → 2 ≤ next → next < size → next < 2 ^ 32 → AreWritable front → AreWritable back → IsWay size (with_bytes (with_bytes base next (page_bytes (run_of met.held.link back))) met.page (page_bytes (run_of next front))) root (end.before ++ front ∷ back ∷ end.behind) (end.front ++ met.page ∷ next ∷ end.back) 0
   relisted-two base next front back same apart low there small first second =
       let bytes = page_bytes (run_of met.held.link back) in
       let more = page_bytes (run_of next front) in
-      let mid : Pages = written base next bytes in
-      let kept : AllByRecursion (λ (q : ℕ). mid.at q ≡ pages.at q) held = all-two (λ (q : ℕ). base.at q ≡ pages.at q) (λ (q : ℕ). eqb q next ≡ false) (λ (q : ℕ). (written base next bytes).at q ≡ pages.at q) held (λ q e other. written-other base next q bytes other ∙ e) same apart in
+      let mid : Pages = with_bytes base next bytes in
+      let kept : AllByRecursion (λ (q : ℕ). mid.at q ≡ pages.at q) held = all-two (λ (q : ℕ). base.at q ≡ pages.at q) (λ (q : ℕ). eqb q next ≡ false) (λ (q : ℕ). (with_bytes base next bytes).at q ≡ pages.at q) held (λ q e other. written-other base next q bytes other ∙ e) same apart in
       let differ : eqb met.page next ≡ false = (all-right (λ (q : ℕ). eqb q next ≡ false) end.front (met.page ∷ end.back) (subst (λ (l : List ℕ). AllByRecursion (λ (q : ℕ). eqb q next ≡ false) l) end.held_is apart)).0 in
-      let behind : IsAt size (written mid met.page more) next (run_of met.held.link back) = at-other size mid next met.page more (run_of met.held.link back) (flip-false met.page next differ) (at-own size base next (run_of met.held.link back) low there narrow-link second) in
-      leads-join size (written mid met.page more) root met.page 0 end.before (front ∷ back ∷ end.behind) end.front (met.page ∷ next ∷ end.back) (to-page mid kept more)
+      let behind : IsIndexAt size (with_bytes mid met.page more) next (run_of met.held.link back) = at-other size mid next met.page more (run_of met.held.link back) (flip-false met.page next differ) (at-own size base next (run_of met.held.link back) low there narrow-link second) in
+      leads-join size (with_bytes mid met.page more) root met.page 0 end.before (front ∷ back ∷ end.behind) end.front (met.page ∷ next ∷ end.back) (to-page mid kept more)
       (refl, next, at-own size mid met.page (run_of next front) end.at.low end.at.there small first, (refl, met.held.link, behind, behind-page mid kept more))
 
   -- what adding does where the entries fit on the page
-  one-page : IsFound entry → AreOfKind (kind_of entry.value) (entries_of shape) → have_room (inserted entry met.held.entries) ≡ true → (answer : Unit {0} × Pages) → only (Ok (tt, written pages met.page (page_bytes (run_of met.held.link (inserted entry met.held.entries))))) (Ok answer) → Adds (λ after behind. Lists size after root (put entry shape) behind) size (opens entry.value entry.number shape) held pages (Ok answer)
+  one-page : IsFound entry → AreOfKind (kind_of entry.value) (entries_of shape) → have_room (entry_inserted entry met.held.entries) ≡ true → (answer : Unit {0} × Pages) → only (Ok (tt, with_bytes pages met.page (page_bytes (run_of met.held.link (entry_inserted entry met.held.entries))))) (Ok answer) → AddsFound (λ after behind. Lists size after root (put entry shape) behind) size (opens entry.value entry.number shape) held pages (Ok answer)
   one-page found kinds fit answer e =
-      let entries = inserted entry met.held.entries in
+      let entries = entry_inserted entry met.held.entries in
       let bytes = page_bytes (run_of met.held.link entries) in
-      let after : Pages = written pages met.page bytes in
+      let after : Pages = with_bytes pages met.page bytes in
       let same : after ≡ answer.1 = same-pages after answer e in
       let none : opens entry.value entry.number shape ≡ 0 = opens-is ∙ (rw fit refl) in
-      let put-is : put entry shape ≡ end.before ++ entries ∷ end.behind = changed-is (λ page. paged (inserted entry page)) ∙ (rw fit refl) in
-      let writable : IsWritable entries = record { lawful = inserted-all IsFound entry met.held.entries found page-writable.lawful; fits = leb-true (width entries) 1016 fit } in
+      let put-is : put entry shape ≡ end.before ++ entries ∷ end.behind = changed-is (λ page. paged (entry_inserted entry page)) ∙ (rw fit refl) in
+      let writable : AreWritable entries = record { lawful = inserted-all IsFound entry met.held.entries found page-writable.lawful; fits = leb-true (width entries) 1016 fit } in
       let leads : IsWay size after root (put entry shape) held 0 =
       subst (λ (s : List (List Found)). IsWay size after root s held 0) (sym put-is)
       (subst (λ (l : List ℕ). IsWay size after root (end.before ++ entries ∷ end.behind) l 0) (sym end.held_is) (relisted pages (all-same pages held) entries writable)) in
@@ -206,22 +206,22 @@ module _ (size root : ℕ) (entry : Found) (pages : Pages) (shape : List (List F
       let there : Contains held met.page = subst (λ (l : List ℕ). Contains l met.page) (sym end.held_is) (contains-middle end.front met.page end.back) in
       let edits : EditsOnly (held ++ []) pages after = edits-one pages met.page bytes (held ++ []) (subst (λ (l : List ℕ). Contains l met.page) (sym (append-nil held)) there) in
       let moves : IsPermutation (held ++ []) held = subst (λ (l : List ℕ). IsPermutation l held) (sym (append-nil held)) (IsPermutation-refl held) in
-      let all : Adds (λ after behind. Lists size after root (put entry shape) behind) size 0 held pages (Ok (tt, after)) = ([], pages, refl, edits, held, moves, lists) in
-      subst (λ (k : ℕ). Adds (λ after behind. Lists size after root (put entry shape) behind) size k held pages (Ok answer)) (sym none)
-      (subst (λ (p : Pages). Adds (λ after behind. Lists size after root (put entry shape) behind) size 0 held pages (Ok (tt, p))) same all)
+      let all : AddsFound (λ after behind. Lists size after root (put entry shape) behind) size 0 held pages (Ok (tt, after)) = ([], pages, refl, edits, held, moves, lists) in
+      subst (λ (k : ℕ). AddsFound (λ after behind. Lists size after root (put entry shape) behind) size k held pages (Ok answer)) (sym none)
+      (subst (λ (p : Pages). AddsFound (λ after behind. Lists size after root (put entry shape) behind) size 0 held pages (Ok (tt, p))) same all)
 
   -- and where they do not
-  two-pages : IsApart size pages held → IsFound entry → AreOfKind (kind_of entry.value) (entries_of shape) → have_room (inserted entry met.held.entries) ≡ false → (next : ℕ × Pages) → taken size pages ≡ Ok next → next.0 < 2 ^ 32 → (answer : Unit {0} × Pages) → only (Ok (tt, written (written next.1 next.0 (page_bytes (run_of met.held.link (drop (half (inserted entry met.held.entries)) (inserted entry met.held.entries))))) met.page (page_bytes (run_of next.0 (take (half (inserted entry met.held.entries)) (inserted entry met.held.entries)))))) (Ok answer) → Adds (λ after behind. Lists size after root (put entry shape) behind) size (opens entry.value entry.number shape) held pages (Ok answer)
+  two-pages : IsApart size pages held → IsFound entry → AreOfKind (kind_of entry.value) (entries_of shape) → have_room (entry_inserted entry met.held.entries) ≡ false → (next : ℕ × Pages) → taken size pages ≡ Ok next → next.0 < 2 ^ 32 → (answer : Unit {0} × Pages) → only (Ok (tt, with_bytes (with_bytes next.1 next.0 (page_bytes (run_of met.held.link (drop (half (entry_inserted entry met.held.entries)) (entry_inserted entry met.held.entries))))) met.page (page_bytes (run_of next.0 (take (half (entry_inserted entry met.held.entries)) (entry_inserted entry met.held.entries)))))) (Ok answer) → AddsFound (λ after behind. Lists size after root (put entry shape) behind) size (opens entry.value entry.number shape) held pages (Ok answer)
   two-pages apart found kinds full next took small answer e =
-      let entries = inserted entry met.held.entries in
+      let entries = entry_inserted entry met.held.entries in
       let first = take (half entries) entries in
       let second = drop (half entries) entries in
       let bytes = page_bytes (run_of met.held.link second) in
       let more = page_bytes (run_of next.0 first) in
-      let after : Pages = written (written next.1 next.0 bytes) met.page more in
+      let after : Pages = with_bytes (with_bytes next.1 next.0 bytes) met.page more in
       let same : after ≡ answer.1 = same-pages after answer e in
       let one : opens entry.value entry.number shape ≡ 1 = opens-is ∙ (rw full refl) in
-      let put-is : put entry shape ≡ end.before ++ first ∷ second ∷ end.behind = changed-is (λ page. paged (inserted entry page)) ∙ (rw full refl) in
+      let put-is : put entry shape ≡ end.before ++ first ∷ second ∷ end.behind = changed-is (λ page. paged (entry_inserted entry page)) ∙ (rw full refl) in
       let lawful : AllByRecursion IsFound entries = inserted-all IsFound entry met.held.entries found page-writable.lawful in
       let most = inserted-most entry met.held.entries found page-writable in
       let facts = taken-is size pages next.0 next.1 took in
@@ -246,20 +246,20 @@ module _ (size root : ℕ) (entry : Found) (pages : Pages) (shape : List (List F
       } in
       let there : Contains held met.page = subst (λ (l : List ℕ). Contains l met.page) (sym end.held_is) (contains-middle end.front met.page end.back) in
       let edits : EditsOnly list next.1 after = edits-two next.1 next.0 met.page bytes more list (contains-middle held next.0 []) (contains-front held (next.0 ∷ []) met.page there) in
-      let all : Adds (λ after behind. Lists size after root (put entry shape) behind) size 1 held pages (Ok (tt, after)) = (next.0 ∷ [], next.1, took-one, edits, behind, moves, lists) in
-      subst (λ (k : ℕ). Adds (λ after behind. Lists size after root (put entry shape) behind) size k held pages (Ok answer)) (sym one)
-      (subst (λ (p : Pages). Adds (λ after behind. Lists size after root (put entry shape) behind) size 1 held pages (Ok (tt, p))) same all)
+      let all : AddsFound (λ after behind. Lists size after root (put entry shape) behind) size 1 held pages (Ok (tt, after)) = (next.0 ∷ [], next.1, took-one, edits, behind, moves, lists) in
+      subst (λ (k : ℕ). AddsFound (λ after behind. Lists size after root (put entry shape) behind) size k held pages (Ok answer)) (sym one)
+      (subst (λ (p : Pages). AddsFound (λ after behind. Lists size after root (put entry shape) behind) size 1 held pages (Ok (tt, p))) same all)
 
   -- what adding answers
-  stored-adds : IsApart size pages held → IsFound entry → AreOfKind (kind_of entry.value) (entries_of shape) → (answer : Result (Unit {0} × Pages) Refusal) → stored size pages met.page met.held.link (inserted entry met.held.entries) answer → Adds (λ after behind. Lists size after root (put entry shape) behind) size (opens entry.value entry.number shape) held pages answer
-  stored-adds apart found kinds (Ok answer) h = step (have_room (inserted entry met.held.entries)) refl h
+  stored-adds : IsApart size pages held → IsFound entry → AreOfKind (kind_of entry.value) (entries_of shape) → (answer : Result (Unit {0} × Pages) Refusal) → stored size pages met.page met.held.link (entry_inserted entry met.held.entries) answer → AddsFound (λ after behind. Lists size after root (put entry shape) behind) size (opens entry.value entry.number shape) held pages answer
+  stored-adds apart found kinds (Ok answer) h = step (have_room (entry_inserted entry met.held.entries)) refl h
     where
-      step : (b : Bool) → have_room (inserted entry met.held.entries) ≡ b → either {A = Unit {0} × Pages} b (only (Ok (tt, written pages met.page (page_bytes (run_of met.held.link (inserted entry met.held.entries)))))) (taken_page size pages >>= λ next. only (Ok (tt, written (written next.1 next.0 (page_bytes (run_of met.held.link (drop (half (inserted entry met.held.entries)) (inserted entry met.held.entries))))) met.page (page_bytes (run_of next.0 (take (half (inserted entry met.held.entries)) (inserted entry met.held.entries))))))) (Ok answer) → Adds (λ after behind. Lists size after root (put entry shape) behind) size (opens entry.value entry.number shape) held pages (Ok answer)
+      step : (b : Bool) → have_room (entry_inserted entry met.held.entries) ≡ b → either {A = Unit {0} × Pages} b (only (Ok (tt, with_bytes pages met.page (page_bytes (run_of met.held.link (entry_inserted entry met.held.entries)))))) (taken_page size pages >>= λ next. only (Ok (tt, with_bytes (with_bytes next.1 next.0 (page_bytes (run_of met.held.link (drop (half (entry_inserted entry met.held.entries)) (entry_inserted entry met.held.entries))))) met.page (page_bytes (run_of next.0 (take (half (entry_inserted entry met.held.entries)) (entry_inserted entry met.held.entries))))))) (Ok answer) → AddsFound (λ after behind. Lists size after root (put entry shape) behind) size (opens entry.value entry.number shape) held pages (Ok answer)
       step true fit k = one-page found kinds fit answer k
       step false full k = two-pages apart found kinds full k.0 k.1.0 k.1.1 answer k.2
-  stored-adds apart found kinds (Err why) h = step (have_room (inserted entry met.held.entries)) refl h
+  stored-adds apart found kinds (Err why) h = step (have_room (entry_inserted entry met.held.entries)) refl h
     where
-      step : (b : Bool) → have_room (inserted entry met.held.entries) ≡ b → either {A = Unit {0} × Pages} b (only (Ok (tt, written pages met.page (page_bytes (run_of met.held.link (inserted entry met.held.entries)))))) (taken_page size pages >>= λ next. only (Ok (tt, written (written next.1 next.0 (page_bytes (run_of met.held.link (drop (half (inserted entry met.held.entries)) (inserted entry met.held.entries))))) met.page (page_bytes (run_of next.0 (take (half (inserted entry met.held.entries)) (inserted entry met.held.entries))))))) (Err why) → all_taken size (opens entry.value entry.number shape) pages ≡ Err why
+      step : (b : Bool) → have_room (entry_inserted entry met.held.entries) ≡ b → either {A = Unit {0} × Pages} b (only (Ok (tt, with_bytes pages met.page (page_bytes (run_of met.held.link (entry_inserted entry met.held.entries)))))) (taken_page size pages >>= λ next. only (Ok (tt, with_bytes (with_bytes next.1 next.0 (page_bytes (run_of met.held.link (drop (half (entry_inserted entry met.held.entries)) (entry_inserted entry met.held.entries))))) met.page (page_bytes (run_of next.0 (take (half (entry_inserted entry met.held.entries)) (entry_inserted entry met.held.entries))))))) (Err why) → all_taken size (opens entry.value entry.number shape) pages ≡ Err why
       step true fit k = no-refusal _ why k
       step false full (inl none) =
           let one : opens entry.value entry.number shape ≡ 1 = opens-is ∙ (rw full refl) in
@@ -268,46 +268,46 @@ module _ (size root : ℕ) (entry : Found) (pages : Pages) (shape : List (List F
       step false full (inr more) = no-refusal _ why more.2
 
   -- what taking out answers
-  taken-removes : (answer : Unit {0} × Pages) → only (Ok (tt, written pages met.page (page_bytes (run_of met.held.link (taken_out entry met.held.entries))))) (Ok answer) → Removes (λ after. Lists size after root (without entry shape) held) held pages (Ok answer)
+  taken-removes : (answer : Unit {0} × Pages) → only (Ok (tt, with_bytes pages met.page (page_bytes (run_of met.held.link (taken_out entry met.held.entries))))) (Ok answer) → RemovesFound (λ after. Lists size after root (without entry shape) held) held pages (Ok answer)
   taken-removes answer e =
       let entries = taken_out entry met.held.entries in
       let bytes = page_bytes (run_of met.held.link entries) in
-      let after : Pages = written pages met.page bytes in
+      let after : Pages = with_bytes pages met.page bytes in
       let same : after ≡ answer.1 = same-pages after answer e in
       let rest-is : without entry shape ≡ end.before ++ entries ∷ end.behind = changed-is (λ page. taken_out entry page ∷ []) in
-      let writable : IsWritable entries = record { lawful = taken_out-all IsFound entry met.held.entries page-writable.lawful; fits = omega (arith, taken_out-width entry met.held.entries, page-writable.fits) } in
+      let writable : AreWritable entries = record { lawful = taken_out-all IsFound entry met.held.entries page-writable.lawful; fits = omega (arith, taken_out-width entry met.held.entries, page-writable.fits) } in
       let leads : IsWay size after root (without entry shape) held 0 =
       subst (λ (s : List (List Found)). IsWay size after root s held 0) (sym rest-is)
       (subst (λ (l : List ℕ). IsWay size after root (end.before ++ entries ∷ end.behind) l 0) (sym end.held_is) (relisted pages (all-same pages held) entries writable)) in
       let lists : Lists size after root (without entry shape) held = record { narrow = is.narrow; is_shape = (shaped.of_without entry shape is.is_shape).0; leads = leads; distinct = is.distinct } in
       let there : Contains held met.page = subst (λ (l : List ℕ). Contains l met.page) (sym end.held_is) (contains-middle end.front met.page end.back) in
-      let all : Removes (λ after. Lists size after root (without entry shape) held) held pages (Ok (tt, after)) = (edits-one pages met.page bytes held there, lists) in
-      subst (λ (p : Pages). Removes (λ after. Lists size after root (without entry shape) held) held pages (Ok (tt, p))) same all
+      let all : RemovesFound (λ after. Lists size after root (without entry shape) held) held pages (Ok (tt, after)) = (edits-one pages met.page bytes held there, lists) in
+      subst (λ (p : Pages). RemovesFound (λ after. Lists size after root (without entry shape) held) held pages (Ok (tt, p))) same all
 
-makes : (size : ℕ) (pages : Pages) (answer : Result (ℕ × Pages) Refusal) → made size pages answer → Makes (λ size pages root shape held. Lists size pages root shape held) ([] ∷ []) size pages answer
+makes : (size : ℕ) (pages : Pages) (answer : Result (ℕ × Pages) Refusal) → made size pages answer → MakesIndex (λ size pages root shape held. Lists size pages root shape held) ([] ∷ []) size pages answer
 unfolding IsDistinct
 makes size pages (Ok answer) m =
     let next = m.0 in
     let bytes = page_bytes (run_of 0 []) in
-    let after : Pages = written next.1 next.0 bytes in
+    let after : Pages = with_bytes next.1 next.0 bytes in
     let given : ℕ × Pages = (next.0, after) in
     let same : given ≡ answer = same-answer given answer m.2 in
     let facts = taken-is size pages next.0 next.1 m.1.0 in
-    let empty : IsWritable [] = record { lawful = tt; fits = omega arith } in
+    let empty : AreWritable [] = record { lawful = tt; fits = omega arith } in
     let lists : Lists size after next.0 ([] ∷ []) (next.0 ∷ []) = record {
       narrow = (m.1.1, tt);
       is_shape = empty-shape;
       leads = (refl, 0, at-own size next.1 next.0 (run_of 0 []) facts.low facts.there (omega arith) empty, refl);
       distinct = (tt, tt);
     } in
-    let all : Makes (λ size pages root shape held. Lists size pages root shape held) ([] ∷ []) size pages (Ok given) = (next.1, m.1.0, edits-one next.1 next.0 bytes (next.0 ∷ []) (0, omega arith, refl), lists) in
-    subst (λ (a : ℕ × Pages). Makes (λ size pages root shape held. Lists size pages root shape held) ([] ∷ []) size pages (Ok a)) same all
+    let all : MakesIndex (λ size pages root shape held. Lists size pages root shape held) ([] ∷ []) size pages (Ok given) = (next.1, m.1.0, edits-one next.1 next.0 bytes (next.0 ∷ []) (0, omega arith, refl), lists) in
+    subst (λ (a : ℕ × Pages). MakesIndex (λ size pages root shape held. Lists size pages root shape held) ([] ∷ []) size pages (Ok a)) same all
 makes size pages (Err why) m = elim m [
   | inl none ↦ none.0
   | inr more ↦ no-refusal _ why more.2
 ]
 
-adds : (size root : ℕ) (entry : Found) (pages : Pages) (shape : List (List Found)) (held : List ℕ) (answer : Result (Unit {0} × Pages) Refusal) → Lists size pages root shape held → IsApart size pages held → IsFound entry → AreOfKind (kind_of entry.value) (entries_of shape) → added size root entry pages answer → Adds (λ after behind. Lists size after root (put entry shape) behind) size (opens entry.value entry.number shape) held pages answer
+adds : (size root : ℕ) (entry : Found) (pages : Pages) (shape : List (List Found)) (held : List ℕ) (answer : Result (Unit {0} × Pages) Refusal) → Lists size pages root shape held → IsApart size pages held → IsFound entry → AreOfKind (kind_of entry.value) (entries_of shape) → added size root entry pages answer → AddsFound (λ after behind. Lists size after root (put entry shape) behind) size (opens entry.value entry.number shape) held pages answer
 adds size root entry pages shape held (Ok answer) is apart found kinds h =
     let way = h.1.1 in
     let end = ending (reaches entry) (kind_of entry.value) size pages root shape held h.1.0 h.0 is.leads way.0 way.1 way.2 in
@@ -319,7 +319,7 @@ adds size root entry pages shape held (Err why) is apart found kinds (inr h) =
     let end = ending (reaches entry) (kind_of entry.value) size pages root shape held h.1.0 h.0 is.leads way.0 way.1 way.2 in
     stored-adds size root entry pages shape held is h.1.0 h.0 end apart found kinds (Err why) h.2
 
-removes : (size root : ℕ) (entry : Found) (pages : Pages) (shape : List (List Found)) (held : List ℕ) (answer : Result (Unit {0} × Pages) Refusal) → Lists size pages root shape held → AreOfKind (kind_of entry.value) (entries_of shape) → removed size root entry pages answer → Removes (λ after. Lists size after root (without entry shape) held) held pages answer
+removes : (size root : ℕ) (entry : Found) (pages : Pages) (shape : List (List Found)) (held : List ℕ) (answer : Result (Unit {0} × Pages) Refusal) → Lists size pages root shape held → AreOfKind (kind_of entry.value) (entries_of shape) → removed size root entry pages answer → RemovesFound (λ after. Lists size after root (without entry shape) held) held pages answer
 removes size root entry pages shape held (Ok answer) is kinds h =
     let way = h.1.1 in
     let end = ending (reaches entry) (kind_of entry.value) size pages root shape held h.1.0 h.0 is.leads way.0 way.1 way.2 in

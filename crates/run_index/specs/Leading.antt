@@ -9,8 +9,8 @@ use Rattle.values.specs.declared.value.Kind.{Kind}
 use Rattle.pager.specs.Index.{AreOfKind}
 use Rattle.pager.specs.Pages.{Pages}
 use Rattle.pager.specs.declared.index.Found.{Found}
-use Rattle.index_page.specs.IndexPage.{Holds}
-use Rattle.index_page.specs.Paging.{IsAt}
+use Rattle.index_page.specs.IndexPage.{HoldsIndex}
+use Rattle.index_page.specs.Paging.{IsIndexAt}
 use Rattle.index_page.specs.declared.page.Form.TheVariants as form
 use Rattle.index_page.specs.declared.page.IndexPage.{IndexPage}
 use Rattle.index_page.proofs.Packing.{holds_one}
@@ -20,12 +20,12 @@ use Rattle.run_index.specs.Shaping.{all-left, all-right}
 use Rattle.run_index.specs.Walk.{IsRun, Passes, is_end, walked}
 
 -- a page holds one thing
-pub at-one : (size : ℕ) (pages : Pages) (page : ℕ) (p q : IndexPage) → IsAt size pages page p → IsAt size pages page q → p ≡ q
+pub at-one : (size : ℕ) (pages : Pages) (page : ℕ) (p q : IndexPage) → IsIndexAt size pages page p → IsIndexAt size pages page q → p ≡ q
 at-one size pages page p q is also = holds_one (pages.at page) p q is.holds also.holds
 
 -- pages whose bytes are as before hold what they held
-pub at-same : (size : ℕ) (pages after : Pages) (page : ℕ) (held : IndexPage) → after.at page ≡ pages.at page → IsAt size pages page held → IsAt size after page held
-at-same size pages after page held same is = record { low = is.low; there = is.there; holds = subst (λ (bytes : List ℕ). Holds bytes held) (sym same) is.holds }
+pub at-same : (size : ℕ) (pages after : Pages) (page : ℕ) (held : IndexPage) → after.at page ≡ pages.at page → IsIndexAt size pages page held → IsIndexAt size after page held
+at-same size pages after page held same is = record { low = is.low; there = is.there; holds = subst (λ (bytes : List ℕ). HoldsIndex bytes held) (sym same) is.holds }
 
 pub leads-same : (size : ℕ) (pages after : Pages) (from : ℕ) (shape : List (List Found)) (held : List ℕ) (to : ℕ) → AllByRecursion (λ (page : ℕ). after.at page ≡ pages.at page) held → IsWay size pages from shape held to → IsWay size after from shape held to
 leads-same size pages after from [] [] to same leads = leads
@@ -68,7 +68,7 @@ leads-one size pages from (entries ∷ shape) [] (page ∷ held) [] one two =
     let low = one.2.low in absurd (omega (arith, two, one.0))
 leads-one size pages from (entries ∷ shape) (more ∷ other) (page ∷ held) (next ∷ others) one two =
     let same : page ≡ next = sym one.0 ∙ two.0 in
-    let there : IsAt size pages page (run_of two.1 more) = subst (λ (p : ℕ). IsAt size pages p (run_of two.1 more)) (sym same) two.2 in
+    let there : IsIndexAt size pages page (run_of two.1 more) = subst (λ (p : ℕ). IsIndexAt size pages p (run_of two.1 more)) (sym same) two.2 in
     let parts = same-entries one.1 two.1 entries more (at-one size pages page (run_of one.1 entries) (run_of two.1 more) one.2 there) in
     let rest = leads-one size pages one.1 shape other held others one.3 (subst (λ (l : ℕ). IsWay size pages l other others 0) (sym parts.0) two.3) in
     (cc (parts.1, rest.0), cc (same, rest.1))
@@ -93,7 +93,7 @@ pub record Ending (test : List Found → Bool) (size : ℕ) (pages : Pages) (fro
   pub held_is : held ≡ front ++ met.page ∷ back
   pub passed_is : map (λ (m : Met). m.held.entries) passed ≡ before
   pub to : IsWay size pages from before front met.page
-  pub at : IsAt size pages met.page (run_of met.held.link met.held.entries)
+  pub at : IsIndexAt size pages met.page (run_of met.held.link met.held.entries)
   pub on : IsWay size pages met.held.link behind back 0
   pub skips : AllByRecursion (λ (entries : List Found). test entries ≡ false) before
   pub stops : (behind ≡ []) ⊎ (test met.held.entries ≡ true)
@@ -116,7 +116,7 @@ ending test kind size pages from [] (page ∷ held) passed met leads way run end
 ending test kind size pages from (entries ∷ shape) [] passed met leads way run end = absurd leads
 ending test kind size pages from (entries ∷ shape) (page ∷ held) [] met leads way run end =
     let same : page ≡ met.page = sym leads.0 ∙ way in
-    let there : IsAt size pages met.page (run_of leads.1 entries) = subst (λ (p : ℕ). IsAt size pages p (run_of leads.1 entries)) same leads.2 in
+    let there : IsIndexAt size pages met.page (run_of leads.1 entries) = subst (λ (p : ℕ). IsIndexAt size pages p (run_of leads.1 entries)) same leads.2 in
     let is : run_of leads.1 entries ≡ met.held = at-one size pages met.page (run_of leads.1 entries) met.held there run.0.0 in
     let link : leads.1 ≡ met.held.link = ap (λ (p : IndexPage). p.link) is in
     let on : IsWay size pages met.held.link shape held 0 = subst (λ (l : ℕ). IsWay size pages l shape held 0) link leads.3 in
@@ -129,7 +129,7 @@ ending test kind size pages from (entries ∷ shape) (page ∷ held) [] met lead
       held_is = ap (λ (p : ℕ). p ∷ held) same;
       passed_is = refl;
       to = way;
-      at = subst (λ (p : IndexPage). IsAt size pages met.page p) (run-is met.held run.1) run.0.0;
+      at = subst (λ (p : IndexPage). IsIndexAt size pages met.page p) (run-is met.held run.1) run.0.0;
       on = on;
       skips = tt;
       stops = elim (or_cases (eqb met.held.link 0) (test met.held.entries) end) [
@@ -139,7 +139,7 @@ ending test kind size pages from (entries ∷ shape) (page ∷ held) [] met lead
     }
 ending test kind size pages from (entries ∷ shape) (page ∷ held) (m ∷ ms) met leads way run end =
     let same : page ≡ m.page = sym leads.0 ∙ way.0 in
-    let there : IsAt size pages m.page (run_of leads.1 entries) = subst (λ (p : ℕ). IsAt size pages p (run_of leads.1 entries)) same leads.2 in
+    let there : IsIndexAt size pages m.page (run_of leads.1 entries) = subst (λ (p : ℕ). IsIndexAt size pages p (run_of leads.1 entries)) same leads.2 in
     let is : run_of leads.1 entries ≡ m.held = at-one size pages m.page (run_of leads.1 entries) m.held there way.1.0.0 in
     let link : leads.1 ≡ m.held.link = ap (λ (p : IndexPage). p.link) is in
     let inner : entries ≡ m.held.entries = ap (λ (p : IndexPage). p.entries) is in
@@ -154,7 +154,7 @@ ending test kind size pages from (entries ∷ shape) (page ∷ held) (m ∷ ms) 
       shape_is = cc (inner, more.shape_is);
       held_is = cc (same, more.held_is);
       passed_is = ap (λ (l : List (List Found)). m.held.entries ∷ l) more.passed_is;
-      to = (way.0, m.held.link, subst (λ (p : IndexPage). IsAt size pages m.page p) (run-is m.held way.1.1) way.1.0.0, more.to);
+      to = (way.0, m.held.link, subst (λ (p : IndexPage). IsIndexAt size pages m.page p) (run-is m.held way.1.1) way.1.0.0, more.to);
       at = more.at;
       on = more.on;
       skips = (parts.1, more.skips);
@@ -167,11 +167,11 @@ goes-on test kind size pages from [] held passed to some leads kinds way = absur
 goes-on test kind size pages from (entries ∷ shape) [] passed to some leads kinds way = absurd leads
 goes-on test kind size pages from (entries ∷ shape) (page ∷ held) [] to some leads kinds way =
     let same : page ≡ to = sym leads.0 ∙ way in
-    let there : IsAt size pages to (run_of leads.1 entries) = subst (λ (p : ℕ). IsAt size pages p (run_of leads.1 entries)) same leads.2 in
+    let there : IsIndexAt size pages to (run_of leads.1 entries) = subst (λ (p : ℕ). IsIndexAt size pages p (run_of leads.1 entries)) same leads.2 in
     (omega arith, run_of leads.1 entries, ((there, all-left (λ (found : Found). kind_of found.value ≡ kind) entries (entries_of shape) kinds), refl))
 goes-on test kind size pages from (entries ∷ shape) (page ∷ held) (m ∷ ms) to some leads kinds way =
     let same : page ≡ m.page = sym leads.0 ∙ way.0 in
-    let there : IsAt size pages m.page (run_of leads.1 entries) = subst (λ (p : ℕ). IsAt size pages p (run_of leads.1 entries)) same leads.2 in
+    let there : IsIndexAt size pages m.page (run_of leads.1 entries) = subst (λ (p : ℕ). IsIndexAt size pages p (run_of leads.1 entries)) same leads.2 in
     let is : run_of leads.1 entries ≡ m.held = at-one size pages m.page (run_of leads.1 entries) m.held there way.1.0.0 in
     let link : leads.1 ≡ m.held.link = ap (λ (p : IndexPage). p.link) is in
     let parts = or_parts (eqb m.held.link 0) (test m.held.entries) way.2 in

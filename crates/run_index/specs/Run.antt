@@ -5,9 +5,9 @@ use Rattle.values.specs.declared.value.Value.{Value}
 use Rattle.pager.specs.Index.{IsInOrder}
 use Rattle.pager.specs.Pages.{Pages}
 use Rattle.pager.specs.declared.index.Found.{Found}
-use Rattle.index_page.specs.Entries.{inserted, reaches, taken_out}
-use Rattle.index_page.specs.IndexPage.{IsWritable, have_room, half}
-use Rattle.index_page.specs.Paging.{IsAt}
+use Rattle.index_page.specs.Entries.{entry_inserted, reaches, taken_out}
+use Rattle.index_page.specs.IndexPage.{AreWritable, have_room, half}
+use Rattle.index_page.specs.Paging.{IsIndexAt}
 use Rattle.index_page.specs.declared.page.Form.TheVariants as form
 use Rattle.index_page.specs.declared.page.IndexPage.{IndexPage}
 
@@ -19,7 +19,7 @@ entries_of shape = flat_map (λ (page : List Found). page) shape
 pub record IsShape (shape : List (List Found)) : Type 0 where
   pub some : 1 ≤ length shape
   pub in_order : IsInOrder (entries_of shape)
-  pub writable : AllByRecursion IsWritable shape
+  pub writable : AllByRecursion AreWritable shape
 
 -- the page in which an entry belongs: the first with an entry at or behind its place, or else the last
 abbrev pub target : Found → List (List Found) → List Found
@@ -39,7 +39,7 @@ paged entries =
 
 -- the pages with one more entry
 abbrev pub put : Found → List (List Found) → List (List Found)
-put entry = at_target entry (λ page. paged (inserted entry page))
+put entry = at_target entry (λ page. paged (entry_inserted entry page))
 
 -- the pages without one
 abbrev pub without : Found → List (List Found) → List (List Found)
@@ -49,7 +49,7 @@ without entry = at_target entry (λ page. taken_out entry page ∷ [])
 abbrev pub opens : Value → ℕ → List (List Found) → ℕ
 opens value number shape =
     let entry : Found = record { value = value; number = number; page = 0 } in
-    if have_room (inserted entry (target entry shape)) then 0 else 1
+    if have_room (entry_inserted entry (target entry shape)) then 0 else 1
 
 -- a page of a chain
 abbrev pub run_of : ℕ → List Found → IndexPage
@@ -61,7 +61,7 @@ IsWay size pages from [] [] to = from ≡ to
 IsWay size pages from [] (page ∷ held) to = ⊥
 IsWay size pages from (entries ∷ shape) [] to = ⊥
 IsWay size pages from (entries ∷ shape) (page ∷ held) to =
-    (from ≡ page) × (link : ℕ) × IsAt size pages page (run_of link entries) × IsWay size pages link shape held to
+    (from ≡ page) × (link : ℕ) × IsIndexAt size pages page (run_of link entries) × IsWay size pages link shape held to
 
 -- these pages are a chain that begins with the root page
 pub record Lists (size : ℕ) (pages : Pages) (root : ℕ) (shape : List (List Found)) (held : List ℕ) : Type 0 where

@@ -8,8 +8,8 @@ use Rattle.std.proofs.lemmas.List.Concat.{flat_map-append}
 use Rattle.std.proofs.lemmas.List.Elements.{All-drop, All-from_recursion, All-take, recursion_from_All}
 use Rattle.pager.specs.Index.{IsFound, IsInOrder, IsShaped, with_found, without_found}
 use Rattle.pager.specs.declared.index.Found.{Found}
-use Rattle.index_page.specs.Entries.{inserted, is_behind, reaches, taken_out}
-use Rattle.index_page.specs.IndexPage.{AreOneMore, IsWritable, have_room, half, width}
+use Rattle.index_page.specs.Entries.{entry_inserted, is_behind, reaches, taken_out}
+use Rattle.index_page.specs.IndexPage.{AreOneMore, AreWritable, have_room, half, width}
 use Rattle.index_page.proofs.Halving.{halves_fit}
 use Rattle.index_page.proofs.Ordered.{inserted-all, inserted-in_order, inserted-is, inserted-same, inserted-skip, inserted-stop, taken_out-all, taken_out-in_order, taken_out-is, taken_out-skip, taken_out-stop}
 use Rattle.index_page.proofs.Packing.{entry-short}
@@ -100,9 +100,9 @@ target-is entry (first ∷ before) page behind skips stops =
     (target-is entry before page behind (skips-right (is_behind entry) first (entries_of before) skips) stops)
 
 -- what is made of the entries of that page is made of all entries
-pub inserted-there : (entry : Found) (front page rest : List Found) → reaches entry front ≡ false → ((rest ≡ []) ⊎ (reaches entry page ≡ true)) → inserted entry (front ++ (page ++ rest)) ≡ front ++ (inserted entry page ++ rest)
+pub inserted-there : (entry : Found) (front page rest : List Found) → reaches entry front ≡ false → ((rest ≡ []) ⊎ (reaches entry page ≡ true)) → entry_inserted entry (front ++ (page ++ rest)) ≡ front ++ (entry_inserted entry page ++ rest)
 inserted-there entry front page rest skips (inl none) =
-    rw (none, append-nil page, append-nil (inserted entry page)) (inserted-skip entry front page skips)
+    rw (none, append-nil page, append-nil (entry_inserted entry page)) (inserted-skip entry front page skips)
 inserted-there entry front page rest skips (inr here) =
     inserted-skip entry front (page ++ rest) skips ∙ ap (λ (l : List Found). front ++ l) (inserted-stop entry page rest here)
 
@@ -124,36 +124,36 @@ entries-paged entries = step (have_room entries)
     step true = append-nil entries
     step false = ap (λ (l : List Found). take (half entries) entries ++ l) (append-nil (drop (half entries) entries)) ∙ take-append-drop (half entries) entries
 
-pub front-writable : (entries : List Found) → AllByRecursion IsFound entries → AreOneMore entries → IsWritable (take (half entries) entries)
+pub front-writable : (entries : List Found) → AllByRecursion IsFound entries → AreOneMore entries → AreWritable (take (half entries) entries)
 front-writable entries lawful most = record {
   lawful = recursion_from_All IsFound (take (half entries) entries) (All-take IsFound (half entries) entries (All-from_recursion IsFound entries lawful));
   fits = (halves_fit entries lawful most).0;
 }
 
-pub back-writable : (entries : List Found) → AllByRecursion IsFound entries → AreOneMore entries → IsWritable (drop (half entries) entries)
+pub back-writable : (entries : List Found) → AllByRecursion IsFound entries → AreOneMore entries → AreWritable (drop (half entries) entries)
 back-writable entries lawful most = record {
   lawful = recursion_from_All IsFound (drop (half entries) entries) (All-drop IsFound (half entries) entries (All-from_recursion IsFound entries lawful));
   fits = (halves_fit entries lawful most).1;
 }
 
-pub paged-writable : (entries : List Found) → AllByRecursion IsFound entries → AreOneMore entries → AllByRecursion IsWritable (paged entries)
+pub paged-writable : (entries : List Found) → AllByRecursion IsFound entries → AreOneMore entries → AllByRecursion AreWritable (paged entries)
 paged-writable entries lawful most = step (have_room entries) refl
   where
-    step : (b : Bool) → have_room entries ≡ b → AllByRecursion IsWritable (cond b (entries ∷ []) (take (half entries) entries ∷ drop (half entries) entries ∷ []))
+    step : (b : Bool) → have_room entries ≡ b → AllByRecursion AreWritable (cond b (entries ∷ []) (take (half entries) entries ∷ drop (half entries) entries ∷ []))
     step true e = (record { lawful = lawful; fits = leb-true (width entries) 1016 e }, tt)
     step false e = (front-writable entries lawful most, (back-writable entries lawful most, tt))
 
-pub inserted-most : (entry : Found) (page : List Found) → IsFound entry → IsWritable page → AreOneMore (inserted entry page)
+pub inserted-most : (entry : Found) (page : List Found) → IsFound entry → AreWritable page → AreOneMore (entry_inserted entry page)
 inserted-most entry page is writable = omega (arith, inserted-width entry page, entry-short entry is, writable.fits)
 
 -- pages with that page changed are pages again
-changed-shape : (before change behind : List (List Found)) (page : List Found) → IsShape (before ++ page ∷ behind) → AllByRecursion IsWritable change → 1 ≤ length change → IsInOrder (entries_of (before ++ (change ++ behind))) → IsShape (before ++ (change ++ behind))
+changed-shape : (before change behind : List (List Found)) (page : List Found) → IsShape (before ++ page ∷ behind) → AllByRecursion AreWritable change → 1 ≤ length change → IsInOrder (entries_of (before ++ (change ++ behind))) → IsShape (before ++ (change ++ behind))
 changed-shape before change behind page is writable some order = record {
   some = omega (arith, length-append before (change ++ behind), length-append change behind);
   in_order = order;
   writable =
-      let rest = all-right IsWritable before (page ∷ behind) is.writable in
-      all-join IsWritable before (change ++ behind) (all-left IsWritable before (page ∷ behind) is.writable) (all-join IsWritable change behind writable rest.1);
+      let rest = all-right AreWritable before (page ∷ behind) is.writable in
+      all-join AreWritable before (change ++ behind) (all-left AreWritable before (page ∷ behind) is.writable) (all-join AreWritable change behind writable rest.1);
 }
 
 paged-some : (entries : List Found) → 1 ≤ length (paged entries)
@@ -166,16 +166,16 @@ paged-some entries = step (have_room entries)
 put-in : (entry : Found) (shape : List (List Found)) → IsShape shape → IsFound entry → Target entry shape → IsShape (put entry shape) × (entries_of (put entry shape) ≡ with_found entry (entries_of shape))
 put-in entry shape is found t =
     let page = t.page in
-    let pages = paged (inserted entry page) in
-    let put-is : put entry shape ≡ t.before ++ (pages ++ t.behind) = ap (put entry) t.whole ∙ at_target-is entry (λ p. paged (inserted entry p)) t.before page t.behind t.skips t.stops in
+    let pages = paged (entry_inserted entry page) in
+    let put-is : put entry shape ≡ t.before ++ (pages ++ t.behind) = ap (put entry) t.whole ∙ at_target-is entry (λ p. paged (entry_inserted entry p)) t.before page t.behind t.skips t.stops in
     let here : IsShape (t.before ++ page ∷ t.behind) = subst IsShape t.whole is in
-    let writable : IsWritable page = (all-right IsWritable t.before (page ∷ t.behind) here.writable).0 in
-    let made : entries_of (t.before ++ (pages ++ t.behind)) ≡ inserted entry (entries_of (t.before ++ page ∷ t.behind)) =
-    entries-parts t.before pages t.behind ∙ ap (λ (l : List Found). entries_of t.before ++ (l ++ entries_of t.behind)) (entries-paged (inserted entry page)) ∙ sym (inserted-there entry (entries_of t.before) page (entries_of t.behind) t.skips (rest-stops entry page t.behind t.stops)) ∙ ap (inserted entry) (sym (entries-middle t.before page t.behind)) in
+    let writable : AreWritable page = (all-right AreWritable t.before (page ∷ t.behind) here.writable).0 in
+    let made : entries_of (t.before ++ (pages ++ t.behind)) ≡ entry_inserted entry (entries_of (t.before ++ page ∷ t.behind)) =
+    entries-parts t.before pages t.behind ∙ ap (λ (l : List Found). entries_of t.before ++ (l ++ entries_of t.behind)) (entries-paged (entry_inserted entry page)) ∙ sym (inserted-there entry (entries_of t.before) page (entries_of t.behind) t.skips (rest-stops entry page t.behind t.stops)) ∙ ap (entry_inserted entry) (sym (entries-middle t.before page t.behind)) in
     let order : IsInOrder (entries_of (t.before ++ (pages ++ t.behind))) = subst IsInOrder (sym made) (inserted-in_order entry (entries_of (t.before ++ page ∷ t.behind)) here.in_order) in
     let lawful = inserted-all IsFound entry page found writable.lawful in (
-      subst IsShape (sym put-is) (changed-shape t.before pages t.behind page here (paged-writable (inserted entry page) lawful (inserted-most entry page found writable)) (paged-some (inserted entry page)) order),
-      ap entries_of put-is ∙ made ∙ ap (λ (s : List (List Found)). inserted entry (entries_of s)) (sym t.whole) ∙ inserted-is entry (entries_of shape) is.in_order,
+      subst IsShape (sym put-is) (changed-shape t.before pages t.behind page here (paged-writable (entry_inserted entry page) lawful (inserted-most entry page found writable)) (paged-some (entry_inserted entry page)) order),
+      ap entries_of put-is ∙ made ∙ ap (λ (s : List (List Found)). entry_inserted entry (entries_of s)) (sym t.whole) ∙ inserted-is entry (entries_of shape) is.in_order,
     )
 
 without-in : (entry : Found) (shape : List (List Found)) → IsShape shape → Target entry shape → IsShape (without entry shape) × (entries_of (without entry shape) ≡ without_found entry (entries_of shape))
@@ -184,17 +184,17 @@ without-in entry shape is t =
     let pages : List (List Found) = taken_out entry page ∷ [] in
     let without-is : without entry shape ≡ t.before ++ (pages ++ t.behind) = ap (without entry) t.whole ∙ at_target-is entry (λ p. taken_out entry p ∷ []) t.before page t.behind t.skips t.stops in
     let here : IsShape (t.before ++ page ∷ t.behind) = subst IsShape t.whole is in
-    let writable : IsWritable page = (all-right IsWritable t.before (page ∷ t.behind) here.writable).0 in
+    let writable : AreWritable page = (all-right AreWritable t.before (page ∷ t.behind) here.writable).0 in
     let made : entries_of (t.before ++ (pages ++ t.behind)) ≡ taken_out entry (entries_of (t.before ++ page ∷ t.behind)) =
     entries-parts t.before pages t.behind ∙ ap (λ (l : List Found). entries_of t.before ++ (l ++ entries_of t.behind)) (append-nil (taken_out entry page)) ∙ sym (taken_out-there entry (entries_of t.before) page (entries_of t.behind) t.skips (rest-stops entry page t.behind t.stops)) ∙ ap (taken_out entry) (sym (entries-middle t.before page t.behind)) in
     let order : IsInOrder (entries_of (t.before ++ (pages ++ t.behind))) = subst IsInOrder (sym made) (taken_out-in_order entry (entries_of (t.before ++ page ∷ t.behind)) here.in_order) in
-    let one : IsWritable (taken_out entry page) = record { lawful = taken_out-all IsFound entry page writable.lawful; fits = omega (arith, taken_out-width entry page, writable.fits) } in (
+    let one : AreWritable (taken_out entry page) = record { lawful = taken_out-all IsFound entry page writable.lawful; fits = omega (arith, taken_out-width entry page, writable.fits) } in (
       subst IsShape (sym without-is) (changed-shape t.before pages t.behind page here (one, tt) (omega arith) order),
       ap entries_of without-is ∙ made ∙ ap (λ (s : List (List Found)). taken_out entry (entries_of s)) (sym t.whole) ∙ taken_out-is entry (entries_of shape) is.in_order,
     )
 
 -- whether the entries fit does not depend on the page of the one that is added
-pub fits-any_page : (entry : Found) (page : List Found) → have_room (inserted (record { value = entry.value; number = entry.number; page = 0 }) page) ≡ have_room (inserted entry page)
+pub fits-any_page : (entry : Found) (page : List Found) → have_room (entry_inserted (record { value = entry.value; number = entry.number; page = 0 }) page) ≡ have_room (entry_inserted entry page)
 fits-any_page entry page = ap (λ (n : ℕ). leb n 1016) (inserted-same_width entry 0 page)
 
 cancel-front : (front a b : List Found) → front ++ a ≡ front ++ b → a ≡ b
@@ -224,14 +224,14 @@ opens-none-in entry shape is there t =
     let front = entries_of t.before in
     let rest = entries_of t.behind in
     let here : IsShape (t.before ++ page ∷ t.behind) = subst IsShape t.whole is in
-    let writable : IsWritable page = (all-right IsWritable t.before (page ∷ t.behind) here.writable).0 in
+    let writable : AreWritable page = (all-right AreWritable t.before (page ∷ t.behind) here.writable).0 in
     let whole : entries_of shape ≡ front ++ (page ++ rest) = ap entries_of t.whole ∙ entries-middle t.before page t.behind in
-    let same : inserted entry (front ++ (page ++ rest)) ≡ front ++ (page ++ rest) = subst (λ (l : List Found). inserted entry l ≡ l) whole (inserted-same entry (entries_of shape) there.0 is.in_order there.1 there.2) in
-    let moved : front ++ (inserted entry page ++ rest) ≡ front ++ (page ++ rest) = sym (inserted-there entry front page rest t.skips (rest-stops entry page t.behind t.stops)) ∙ same in
-    let one : inserted entry page ≡ page = cancel-back (inserted entry page) page rest (cancel-front front (inserted entry page ++ rest) (page ++ rest) moved) in
+    let same : entry_inserted entry (front ++ (page ++ rest)) ≡ front ++ (page ++ rest) = subst (λ (l : List Found). entry_inserted entry l ≡ l) whole (inserted-same entry (entries_of shape) there.0 is.in_order there.1 there.2) in
+    let moved : front ++ (entry_inserted entry page ++ rest) ≡ front ++ (page ++ rest) = sym (inserted-there entry front page rest t.skips (rest-stops entry page t.behind t.stops)) ∙ same in
+    let one : entry_inserted entry page ≡ page = cancel-back (entry_inserted entry page) page rest (cancel-front front (entry_inserted entry page ++ rest) (page ++ rest) moved) in
     let low : target (record { value = entry.value; number = entry.number; page = 0 }) shape ≡ page = ap (target (record { value = entry.value; number = entry.number; page = 0 })) t.whole ∙ target-is (record { value = entry.value; number = entry.number; page = 0 }) t.before page t.behind t.skips t.stops in
-    let fit : have_room (inserted (record { value = entry.value; number = entry.number; page = 0 }) (target (record { value = entry.value; number = entry.number; page = 0 }) shape)) ≡ true =
-    ap (λ (l : List Found). have_room (inserted (record { value = entry.value; number = entry.number; page = 0 }) l)) low ∙ fits-any_page entry page ∙ ap have_room one ∙ le-leb (width page) 1016 writable.fits in
+    let fit : have_room (entry_inserted (record { value = entry.value; number = entry.number; page = 0 }) (target (record { value = entry.value; number = entry.number; page = 0 }) shape)) ≡ true =
+    ap (λ (l : List Found). have_room (entry_inserted (record { value = entry.value; number = entry.number; page = 0 }) l)) low ∙ fits-any_page entry page ∙ ap have_room one ∙ le-leb (width page) 1016 writable.fits in
     rw fit refl
 
 pub empty-shape : IsShape ([] ∷ [])

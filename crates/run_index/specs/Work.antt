@@ -6,10 +6,10 @@ use Rattle.values.specs.Value.{kind_of}
 use Rattle.values.specs.declared.value.Value.{Value}
 use Rattle.pager.specs.Allows.{◌>>=◌, only, either}
 use Rattle.pager.specs.Index.{between}
-use Rattle.pager.specs.Pages.{Pages, written}
+use Rattle.pager.specs.Pages.{Pages, with_bytes}
 use Rattle.pager.specs.Root.{taken}
 use Rattle.pager.specs.declared.index.Found.{Found}
-use Rattle.index_page.specs.Entries.{inserted, is_past, reaches, taken_out}
+use Rattle.index_page.specs.Entries.{entry_inserted, is_past, reaches, taken_out}
 use Rattle.index_page.specs.IndexPage.{have_room, half, page_bytes}
 use Rattle.run_index.specs.declared.walk.Met.{Met}
 use Rattle.run_index.specs.Run.{run_of}
@@ -23,20 +23,20 @@ taken_page size pages answer = (taken size pages ≡ answer) × IfOk answer (λ 
 abbrev pub made : ℕ → Pages → Result (ℕ × Pages) Refusal → Type 0
 made size pages = do
   next ← taken_page size pages
-  only (Ok (next.0, written next.1 next.0 (page_bytes (run_of 0 []))))
+  only (Ok (next.0, with_bytes next.1 next.0 (page_bytes (run_of 0 []))))
 
 -- entries go on the page that names that one where they fit, else the second half of them goes on a new page behind it
 abbrev pub stored : ℕ → Pages → ℕ → ℕ → List Found → Result (Unit {0} × Pages) Refusal → Type 0
 stored size pages page link entries =
     either (have_room entries)
-    (only (Ok (tt, written pages page (page_bytes (run_of link entries)))))
+    (only (Ok (tt, with_bytes pages page (page_bytes (run_of link entries)))))
     (do
       next ← taken_page size pages
       only
           (Ok (
             tt,
-            written
-                (written next.1 next.0 (page_bytes (run_of link (drop (half entries) entries))))
+            with_bytes
+                (with_bytes next.1 next.0 (page_bytes (run_of link (drop (half entries) entries))))
                 page (page_bytes (run_of next.0 (take (half entries) entries))),
           )))
 
@@ -44,13 +44,13 @@ stored size pages page link entries =
 abbrev pub added : ℕ → ℕ → Found → Pages → Result (Unit {0} × Pages) Refusal → Type 0
 added size root entry pages = do
   met ← met_at (reaches entry) (kind_of entry.value) size pages root
-  stored size pages met.page met.held.link (inserted entry met.held.entries)
+  stored size pages met.page met.held.link (entry_inserted entry met.held.entries)
 
 -- an entry is taken out of that page
 abbrev pub removed : ℕ → ℕ → Found → Pages → Result (Unit {0} × Pages) Refusal → Type 0
 removed size root entry pages = do
   met ← met_at (reaches entry) (kind_of entry.value) size pages root
-  only (Ok (tt, written pages met.page (page_bytes (run_of met.held.link (taken_out entry met.held.entries)))))
+  only (Ok (tt, with_bytes pages met.page (page_bytes (run_of met.held.link (taken_out entry met.held.entries)))))
 
 -- the entries between two values, from the first page to the one with an entry past them
 abbrev pub ranged : ℕ → ℕ → Value → Value → Pages → Result (List Found) Refusal → Type 0

@@ -5,7 +5,7 @@ ghost use Rattle.values.specs.Value.{kind_of};
 ghost use Rattle.pager.specs.Draft.{Reads};
 ghost use Rattle.pager.specs.Stop.{OnlyReads};
 ghost use Rattle.index_page.specs.Entries.{is_past, reaches};
-ghost use Rattle.index_page.specs.IndexPage.{IsWritable};
+ghost use Rattle.index_page.specs.IndexPage.{AreWritable};
 ghost use Rattle.run_index.specs.Walk.{is_end, met_at, run_page};
 ghost use Rattle.run_index.specs.Work.{ranged};
 
@@ -34,7 +34,7 @@ fn load_run<P: Pager>(
         (λ pages. run_page kind draft.now.size pages page) result }
     ensures only_reads { OnlyReads P.tells P.goes P.size P.faults pager.old pager.new result }
     ensures there { OnOk result (page < draft.now.size) }
-    ensures writable { IfOk result (λ held. IsWritable held.entries) }
+    ensures writable { IfOk result (λ held. AreWritable held.entries) }
 {
     let held = load(alloc, pager, draft, page, kind)?;
     if held.form != Form::Run {
@@ -71,7 +71,7 @@ pub fn find<P: Pager>(
         (λ pages. met_at (reaches entry.now) (kind_of entry.now.value) draft.now.size pages root) result }
     ensures only_reads { OnlyReads P.tells P.goes P.size P.faults pager.old pager.new result }
     ensures there { IfOk result (λ met. met.page < draft.now.size) }
-    ensures writable { IfOk result (λ met. IsWritable met.held.entries) }
+    ensures writable { IfOk result (λ met. AreWritable met.held.entries) }
 {
     let kind = entry.value.kind();
     let mut page = root;

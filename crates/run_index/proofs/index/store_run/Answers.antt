@@ -4,7 +4,7 @@ use Rattle.std.proofs.lemmas.Bool.{le-leb, lt-leb}
 use Rattle.std.proofs.lemmas.Result.{err_from_is_err_and}
 use Rattle.pager.specs.Draft.{drafted}
 use Rattle.pager.specs.Index.{IsFound}
-use Rattle.pager.specs.Pages.{Pages, written}
+use Rattle.pager.specs.Pages.{Pages, with_bytes}
 use Rattle.index_page.specs.IndexPage.{have_room, half, page_bytes, width}
 use Rattle.run_index.specs.Run.{run_of}
 use Rattle.run_index.specs.Shaping.{back-writable, front-writable}
@@ -41,9 +41,9 @@ returns-clause-stored g c = λ base shown told.
     let full : have_room entries ≡ false = lt-leb (width entries) 1016 (omega (arith, total)) in
     let next = c.in_ok-next.next in
     let after : Pages = drafted shown c.take.new.draft.list in
-    let behind : Pages = written after next (page_bytes (run_of c.args.link (drop (half entries) entries))) in
+    let behind : Pages = with_bytes after next (page_bytes (run_of c.args.link (drop (half entries) entries))) in
     let two : drafted shown c.store-2.new.draft.list ≡ behind =
-    c.in_ok-store-2.ensures.drafted shown ∙ ap (λ es. written after next (page_bytes (run_of c.args.link es))) c.in_ok-front.ensures.1 in
-    let three : drafted shown c.store-3.new.draft.list ≡ written behind c.args.page (page_bytes (run_of next (take (half entries) entries))) =
-    c.in_ok-store-3.ensures.drafted shown ∙ ap (λ es. written (drafted shown c.store-2.new.draft.list) c.args.page (page_bytes (run_of next es))) c.in_ok-front.ensures.0 ∙ ap (λ (p : Pages). written p c.args.page (page_bytes (run_of next (take (half entries) entries)))) two in
+    c.in_ok-store-2.ensures.drafted shown ∙ ap (λ es. with_bytes after next (page_bytes (run_of c.args.link es))) c.in_ok-front.ensures.1 in
+    let three : drafted shown c.store-3.new.draft.list ≡ with_bytes behind c.args.page (page_bytes (run_of next (take (half entries) entries))) =
+    c.in_ok-store-3.ensures.drafted shown ∙ ap (λ es. with_bytes (drafted shown c.store-2.new.draft.list) c.args.page (page_bytes (run_of next es))) c.in_ok-front.ensures.0 ∙ ap (λ (p : Pages). with_bytes p c.args.page (page_bytes (run_of next (take (half entries) entries)))) two in
     rw full ((next, after), (c.in_ok-next.ensures.taken base shown told, omega arith), ap (λ (p : Pages). Ok (tt, p)) (sym three))

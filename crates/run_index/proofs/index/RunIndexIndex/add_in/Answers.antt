@@ -1,7 +1,7 @@
 use Rattle.std.proofs.Common.{arith}
 use Rattle.pager.specs.Draft.{drafted}
 use Rattle.pager.specs.Index.{IsFound}
-use Rattle.index_page.specs.Entries.{inserted}
+use Rattle.index_page.specs.Entries.{entry_inserted}
 use Rattle.index_page.proofs.Ordered.{inserted-one}
 use Rattle.index_page.proofs.Packing.{width-least}
 use Rattle.index_page.proofs.Placing.{inserted-length}
@@ -28,6 +28,6 @@ returns-clause-added g c = λ base shown told.
     let met = c.in_ok-met.met in
     let entry = c.args.entry.now in
     let found = c.in_ok-met.ensures.met base shown (c.store_run.ensures.only_drafts.narrows base shown told) in
-    allowed_on (λ (u : Unit {0}). (u, drafted shown c.store_run.new.draft.list)) (stored size pages met.page met.held.link (inserted entry met.held.entries)) (added size c.args.self.now.root entry pages) c.store_run.result
+    allowed_on (λ (u : Unit {0}). (u, drafted shown c.store_run.new.draft.list)) (stored size pages met.page met.held.link (entry_inserted entry met.held.entries)) (added size c.args.self.now.root entry pages) c.store_run.result
     (added-there size c.args.self.now.root entry pages met found)
     (rw (c.in_ok-entries.ensures, c.in_ok-copy_of.ensures) at (c.store_run.ensures.stored base shown told))
