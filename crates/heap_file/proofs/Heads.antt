@@ -2,7 +2,7 @@
 use Rattle.std.proofs.Common.{◌≡◌, ◌≢◌, ◌<◌, ◌++◌, ◌∷◌, ◌∙◌, ℕ, List, [], Result, Ok, Err, true, false, eqb, inr, refl, sym, subst, ap, arith}
 use Rattle.std.proofs.lemmas.Bool.{eq-eqb, ne_eqb}
 use Rattle.retro_base.specs.declared.refusal.Refusal.{Refusal}
-use Rattle.pager.specs.Pages.{Pages, broken, written}
+use Rattle.pager.specs.Pages.{Pages, broken, with_bytes}
 use Rattle.pager.specs.Root.{next_page, root_bytes, root_in, taken}
 use Rattle.pager.specs.declared.root.Root.{Root}
 use Rattle.heap_file.specs.declared.page.HeapPage.{HeapPage}
@@ -15,7 +15,7 @@ use Rattle.heap_file.proofs.Packing.{written_holds}
 use Rattle.heap_file.proofs.Ways.{appended_long}
 
 -- a page that was written holds what was written
-pub at-own : (size : ℕ) (pages : Pages) (page : ℕ) (held : HeapPage) → 0 < page → page < size → IsNarrow held → IsHeapPage held → IsAt size (written pages page (page_bytes held)) page held
+pub at-own : (size : ℕ) (pages : Pages) (page : ℕ) (held : HeapPage) → 0 < page → page < size → IsNarrow held → IsHeapPage held → IsAt size (with_bytes pages page (page_bytes held)) page held
 at-own size pages page held some there narrow is = record {
   named = some;
   there = there;
@@ -23,7 +23,7 @@ at-own size pages page held some there narrow is = record {
 }
 
 -- another page holds what it held
-pub at-other : (size : ℕ) (pages : Pages) (page other : ℕ) (bytes : List ℕ) (held : HeapPage) → page ≢ other → IsAt size pages page held → IsAt size (written pages other bytes) page held
+pub at-other : (size : ℕ) (pages : Pages) (page other : ℕ) (bytes : List ℕ) (held : HeapPage) → page ≢ other → IsAt size pages page held → IsAt size (with_bytes pages other bytes) page held
 at-other size pages page other bytes held differ is = record {
   named = is.named;
   there = is.there;
@@ -43,8 +43,8 @@ at-taken size pages after next page held took is = from-root (root_in size pages
 
     step : (root : Root) → root_in size pages ≡ Ok root → (n : Result (ℕ × Root) Refusal) → next_page size pages root ≡ n → IsAt size after page held
     step root e (Ok found) f =
-        let same : after ≡ written pages 0 (root_bytes found.1) =
-        ap (λ (p : ℕ × Pages). p.1) (ok_is (taken size pages) (next, after) (found.0, written pages 0 (root_bytes found.1)) took (rw (e, f) refl)) in
+        let same : after ≡ with_bytes pages 0 (root_bytes found.1) =
+        ap (λ (p : ℕ × Pages). p.1) (ok_is (taken size pages) (next, after) (found.0, with_bytes pages 0 (root_bytes found.1)) took (rw (e, f) refl)) in
         subst (λ (p : Pages). IsAt size p page held) (sym same) (at-other size pages page 0 (root_bytes found.1) held zero-differs is)
     step root e (Err why) f =
         differ (next, after) why (sym took ∙ (rw (e, f) refl))
@@ -65,9 +65,9 @@ ended size pages first entry head tail why one last end is =
     inr (head, one, inr (tail, last, rw end (ap (λ (w : Refusal). Err w) (sym is))))
 
 -- an entry that fits in the last page
-pub fitted : (size : ℕ) (pages after : Pages) (first last : ℕ) (entry : Entry) (head tail : HeapPage) → last_page first head ≡ last → IsAt size pages first head → IsAt size pages last tail → eqb 0 tail.next ≡ true → have_room (tail.entries ++ entry ∷ []) ≡ true → after ≡ written pages last (page_bytes (record tail { entries = tail.entries ++ entry ∷ [] })) → appended size pages first entry (Ok (last, after))
+pub fitted : (size : ℕ) (pages after : Pages) (first last : ℕ) (entry : Entry) (head tail : HeapPage) → last_page first head ≡ last → IsAt size pages first head → IsAt size pages last tail → eqb 0 tail.next ≡ true → have_room (tail.entries ++ entry ∷ []) ≡ true → after ≡ with_bytes pages last (page_bytes (record tail { entries = tail.entries ++ entry ∷ [] })) → appended size pages first entry (Ok (last, after))
 fitted size pages after first last entry head tail named one at end room stored =
-    subst (λ (l : ℕ). IsAt size pages l tail → after ≡ written pages l (page_bytes (record tail { entries = tail.entries ++ entry ∷ [] })) → appended size pages first entry (Ok (l, after))) named
+    subst (λ (l : ℕ). IsAt size pages l tail → after ≡ with_bytes pages l (page_bytes (record tail { entries = tail.entries ++ entry ∷ [] })) → appended size pages first entry (Ok (l, after))) named
     (λ at stored. (head, one, (tail, at, rw (end, room) (ap (λ (p : Pages). Ok (last_page first head, p)) (sym stored)))))
     at stored
 

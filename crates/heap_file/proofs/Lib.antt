@@ -1,4 +1,5 @@
 pub mod Ones
+pub mod Positions
 pub mod Heads
 pub mod Packing
 pub mod Ways

@@ -16,7 +16,7 @@ use Rattle.row_codec.specs.RowCode.{row_code, value_code, encoded, IsEncoded, Is
 use Rattle.row_codec.proofs.Codes.{same_parts, one_row, row_size}
 use Rattle.heap_file.specs.declared.page.Entry.{Entry}
 use Rattle.heap_file.specs.declared.page.HeapPage.{HeapPage}
-use Rattle.heap_file.specs.HeapPage.{HaveRoom, entry_code, entry_bytes, IsEntry, IsShort, IsFirstEntry, Holds, HoldsOne, ZeroIsEmpty, WrittenHolds, IsHeapPage, page_bytes, header}
+use Rattle.heap_file.specs.HeapPage.{HaveRoom, entry_code, entry_bytes, IsEntry, IsShort, IsFirstEntry, HoldsRows, HoldsOne, ZeroIsEmpty, WrittenHolds, IsHeapPage, page_bytes, header}
 use Rattle.heap_file.specs.Work.{page_with, without}
 
 -- two bytes are the field of their number
@@ -262,7 +262,7 @@ one_entry entry is =
     }
 
 -- what the bytes of a page hold can be written
-pub held_fits : (bytes : List ℕ) (page : HeapPage) → length bytes ≡ 1024 → Holds bytes page → IsHeapPage page
+pub held_fits : (bytes : List ℕ) (page : HeapPage) → length bytes ≡ 1024 → HoldsRows bytes page → IsHeapPage page
 held_fits bytes page long is = record {
   lawful = is.lawful;
   fits = le-leb _ _ (omega (arith, ap length is.packed, length-drop 20 bytes, length-append (entry_bytes page.entries) is.behind));

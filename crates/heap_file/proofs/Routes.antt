@@ -1,21 +1,23 @@
 -- Routes along chains, while pages leave them.
+use Rattle.heap_file.proofs.Positions.{position-at, position-none}
+use Rattle.std.proofs.lemmas.Bool.{ne_eqb}
 use Rattle.std.proofs.Common.{◌≡◌, ◌≢◌, ◌∙◌, ◌<◌, ◌≤◌, ◌-◌, ◌++◌, ◌&&◌, not, eqb, ℕ, zero, suc, Bool, true, false, List, [], ◌∷◌, length, map, get_or, Option, Some, None, Result, Ok, Err, refl, sym, ap, subst, arith, inl, inr, eq-eqb}
 use Rattle.std.specs.Prelude.{IfSome, OnOk}
 use Rattle.std.specs.List.{AllByRecursion, remove}
 use Rattle.std.proofs.lemmas.Bool.Decides.{eqb_tells}
 use Rattle.std.proofs.lemmas.List.{get_or_default, length-append, length-map, map-append}
 use Rattle.retro_base.specs.declared.refusal.Refusal.{Refusal}
-use Rattle.pager.specs.Pages.{Pages, broken, written}
+use Rattle.pager.specs.Pages.{Pages, broken, with_bytes}
 use Rattle.pager.specs.Root.{free_bytes, freed, in_front, is_root, root_bytes, root_in}
 use Rattle.pager.specs.Stop.{Allowed}
 use Rattle.pager.specs.declared.root.Root.{Root}
 use Rattle.pager.specs.declared.stop.Stop.{Stop}
 use Rattle.heap_file.specs.declared.chain.Link.{Link}
 use Rattle.heap_file.specs.declared.page.HeapPage.{HeapPage}
-use Rattle.heap_file.specs.Chain.{IsAt, Leads, StandsIn, met}
+use Rattle.heap_file.specs.Chain.{IsAt, IsWay, StandsIn, met}
 use Rattle.heap_file.specs.HeapPage.{IsHeapPage, IsNarrow, page_bytes}
-use Rattle.heap_file.specs.Route.{IsPassed, IsRoute, NextStays, Passes, left}
-use Rattle.heap_file.specs.Work.{IsPlace, removed, without}
+use Rattle.heap_file.specs.Route.{IsPassed, IsRoute, NextStays, PassesOver, left}
+use Rattle.heap_file.specs.Work.{place_of, removed, without}
 use Rattle.heap_file.proofs.Heads.{at-other, at-own}
 use Rattle.heap_file.proofs.Ones.{differ}
 use Rattle.heap_file.proofs.Packing.{holds_one}
@@ -34,12 +36,12 @@ Way size pages from (n ∷ ns) to = (n ≡ from) × ((held : HeapPage) × IsAt s
 at-one : (size : ℕ) (pages : Pages) (page : ℕ) (p q : HeapPage) → IsAt size pages page p → IsAt size pages page q → p ≡ q
 at-one size pages page p q is also = holds_one (pages.at page) p q is.holds also.holds
 
-pub way-of : (size : ℕ) (pages : Pages) (from : ℕ) (links : List Link) (to : ℕ) → Leads size pages from links to → Way size pages from (numbers links) to
+pub way-of : (size : ℕ) (pages : Pages) (from : ℕ) (links : List Link) (to : ℕ) → IsWay size pages from links to → Way size pages from (numbers links) to
 way-of size pages from [] to leads = leads
 way-of size pages from (link ∷ links) to leads =
     (leads.0, (link.held, leads.1, way-of size pages link.held.next links to leads.2))
 
-pub way-links : (size : ℕ) (pages : Pages) (from : ℕ) (ns : List ℕ) (to : ℕ) → Way size pages from ns to → (links : List Link) × Leads size pages from links to × (ns ≡ numbers links)
+pub way-links : (size : ℕ) (pages : Pages) (from : ℕ) (ns : List ℕ) (to : ℕ) → Way size pages from ns to → (links : List Link) × IsWay size pages from links to × (ns ≡ numbers links)
 way-links size pages from [] to way = ([], way, refl)
 way-links size pages from (n ∷ ns) to way =
     let rest = way-links size pages way.1.0.next ns to way.1.2 in
@@ -142,7 +144,7 @@ route-stays size pages after first route stays is =
     (way-kept size pages after first route 0 (every (NextStays size pages after) route stays) (route-way size pages first route is))
 
 -- the route without a page that is passed over
-pub route-passed : (size : ℕ) (pages after : Pages) (first previous page next : ℕ) (held : HeapPage) (front behind : List ℕ) → IsRoute size pages first (front ++ previous ∷ page ∷ behind) → IsAt size pages page held → held.next ≡ next → Passes size pages after previous page next → IsRoute size after first (front ++ previous ∷ behind)
+pub route-passed : (size : ℕ) (pages after : Pages) (first previous page next : ℕ) (held : HeapPage) (front behind : List ℕ) → IsRoute size pages first (front ++ previous ∷ page ∷ behind) → IsAt size pages page held → held.next ≡ next → PassesOver size pages after previous page next → IsRoute size after first (front ++ previous ∷ behind)
 route-passed size pages after first previous page next held front behind is at names passes =
     let way = route-way size pages first (front ++ previous ∷ page ∷ behind) is in
     let split = way-split size pages first front (previous ∷ page ∷ behind) 0 way in
@@ -175,9 +177,10 @@ behind-some first (link ∷ links) (suc k) page lt is =
 
 -- a page that stands behind no other on the route is not in the chain
 pub off-route : (size : ℕ) (pages : Pages) (first : ℕ) (route : List ℕ) (page : ℕ) → page ≢ first → IsRoute size pages first route → IsPassed route page None → met size pages first page (Err (broken page))
-off-route size pages first route page apart is none = inr (is.0, is.1, refl, among is.0 is.1.2 is.2)
+off-route size pages first route page apart is none =
+    inr (is.0, is.1, refl, position-none (λ (link : Link). eqb link.page page) is.0 (λ k d lt. ne_eqb (get_or is.0 k d).page page (among is.0 is.1.2 is.2 k d lt)))
   where
-    among : (links : List Link) → Leads size pages first links 0 → route ≡ numbers links → (k : ℕ) (d : Link) → k < length links → (get_or links k d).page ≡ page → ⊥
+    among : (links : List Link) → IsWay size pages first links 0 → route ≡ numbers links → (k : ℕ) (d : Link) → k < length links → (get_or links k d).page ≡ page → ⊥
     among [] leads same k d lt e = absurd (omega arith)
     among (link ∷ links) leads same zero d lt e = apart (sym e ∙ leads.0)
     among (link ∷ links) leads same (suc k) d lt e =
@@ -254,9 +257,11 @@ on-route size pages first previous page front behind is =
     let less : suc (length parts.before) - 1 ≡ length parts.before = omega arith in
     let stands : StandsIn links page previous parts.here.held = record {
       place = suc (length parts.before);
-      there = omega (arith, length-append parts.before (parts.last ∷ parts.here ∷ parts.rest));
+      first = position-at (λ (link : Link). eqb link.page page) links (suc (length parts.before)) parts.here
+          (omega (arith, length-append parts.before (parts.last ∷ parts.here ∷ parts.rest)))
+          (eq-eqb (get_or links (suc (length parts.before)) parts.here).page page (ap (λ (l : Link). l.page) (at-here parts.before parts.last parts.here parts.rest parts.here) ∙ parts.here_is))
+          (λ k below. ne_eqb (get_or links k parts.here).page page (off-before page parts.before parts.last parts.here parts.rest off other k parts.here below));
       here = λ d. at-here parts.before parts.last parts.here parts.rest d ∙ link_is parts.here page parts.here_is;
-      first = off-before page parts.before parts.last parts.here parts.rest off other;
       behind = inr (omega arith, λ d. ap (λ (n : ℕ). (get_or links n d).page) less ∙ ap (λ (l : Link). l.page) (at-last parts.before parts.last parts.here parts.rest d) ∙ parts.last_is);
     } in
     (parts.here.held, (is.0, is.1, subst (λ (ls : List Link). StandsIn ls page previous parts.here.held) (sym parts.links_are) stands))
@@ -265,12 +270,12 @@ on-route size pages first previous page front behind is =
     link_is link page e = λ i. record { page = e i; held = link.held }
 
 -- a page that was written anew names the next page that it named
-pub next-written : (size : ℕ) (pages : Pages) (page : ℕ) (held now : HeapPage) → IsAt size pages page held → IsNarrow now → IsHeapPage now → now.next ≡ held.next → (other : ℕ) → NextStays size pages (written pages page (page_bytes now)) other
+pub next-written : (size : ℕ) (pages : Pages) (page : ℕ) (held now : HeapPage) → IsAt size pages page held → IsNarrow now → IsHeapPage now → now.next ≡ held.next → (other : ℕ) → NextStays size pages (with_bytes pages page (page_bytes now)) other
 next-written size pages page held now at narrow is same other = λ was at_other.
     elim (eqb_tells other page) [
       | inl here ↦
           let one : was ≡ held = at-one size pages page was held (subst (λ (p : ℕ). IsAt size pages p was) here.1 at_other) at in
-          (now, subst (λ (p : ℕ). IsAt size (written pages page (page_bytes now)) p now) (sym here.1) (at-own size pages page now at.named at.there narrow is), same ∙ ap (λ (h : HeapPage). h.next) (sym one))
+          (now, subst (λ (p : ℕ). IsAt size (with_bytes pages page (page_bytes now)) p now) (sym here.1) (at-own size pages page now at.named at.there narrow is), same ∙ ap (λ (h : HeapPage). h.next) (sym one))
       | inr apart ↦ (was, at-other size pages other page (page_bytes now) was apart.1 at_other, refl)
     ]
 
@@ -287,10 +292,10 @@ at-freed size pages after u page other held is apart at = from-root (root_in siz
 
     step : (root : Root) → root_in size pages ≡ Ok root → (b : Bool) → is_root size (in_front page root) ≡ b → IsAt size after other held
     step root e true f =
-        let same : after ≡ written (written pages page (free_bytes root.first_free)) 0 (root_bytes (in_front page root)) =
-        ap (λ (p : Unit {0} × Pages). p.1) (ok-is (freed size pages page) (u, after) (tt, written (written pages page (free_bytes root.first_free)) 0 (root_bytes (in_front page root))) is (rw (e, f) refl)) in
+        let same : after ≡ with_bytes (with_bytes pages page (free_bytes root.first_free)) 0 (root_bytes (in_front page root)) =
+        ap (λ (p : Unit {0} × Pages). p.1) (ok-is (freed size pages page) (u, after) (tt, with_bytes (with_bytes pages page (free_bytes root.first_free)) 0 (root_bytes (in_front page root))) is (rw (e, f) refl)) in
         subst (λ (p : Pages). IsAt size p other held) (sym same)
-        (at-other size (written pages page (free_bytes root.first_free)) other 0 (root_bytes (in_front page root)) held zero-differs
+        (at-other size (with_bytes pages page (free_bytes root.first_free)) other 0 (root_bytes (in_front page root)) held zero-differs
         (at-other size pages other page (free_bytes root.first_free) held apart at))
     step root e false f = differ (u, after) (broken page) (sym is ∙ rw (e, f) refl)
 
@@ -300,9 +305,9 @@ at-freed size pages after u page other held is apart at = from-root (root_in siz
 
 -- a page that was passed over, and freed
 pub passed-freed : {F : Type 0} (r : Result (Unit {0}) (Stop F)) (size : ℕ) (pages mid after : Pages) (first previous page next : ℕ) (before linked : HeapPage) → Allowed (λ u. (u, after)) (λ a. freed size mid page ≡ a) r → previous ≢ page → IsAt size pages previous before → linked.next ≡ next → IsNarrow linked → IsHeapPage linked
-    → ((other : ℕ) → NextStays size (written pages previous (page_bytes linked)) mid other) → OnOk r (Passes size pages after previous page next)
+    → ((other : ℕ) → NextStays size (with_bytes pages previous (page_bytes linked)) mid other) → OnOk r (PassesOver size pages after previous page next)
 passed-freed (Ok u) size pages mid after first previous page next before linked freed_is apart at names narrow is stays =
-    let linked_pages = written pages previous (page_bytes linked) in
+    let linked_pages = with_bytes pages previous (page_bytes linked) in
     let own = stays previous linked (at-own size pages previous linked at.named at.there narrow is) in
     record {
       named = (own.0, at-freed size mid after u page previous own.0 freed_is apart own.1, own.2 ∙ names);
@@ -354,11 +359,11 @@ numbers-push route links link is =
     ap (λ (l : List ℕ). l ++ link.page ∷ []) is ∙ sym (map-append (λ (l : Link). l.page) links (link ∷ []))
 
 -- the route that was walked to its end
-pub walked : (size : ℕ) (pages : Pages) (first page : ℕ) (held : HeapPage) (route : List ℕ) (links : List Link) → Leads size pages first links page → route ≡ numbers links → IsAt size pages page held → held.next ≡ 0 → length route < size → IsRoute size pages first (route ++ page ∷ [])
+pub walked : (size : ℕ) (pages : Pages) (first page : ℕ) (held : HeapPage) (route : List ℕ) (links : List Link) → IsWay size pages first links page → route ≡ numbers links → IsAt size pages page held → held.next ≡ 0 → length route < size → IsRoute size pages first (route ++ page ∷ [])
 walked size pages first page held route links leads is at end few =
     let one : Link = record { page = page; held = held } in
     let long : length route ≡ length links = ap (λ (l : List ℕ). length l) is ∙ length-map links (λ (link : Link). link.page) in
-    (links ++ one ∷ [], (omega (arith, length-append links (one ∷ [])), omega (arith, few, long, length-append links (one ∷ [])), subst (λ (to : ℕ). Leads size pages first (links ++ one ∷ []) to) end (leads-more size pages first page held links leads at)), numbers-push route links one is)
+    (links ++ one ∷ [], (omega (arith, length-append links (one ∷ [])), omega (arith, few, long, length-append links (one ∷ [])), subst (λ (to : ℕ). IsWay size pages first (links ++ one ∷ []) to) end (leads-more size pages first page held links leads at)), numbers-push route links one is)
 
 -- a page that leaves its chain is not the first
 pub leaving : (page first : ℕ) (b : Bool) → (not (eqb page first) && b) ≡ true → page ≢ first
@@ -368,7 +373,7 @@ leaving page first b h = λ e. clash (sym (ap (λ (t : Bool). not t && b) (eq-eq
     clash e = absurd cc
 
 -- a page that is then empty leaves its chain
-pub removed-left : (size : ℕ) (pages : Pages) (first page number place next : ℕ) (held : HeapPage) → IsAt size pages page held → IsPlace number held.entries (Some place) → held.next ≡ next → (not (eqb page first) && eqb (length (without held place).entries) 0) ≡ true
+pub removed-left : (size : ℕ) (pages : Pages) (first page number place next : ℕ) (held : HeapPage) → IsAt size pages page held → place_of number held.entries ≡ Some place → held.next ≡ next → (not (eqb page first) && eqb (length (without held place).entries) 0) ≡ true
     → (a : Result (Unit {0} × Pages) Refusal) → left size pages first page next a → removed size pages first page number a
 removed-left size pages first page number place next held at is names leaves a h =
     go a (subst (λ (n : ℕ). left size pages first page n a) (sym names) h)

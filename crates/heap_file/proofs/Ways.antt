@@ -1,8 +1,10 @@
 -- Ways along chains, and refusals that are handed on.
-use Rattle.std.proofs.Common.{◌≡◌, ◌≢◌, ◌&&◌, not, ◌<◌, ◌++◌, ℕ, zero, suc, true, false, List, [], ◌∷◌, length, get_or, Some, None, Result, Ok, Err, eqb, inl, inr, refl, sym, subst, arith}
+use Rattle.heap_file.proofs.Positions.{find-at, find-none}
+use Rattle.std.specs.Option.{option_map}
+use Rattle.std.proofs.Common.{◌≡◌, ◌≢◌, ◌&&◌, not, ◌<◌, ◌++◌, ℕ, zero, suc, true, false, List, [], ◌∷◌, length, get_or, Some, None, Result, Ok, Err, eqb, inl, inr, refl, sym, subst, arith, ap}
 use Rattle.std.proofs.lemmas.Bool.{lt-ltb, eq-eqb, ne_eqb}
 use Rattle.retro_base.specs.declared.refusal.Refusal.{Refusal}
-use Rattle.pager.specs.Pages.{Pages, written}
+use Rattle.pager.specs.Pages.{Pages, with_bytes}
 use Rattle.pager.specs.Root.{page_in, freed}
 use Rattle.pager.specs.Stop.{Allowed, AllowedStop}
 use Rattle.pager.specs.declared.stop.Stop.{Stop}
@@ -10,8 +12,8 @@ use Rattle.pager.specs.declared.stop.Stop.TheVariants as stop
 use Rattle.heap_file.specs.declared.page.HeapPage.{HeapPage}
 use Rattle.heap_file.specs.declared.chain.Link.{Link}
 use Rattle.heap_file.specs.declared.page.Entry.{Entry}
-use Rattle.heap_file.specs.Chain.{IsAt, Leads, GoesOn, last_page, met}
-use Rattle.heap_file.specs.Work.{appended, lengthened, row_of, renamed, unlinked, removed, changed, without, IsPlace}
+use Rattle.heap_file.specs.Chain.{IsAt, IsWay, IsOpenWay, last_page, met}
+use Rattle.heap_file.specs.Work.{appended, lengthened, row_numbered, renamed, unlinked, removed, changed, without, place_of}
 use Rattle.heap_file.specs.HeapPage.{have_room, page_bytes}
 
 -- a refusal that is handed on is allowed where it was
@@ -21,13 +23,13 @@ allowed_stop (stop.Refused why) go (inr allowed) = inr (go why allowed)
 allowed_stop (stop.Pager fault) go allowed = tt
 
 -- one page more on a way
-pub leads-more : (size : ℕ) (pages : Pages) (from page : ℕ) (held : HeapPage) (links : List Link) → Leads size pages from links page → IsAt size pages page held → Leads size pages from (links ++ record { page = page; held = held } ∷ []) held.next
+pub leads-more : (size : ℕ) (pages : Pages) (from page : ℕ) (held : HeapPage) (links : List Link) → IsWay size pages from links page → IsAt size pages page held → IsWay size pages from (links ++ record { page = page; held = held } ∷ []) held.next
 leads-more size pages from page held [] leads at = (sym leads, at, refl)
 leads-more size pages from page held (link ∷ links) leads at =
     (leads.0, leads.1, leads-more size pages link.held.next page held links leads.2 at)
 
 -- a way goes on where its last page names a next one
-pub goes_on : (links : List Link) (link : Link) (page : ℕ) → page ≢ 0 → GoesOn (links ++ link ∷ []) page
+pub goes_on : (links : List Link) (link : Link) (page : ℕ) → page ≢ 0 → IsOpenWay (links ++ link ∷ []) page
 goes_on [] link page named = named
 goes_on (first ∷ links) link page named = named
 
@@ -47,28 +49,21 @@ pub appended_long : (size : ℕ) (pages : Pages) (first : ℕ) (entry : Entry) (
 appended_long size pages first entry head tail one last end room (Ok y) h = (head, one, (tail, last, rw (end, room) h))
 appended_long size pages first entry head tail one last end room (Err why) h = inr (head, one, inr (tail, last, rw (end, room) h))
 
--- the row under the number that is found first
-pub row_of-found : (number : ℕ) (entries : List Entry) (i : ℕ) (d : Entry) → i < length entries → (get_or entries i d).number ≡ number → ((k : ℕ) → k < i → (get_or entries k d).number ≡ number → ⊥) → row_of number entries ≡ Some (get_or entries i d).row
-row_of-found number [] i d lt is before = absurd (omega arith)
-row_of-found number (entry ∷ entries) zero d lt is before = rw (eq-eqb entry.number number is) refl
-row_of-found number (entry ∷ entries) (suc i) d lt is before =
-    rw (ne_eqb entry.number number (λ e. before 0 (omega arith) e))
-    (row_of-found number entries i d (omega arith) is (λ k below. before (suc k) (omega arith)))
+-- the row at the place of a number
+pub row-placed : (number : ℕ) (entries : List Entry) (i : ℕ) (d : Entry) → place_of number entries ≡ Some i → row_numbered number entries ≡ Some (get_or entries i d).row
+row-placed number entries i d at = ap (option_map (λ (entry : Entry). entry.row)) (find-at (λ (entry : Entry). eqb entry.number number) entries i d at)
 
--- no row under a number that no entry has
-pub row_of-none : (number : ℕ) (entries : List Entry) → ((k : ℕ) (d : Entry) → k < length entries → (get_or entries k d).number ≡ number → ⊥) → row_of number entries ≡ None
-row_of-none number [] none = refl
-row_of-none number (entry ∷ entries) none =
-    rw (ne_eqb entry.number number (λ e. none 0 entry (omega arith) e))
-    (row_of-none number entries (λ k d below. none (suc k) d (omega arith)))
+-- no row under a number that has no place
+pub row-none : (number : ℕ) (entries : List Entry) → place_of number entries ≡ None → row_numbered number entries ≡ None
+row-none number entries none = ap (option_map (λ (entry : Entry). entry.row)) (find-none (λ (entry : Entry). eqb entry.number number) entries none)
 
 -- a page that is freed once its chain goes past it
-pub unlinked_end : (size : ℕ) (pages mid : Pages) (first previous page next : ℕ) (before : HeapPage) → IsAt size pages previous before → renamed size (written pages previous (page_bytes (record before { next = next }))) first previous next (Ok (tt, mid)) → (a : Result (Unit {0} × Pages) Refusal) → freed size mid page ≡ a → unlinked size pages first previous page next a
+pub unlinked_end : (size : ℕ) (pages mid : Pages) (first previous page next : ℕ) (before : HeapPage) → IsAt size pages previous before → renamed size (with_bytes pages previous (page_bytes (record before { next = next }))) first previous next (Ok (tt, mid)) → (a : Result (Unit {0} × Pages) Refusal) → freed size mid page ≡ a → unlinked size pages first previous page next a
 unlinked_end size pages mid first previous page next before at named (Ok y) e = (before, at, ((tt, mid), named, e))
 unlinked_end size pages mid first previous page next before at named (Err why) e = inr (before, at, inr ((tt, mid), named, e))
 
 -- a page that leaves its chain
-pub removed_out : (size : ℕ) (pages : Pages) (first page number previous place : ℕ) (held behind : HeapPage) → IsAt size pages page held → IsPlace number held.entries (Some place) → (not (eqb page first) && eqb (length (without held place).entries) 0) ≡ true → met size pages first page (Ok (previous, behind)) → (a : Result (Unit {0} × Pages) Refusal) → unlinked size pages first previous page held.next a → removed size pages first page number a
+pub removed_out : (size : ℕ) (pages : Pages) (first page number previous place : ℕ) (held behind : HeapPage) → IsAt size pages page held → place_of number held.entries ≡ Some place → (not (eqb page first) && eqb (length (without held place).entries) 0) ≡ true → met size pages first page (Ok (previous, behind)) → (a : Result (Unit {0} × Pages) Refusal) → unlinked size pages first previous page held.next a → removed size pages first page number a
 removed_out size pages first page number previous place held behind at is leaves found (Ok y) h = (held, at, (place, is, rw leaves ((previous, behind), found, h)))
 removed_out size pages first page number previous place held behind at is leaves found (Err why) h = inr (held, at, inr (place, is, rw leaves (inr ((previous, behind), found, h))))
 
@@ -78,7 +73,7 @@ renamed_at size width pages shown first last next a e f h =
     subst (λ (s : ℕ). renamed s pages first last next a) e (subst (λ (p : Pages). renamed width p first last next a) f h)
 
 -- a row that moves to the end of its chain
-pub changed_moved : (size : ℕ) (pages : Pages) (first page place : ℕ) (held : HeapPage) (entry : Entry) → IsAt size pages page held → IsPlace entry.number held.entries (Some place) → have_room ((without held place).entries ++ entry ∷ []) ≡ false → (a : Result (ℕ × Pages) Refusal) → appended size (written pages page (page_bytes (without held place))) first entry a → changed size pages first page entry a
+pub changed_moved : (size : ℕ) (pages : Pages) (first page place : ℕ) (held : HeapPage) (entry : Entry) → IsAt size pages page held → place_of entry.number held.entries ≡ Some place → have_room ((without held place).entries ++ entry ∷ []) ≡ false → (a : Result (ℕ × Pages) Refusal) → appended size (with_bytes pages page (page_bytes (without held place))) first entry a → changed size pages first page entry a
 changed_moved size pages first page place held entry at is room (Ok y) h = (held, at, (place, is, rw room h))
 changed_moved size pages first page place held entry at is room (Err why) h = inr (held, at, inr (place, is, rw room h))
 

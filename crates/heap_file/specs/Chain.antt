@@ -1,5 +1,5 @@
 -- The pages of a table: a chain of heap pages.
-use Rattle.std.specs.Prelude.{◌≡◌, ◌≢◌, ◌<◌, ◌≤◌, ◌⊎◌, ◌-◌, ◌==◌, ℕ, List, [], ◌∷◌, length, map, slice_index_or, Option, Some, None, Result, Ok, Err, if◌then◌else◌}
+use Rattle.std.specs.Prelude.{◌≡◌, ◌≢◌, ◌<◌, ◌≤◌, ◌⊎◌, ◌-◌, ◌==◌, ℕ, List, [], ◌∷◌, length, map, slice_index_or, Option, Some, None, Result, Ok, Err, if◌then◌else◌, position}
 use Rattle.std.specs.List.{flat_map}
 use Rattle.std.specs.List.Sorted.{IsPermutation, IsNonDecreasingBy}
 use Rattle.retro_base.specs.declared.refusal.Refusal.{Refusal}
@@ -8,13 +8,13 @@ use Rattle.heap_file.specs.declared.page.Entry.{Entry}
 use Rattle.heap_file.specs.declared.page.HeapPage.{HeapPage}
 use Rattle.heap_file.specs.declared.chain.Link.{Link}
 use Rattle.heap_file.specs.declared.chain.Placed.{Placed}
-use Rattle.heap_file.specs.HeapPage.{Holds, IsHeapPage}
+use Rattle.heap_file.specs.HeapPage.{HoldsRows, IsHeapPage}
 
 -- the page of that number is there, and holds this
 pub record IsAt (size : ℕ) (pages : Pages) (page : ℕ) (held : HeapPage) : Type 0 where
   pub named : 0 < page
   pub there : page < size
-  pub holds : Holds (pages.at page) held
+  pub holds : HoldsRows (pages.at page) held
 
 -- what a page holds; one that is not there, or whose bytes are no heap page's, is broken
 abbrev pub heap_page : ℕ → Pages → ℕ → Result HeapPage Refusal → Type 0
@@ -23,26 +23,26 @@ heap_page size pages page (Err why) = (why ≡ broken page) × ((held : HeapPage
 
 -- these are the pages that are met from that one on, each named by the one before, with what they hold, and the last
 -- names that one
-abbrev pub Leads : ℕ → Pages → ℕ → List Link → ℕ → Type 0
-Leads size pages from [] to = from ≡ to
-Leads size pages from (link ∷ links) to =
-    (link.page ≡ from) × IsAt size pages link.page link.held × Leads size pages link.held.next links to
+abbrev pub IsWay : ℕ → Pages → ℕ → List Link → ℕ → Type 0
+IsWay size pages from [] to = from ≡ to
+IsWay size pages from (link ∷ links) to =
+    (link.page ≡ from) × IsAt size pages link.page link.held × IsWay size pages link.held.next links to
 
 -- the way along a chain ends: after as many pages as the store has, or at a page that is broken
 abbrev pub Stops : ℕ → Pages → List Link → ℕ → Type 0
 Stops size pages links page = (length links ≡ size) ⊎ ((held : HeapPage) → IsAt size pages page held → ⊥)
 
 -- the way along a chain is still open: its first page is yet to be read, or the last page read names a next one
-abbrev pub GoesOn : List Link → ℕ → Type 0
-GoesOn [] page = Unit {0}
-GoesOn (link ∷ links) page = page ≢ 0
+abbrev pub IsOpenWay : List Link → ℕ → Type 0
+IsOpenWay [] page = Unit {0}
+IsOpenWay (link ∷ links) page = page ≢ 0
 
 -- The chain that begins with a page: each of its pages names the next, and the last names none. A chain with a broken
 -- page, or longer than the store, is none, and is told by the page where that shows.
 abbrev pub chain : ℕ → Pages → ℕ → Result (List Link) Refusal → Type 0
-chain size pages first (Ok links) = (1 ≤ length links) × (length links ≤ size) × Leads size pages first links 0
+chain size pages first (Ok links) = (1 ≤ length links) × (length links ≤ size) × IsWay size pages first links 0
 chain size pages first (Err why) =
-    (links : List Link) × (page : ℕ) × (why ≡ broken page) × Leads size pages first links page × GoesOn links page
+    (links : List Link) × (page : ℕ) × (why ≡ broken page) × IsWay size pages first links page × IsOpenWay links page
     × Stops size pages links page
 
 -- a page that was read can be written again
@@ -50,21 +50,24 @@ abbrev pub IsWritable : ℕ → Link → Type 0
 IsWritable size link = (link.page < size) × IsHeapPage link.held
 
 -- a page that is known holds this still
-abbrev pub IsKnown : ℕ → Pages → Option Link → Type 0
-IsKnown size pages None = Unit {0}
-IsKnown size pages (Some link) = IsAt size pages link.page link.held
+abbrev pub HoldsStill : ℕ → Pages → Option Link → Type 0
+HoldsStill size pages None = Unit {0}
+HoldsStill size pages (Some link) = IsAt size pages link.page link.held
 
 -- a page with what it holds; one that is not there, or whose bytes are no heap page's, is broken
 abbrev pub linked : ℕ → Pages → ℕ → Result Link Refusal → Type 0
 linked size pages page (Ok link) = (link.page ≡ page) × IsAt size pages link.page link.held
 linked size pages page (Err why) = heap_page size pages page (Err why)
 
+-- the place of the first link to a page, or none where no link is to it
+abbrev pub link_place : ℕ → List Link → Option ℕ
+link_place page links = position (λ (link : Link). link.page == page) links
+
 -- a page stands in a chain, behind the previous one (0 where it is the first), and holds this
 pub record StandsIn (links : List Link) (page previous : ℕ) (held : HeapPage) : Type 0 where
   pub place : ℕ
-  pub there : place < length links
+  pub first : link_place page links ≡ Some place
   pub here : (d : Link) → slice_index_or links place d ≡ record { page = page; held = held }
-  pub first : (k : ℕ) (d : Link) → k < place → (slice_index_or links k d).page ≡ page → ⊥
   pub behind : ((place ≡ 0) × (previous ≡ 0))
       ⊎ ((0 < place) × ((d : Link) → (slice_index_or links (place - 1) d).page ≡ previous))
 
@@ -75,8 +78,7 @@ met size pages first page (Ok found) = (links : List Link) × chain size pages f
 met size pages first page (Err why) =
     chain size pages first (Err why)
     ⊎
-    ((links : List Link) × chain size pages first (Ok links) × (why ≡ broken page)
-    × ((k : ℕ) (d : Link) → k < length links → (slice_index_or links k d).page ≡ page → ⊥))
+    ((links : List Link) × chain size pages first (Ok links) × (why ≡ broken page) × (link_place page links ≡ None))
 
 -- the entries of a page as rows of its table
 abbrev pub rows_on : Link → List Placed

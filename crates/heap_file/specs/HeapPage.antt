@@ -28,7 +28,7 @@ abbrev pub entry_bytes : List Entry → List ℕ
 entry_bytes entries = flat_map entry_code entries
 
 -- What the bytes of a page hold. A page of kind 0 was never written. What stands behind the entries is not read.
-pub record Holds (bytes : List ℕ) (page : HeapPage) : Type 0 where
+pub record HoldsRows (bytes : List ℕ) (page : HeapPage) : Type 0 where
   pub kind : slice_index bytes 0 ≤ 1
   pub count : number_at 2 bytes 2 ≡ length page.entries
   pub next : number_at 4 bytes 4 ≡ page.next
@@ -40,8 +40,8 @@ pub record Holds (bytes : List ℕ) (page : HeapPage) : Type 0 where
 
 -- what the bytes hold, or none where they are no heap page's
 abbrev pub IsHeld : List ℕ → Option HeapPage → Type 0
-IsHeld bytes None = (page : HeapPage) → Holds bytes page → ⊥
-IsHeld bytes (Some page) = Holds bytes page
+IsHeld bytes None = (page : HeapPage) → HoldsRows bytes page → ⊥
+IsHeld bytes (Some page) = HoldsRows bytes page
 
 -- the bytes of a page before its entries
 abbrev pub header : HeapPage → List ℕ
@@ -92,13 +92,13 @@ IsFirstEntry bytes (Some found) =
 
 -- bytes hold one thing alone
 abbrev pub HoldsOne : Type 0
-HoldsOne = (bytes : List ℕ) (p q : HeapPage) → Holds bytes p → Holds bytes q → p ≡ q
+HoldsOne = (bytes : List ℕ) (p q : HeapPage) → HoldsRows bytes p → HoldsRows bytes q → p ≡ q
 
 -- a page that was never written is an empty heap page
 abbrev pub ZeroIsEmpty : Type 0
-ZeroIsEmpty = Holds (replicate 1024 0) empty_page
+ZeroIsEmpty = HoldsRows (replicate 1024 0) empty_page
 
 -- a page that was written holds what was written
 abbrev pub WrittenHolds : Type 0
 WrittenHolds = (page : HeapPage) → page.next < 2 ^ 32 → page.next_number < 2 ^ 64 → page.last < 2 ^ 32 → IsHeapPage page
-    → Holds (page_bytes page) page
+    → HoldsRows (page_bytes page) page

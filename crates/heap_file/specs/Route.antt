@@ -6,7 +6,7 @@ use Rattle.pager.specs.Pages.{Pages}
 use Rattle.heap_file.specs.declared.chain.Link.{Link}
 use Rattle.heap_file.specs.declared.page.HeapPage.{HeapPage}
 use Rattle.heap_file.specs.declared.removing.Cursor.{Cursor}
-use Rattle.heap_file.specs.Chain.{IsAt, IsKnown, chain, met}
+use Rattle.heap_file.specs.Chain.{IsAt, HoldsStill, chain, met}
 use Rattle.heap_file.specs.Work.{unlinked}
 
 -- these are the numbers of the pages of the chain that begins with a page, in order
@@ -32,7 +32,7 @@ NextStays size pages after page = (held : HeapPage) → IsAt size pages page hel
     → (now : HeapPage) × IsAt size after page now × (now.next ≡ held.next)
 
 -- a page is passed over: the previous page names the next one, and every other page the one that it named
-pub record Passes (size : ℕ) (pages after : Pages) (previous page next : ℕ) : Type 0 where
+pub record PassesOver (size : ℕ) (pages after : Pages) (previous page next : ℕ) : Type 0 where
   pub named : (now : HeapPage) × IsAt size after previous now × (now.next ≡ next)
   pub others : (other : ℕ) → other ≢ previous → other ≢ page → NextStays size pages after other
 
@@ -50,7 +50,7 @@ with_route size first allows (Err why) = allows (Err why)
 -- what a cursor keeps of a table's pages holds
 abbrev pub IsCursor : ℕ → Pages → ℕ → Cursor → Type 0
 IsCursor size pages first cursor =
-    IsKnown size pages cursor.page × IfSome cursor.route (IsRoute size pages first)
+    HoldsStill size pages cursor.page × IfSome cursor.route (IsRoute size pages first)
 
 -- the answer of a step that edits, with the cursor after it
 abbrev pub with_cursor : ℕ → ℕ → (Result (Unit {0} × Pages) Refusal → Type 0) → Result (Cursor × Pages) Refusal → Type 0

@@ -1,22 +1,23 @@
 -- What the calls do to the pages, page by page.
-use Rattle.std.specs.Prelude.{◌≡◌, ◌<◌, ◌+◌, ◌-◌, ◌^◌, ◌++◌, ◌==◌, ◌&&◌, not, ℕ, Bool, List, [], ◌∷◌, length, Option, Some, None, Result, Ok, Err, nat_le, slice_index_or, if◌then◌else◌}
-use Rattle.std.specs.List.{remove, insert}
+use Rattle.std.specs.Option.{option_map}
+use Rattle.std.specs.Prelude.{◌≡◌, ◌<◌, ◌+◌, ◌-◌, ◌^◌, ◌++◌, ◌==◌, ◌&&◌, not, ℕ, Bool, List, [], ◌∷◌, length, Option, Some, None, Result, Ok, Err, nat_le, slice_index_or, if◌then◌else◌, position}
+use Rattle.std.specs.List.{remove, insert, find}
 use Rattle.retro_base.specs.declared.refusal.Refusal.{Refusal}
 use Rattle.values.specs.declared.value.Value.{Value}
-use Rattle.pager.specs.Pages.{Pages, written, broken}
+use Rattle.pager.specs.Pages.{Pages, with_bytes, broken}
 use Rattle.pager.specs.Root.{taken, freed}
 use Rattle.heap_file.specs.declared.page.Entry.{Entry}
 use Rattle.heap_file.specs.declared.page.HeapPage.{HeapPage}
 use Rattle.pager.specs.Allows.{◌>>=◌, only, either}
 use Rattle.heap_file.specs.declared.chain.Link.{Link}
-use Rattle.heap_file.specs.Chain.{IsAt, IsKnown, heap_page, last_page, met}
+use Rattle.heap_file.specs.Chain.{IsAt, HoldsStill, heap_page, last_page, met}
 use Rattle.heap_file.specs.HeapPage.{empty_page, have_room, page_bytes}
 
 -- a page is taken for a table without rows
 abbrev pub made : ℕ → Pages → Result (ℕ × Pages) Refusal → Type 0
 made size pages = do
   next ← only (taken size pages)
-  only (Ok (next.0, written next.1 next.0 (page_bytes empty_page)))
+  only (Ok (next.0, with_bytes next.1 next.0 (page_bytes empty_page)))
 
 -- the next row number of a table
 abbrev pub next_of : ℕ → Pages → ℕ → Result ℕ Refusal → Type 0
@@ -25,23 +26,19 @@ next_of size pages first = do
   only (Ok head.next_number)
 
 -- the place of the first entry of that number, or none where no entry has it
-abbrev pub IsPlace : ℕ → List Entry → Option ℕ → Type 0
-IsPlace number entries None = (k : ℕ) (d : Entry) → k < length entries → (slice_index_or entries k d).number ≡ number
-    → ⊥
-IsPlace number entries (Some i) =
-    (i < length entries) × ((d : Entry) → (slice_index_or entries i d).number ≡ number)
-    × ((k : ℕ) (d : Entry) → k < i → (slice_index_or entries k d).number ≡ number → ⊥)
+abbrev pub place_of : ℕ → List Entry → Option ℕ
+place_of number entries = position (λ (entry : Entry). entry.number == number) entries
 
 -- the row of that number among entries
-abbrev pub row_of : ℕ → List Entry → Option (List Value)
-row_of number [] = None
-row_of number (entry ∷ entries) = if entry.number == number then Some entry.row else row_of number entries
+abbrev pub row_numbered : ℕ → List Entry → Option (List Value)
+row_numbered number entries =
+    option_map (λ (entry : Entry). entry.row) (find (λ (entry : Entry). entry.number == number) entries)
 
 -- the row of that number on a page
 abbrev pub got : ℕ → Pages → ℕ → ℕ → Result (Option (List Value)) Refusal → Type 0
 got size pages page number = do
   held ← heap_page size pages page
-  only (Ok (row_of number held.entries))
+  only (Ok (row_numbered number held.entries))
 
 -- a page with one entry, the last of its chain
 abbrev pub page_with : Entry → HeapPage
@@ -51,10 +48,10 @@ page_with entry = record { next = 0; next_number = 0; last = 0; entries = entry 
 abbrev pub lengthened : ℕ → Pages → ℕ → ℕ → HeapPage → Entry → Result (ℕ × Pages) Refusal → Type 0
 lengthened size pages first last tail entry = do
   next ← only (taken size pages)
-  let linked = written (written next.1 next.0 (page_bytes (page_with entry))) last
+  let linked = with_bytes (with_bytes next.1 next.0 (page_bytes (page_with entry))) last
       (page_bytes (record tail { next = next.0 }))
   head ← heap_page size linked first
-  only (Ok (next.0, written linked first (page_bytes (record head { last = next.0 }))))
+  only (Ok (next.0, with_bytes linked first (page_bytes (record head { last = next.0 }))))
 
 -- the answer of a step on a chain whose first page holds this, with what the first page holds after it
 abbrev pub with_head : ℕ → ℕ → (Result (ℕ × Pages) Refusal → Type 0) → Result ((ℕ × HeapPage) × Pages) Refusal → Type 0
@@ -74,7 +71,7 @@ appended size pages first entry = do
   tail ← heap_page size pages last
   either (0 == tail.next)
       (either (have_room (tail.entries ++ entry ∷ []))
-      (only (Ok (last, written pages last (page_bytes (record tail { entries = tail.entries ++ entry ∷ [] })))))
+      (only (Ok (last, with_bytes pages last (page_bytes (record tail { entries = tail.entries ++ entry ∷ [] })))))
       (lengthened size pages first last tail entry))
       (only (Err (broken last)))
 
@@ -90,14 +87,14 @@ added size pages first row = do
         only
             (Ok (
               (head.next_number, placed.0),
-              written placed.1 first
+              with_bytes placed.1 first
                   (page_bytes (record after { next_number = head.next_number + 1 })),
             )))
 
 -- the place of a row on a page; a page that has no row of that number is broken
 abbrev pub place_in : ℕ → ℕ → List Entry → Result ℕ Refusal → Type 0
-place_in page number entries (Ok place) = IsPlace number entries (Some place)
-place_in page number entries (Err why) = (why ≡ broken page) × IsPlace number entries None
+place_in page number entries (Ok place) = place_of number entries ≡ Some place
+place_in page number entries (Err why) = (why ≡ broken page) × (place_of number entries ≡ None)
 
 -- a page without the entry at that place
 abbrev pub without : HeapPage → ℕ → HeapPage
@@ -113,14 +110,14 @@ renamed size pages first last next =
     either (next == 0)
     (do
       head ← heap_page size pages first
-      only (Ok (tt, written pages first (page_bytes (record head { last = last_field first last })))))
+      only (Ok (tt, with_bytes pages first (page_bytes (record head { last = last_field first last })))))
     (only (Ok (tt, pages)))
 
 -- a page is taken out of its chain, and freed: the previous page names the next one
 abbrev pub unlinked : ℕ → Pages → ℕ → ℕ → ℕ → ℕ → Result (Unit {0} × Pages) Refusal → Type 0
 unlinked size pages first previous page next = do
   before ← heap_page size pages previous
-  named ← renamed size (written pages previous (page_bytes (record before { next = next }))) first previous next
+  named ← renamed size (with_bytes pages previous (page_bytes (record before { next = next }))) first previous next
   only (freed size named.1 page)
 
 -- a row is taken out of its page; a page that is then empty is taken out of the chain, unless it is the first
@@ -133,11 +130,11 @@ removed size pages first page number = do
       (do
         found ← met size pages first page
         unlinked size pages first found.0 page rest.next)
-      (only (Ok (tt, written pages page (page_bytes rest))))
+      (only (Ok (tt, with_bytes pages page (page_bytes rest))))
 
 -- the answer of a step on a page that holds this, with what is known of the page after it
 abbrev pub with_known : ℕ → (Result (ℕ × Pages) Refusal → Type 0) → Result ((ℕ × Option Link) × Pages) Refusal → Type 0
-with_known size allows (Ok answer) = allows (Ok (answer.0.0, answer.1)) × IsKnown size answer.1 answer.0.1
+with_known size allows (Ok answer) = allows (Ok (answer.0.0, answer.1)) × HoldsStill size answer.1 answer.0.1
 with_known size allows (Err why) = allows (Err why)
 
 abbrev pub on_link : ℕ → Pages → Link → (Result (ℕ × Pages) Refusal → Type 0)
@@ -152,5 +149,5 @@ changed size pages first page entry = do
   place ← place_in page entry.number held.entries
   let rest = without held place
   either (have_room (rest.entries ++ entry ∷ []))
-      (only (Ok (page, written pages page (page_bytes (record rest { entries = insert rest.entries place entry })))))
-      (appended size (written pages page (page_bytes rest)) first entry)
+      (only (Ok (page, with_bytes pages page (page_bytes (record rest { entries = insert rest.entries place entry })))))
+      (appended size (with_bytes pages page (page_bytes rest)) first entry)

@@ -1,14 +1,11 @@
 //! A row at the end of a table, drafted.
 
-ghost use Rattle.std.specs.Prelude.{◌≡◌, ◌≢◌, ◌≤◌, ◌<◌, ◌^◌, ◌==◌, ◌&&◌, ◌++◌, ◌∷◌, [], not, IsTrue, IfErr, IfOk, IfSome, OnOk, length};
-ghost use Rattle.retro_base.specs.declared.refusal.Refusal.TheVariants.{OutOfMemory};
-ghost use Rattle.pager.specs.Draft.{drafted, Drafts, Reads};
-ghost use Rattle.pager.specs.Pages.{Pages, written};
-ghost use Rattle.pager.specs.Stop.{OnlyDrafts, OnlyReads};
-ghost use Rattle.heap_file.specs.Chain.{IsKnown, IsWritable, last_page, linked, scanned};
-ghost use Rattle.heap_file.specs.HeapPage.{IsEntry, IsHeapPage, IsShort, page_bytes, have_room};
-ghost use Rattle.std.specs.List.{insert};
-ghost use Rattle.heap_file.specs.Work.{added, appended, changed, IsPlace, got, last_field, leaving_head, lengthened, made, next_of, on_link, page_with, removed, renamed, unlinked, without};
+ghost use Rattle.std.specs.Prelude.{◌≡◌, ◌≢◌, ◌<◌, ◌^◌, ◌==◌, not, IfOk};
+ghost use Rattle.pager.specs.Draft.{drafted, Drafts};
+ghost use Rattle.pager.specs.Stop.{OnlyDrafts};
+ghost use Rattle.heap_file.specs.Chain.{IsWritable, last_page, linked};
+ghost use Rattle.heap_file.specs.HeapPage.{IsEntry, IsHeapPage, IsShort};
+ghost use Rattle.heap_file.specs.Work.{appended, leaving_head, lengthened, page_with};
 
 use crate::chain::{Link, load, store};
 use crate::page::{Entry, HeapPage, has_room};
@@ -39,8 +36,8 @@ fn page_with(alloc: Global, entry: Entry) -> Result<HeapPage, AllocFailed<Entry>
     })
 }
 
-// Drafts a new last page for an entry, behind a last page that is not the first; the first page names it. Answers the new
-// page, and what the first page then holds.
+// Drafts a new last page for an entry, behind a last page that is not the first; the first page names it. Answers the
+// new page, and what the first page then holds.
 fn lengthen<P: Pager>(
     alloc: Global,
     pager: &mut P,
@@ -55,7 +52,8 @@ fn lengthen<P: Pager>(
     requires apart { head.page ≢ tail.page }
     requires entry { IsEntry entry }
     ensures lengthened { Drafts (λ placed. placed) (P.tells pager.new) draft.old.list draft.new.list
-        (λ pages. leaving_head draft.old.size pages head (lengthened draft.old.size pages head.page tail.page tail.held entry)) result }
+        (λ pages. leaving_head draft.old.size pages head
+        (lengthened draft.old.size pages head.page tail.page tail.held entry)) result }
     ensures lawful { IfOk result (λ placed. IsHeapPage placed.1) }
     ensures only_reads { OnlyDrafts P.tells P.goes P.size P.faults pager.old pager.new result }
     ensures size { draft.new.size ≡ draft.old.size }
@@ -84,7 +82,8 @@ fn lengthen_first<P: Pager>(
     requires head { IsWritable draft.old.size head }
     requires entry { IsEntry entry }
     ensures lengthened { Drafts (λ placed. placed) (P.tells pager.new) draft.old.list draft.new.list
-        (λ pages. leaving_head draft.old.size pages head (lengthened draft.old.size pages head.page head.page head.held entry)) result }
+        (λ pages. leaving_head draft.old.size pages head
+        (lengthened draft.old.size pages head.page head.page head.held entry)) result }
     ensures lawful { IfOk result (λ placed. IsHeapPage placed.1) }
     ensures only_reads { OnlyDrafts P.tells P.goes P.size P.faults pager.old pager.new result }
     ensures size { draft.new.size ≡ draft.old.size }
@@ -135,8 +134,8 @@ fn append_first<P: Pager>(
     Ok((first, held))
 }
 
-// Drafts an entry at the end of the chain whose first page is read already. Answers the entry's page, and what the first
-// page then holds.
+// Drafts an entry at the end of the chain whose first page is read already. Answers the entry's page, and what the
+// first page then holds.
 pub fn append_with_head<P: Pager>(
     alloc: Global,
     pager: &mut P,

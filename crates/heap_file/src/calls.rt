@@ -100,8 +100,8 @@ pub fn remove<P: EditPager>(
     Ok(removed)
 }
 
-/// Puts this row in the place of the row of that number on that page, under its number, and answers the page where it then
-/// stands.
+/// Puts this row in the place of the row of that number on that page, under its number, and answers the page where it
+/// then stands.
 pub fn change<P: EditPager>(
     alloc: Global,
     pager: &mut P,

@@ -4,7 +4,7 @@ ghost use Rattle.std.specs.Prelude.{◌≡◌, ◌<◌, ◌++◌, All, IfErr, If
 ghost use Rattle.retro_base.specs.declared.refusal.Refusal.TheVariants.{OutOfMemory};
 ghost use Rattle.heap_file.specs.HeapPage.{IsHeapPage, IsNarrow, page_bytes};
 ghost use Rattle.pager.specs.Draft.{Reads, drafted};
-ghost use Rattle.pager.specs.Pages.{Pages, written};
+ghost use Rattle.pager.specs.Pages.{Pages, with_bytes};
 ghost use Rattle.pager.specs.Stop.{OnlyReads};
 ghost use Rattle.heap_file.specs.Chain.{IsWritable, chain, heap_page, rows_of, rows_on};
 
@@ -60,7 +60,7 @@ pub fn store(alloc: Global, draft: &mut Draft, page: u32, held: &HeapPage) -> Re
     requires held { IsHeapPage held.now }
     ensures drafted { OnOk result
         ((pages : Pages) → drafted pages draft.new.list
-        ≡ written (drafted pages draft.old.list) page (page_bytes held.now)) }
+        ≡ with_bytes (drafted pages draft.old.list) page (page_bytes held.now)) }
     ensures memory { IfErr result (λ why. why ≡ OutOfMemory) }
     ensures size { draft.new.size ≡ draft.old.size }
 {

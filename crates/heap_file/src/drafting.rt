@@ -1,14 +1,12 @@
 //! The calls on a draft: no page is edited before the draft is written.
 
-ghost use Rattle.std.specs.Prelude.{◌≡◌, ◌≢◌, ◌≤◌, ◌<◌, ◌^◌, ◌==◌, ◌&&◌, ◌++◌, ◌∷◌, [], not, IsTrue, IfErr, IfOk, IfSome, OnOk, length};
-ghost use Rattle.retro_base.specs.declared.refusal.Refusal.TheVariants.{OutOfMemory};
-ghost use Rattle.pager.specs.Draft.{drafted, Drafts, Reads};
-ghost use Rattle.pager.specs.Pages.{Pages, written};
+ghost use Rattle.std.specs.Prelude.{◌≡◌, ◌≤◌, ◌<◌, ◌==◌, ◌++◌, ◌∷◌, [], not, IsTrue, IfOk, IfSome, length};
+ghost use Rattle.pager.specs.Draft.{Drafts, Reads};
 ghost use Rattle.pager.specs.Stop.{OnlyDrafts, OnlyReads};
-ghost use Rattle.heap_file.specs.Chain.{IsKnown, IsWritable, last_page, linked, scanned};
-ghost use Rattle.heap_file.specs.HeapPage.{IsEntry, IsHeapPage, IsShort, page_bytes, have_room};
+ghost use Rattle.heap_file.specs.Chain.{HoldsStill, IsWritable, linked, scanned};
+ghost use Rattle.heap_file.specs.HeapPage.{IsEntry, IsHeapPage, IsShort, have_room};
 ghost use Rattle.std.specs.List.{insert};
-ghost use Rattle.heap_file.specs.Work.{added, appended, changed, IsPlace, got, last_field, leaving_head, lengthened, made, next_of, on_link, page_with, removed, renamed, unlinked, without};
+ghost use Rattle.heap_file.specs.Work.{added, changed, got, made, next_of, on_link, without, place_of};
 
 use crate::appending::{append, append_with_head};
 use crate::chain::{Link, Placed, chain, load, rows_of, store};
@@ -110,7 +108,7 @@ pub fn get<P: Pager>(
 
 /// The place of the entry of that number.
 pub(crate) fn place_of(entries: &[Entry], number: u64) -> Option<usize>
-    ensures { IsPlace number entries.now result }
+    ensures { result ≡ place_of number entries.now }
 {
     entries.iter().position(|entry| entry.number == number)
 }
@@ -190,7 +188,7 @@ pub fn page_at<P: Pager>(
     requires size { draft.now.size ≡ P.size pager.old }
     requires known { IfSome known (IsWritable draft.now.size) }
     ensures read { Reads (λ link. link) (P.tells pager.new) draft.now.list
-        (λ pages answer. IsKnown draft.now.size pages known → linked draft.now.size pages page answer) result }
+        (λ pages answer. HoldsStill draft.now.size pages known → linked draft.now.size pages page answer) result }
     ensures writable { IfOk result (IsWritable draft.now.size) }
     ensures only_reads { OnlyReads P.tells P.goes P.size P.faults pager.old pager.new result }
 {
@@ -203,8 +201,8 @@ pub fn page_at<P: Pager>(
     Ok(Link { page, held })
 }
 
-/// Drafts that a row of a page that is read already changes, under its number. Answers the page where it then stands, and
-/// what the page read then holds, where the row stays there.
+/// Drafts that a row of a page that is read already changes, under its number. Answers the page where it then stands,
+/// and what the page read then holds, where the row stays there.
 pub fn change_on<P: Pager>(
     alloc: Global,
     pager: &mut P,

@@ -6,7 +6,7 @@ ghost use Rattle.pager.specs.Pages.{Pages};
 ghost use Rattle.pager.specs.Stop.{OnlyDrafts, OnlyReads};
 ghost use Rattle.heap_file.specs.declared.page.HeapPage as heap;
 ghost use Rattle.heap_file.specs.Chain.{IsAt, IsWritable};
-ghost use Rattle.heap_file.specs.Route.{IsCursor, IsPassed, IsRoute, NextStays, Passes, left, routed, with_cursor, with_route};
+ghost use Rattle.heap_file.specs.Route.{IsCursor, IsPassed, IsRoute, NextStays, PassesOver, left, routed, with_cursor, with_route};
 ghost use Rattle.heap_file.specs.Work.{last_field, removed, renamed, unlinked};
 
 use crate::chain::{Link, load, store};
@@ -16,8 +16,9 @@ use pager::{Draft, Pager, Stop, broken, free};
 use std::alloc::Global;
 use values::Seq;
 
-/// Where a statement stands that takes rows out of a table: the page read last, and the pages of the table's chain in order,
-/// once one of them left it. So a page is not read for each of its rows, and the chain not walked for each page that leaves it.
+/// Where a statement stands that takes rows out of a table: the page read last, and the pages of the table's chain in
+/// order, once one of them left it. So a page is not read for each of its rows, and the chain not walked for each page
+/// that leaves it.
 #[derive(Debug, Drop)]
 pub struct Cursor {
     pub page: Option<Link>,
@@ -218,7 +219,7 @@ fn unlink<P: Pager>(
     ensures unlinked { Drafts (λ u. u) (P.tells pager.new) draft.old.list draft.new.list
         (λ pages. unlinked draft.old.size pages first previous page next) result }
     ensures passes { previous ≢ page → (base shown : Pages) → P.tells pager.new base shown → OnOk result
-        (Passes draft.old.size (drafted shown draft.old.list) (drafted shown draft.new.list) previous page next) }
+        (PassesOver draft.old.size (drafted shown draft.old.list) (drafted shown draft.new.list) previous page next) }
     ensures only_reads { OnlyDrafts P.tells P.goes P.size P.faults pager.old pager.new result }
     ensures size { draft.new.size ≡ draft.old.size }
 {

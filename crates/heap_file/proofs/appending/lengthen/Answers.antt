@@ -1,6 +1,6 @@
 use Rattle.std.proofs.Common.{◌≡◌, ◌≢◌, ◌∙◌, Ok, ap, sym, subst, arith}
 use Rattle.pager.specs.Draft.{drafted}
-use Rattle.pager.specs.Pages.{Pages, written}
+use Rattle.pager.specs.Pages.{Pages, with_bytes}
 use Rattle.heap_file.specs.declared.page.HeapPage.{HeapPage}
 use Rattle.heap_file.specs.Chain.{IsAt}
 use Rattle.heap_file.specs.HeapPage.{IsHeapPage, IsNarrow, page_bytes}
@@ -22,17 +22,17 @@ returns-clause-lengthened g c = λ base shown told at.
     let pages = drafted shown c.args.draft.now.list in
     let taken = drafted shown c.take.new.draft.list in
     let took = c.in_ok-next.ensures.taken base shown told in
-    let entered : Pages = written taken next (page_bytes (page_with c.args.entry)) in
-    let whole : Pages = written entered last (page_bytes linked) in
+    let entered : Pages = with_bytes taken next (page_bytes (page_with c.args.entry)) in
+    let whole : Pages = with_bytes entered last (page_bytes linked) in
     let page : drafted shown c.store.new.draft.list ≡ entered = rw c.in_ok-page.ensures.0 at (c.in_ok-store.ensures.drafted shown) in
     let link : drafted shown c.store-2.new.draft.list ≡ whole =
-    c.in_ok-store-2.ensures.drafted shown ∙ ap (λ (p : Pages). written p last (page_bytes linked)) page in
-    let name : drafted shown c.store-3.new.draft.list ≡ written whole first (page_bytes named) =
-    c.in_ok-store-3.ensures.drafted shown ∙ ap (λ (p : Pages). written p first (page_bytes named)) link in
+    c.in_ok-store-2.ensures.drafted shown ∙ ap (λ (p : Pages). with_bytes p last (page_bytes linked)) page in
+    let name : drafted shown c.store-3.new.draft.list ≡ with_bytes whole first (page_bytes named) =
+    c.in_ok-store-3.ensures.drafted shown ∙ ap (λ (p : Pages). with_bytes p first (page_bytes named)) link in
     let found : IsAt size whole first held × IsHeapPage held × IsNarrow held =
     elim c.if-next-first.branch [
       | then-next-first w ↦
-          let own : IsAt size (written taken first (page_bytes (page_with c.args.entry))) first (page_with c.args.entry) =
+          let own : IsAt size (with_bytes taken first (page_bytes (page_with c.args.entry))) first (page_with c.args.entry) =
           at-own size taken first (page_with c.args.entry) at.named at.there (record { next = omega arith; next_number = omega arith; last = omega arith }) (one_entry c.args.entry c.requires.entry) in
           let narrow : IsNarrow (page_with c.args.entry) = record { next = omega arith; next_number = omega arith; last = omega arith } in
           let here : IsAt size entered first c.in_ok-page.page = rw (c.in_ok-page.ensures.0, w.if-next-first.true) own in

@@ -1,6 +1,6 @@
 use Rattle.std.proofs.Common.{◌≡◌, ◌∙◌, Ok, ap, sym, subst, arith}
 use Rattle.pager.specs.Draft.{drafted}
-use Rattle.pager.specs.Pages.{Pages, written}
+use Rattle.pager.specs.Pages.{Pages, with_bytes}
 use Rattle.heap_file.specs.declared.page.HeapPage.{HeapPage}
 use Rattle.heap_file.specs.Chain.{IsAt}
 use Rattle.heap_file.specs.HeapPage.{IsHeapPage, page_bytes}
@@ -16,12 +16,12 @@ returns-clause-lengthened g c = λ base shown told at.
     let linked : HeapPage = record c.args.head.held { next = next } in
     let named : HeapPage = record c.args.head.held { next = next; last = next } in
     let taken = drafted shown c.take.new.draft.list in
-    let entered : Pages = written taken next (page_bytes (page_with c.args.entry)) in
+    let entered : Pages = with_bytes taken next (page_bytes (page_with c.args.entry)) in
     let page : drafted shown c.store.new.draft.list ≡ entered = rw c.in_ok-page.ensures.0 at (c.in_ok-store.ensures.drafted shown) in
-    let link : drafted shown c.store-2.new.draft.list ≡ written entered first (page_bytes linked) =
-    c.in_ok-store-2.ensures.drafted shown ∙ ap (λ (p : Pages). written p first (page_bytes linked)) page in
-    let name : drafted shown c.store-3.new.draft.list ≡ written (written entered first (page_bytes linked)) first (page_bytes named) =
-    c.in_ok-store-3.ensures.drafted shown ∙ ap (λ (p : Pages). written p first (page_bytes named)) link in
+    let link : drafted shown c.store-2.new.draft.list ≡ with_bytes entered first (page_bytes linked) =
+    c.in_ok-store-2.ensures.drafted shown ∙ ap (λ (p : Pages). with_bytes p first (page_bytes linked)) page in
+    let name : drafted shown c.store-3.new.draft.list ≡ with_bytes (with_bytes entered first (page_bytes linked)) first (page_bytes named) =
+    c.in_ok-store-3.ensures.drafted shown ∙ ap (λ (p : Pages). with_bytes p first (page_bytes named)) link in
     let is : IsHeapPage linked = record { lawful = c.requires.head.1.lawful; fits = c.requires.head.1.fits } in
     let also : IsHeapPage named = record { lawful = c.requires.head.1.lawful; fits = c.requires.head.1.fits } in (
       (
@@ -29,5 +29,5 @@ returns-clause-lengthened g c = λ base shown told at.
         c.in_ok-next.ensures.taken base shown told,
         (linked, at-own size entered first linked at.named at.there (record { next = omega arith; next_number = omega arith; last = omega arith }) is, ap (λ (p : Pages). Ok (next, p)) (sym name)),
       ),
-      subst (λ (p : Pages). IsAt size p first named) (sym name) (at-own size (written entered first (page_bytes linked)) first named at.named at.there (record { next = omega arith; next_number = omega arith; last = omega arith }) also),
+      subst (λ (p : Pages). IsAt size p first named) (sym name) (at-own size (with_bytes entered first (page_bytes linked)) first named at.named at.there (record { next = omega arith; next_number = omega arith; last = omega arith }) also),
     )

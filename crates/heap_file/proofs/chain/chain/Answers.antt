@@ -3,7 +3,7 @@ use Rattle.std.proofs.lemmas.List.Elements.{All-push}
 use Rattle.std.proofs.lemmas.Result.{err_from_is_err_and}
 use Rattle.pager.specs.Draft.{drafted}
 use Rattle.heap_file.specs.declared.chain.Link.{Link}
-use Rattle.heap_file.specs.Chain.{IsWritable, Leads}
+use Rattle.heap_file.specs.Chain.{IsWritable, IsWay}
 use Rattle.heap_file.proofs.Ways.{allowed_stop, leads-more, goes_on}
 use Rattle.heap_file.proofs.chain.chain.Goals as goal
 
@@ -21,7 +21,7 @@ returns-then-next-eq0-clause-read g c = λ base shown told.
     let leads = leads-more c.args.draft.now.size (drafted shown c.args.draft.now.list) c.args.first c.pages.page c.in_ok-held.held c.pages.links.items (c.pages.invariant.leads base shown (c.in_ok-held.ensures.only_reads.narrows base shown told)) at in
     let one : Link = record { page = c.pages.page; held = c.in_ok-held.held } in
     let none : c.in_ok-held.held.next ≡ 0 = c.if-next-eq0.true in
-    rw items (omega (arith, length-append c.pages.links.items (one ∷ [])), omega (arith, length-append c.pages.links.items (one ∷ [])), subst (λ (to : ℕ). Leads c.args.draft.now.size (drafted shown c.args.draft.now.list) c.args.first (c.pages.links.items ++ one ∷ []) to) none leads)
+    rw items (omega (arith, length-append c.pages.links.items (one ∷ [])), omega (arith, length-append c.pages.links.items (one ∷ [])), subst (λ (to : ℕ). IsWay c.args.draft.now.size (drafted shown c.args.draft.now.list) c.args.first (c.pages.links.items ++ one ∷ []) to) none leads)
 
 pub pages-preserved : goal.pages-preserved
 pages-preserved g c =

@@ -1,13 +1,13 @@
 use Rattle.std.proofs.Common.{◌≡◌, All, length}
 use Rattle.pager.specs.Draft.{drafted}
 use Rattle.pager.specs.Pages.{Pages, Narrows}
-use Rattle.heap_file.specs.Chain.{IsWritable, Leads, GoesOn}
+use Rattle.heap_file.specs.Chain.{IsWritable, IsWay, IsOpenWay}
 use Rattle.heap_file.proofs.chain.chain.Given as goal
 
 abbrev pub invariant-pages : goal.invariant-pages
 invariant-pages g l = record {
-  leads : (base shown : Pages) → g.P.Pager.tells l.pager base shown → Leads l.draft.size (drafted shown l.draft.list) l.first l.links.items l.page;
-  goes_on : GoesOn l.links.items l.page;
+  leads : (base shown : Pages) → g.P.Pager.tells l.pager base shown → IsWay l.draft.size (drafted shown l.draft.list) l.first l.links.items l.page;
+  goes_on : IsOpenWay l.links.items l.page;
   writable : All (IsWritable l.draft.size) l.links.items;
   count : length l.links.items ≡ l.counter;
   narrows : Narrows (g.P.Pager.tells l.fn.pager) (g.P.Pager.tells l.pager);

@@ -2,7 +2,7 @@ use Rattle.std.proofs.Common.{◌≡◌, ◌∙◌, ◌++◌, ◌∷◌, [], Lis
 use Rattle.std.proofs.lemmas.Result.{err_from_is_err_and}
 use Rattle.values.specs.declared.value.Value.{Value}
 use Rattle.pager.specs.Draft.{drafted}
-use Rattle.pager.specs.Pages.{Pages, written}
+use Rattle.pager.specs.Pages.{Pages, with_bytes}
 use Rattle.heap_file.specs.declared.page.Entry.{Entry}
 use Rattle.heap_file.specs.Chain.{IsAt}
 use Rattle.heap_file.specs.HeapPage.{IsNarrow, IsShort, page_bytes, have_room}
@@ -19,7 +19,7 @@ with_entry-requires-clause-entry g c =
 
 pub returns-in_default-clause-changed : goal.returns-in_default-clause-changed
 returns-in_default-clause-changed g c = λ base shown told.
-    let none = rw (c.as_slice.ensures, c.in_default.is) at c.place_of.ensures in
+    let none = rw (c.as_slice.ensures, c.in_default.is) at (sym c.place_of.ensures) in
     inr (λ at. inr (c.args.link.held, at, inl (c.broken.ensures, none)))
 
 pub returns-in_err-to-clause-changed : goal.returns-in_err-to-clause-changed
@@ -30,8 +30,8 @@ returns-in_err-to-clause-changed g c = λ base shown told.
     let held = c.args.link.held in
     let place = c.in-Some.place in
     let entry : Entry = record { number = c.args.number; row = c.args.row.now } in
-    let moved : Pages = written pages c.args.link.page (page_bytes (without held place)) in
-    let is = rw c.as_slice.ensures at c.in-Some.ensures in
+    let moved : Pages = with_bytes pages c.args.link.page (page_bytes (without held place)) in
+    let is = rw c.as_slice.ensures at (sym c.in-Some.ensures) in
     let rest = c.without-rest.ensures.without in
     let room : have_room ((without held place).entries ++ entry ∷ []) ≡ false = rw (c.as_slice-2.ensures, rest, c.in_ok-row.ensures) at (sym c.has_room.ensures.room ∙ c.if-not-has_room.true) in
     let stored : drafted shown c.store.new.draft.list ≡ moved = rw rest at (c.in_ok-store.ensures.drafted shown) in
@@ -49,8 +49,8 @@ returns-then-not-has_room-clause-changed g c = λ base shown told at.
     let held = c.args.link.held in
     let place = c.in-Some.place in
     let entry : Entry = record { number = c.args.number; row = c.args.row.now } in
-    let moved : Pages = written pages c.args.link.page (page_bytes (without held place)) in
-    let is = rw c.as_slice.ensures at c.in-Some.ensures in
+    let moved : Pages = with_bytes pages c.args.link.page (page_bytes (without held place)) in
+    let is = rw c.as_slice.ensures at (sym c.in-Some.ensures) in
     let rest = c.without-rest.ensures.without in
     let room : have_room ((without held place).entries ++ entry ∷ []) ≡ false = rw (c.as_slice-2.ensures, rest, c.in_ok-row.ensures) at (sym c.has_room.ensures.room ∙ c.if-not-has_room.true) in
     let stored : drafted shown c.store.new.draft.list ≡ moved = rw rest at (c.in_ok-store.ensures.drafted shown) in
@@ -69,7 +69,7 @@ returns-clause-changed g c = λ base shown told at.
     let place = c.in-Some.place in
     let entry : Entry = record { number = c.args.number; row = c.args.row.now } in
     let now = c.in_ok-held.held in
-    let is = rw c.as_slice.ensures at c.in-Some.ensures in
+    let is = rw c.as_slice.ensures at (sym c.in-Some.ensures) in
     let rest = c.without-rest.ensures.without in
     let room : have_room ((without held place).entries ++ entry ∷ []) ≡ true = rw (c.as_slice-2.ensures, rest, c.in_ok-row.ensures) at (sym c.has_room.ensures.room ∙ c.if-not-has_room.false) in
     let narrow : IsNarrow now = rw (c.in_ok-held.ensures.0, rest) (record { next = omega arith; next_number = omega arith; last = omega arith }) in

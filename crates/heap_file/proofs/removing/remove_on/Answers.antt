@@ -2,7 +2,7 @@ use Rattle.std.proofs.Common.{◌≡◌, ◌∙◌, ◌&&◌, not, true, false, 
 use Rattle.std.proofs.lemmas.Result.{err_from_is_err_and}
 use Rattle.std.specs.Prelude.{IfSome}
 use Rattle.pager.specs.Draft.{drafted}
-use Rattle.pager.specs.Pages.{Pages, written}
+use Rattle.pager.specs.Pages.{Pages, with_bytes}
 use Rattle.heap_file.specs.declared.page.HeapPage.{HeapPage}
 use Rattle.heap_file.specs.Chain.{IsAt}
 use Rattle.heap_file.specs.HeapPage.{IsNarrow, page_bytes}
@@ -19,7 +19,7 @@ leave-requires-clause-apart g c =
 
 pub returns-in_default-clause-removed : goal.returns-in_default-clause-removed
 returns-in_default-clause-removed g c = λ base shown told.
-    let none = rw (c.as_slice.ensures, c.in_default.is) at c.place_of.ensures in
+    let none = rw (c.as_slice.ensures, c.in_default.is) at (sym c.place_of.ensures) in
     inr (λ at route. inr (c.args.link.held, at, inl (c.broken.ensures, none)))
 
 pub returns-in_err-route-clause-removed : goal.returns-in_err-route-clause-removed
@@ -28,7 +28,7 @@ returns-in_err-route-clause-removed g c = λ base shown told.
     let size = c.args.draft.now.size in
     let pages = drafted shown c.args.draft.now.list in
     let held = c.args.link.held in
-    let is = rw c.as_slice.ensures at c.in-Some.ensures in
+    let is = rw c.as_slice.ensures at (sym c.in-Some.ensures) in
     let leaves : (not (eqb c.args.link.page c.args.first) && eqb (length (without held c.in-Some.place).entries) 0) ≡ true = rw c.without-held.ensures.without at (sym c.leaves_chain.ensures ∙ c.if-leaves_chain.true) in
     let names : held.next ≡ c.without-held.result.next = ap (λ (h : HeapPage). h.next) (sym c.without-held.ensures.without) in
     rw (p.1, p.2)
@@ -41,7 +41,7 @@ returns-then-leaves_chain-clause-removed g c = λ base shown told at route.
     let size = c.args.draft.now.size in
     let pages = drafted shown c.args.draft.now.list in
     let held = c.args.link.held in
-    let is = rw c.as_slice.ensures at c.in-Some.ensures in
+    let is = rw c.as_slice.ensures at (sym c.in-Some.ensures) in
     let leaves : (not (eqb c.args.link.page c.args.first) && eqb (length (without held c.in-Some.place).entries) 0) ≡ true = rw c.without-held.ensures.without at (sym c.leaves_chain.ensures ∙ c.if-leaves_chain.true) in
     let names : held.next ≡ c.without-held.result.next = ap (λ (h : HeapPage). h.next) (sym c.without-held.ensures.without) in
     let gone = c.in_ok-route.ensures.left base shown told route held at names in (
@@ -56,7 +56,7 @@ returns-clause-removed g c = λ base shown told at route.
     let page = c.args.link.page in
     let held = c.args.link.held in
     let now = c.without-held.result in
-    let is = rw c.as_slice.ensures at c.in-Some.ensures in
+    let is = rw c.as_slice.ensures at (sym c.in-Some.ensures) in
     let rest = c.without-held.ensures.without in
     let stays : (not (eqb page c.args.first) && eqb (length (without held c.in-Some.place).entries) 0) ≡ false = rw rest at (sym c.leaves_chain.ensures ∙ c.if-leaves_chain.false) in
     let narrow : IsNarrow now = rw rest (record { next = omega arith; next_number = omega arith; last = omega arith }) in
@@ -66,6 +66,6 @@ returns-clause-removed g c = λ base shown told at route.
       (held, at, (c.in-Some.place, is, rw stays (ap (λ (pages : Pages). Ok (tt, pages)) (sym stored)))),
       (
         subst (λ (p : Pages). IsAt size p page now) (sym written_now) (at-own size pages page now at.named at.there narrow c.without-held.ensures.lawful),
-        subst (λ (p : Pages). IfSome c.args.route (IsRoute size p c.args.first)) (sym written_now) (route-kept size pages (written pages page (page_bytes now)) c.args.first c.args.route (next-written size pages page held now at narrow c.without-held.ensures.lawful same) route),
+        subst (λ (p : Pages). IfSome c.args.route (IsRoute size p c.args.first)) (sym written_now) (route-kept size pages (with_bytes pages page (page_bytes now)) c.args.first c.args.route (next-written size pages page held now at narrow c.without-held.ensures.lawful same) route),
       ),
     )

@@ -1,7 +1,7 @@
 use Rattle.std.proofs.Common.{◌≡◌, ◌∙◌, Ok, Err, refl, inl, inr, arith}
 use Rattle.std.proofs.lemmas.Result.{err_from_is_err_and}
 use Rattle.pager.specs.Draft.{drafted}
-use Rattle.pager.specs.Pages.{Pages, written}
+use Rattle.pager.specs.Pages.{Pages, with_bytes}
 use Rattle.pager.specs.Root.{freed}
 use Rattle.heap_file.specs.declared.page.HeapPage.{HeapPage}
 use Rattle.heap_file.specs.HeapPage.{IsNarrow, page_bytes}
@@ -14,7 +14,7 @@ pub returns-in_err-rename_last-clause-unlinked : goal.returns-in_err-rename_last
 returns-in_err-rename_last-clause-unlinked g c = λ base shown told.
     let size = c.args.draft.now.size in
     let pages = drafted shown c.args.draft.now.list in
-    let linked : Pages = written pages c.args.previous (page_bytes (record c.in_ok-before.before { next = c.args.next })) in
+    let linked : Pages = with_bytes pages c.args.previous (page_bytes (record c.in_ok-before.before { next = c.args.next })) in
     let p = err_from_is_err_and c.from_residual-in_err-rename_last.result c.from_residual-in_err-rename_last.ensures.1 in
     let before = c.in_ok-before.ensures.read base shown (c.in_err-rename_last.ensures.only_reads.narrows base shown told) in
     rw (p.1, p.2)
@@ -25,7 +25,7 @@ pub returns-clause-unlinked : goal.returns-clause-unlinked
 returns-clause-unlinked g c = λ base shown told.
     let size = c.args.draft.now.size in
     let pages = drafted shown c.args.draft.now.list in
-    let linked : Pages = written pages c.args.previous (page_bytes (record c.in_ok-before.before { next = c.args.next })) in
+    let linked : Pages = with_bytes pages c.args.previous (page_bytes (record c.in_ok-before.before { next = c.args.next })) in
     let mid = drafted shown c.rename_last.new.draft.list in
     let told-named = c.free.ensures.only_reads.narrows base shown told in
     let before = c.in_ok-before.ensures.read base shown (c.in_ok-rename_last.ensures.only_reads.narrows base shown told-named) in
