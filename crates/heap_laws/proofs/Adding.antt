@@ -6,7 +6,7 @@ use Rattle.std.proofs.lemmas.List.Sorted.{IsPermutation-append_left, IsNonDecrea
 use Rattle.retro_base.specs.declared.refusal.Refusal.{Refusal}
 use Rattle.retro_base.specs.declared.refusal.Refusal.TheVariants.{PagesFull}
 use Rattle.values.specs.declared.value.Value.{Value}
-use Rattle.pager.specs.Pages.{Pages, written}
+use Rattle.pager.specs.Pages.{Pages, with_bytes}
 use Rattle.pager.specs.Root.{taken}
 use Rattle.pager.specs.Allows.{◌>>=◌, only, either}
 use Rattle.heap_file.specs.declared.page.Entry.{Entry}
@@ -16,9 +16,9 @@ use Rattle.heap_file.specs.declared.chain.Placed.{Placed}
 use Rattle.heap_file.specs.Chain.{heap_page, InOrder, IsAt, last_page, rows_of}
 use Rattle.heap_file.specs.HeapPage.{IsEntry, page_bytes}
 use Rattle.heap_file.specs.Work.{added, appended, lengthened, page_with}
-use Rattle.heap_laws.specs.Laws.{AddLaw, Answers}
+use Rattle.heap_laws.specs.Laws.{AddLaw, DoesOrIsFull}
 use Rattle.heap_laws.specs.Store.{Chain, IsSized, WellFormed, end_of, pages_held, pages_of, times, times_numbered}
-use Rattle.heap_laws.specs.Table.{Adds, AddIsFull, AllStay, Edits, EndsAt, has_room, IsAdded, IsTable, Table, Takes, TakesNone, with_row}
+use Rattle.heap_laws.specs.Table.{AddsRow, AddIsFull, AllStay, EditsExactly, EndsAt, has_room, IsAdded, IsTable, Table, TakesPage, TakesNone, with_row}
 use Rattle.heap_laws.proofs.Appending.{Appended, end_link, first-there, head-sized, next-sized, number-sized, put-last, put-new, rehead, storable-entry, update-head}
 use Rattle.heap_laws.proofs.Counts.{keyed-cons, one_if}
 use Rattle.heap_laws.proofs.Editing.{edits-as, edits-none, edits-write, finish, finish-on, Finished, free-same, twice}
@@ -30,8 +30,8 @@ use Rattle.heap_laws.proofs.Stores.{times-chains}
 
 -- where an entry is put, and on which pages
 abbrev pub IsPut : Bool → ℕ → Pages → Pages → ℕ → ℕ → ℕ → Type 0
-IsPut true size pages after first last page = (page ≡ last) × TakesNone size pages after × Edits pages after (last ∷ [])
-IsPut false size pages after first last page = Takes size pages after page × Edits pages after (first ∷ last ∷ page ∷ 0 ∷ [])
+IsPut true size pages after first last page = (page ≡ last) × TakesNone size pages after × EditsExactly pages after (last ∷ [])
+IsPut false size pages after first last page = TakesPage size pages after page × EditsExactly pages after (first ∷ last ∷ page ∷ 0 ∷ [])
 
 -- an entry was put at the end of a table, perhaps on a page that was taken
 pub record Put (size : ℕ) (pages : Pages) (firsts indexes : List ℕ) (first : ℕ) (entry : Entry) (page : ℕ) (after : Pages) : Type 0 where
@@ -58,7 +58,7 @@ not-broken size pages page held why at refused = refused.1 held at
 -- the last page has room
 put-here : (size : ℕ) (pages : Pages) (firsts indexes : List ℕ) (first : ℕ) (entry : Entry) (well : WellFormed size pages firsts indexes) → Contains firsts first → IsEntry entry
     → (head tail : HeapPage) → IsAt size pages first head → IsAt size pages (last_page first head) tail → has_room tail entry ≡ true
-    → Put size pages firsts indexes first entry (last_page first head) (written pages (last_page first head) (page_bytes (record tail { entries = tail.entries ++ entry ∷ [] })))
+    → Put size pages firsts indexes first entry (last_page first head) (with_bytes pages (last_page first head) (page_bytes (record tail { entries = tail.entries ++ entry ∷ [] })))
 put-here size pages firsts indexes first entry well has is head tail at at_last room =
     let read = reads size pages firsts indexes first well has in
     let lawful = read.one.lawful in
@@ -77,7 +77,7 @@ put-here size pages firsts indexes first entry well has is head tail at at_last 
       last = last;
       tail = tail;
       ends = record { head = head; at_first = at; named = refl; at_last = at_last };
-      effect = rw room (refl, free-same size pages (written pages last bytes) (written-other pages last 0 bytes (λ e. absurd (omega (arith, e, at_last.named)))), edits-write pages pages [] last bytes (edits-none pages));
+      effect = rw room (refl, free-same size pages (with_bytes pages last bytes) (written-other pages last 0 bytes (λ e. absurd (omega (arith, e, at_last.named)))), edits-write pages pages [] last bytes (edits-none pages));
     }
 
 -- a page that was taken is in no chain
@@ -89,8 +89,8 @@ chain-apart size pages firsts indexes first page base taken read =
 -- the last page has no room, and a page was taken
 put-there : (size : ℕ) (pages : Pages) (firsts indexes : List ℕ) (first : ℕ) (entry : Entry) (page : ℕ) (base : Pages) → Contains firsts first → IsEntry entry → Taken size pages firsts indexes page base
     → (head tail found : HeapPage) → IsAt size pages first head → IsAt size pages (last_page first head) tail → has_room tail entry ≡ false
-    → IsAt size (written (written base page (page_bytes (page_with entry))) (last_page first head) (page_bytes (record tail { next = page }))) first found
-    → Put size pages firsts indexes first entry page (written (written (written base page (page_bytes (page_with entry))) (last_page first head) (page_bytes (record tail { next = page }))) first (page_bytes (record found { last = page })))
+    → IsAt size (with_bytes (with_bytes base page (page_bytes (page_with entry))) (last_page first head) (page_bytes (record tail { next = page }))) first found
+    → Put size pages firsts indexes first entry page (with_bytes (with_bytes (with_bytes base page (page_bytes (page_with entry))) (last_page first head) (page_bytes (record tail { next = page }))) first (page_bytes (record found { last = page })))
 put-there size pages firsts indexes first entry page base has is taken head tail found at at_last room found_at =
     let well = taken.well in
     let read = reads size base firsts (page ∷ indexes) first well has in
@@ -102,9 +102,9 @@ put-there size pages firsts indexes first entry page base has is taken head tail
     let same : lawful.head ≡ head = at-one size size base first lawful.head head read.head_at at_base in
     let named : last_page first lawful.head ≡ last = ap (last_page first) same in
     let ends : end_of first read.one.chain.links ≡ last = sym (subst (λ (f : ℕ). last_page f lawful.head ≡ end_of f read.one.chain.links) read.one.named lawful.names_last) ∙ named in
-    let one = written base page (page_bytes (page_with entry)) in
-    let two = written one last (page_bytes (record tail { next = page })) in
-    let three = written two first (page_bytes (record found { last = page })) in
+    let one = with_bytes base page (page_bytes (page_with entry)) in
+    let two = with_bytes one last (page_bytes (record tail { next = page })) in
+    let three = with_bytes two first (page_bytes (record found { last = page })) in
     let zero_same : three.at 0 ≡ base.at 0 =
     written-other two first 0 _ (λ e. absurd (omega (arith, e, at.named))) ∙ written-other one last 0 _ (λ e. absurd (omega (arith, e, at_last.named))) ∙ written-other base page 0 _ (λ e. absurd (omega (arith, e, taken.behind))) in
     record {
@@ -119,7 +119,7 @@ put-there size pages firsts indexes first entry page base has is taken head tail
       ends = record { head = head; at_first = at; named = refl; at_last = at_last };
       effect = rw room (
         record { next = taken.takes.next; one_less = ap (λ (k : ℕ). 1 + k) (free-same size base three zero_same) ∙ taken.takes.one_less },
-        edits-write pages two (last ∷ page ∷ 0 ∷ []) first _ (edits-write pages one (page ∷ 0 ∷ []) last _ (edits-write pages base (0 ∷ []) page _ (subst (λ (q : Pages). Edits pages q (0 ∷ [])) (sym taken.after_is) (rooted-edits pages taken.root)))),
+        edits-write pages two (last ∷ page ∷ 0 ∷ []) first _ (edits-write pages one (page ∷ 0 ∷ []) last _ (edits-write pages base (0 ∷ []) page _ (subst (λ (q : Pages). EditsExactly pages q (0 ∷ [])) (sym taken.after_is) (rooted-edits pages taken.root)))),
       );
     }
 
@@ -137,7 +137,7 @@ tail-facts size pages firsts indexes first well has head tail at at_last =
 -- the first page is there when a page was taken and linked
 linked-head : (size : ℕ) (pages : Pages) (firsts indexes : List ℕ) (first : ℕ) (entry : Entry) (page : ℕ) (base : Pages) → WellFormed size pages firsts indexes → Contains firsts first → Taken size pages firsts indexes page base
     → (head tail : HeapPage) → IsAt size pages first head → IsAt size pages (last_page first head) tail
-    → (found : HeapPage) × IsAt size (written (written base page (page_bytes (page_with entry))) (last_page first head) (page_bytes (record tail { next = page }))) first found
+    → (found : HeapPage) × IsAt size (with_bytes (with_bytes base page (page_bytes (page_with entry))) (last_page first head) (page_bytes (record tail { next = page }))) first found
 linked-head size pages firsts indexes first entry page base well has taken head tail at at_last =
     let read = reads size base firsts (page ∷ indexes) first taken.well has in
     let last = last_page first head in
@@ -150,7 +150,7 @@ linked-head size pages firsts indexes first entry page base well has taken head 
     let none = chain-apart size pages firsts indexes first page base taken read in
     let there = first-there size base first read.one.chain.links read.one.lawful.head read.route.leads read.head_at in
     let last_there : 0 < times last (pages_on read.one.chain.links) = omega (arith, ap (λ (l : List Link). times last (pages_on l)) split.1, times-links last split.0 (link_of last tail) [], ap one_if (eq-eqb last last refl)) in
-    let one = written base page (page_bytes (page_with entry)) in
+    let one = with_bytes base page (page_bytes (page_with entry)) in
     let away : (p : ℕ) → 0 < times p (pages_on read.one.chain.links) → one.at p ≡ base.at p = λ p some. written-other base page p (page_bytes (page_with entry)) (λ e. absurd (omega (arith, subst (λ (q : ℕ). 0 < times q (pages_on read.one.chain.links)) e some, none))) in
     let sized = next-sized tail page (tail-facts size pages firsts indexes first well has head tail at at_last).0 (omega (arith, taken.there, well.small)) in
     let now = update-head size one first head last tail (record tail { next = page }) (at-same size base one first head (away first there) at_base) (at-same size base one last tail (away last last_there) last_base) sized refl refl in
@@ -174,7 +174,7 @@ pub put-answer : (size : ℕ) (pages : Pages) (firsts indexes : List ℕ) (first
 put-answer size pages firsts indexes first entry (Ok y) well has is (head, at, (tail, at_last, work)) =
     room (has_room tail entry) refl (rw (eq-eqb 0 tail.next (sym (tail-facts size pages firsts indexes first well has head tail at at_last).1)) at work)
   where
-    room : (b : Bool) → has_room tail entry ≡ b → either b (only (Ok (last_page first head, written pages (last_page first head) (page_bytes (record tail { entries = tail.entries ++ entry ∷ [] }))))) (lengthened size pages first (last_page first head) tail entry) (Ok y) → PutAnswer size pages firsts indexes first entry (Ok y)
+    room : (b : Bool) → has_room tail entry ≡ b → either b (only (Ok (last_page first head, with_bytes pages (last_page first head) (page_bytes (record tail { entries = tail.entries ++ entry ∷ [] }))))) (lengthened size pages first (last_page first head) tail entry) (Ok y) → PutAnswer size pages firsts indexes first entry (Ok y)
     room true e h = subst (PutAnswer size pages firsts indexes first entry) h (put-here size pages firsts indexes first entry well has is head tail at at_last e)
     room false e (next, take, (found, found_at, h)) =
         subst (PutAnswer size pages firsts indexes first entry) h
@@ -197,7 +197,7 @@ put-answer size pages firsts indexes first entry (Err why) well has is (inr (hea
         absurd (not-broken size _ first found.0 why found.1 refused)
     long e (inr (next, take, inr (found, found_at, h))) = ok-err h
 
-    room : (b : Bool) → has_room tail entry ≡ b → either b (only (Ok (last_page first head, written pages (last_page first head) (page_bytes (record tail { entries = tail.entries ++ entry ∷ [] }))))) (lengthened size pages first (last_page first head) tail entry) (Err why) → PutAnswer size pages firsts indexes first entry (Err why)
+    room : (b : Bool) → has_room tail entry ≡ b → either b (only (Ok (last_page first head, with_bytes pages (last_page first head) (page_bytes (record tail { entries = tail.entries ++ entry ∷ [] }))))) (lengthened size pages first (last_page first head) tail entry) (Err why) → PutAnswer size pages firsts indexes first entry (Err why)
     room true e h = ok-err h
     room false e h = long e h
 
@@ -217,7 +217,7 @@ numbered-push number rows placed =
 -- the first page counts one row more
 count-row : (size : ℕ) (pages : Pages) (firsts indexes : List ℕ) (first : ℕ) (table : Table) (row : List Value) (page : ℕ) (after : Pages) (found : HeapPage) → Contains firsts first → IsTable size pages first table → table.next_number < 2 ^ 64 - 1
     → (put : Put size pages firsts indexes first (record { number = table.next_number; row = row }) page after) → IsAt size after first found
-    → Finished size pages (written after first (page_bytes (record found { next_number = table.next_number + 1 }))) firsts indexes first (with_row table page row)
+    → Finished size pages (with_bytes after first (page_bytes (record found { next_number = table.next_number + 1 }))) firsts indexes first (with_row table page row)
 count-row size pages firsts indexes first table row page after found has shows small put found_at =
     let placed : Placed = record { number = table.next_number; page = page; row = row } in
     let done = put.put in
@@ -233,8 +233,8 @@ count-row size pages firsts indexes first table row page after found has shows s
     let before : (number : ℕ) → (times_numbered number (rows_of links) ≤ 1) × (0 < times_numbered number (rows_of links) → number < table.next_number) =
     λ number. (lawful.differ number, λ some. omega (arith, lawful.below number some, rows.next_number)) in
     let count : (number : ℕ) → times_numbered number (rows_of again.now) ≡ times_numbered number (rows_of links) + one_if (eqb table.next_number number) = λ number. ap (times_numbered number) all ∙ numbered-push number (rows_of links) placed in
-    finish-on size pages put.base (written after first (page_bytes counted)) firsts indexes first (with_row table page row) put.stay
-    (finish size put.base (written after first (page_bytes counted)) firsts (put.extra ++ indexes) indexes first (with_row table page row) put.well read has (record {
+    finish-on size pages put.base (with_bytes after first (page_bytes counted)) firsts indexes first (with_row table page row) put.stay
+    (finish size put.base (with_bytes after first (page_bytes counted)) firsts (put.extra ++ indexes) indexes first (with_row table page row) put.well read has (record {
       now = again.now;
       route = again.route;
       head = counted;
@@ -262,13 +262,13 @@ count-row size pages firsts indexes first table row page after found has shows s
     under number k before (inr away) e some = omega (arith, before.1 (omega (arith, e, some, ap one_if away.0)))
 
 -- the pages that are edited with the count
-count-edits : (size : ℕ) (pages after : Pages) (first last page : ℕ) (bytes : List ℕ) (room : Bool) → 0 < first → IsPut room size pages after first last page → IsAdded room size pages (written after first bytes) first last page
+count-edits : (size : ℕ) (pages after : Pages) (first last page : ℕ) (bytes : List ℕ) (room : Bool) → 0 < first → IsPut room size pages after first last page → IsAdded room size pages (with_bytes after first bytes) first last page
 count-edits size pages after first last page bytes true some (is, none, edits) =
-    (is, free-same size after (written after first bytes) (written-other after first 0 bytes (λ e. absurd (omega (arith, e, some)))) ∙ none, edits-write pages after (last ∷ []) first bytes edits)
+    (is, free-same size after (with_bytes after first bytes) (written-other after first 0 bytes (λ e. absurd (omega (arith, e, some)))) ∙ none, edits-write pages after (last ∷ []) first bytes edits)
 count-edits size pages after first last page bytes false some (takes, edits) =
-    let same = free-same size after (written after first bytes) (written-other after first 0 bytes (λ e. absurd (omega (arith, e, some)))) in (
+    let same = free-same size after (with_bytes after first bytes) (written-other after first 0 bytes (λ e. absurd (omega (arith, e, some)))) in (
       record { next = takes.next; one_less = ap (λ (k : ℕ). 1 + k) same ∙ takes.one_less },
-      edits-as pages (written after first bytes) (first ∷ first ∷ last ∷ page ∷ 0 ∷ []) (first ∷ last ∷ page ∷ 0 ∷ [])
+      edits-as pages (with_bytes after first bytes) (first ∷ first ∷ last ∷ page ∷ 0 ∷ []) (first ∷ last ∷ page ∷ 0 ∷ [])
           (λ p. twice (eqb p first) (list_any (λ other. eqb p other) (last ∷ page ∷ 0 ∷ []))) (edits-write pages after (first ∷ last ∷ page ∷ 0 ∷ []) first bytes edits),
     )
 
@@ -276,7 +276,7 @@ count-edits size pages after first last page bytes false some (takes, edits) =
 abbrev counted_on : ℕ → ℕ → ℕ → ℕ × Pages → Result ((ℕ × ℕ) × Pages) Refusal → Type 0
 counted_on size first number placed = do
   after ← heap_page size placed.1 first
-  only (Ok ((number, placed.0), written placed.1 first (page_bytes (record after { next_number = number + 1 }))))
+  only (Ok ((number, placed.0), with_bytes placed.1 first (page_bytes (record after { next_number = number + 1 }))))
 
 pub add_law : AddLaw
 add_law size pages firsts indexes first table row answer well has shows storable small work = go answer work
@@ -293,7 +293,7 @@ add_law size pages firsts indexes first table row answer well has shows storable
     not_last = ne_eqb table.next_number (2 ^ 64 - 1) (λ e. absurd (omega (arith, small, e)))
 
     adds : (page : ℕ) (after : Pages) (found : HeapPage) → appended size pages first (record { number = table.next_number; row = row }) (Ok (page, after)) → IsAt size after first found
-        → Adds size pages firsts indexes first table row (table.next_number, page) (written after first (page_bytes (record found { next_number = table.next_number + 1 })))
+        → AddsRow size pages firsts indexes first table row (table.next_number, page) (with_bytes after first (page_bytes (record found { next_number = table.next_number + 1 })))
     adds page after found work found_at =
         let put = put-answer size pages firsts indexes first (record { number = table.next_number; row = row }) (Ok (page, after)) well has is work in
         let done = count-row size pages firsts indexes first table row page after found has shows small put found_at in
@@ -308,10 +308,10 @@ add_law size pages firsts indexes first table row answer well has shows storable
           effect = count-edits size pages after first put.last page (page_bytes (record found { next_number = table.next_number + 1 })) (has_room put.tail (record { number = table.next_number; row = row })) found_at.named put.effect;
         }
 
-    go : (answer : Result ((ℕ × ℕ) × Pages) Refusal) → added size pages first row answer → Answers size (λ placed after. Adds size pages firsts indexes first table row placed after) (AddIsFull size pages first (record { number = table.next_number; row = row })) answer
+    go : (answer : Result ((ℕ × ℕ) × Pages) Refusal) → added size pages first row answer → DoesOrIsFull size (λ placed after. AddsRow size pages firsts indexes first table row placed after) (AddIsFull size pages first (record { number = table.next_number; row = row })) answer
     go (Ok y) (head, at, work) =
         let next = rw (number_of head at, not_last) at work in
-        subst (λ (a : Result ((ℕ × ℕ) × Pages) Refusal). Answers size (λ placed after. Adds size pages firsts indexes first table row placed after) (AddIsFull size pages first (record { number = table.next_number; row = row })) a)
+        subst (λ (a : Result ((ℕ × ℕ) × Pages) Refusal). DoesOrIsFull size (λ placed after. AddsRow size pages firsts indexes first table row placed after) (AddIsFull size pages first (record { number = table.next_number; row = row })) a)
         next.2.2 (adds next.0.0 next.0.1 next.2.0 next.1 next.2.1)
     go (Err why) (inl refused) =
         let read = reads size pages firsts indexes first well has in

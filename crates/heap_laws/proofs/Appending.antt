@@ -6,12 +6,12 @@ use Rattle.retro_base.specs.Fields.{field_bytes}
 use Rattle.retro_base.proofs.FieldLaws.{length-field_bytes}
 use Rattle.values.specs.declared.value.Value.{Value}
 use Rattle.row_codec.specs.RowCode.{value_code}
-use Rattle.pager.specs.Pages.{Pages, written}
+use Rattle.pager.specs.Pages.{Pages, with_bytes}
 use Rattle.heap_file.specs.declared.page.Entry.{Entry}
 use Rattle.heap_file.specs.declared.page.HeapPage.{HeapPage}
 use Rattle.heap_file.specs.declared.chain.Link.{Link}
 use Rattle.heap_file.specs.declared.chain.Placed.{Placed}
-use Rattle.heap_file.specs.Chain.{IsAt, Leads, last_page, rows_of, rows_on}
+use Rattle.heap_file.specs.Chain.{IsAt, IsWay, last_page, rows_of, rows_on}
 use Rattle.heap_file.specs.HeapPage.{IsEntry, page_bytes, have_room}
 use Rattle.heap_file.specs.Work.{page_with}
 use Rattle.heap_file.proofs.Packing.{one_entry}
@@ -77,7 +77,7 @@ head-sized size pages first links head route at =
     (around size pages first [] (link_of first head) front.0 (subst (IsRoute size pages first) front.1 route)).sized_here
 
 -- the first page of a way is one of its pages
-pub first-there : (size : ℕ) (pages : Pages) (first : ℕ) (links : List Link) (head : HeapPage) → Leads size pages first links 0 → IsAt size pages first head → 0 < times first (pages_on links)
+pub first-there : (size : ℕ) (pages : Pages) (first : ℕ) (links : List Link) (head : HeapPage) → IsWay size pages first links 0 → IsAt size pages first head → 0 < times first (pages_on links)
 first-there size pages first links head leads at =
     let front = first_link size pages first links head leads at in
     omega (arith, ap (λ (l : List Link). times first (pages_on l)) front.1, times-here first (pages_on front.0))
@@ -91,7 +91,7 @@ pub record Rehead (size : ℕ) (after : Pages) (first : ℕ) (links : List Link)
   pub end_same : end_of first now ≡ end_of first links
 
 pub rehead : (size : ℕ) (pages : Pages) (first : ℕ) (links : List Link) (head held : HeapPage) → IsRoute size pages first links → IsAt size pages first head → held.next ≡ head.next → held.entries ≡ head.entries → IsSized held
-    → Rehead size (written pages first (page_bytes held)) first links
+    → Rehead size (with_bytes pages first (page_bytes held)) first links
 rehead size pages first links head held route at next entries sized =
     let front = first_link size pages first links head route.leads at in
     record {
@@ -104,13 +104,13 @@ rehead size pages first links head held route at next entries sized =
 
 -- the first page after a write on a page of its chain, which may be itself
 pub update-head : (size : ℕ) (pages : Pages) (first : ℕ) (head : HeapPage) (page : ℕ) (old held : HeapPage) → IsAt size pages first head → IsAt size pages page old → IsSized held → held.last ≡ old.last → held.next_number ≡ old.next_number
-    → (now : HeapPage) × IsAt size (written pages page (page_bytes held)) first now × (now.last ≡ head.last) × (now.next_number ≡ head.next_number)
+    → (now : HeapPage) × IsAt size (with_bytes pages page (page_bytes held)) first now × (now.last ≡ head.last) × (now.next_number ≡ head.next_number)
 update-head size pages first head page old held at at_page sized last number =
     elim (eqb_tells first page) [
       | inl same ↦
           let one : head ≡ old = at-one size size pages page head old (subst (λ (p : ℕ). IsAt size pages p head) same.1 at) at_page in
-          (held, subst (λ (p : ℕ). IsAt size (written pages page (page_bytes held)) p held) (sym same.1) (at-written size pages page held at_page.named at_page.there sized), last ∙ ap (λ (h : HeapPage). h.last) (sym one), number ∙ ap (λ (h : HeapPage). h.next_number) (sym one))
-      | inr differ ↦ (head, at-same size pages (written pages page (page_bytes held)) first head (written-other pages page first (page_bytes held) differ.1) at, refl, refl)
+          (held, subst (λ (p : ℕ). IsAt size (with_bytes pages page (page_bytes held)) p held) (sym same.1) (at-written size pages page held at_page.named at_page.there sized), last ∙ ap (λ (h : HeapPage). h.last) (sym one), number ∙ ap (λ (h : HeapPage). h.next_number) (sym one))
+      | inr differ ↦ (head, at-same size pages (with_bytes pages page (page_bytes held)) first head (written-other pages page first (page_bytes held) differ.1) at, refl, refl)
     ]
 
 -- the last page of a chain is that of its last link
@@ -142,7 +142,7 @@ pub record Appended (size : ℕ) (pages after : Pages) (first : ℕ) (links : Li
 -- on the last page
 pub put-last : (size : ℕ) (pages : Pages) (first last : ℕ) (links : List Link) (head tail : HeapPage) (entry : Entry) → IsRoute size pages first links → IsAt size pages first head → IsAt size pages last tail
     → last_page first head ≡ last → end_of first links ≡ last → IsEntry entry → have_room (tail.entries ++ entry ∷ []) ≡ true
-    → Appended size pages (written pages last (page_bytes (record tail { entries = tail.entries ++ entry ∷ [] }))) first links head [] last entry
+    → Appended size pages (with_bytes pages last (page_bytes (record tail { entries = tail.entries ++ entry ∷ [] }))) first links head [] last entry
 put-last size pages first last links head tail entry route at at_last named ends is room =
     let split = end_link size pages first last links head tail route at at_last ends in
     let a = split.0 in
@@ -171,8 +171,8 @@ put-last size pages first last links head tail entry route at at_last named ends
 -- on a page that was taken, which the indexes had last
 pub put-new : (size : ℕ) (pages : Pages) (first last page : ℕ) (links : List Link) (head tail : HeapPage) (entry : Entry) → size < 2 ^ 32 → IsRoute size pages first links → IsAt size pages first head → IsAt size pages last tail
     → end_of first links ≡ last → IsEntry entry → 0 < page → page < size → times page (pages_on links) ≡ 0
-    → (found : HeapPage) → IsAt size (written (written pages page (page_bytes (page_with entry))) last (page_bytes (record tail { next = page }))) first found
-    → Appended size pages (written (written (written pages page (page_bytes (page_with entry))) last (page_bytes (record tail { next = page }))) first (page_bytes (record found { last = page }))) first links head (page ∷ []) page entry
+    → (found : HeapPage) → IsAt size (with_bytes (with_bytes pages page (page_bytes (page_with entry))) last (page_bytes (record tail { next = page }))) first found
+    → Appended size pages (with_bytes (with_bytes (with_bytes pages page (page_bytes (page_with entry))) last (page_bytes (record tail { next = page }))) first (page_bytes (record found { last = page }))) first links head (page ∷ []) page entry
 put-new size pages first last page links head tail entry small route at at_last ends is some there off found found_at =
     let split = end_link size pages first last links head tail route at at_last ends in
     let a = split.0 in
@@ -183,19 +183,19 @@ put-new size pages first last page links head tail entry small route at at_last 
     let linked : HeapPage = record tail { next = page } in
     let fresh = link_of page lone in
     let mid = link_of last linked in
-    let one = written pages page (page_bytes lone) in
-    let two = written one last (page_bytes linked) in
+    let one = with_bytes pages page (page_bytes lone) in
+    let two = with_bytes one last (page_bytes linked) in
     let named : HeapPage = record found { last = page } in
-    let three = written two first (page_bytes named) in
+    let three = with_bytes two first (page_bytes named) in
     let linked_sized = next-sized tail page here.sized_here (omega (arith, there, small)) in
     let count : (p : ℕ) → times p (pages_on links) ≡ times p (pages_on a) + one_if (eqb last p) = λ p. omega (arith, ap (λ (l : List Link). times p (pages_on l)) split.1, times-links p a old []) in
     let counts : (p : ℕ) → times p (pages_on (a ++ mid ∷ fresh ∷ [])) ≡ times p (pages_on links) + times p (page ∷ []) = λ p. omega (arith, count p, times-links p a mid (fresh ∷ [])) in
     let last_there : 0 < times last (pages_on links) = omega (arith, count last, ap one_if (eq-eqb last last refl)) in
     let apart : last ≡ page → ⊥ = λ e. absurd (omega (arith, subst (λ (q : ℕ). 0 < times q (pages_on links)) e last_there, off)) in
     let first_apart : first ≡ page → ⊥ = λ e. absurd (omega (arith, subst (λ (q : ℕ). 0 < times q (pages_on links)) e (first-there size pages first links head route.leads at), off)) in
-    let before_part : Leads size one first a last =
+    let before_part : IsWay size one first a last =
     leads-same size pages one first a last (λ p in_a. written-other pages page p (page_bytes lone) (λ e. absurd (omega (arith, subst (λ (q : ℕ). 0 < times q (pages_on a)) e in_a, count page, off)))) here.first_part in
-    let fresh_part : Leads size one page (fresh ∷ []) 0 = (refl, at-written size pages page lone some there (one-sized entry is), refl) in
+    let fresh_part : IsWay size one page (fresh ∷ []) 0 = (refl, at-written size pages page lone some there (one-sized entry is), refl) in
     let two_route : IsRoute size two first (a ++ mid ∷ fresh ∷ []) = record {
       leads = leads-relink size one first a last linked (fresh ∷ []) 0 before_part fresh_part here.off_before (omega (arith, times-cons last page [], ap one_if (ne_eqb page last (λ e. apart (sym e))))) at_last.named at_last.there linked_sized;
       sized = sized-append a (mid ∷ fresh ∷ []) here.sized_before (linked_sized, (one-sized entry is, tt));

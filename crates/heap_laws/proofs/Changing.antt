@@ -8,7 +8,7 @@ use Rattle.std.proofs.lemmas.List.Sorted.{Contains-permutation, IsNonDecreasingB
 use Rattle.retro_base.specs.declared.refusal.Refusal.{Refusal}
 use Rattle.retro_base.specs.declared.refusal.Refusal.TheVariants.{PagesFull}
 use Rattle.values.specs.declared.value.Value.{Value}
-use Rattle.pager.specs.Pages.{Pages, written}
+use Rattle.pager.specs.Pages.{Pages, with_bytes}
 use Rattle.pager.specs.Allows.{only, either}
 use Rattle.heap_file.specs.declared.page.Entry.{Entry}
 use Rattle.heap_file.specs.declared.page.HeapPage.{HeapPage}
@@ -16,11 +16,11 @@ use Rattle.heap_file.specs.declared.chain.Link.{Link}
 use Rattle.heap_file.specs.declared.chain.Placed.{Placed}
 use Rattle.heap_file.specs.Chain.{InOrder, last_page, met, rows_of}
 use Rattle.heap_file.specs.HeapPage.{IsEntry, page_bytes}
-use Rattle.heap_file.specs.Work.{appended, IsPlace, without}
+use Rattle.heap_file.specs.Work.{appended, place_of, without}
 use Rattle.heap_file.proofs.Packing.{with_fits, without_fits}
-use Rattle.heap_laws.specs.Laws.{Answers, ChangeLaw}
+use Rattle.heap_laws.specs.Laws.{DoesOrIsFull, ChangeLaw}
 use Rattle.heap_laws.specs.Store.{IsSized, WellFormed, end_of, next_free, times, times_numbered}
-use Rattle.heap_laws.specs.Table.{ChangeIsFull, Changes, Edits, has_room, IsChanged, IsTable, Table, with_changed, without_row}
+use Rattle.heap_laws.specs.Table.{ChangeIsFull, ChangesRow, EditsExactly, has_room, IsChanged, IsTable, Table, with_changed, without_row}
 use Rattle.heap_laws.proofs.Adding.{IsPut, numbered-push, Put, put-answer, tail-there}
 use Rattle.heap_laws.proofs.Appending.{head-sized, storable-entry, update-head}
 use Rattle.heap_laws.proofs.Counts.{keyed, keyed-append, keyed-cons, keyed-gone, keyed-other, keyed-same, one_if, others, others-append, others-none, others-same, split_at}
@@ -102,7 +102,7 @@ order-changed changed rows sorted order = (IsPermutation-map (change_one changed
 -- a row with room on its page is changed there
 change-here : (size : ℕ) (pages : Pages) (firsts indexes : List ℕ) (first : ℕ) (table : Table) (page number previous : ℕ) (row : List Value) (held : HeapPage) (place : ℕ) (well : WellFormed size pages firsts indexes) → Contains firsts first → IsTable size pages first table
     → (read : Reads size pages firsts indexes first well) → Spot read.one.chain.links page number previous held place → IsEntry (record { number = number; row = row }) → has_room (without held place) (record { number = number; row = row }) ≡ true
-    → Finished size (pages) (written pages page (page_bytes (record (without held place) { entries = insert (without held place).entries place (record { number = number; row = row }) }))) firsts indexes first (with_changed table (record { number = number; page = page; row = row }))
+    → Finished size (pages) (with_bytes pages page (page_bytes (record (without held place) { entries = insert (without held place).entries place (record { number = number; row = row }) }))) firsts indexes first (with_changed table (record { number = number; page = page; row = row }))
 change-here size pages firsts indexes first table page number previous row held place well has shows read it is room =
     let entry : Entry = record { number = number; row = row } in
     let placed : Placed = record { number = number; page = page; row = row } in
@@ -129,7 +129,7 @@ change-here size pages firsts indexes first table page number previous row held 
     let count : (p : ℕ) → times p (pages_on now) ≡ times p (pages_on links) =
     λ p. times-links p it.before (link_of page kept) it.behind ∙ sym (times-links p it.before (link_of page held) it.behind) ∙ ap (λ (l : List Link). times p (pages_on l)) (sym it.links_are) in
     let names : last_page first lawful.head ≡ end_of first links = subst (λ (f : ℕ). last_page f lawful.head ≡ end_of f links) read.one.named lawful.names_last in
-    finish size pages (written pages page (page_bytes kept)) firsts indexes indexes first (with_changed table placed) well read has (record {
+    finish size pages (with_bytes pages page (page_bytes kept)) firsts indexes indexes first (with_changed table placed) well read has (record {
       now = now;
       route = route-update size pages first it.before (link_of page held) it.behind kept (subst (IsRoute size pages first) it.links_are read.route) refl sized;
       head = head.0;
@@ -209,7 +209,7 @@ change-moved size pages out firsts indexes first table old row to after well has
     under n (inr differ) rows e next base lt below some = omega (arith, next, base, below (omega (arith, e, some, ap one_if differ.0)))
 
 -- edits after edits of one page
-edits-join : (pages mid after : Pages) (page : ℕ) (list : List ℕ) → Edits pages mid (page ∷ []) → Edits mid after list → Edits pages after (page ∷ list)
+edits-join : (pages mid after : Pages) (page : ℕ) (list : List ℕ) → EditsExactly pages mid (page ∷ []) → EditsExactly mid after list → EditsExactly pages after (page ∷ list)
 edits-join pages mid after page list first then_ = record {
   same = λ p off. let parts = or-false (eqb p page) (list_any (λ other. eqb p other) list) off in then_.same p parts.1 ∙ first.same p (ap (λ (b : Bool). b || false) parts.0);
   edited = λ p. then_.edited p ∙ ap (λ (b : Bool). list_any (λ other. eqb p other) list || b) (first.edited p) ∙ turn (list_any (λ other. eqb p other) list) (eqb p page) (pages.edited p);
@@ -226,7 +226,7 @@ edits-join pages mid after page list first then_ = record {
     turn false false c = refl
 
 -- the pages edited where a row moves
-moved-effect : (size : ℕ) (pages out after : Pages) (first page last to : ℕ) (room : Bool) → out.at 0 ≡ pages.at 0 → Edits pages out (page ∷ []) → IsPut room size out after first last to → IsChanged false room size pages after first page last to
+moved-effect : (size : ℕ) (pages out after : Pages) (first page last to : ℕ) (room : Bool) → out.at 0 ≡ pages.at 0 → EditsExactly pages out (page ∷ []) → IsPut room size out after first last to → IsChanged false room size pages after first page last to
 moved-effect size pages out after first page last to true root edits (is, none, put) =
     (is, none ∙ free-same size pages out root, edits-join pages out after page (last ∷ []) edits put)
 moved-effect size pages out after first page last to false root edits (takes, put) =
@@ -254,37 +254,37 @@ change_law size pages firsts indexes first table placed row answer well has show
     met_there : Meets size pages first placed.page
     met_there = let read = reads size pages firsts indexes first well has in meets size pages first read.one.chain.links placed read.route read.few stands
 
-    out_of : (found : ℕ × HeapPage) (place : ℕ) → met size pages first placed.page (Ok found) → IsPlace placed.number found.1.entries (Some place) → Finished size pages (written pages placed.page (page_bytes (without found.1 place))) firsts indexes first (without_row table placed.number)
+    out_of : (found : ℕ × HeapPage) (place : ℕ) → met size pages first placed.page (Ok found) → place_of placed.number found.1.entries ≡ Some place → Finished size pages (with_bytes pages placed.page (page_bytes (without found.1 place))) firsts indexes first (without_row table placed.number)
     out_of found place at here =
         let read = reads size pages firsts indexes first well has in
         take-out size pages firsts indexes first table placed.page placed.number found.0 found.1 place well has shows read (spot size pages first placed.page placed.number found.0 place found.1 read.one.chain.links read.route.leads at here)
 
-    there_of : (found : ℕ × HeapPage) (place : ℕ) → met size pages first placed.page (Ok found) → IsPlace placed.number found.1.entries (Some place) → 0 < placed.page
+    there_of : (found : ℕ × HeapPage) (place : ℕ) → met size pages first placed.page (Ok found) → place_of placed.number found.1.entries ≡ Some place → 0 < placed.page
     there_of found place at here =
         let read = reads size pages firsts indexes first well has in
         let it = spot size pages first placed.page placed.number found.0 place found.1 read.one.chain.links read.route.leads at here in
         (around size pages first it.before (link_of placed.page found.1) it.behind (subst (IsRoute size pages first) it.links_are read.route)).here.named
 
-    root_of_out : (found : ℕ × HeapPage) (place : ℕ) → met size pages first placed.page (Ok found) → IsPlace placed.number found.1.entries (Some place) → (written pages placed.page (page_bytes (without found.1 place))).at 0 ≡ pages.at 0
+    root_of_out : (found : ℕ × HeapPage) (place : ℕ) → met size pages first placed.page (Ok found) → place_of placed.number found.1.entries ≡ Some place → (with_bytes pages placed.page (page_bytes (without found.1 place))).at 0 ≡ pages.at 0
     root_of_out found place at here = written-other pages placed.page 0 (page_bytes (without found.1 place)) (λ e. absurd (omega (arith, e, there_of found place at here)))
 
     go : (answer : Result (ℕ × Pages) Refusal) → changed_met size pages first placed.page (record { number = placed.number; row = row }) answer
-        → Answers size (λ to after. Changes size pages firsts indexes first table placed.page (record { number = placed.number; row = row }) to after) (ChangeIsFull size pages first placed.page (record { number = placed.number; row = row })) answer
+        → DoesOrIsFull size (λ to after. ChangesRow size pages firsts indexes first table placed.page (record { number = placed.number; row = row }) to after) (ChangeIsFull size pages first placed.page (record { number = placed.number; row = row })) answer
     go (Ok y) (found, at, (place, here, work)) = choose (has_room (without found.1 place) (record { number = placed.number; row = row })) refl work
       where
         choose : (b : Bool) → has_room (without found.1 place) (record { number = placed.number; row = row }) ≡ b
-            → either b (only (Ok (placed.page, written pages placed.page (page_bytes (record (without found.1 place) { entries = insert (without found.1 place).entries place (record { number = placed.number; row = row }) })))))
-            (appended size (written pages placed.page (page_bytes (without found.1 place))) first (record { number = placed.number; row = row })) (Ok y)
-            → Changes size pages firsts indexes first table placed.page (record { number = placed.number; row = row }) y.0 y.1
+            → either b (only (Ok (placed.page, with_bytes pages placed.page (page_bytes (record (without found.1 place) { entries = insert (without found.1 place).entries place (record { number = placed.number; row = row }) })))))
+            (appended size (with_bytes pages placed.page (page_bytes (without found.1 place))) first (record { number = placed.number; row = row })) (Ok y)
+            → ChangesRow size pages firsts indexes first table placed.page (record { number = placed.number; row = row }) y.0 y.1
         choose true room h =
             let read = reads size pages firsts indexes first well has in
             let it = spot size pages first placed.page placed.number found.0 place found.1 read.one.chain.links read.route.leads at here in
             let done = change-here size pages firsts indexes first table placed.page placed.number found.0 row found.1 place well has shows read it is room in
             let out = out_of found place at here in
             let kept = page_bytes (record (without found.1 place) { entries = insert (without found.1 place).entries place (record { number = placed.number; row = row }) }) in
-            let reread = reads size (written pages placed.page (page_bytes (without found.1 place))) firsts indexes first out.well has in
-            let tail = tail-there size (written pages placed.page (page_bytes (without found.1 place))) firsts indexes first out.well has reread.one.lawful.head reread.head_at in
-            subst (λ (y : ℕ × Pages). Changes size pages firsts indexes first table placed.page (record { number = placed.number; row = row }) y.0 y.1) (ok-one h) (record {
+            let reread = reads size (with_bytes pages placed.page (page_bytes (without found.1 place))) firsts indexes first out.well has in
+            let tail = tail-there size (with_bytes pages placed.page (page_bytes (without found.1 place))) firsts indexes first out.well has reread.one.lawful.head reread.head_at in
+            subst (λ (y : ℕ × Pages). ChangesRow size pages firsts indexes first table placed.page (record { number = placed.number; row = row }) y.0 y.1) (ok-one h) (record {
               shows = done.shows;
               others = done.others;
               well = done.well;
@@ -292,12 +292,12 @@ change_law size pages firsts indexes first table placed row answer well has show
               last = last_page first reread.one.lawful.head;
               tail = tail.0;
               stands = record { previous = found.0; held = found.1; place = place; stood = at; here = here; rest_is = refl; ends = record { head = reread.one.lawful.head; at_first = reread.head_at; named = refl; at_last = tail.1 } };
-              effect = rw room (refl, free-same size pages (written pages placed.page kept) (written-other pages placed.page 0 kept (λ e. absurd (omega (arith, e, there_of found place at here)))), edits-write pages pages [] placed.page kept (edits-none pages));
+              effect = rw room (refl, free-same size pages (with_bytes pages placed.page kept) (written-other pages placed.page 0 kept (λ e. absurd (omega (arith, e, there_of found place at here)))), edits-write pages pages [] placed.page kept (edits-none pages));
             })
         choose false room h =
             let out = out_of found place at here in
-            let put = put-answer size (written pages placed.page (page_bytes (without found.1 place))) firsts indexes first (record { number = placed.number; row = row }) (Ok y) out.well has is h in
-            let done = change-moved size pages (written pages placed.page (page_bytes (without found.1 place))) firsts indexes first table placed row y.0 y.1 well has shows among_rows out put in
+            let put = put-answer size (with_bytes pages placed.page (page_bytes (without found.1 place))) firsts indexes first (record { number = placed.number; row = row }) (Ok y) out.well has is h in
+            let done = change-moved size pages (with_bytes pages placed.page (page_bytes (without found.1 place))) firsts indexes first table placed row y.0 y.1 well has shows among_rows out put in
             record {
               shows = done.shows;
               others = done.others;
@@ -307,7 +307,7 @@ change_law size pages firsts indexes first table placed row answer well has show
               tail = put.tail;
               stands = record { previous = found.0; held = found.1; place = place; stood = at; here = here; rest_is = refl; ends = put.ends };
               effect = subst (λ (b : Bool). IsChanged b (has_room put.tail (record { number = placed.number; row = row })) size pages y.1 first placed.page put.last y.0) (sym room)
-                  (moved-effect size pages (written pages placed.page (page_bytes (without found.1 place))) y.1 first placed.page put.last y.0 (has_room put.tail (record { number = placed.number; row = row })) (root_of_out found place at here) (edits-write pages pages [] placed.page (page_bytes (without found.1 place)) (edits-none pages)) put.effect);
+                  (moved-effect size pages (with_bytes pages placed.page (page_bytes (without found.1 place))) y.1 first placed.page put.last y.0 (has_room put.tail (record { number = placed.number; row = row })) (root_of_out found place at here) (edits-write pages pages [] placed.page (page_bytes (without found.1 place)) (edits-none pages)) put.effect);
             }
     go (Err why) (inl refused) =
         let read = reads size pages firsts indexes first well has in
@@ -318,13 +318,13 @@ change_law size pages firsts indexes first table placed row answer well has show
     go (Err why) (inr (found, at, inr (place, here, work))) = choose (has_room (without found.1 place) (record { number = placed.number; row = row })) refl work
       where
         choose : (b : Bool) → has_room (without found.1 place) (record { number = placed.number; row = row }) ≡ b
-            → either b (only (Ok (placed.page, written pages placed.page (page_bytes (record (without found.1 place) { entries = insert (without found.1 place).entries place (record { number = placed.number; row = row }) })))))
-            (appended size (written pages placed.page (page_bytes (without found.1 place))) first (record { number = placed.number; row = row })) (Err why)
+            → either b (only (Ok (placed.page, with_bytes pages placed.page (page_bytes (record (without found.1 place) { entries = insert (without found.1 place).entries place (record { number = placed.number; row = row }) })))))
+            (appended size (with_bytes pages placed.page (page_bytes (without found.1 place))) first (record { number = placed.number; row = row })) (Err why)
             → (why ≡ PagesFull size) × ChangeIsFull size pages first placed.page (record { number = placed.number; row = row })
         choose true room h = ok-err h
         choose false room h =
             let out = out_of found place at here in
-            let full = put-answer size (written pages placed.page (page_bytes (without found.1 place))) firsts indexes first (record { number = placed.number; row = row }) (Err why) out.well has is h in (
+            let full = put-answer size (with_bytes pages placed.page (page_bytes (without found.1 place))) firsts indexes first (record { number = placed.number; row = row }) (Err why) out.well has is h in (
               full.0,
               record {
                 rest = without found.1 place;
@@ -333,6 +333,6 @@ change_law size pages firsts indexes first table placed row answer well has show
                 stands = record { previous = found.0; held = found.1; place = place; stood = at; here = here; rest_is = refl; ends = full.1.ends };
                 room_here = room;
                 room_last = full.1.room;
-                none = sym (free-same size pages (written pages placed.page (page_bytes (without found.1 place))) (root_of_out found place at here)) ∙ full.1.none;
+                none = sym (free-same size pages (with_bytes pages placed.page (page_bytes (without found.1 place))) (root_of_out found place at here)) ∙ full.1.none;
               },
             )

@@ -1,18 +1,18 @@
 -- Which pages are edited, and what a call leaves of the store.
 use Rattle.std.proofs.Common.{◌≡◌, ◌<◌, ◌≤◌, ◌+◌, ◌∙◌, ◌||◌, ℕ, Bool, true, false, eqb, List, [], ◌∷◌, length, Ok, refl, sym, ap, subst}
 use Rattle.std.specs.List.{Contains, list_any}
-use Rattle.pager.specs.Pages.{Pages, written}
+use Rattle.pager.specs.Pages.{Pages, with_bytes}
 use Rattle.heap_file.specs.declared.page.HeapPage.{HeapPage}
 use Rattle.heap_file.specs.declared.chain.Link.{Link}
 use Rattle.heap_file.specs.Chain.{InOrder, IsAt, last_page, rows_of}
 use Rattle.heap_laws.specs.Store.{Chain, IsChain, WellFormed, end_of, free_pages, pages_of, times, times_numbered}
-use Rattle.heap_laws.specs.Table.{AllStay, Edits, IsTable, OthersStay, Table}
+use Rattle.heap_laws.specs.Table.{AllStay, EditsExactly, IsTable, OthersStay, Table}
 use Rattle.heap_laws.proofs.Reading.{Reads, reads}
 use Rattle.heap_laws.proofs.Routes.{IsRoute, leads-one, pages_on}
 use Rattle.heap_laws.proofs.Stores.{others-stay, Swap, swapped}
 
 -- no page is edited yet
-pub edits-none : (pages : Pages) → Edits pages pages []
+pub edits-none : (pages : Pages) → EditsExactly pages pages []
 edits-none pages = record { same = λ p off. refl; edited = λ p. refl }
 
 or-false : (a b : Bool) → (a || b) ≡ false → (a ≡ false) × (b ≡ false)
@@ -24,7 +24,7 @@ or-assoc true b c = refl
 or-assoc false b c = refl
 
 -- one page more is edited
-pub edits-write : (pages after : Pages) (list : List ℕ) (page : ℕ) (bytes : List ℕ) → Edits pages after list → Edits pages (written after page bytes) (page ∷ list)
+pub edits-write : (pages after : Pages) (list : List ℕ) (page : ℕ) (bytes : List ℕ) → EditsExactly pages after list → EditsExactly pages (with_bytes after page bytes) (page ∷ list)
 edits-write pages after list page bytes edits = record {
   same = λ p off.
       let parts = or-false (eqb p page) (list_any (λ other. eqb p other) list) off in
@@ -32,11 +32,11 @@ edits-write pages after list page bytes edits = record {
   edited = λ p. ap (λ (b : Bool). eqb p page || b) (edits.edited p) ∙ or-assoc (eqb p page) (list_any (λ other. eqb p other) list) (pages.edited p);
 }
   where
-    written-at : (p : ℕ) → eqb p page ≡ false → (written after page bytes).at p ≡ after.at p
+    written-at : (p : ℕ) → eqb p page ≡ false → (with_bytes after page bytes).at p ≡ after.at p
     written-at p e = rw e refl
 
 -- the same pages in another order
-pub edits-as : (pages after : Pages) (list others : List ℕ) → ((p : ℕ) → list_any (λ other. eqb p other) list ≡ list_any (λ other. eqb p other) others) → Edits pages after list → Edits pages after others
+pub edits-as : (pages after : Pages) (list others : List ℕ) → ((p : ℕ) → list_any (λ other. eqb p other) list ≡ list_any (λ other. eqb p other) others) → EditsExactly pages after list → EditsExactly pages after others
 edits-as pages after list others alike edits = record {
   same = λ p off. edits.same p (alike p ∙ off);
   edited = λ p. edits.edited p ∙ ap (λ (b : Bool). b || pages.edited p) (alike p);

@@ -6,7 +6,7 @@ use Rattle.pager.specs.Pages.{Pages}
 use Rattle.pager.specs.Root.{root_of}
 use Rattle.pager.specs.declared.root.Root.{Root}
 use Rattle.heap_file.specs.Chain.{IsAt}
-use Rattle.heap_file.specs.HeapPage.{empty_page, Holds}
+use Rattle.heap_file.specs.HeapPage.{empty_page, HoldsRows}
 use Rattle.heap_file.proofs.Packing.{zero_is_empty}
 use Rattle.heap_laws.specs.Laws.{AreZero, FreshLaw}
 use Rattle.heap_laws.specs.Store.{Chain, WellFormed, root_at, times}
@@ -19,7 +19,7 @@ use Rattle.heap_laws.proofs.Routes.{link_of, times-cons}
 zero-at : (size : ℕ) (pages : Pages) → AreZero size pages → 2 ≤ size → IsAt size pages 1 empty_page
 zero-at size pages zero some =
     let there : 1 < size = omega (arith, some) in
-    record { named = omega arith; there = there; holds = subst (λ (bytes : List ℕ). Holds bytes empty_page) (sym (zero 1 there)) zero_is_empty }
+    record { named = omega arith; there = there; holds = subst (λ (bytes : List ℕ). HoldsRows bytes empty_page) (sym (zero 1 there)) zero_is_empty }
 
 -- the root of zero bytes
 abbrev zero_root : Root

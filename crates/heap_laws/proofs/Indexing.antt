@@ -4,12 +4,12 @@ use Rattle.std.specs.List.{Contains}
 use Rattle.retro_base.specs.Fields.{number_at}
 use Rattle.retro_base.proofs.FieldLaws.{number_at-fits}
 use Rattle.retro_base.specs.declared.refusal.Refusal.{Refusal}
-use Rattle.pager.specs.Pages.{Pages, written}
+use Rattle.pager.specs.Pages.{Pages, with_bytes}
 use Rattle.pager.specs.Root.{taken}
 use Rattle.heap_file.proofs.Packing.{held_fits}
-use Rattle.heap_laws.specs.Laws.{Answers, IndexLaw, SizedLaw, TakesForIndex}
+use Rattle.heap_laws.specs.Laws.{DoesOrIsFull, IndexPagesLaw, SizedLaw, TakesForIndex}
 use Rattle.heap_laws.specs.Store.{WellFormed, free_pages, pages_held, pages_of, root_at, times}
-use Rattle.heap_laws.specs.Table.{AllStay, Edits}
+use Rattle.heap_laws.specs.Table.{AllStay, EditsExactly}
 use Rattle.heap_laws.proofs.Roots.{rooted-edits, take-answer, Taken}
 use Rattle.heap_laws.proofs.Routes.{times-append, written-other}
 use Rattle.heap_laws.proofs.Stores.{all-stay, chains-same, frees-same, root_in-same, root-apart, times-some}
@@ -27,20 +27,20 @@ sized_law bytes held long small holds =
 take-index : (size : ℕ) (pages : Pages) (firsts indexes : List ℕ) (page : ℕ) (after : Pages) → Taken size pages firsts indexes page after → TakesForIndex size pages firsts indexes page after
 take-index size pages firsts indexes page after taken = record {
   takes = taken.takes;
-  edits = subst (λ (q : Pages). Edits pages q (0 ∷ [])) (sym taken.after_is) (rooted-edits pages taken.root);
+  edits = subst (λ (q : Pages). EditsExactly pages q (0 ∷ [])) (sym taken.after_is) (rooted-edits pages taken.root);
   stay = taken.stay;
   well = taken.well;
 }
 
 take-law : (size : ℕ) (pages : Pages) (firsts indexes : List ℕ) (answer : Result (ℕ × Pages) Refusal) → WellFormed size pages firsts indexes → taken size pages ≡ answer
-    → Answers size (λ page after. TakesForIndex size pages firsts indexes page after) (free_pages size pages ≡ 0) answer
+    → DoesOrIsFull size (λ page after. TakesForIndex size pages firsts indexes page after) (free_pages size pages ≡ 0) answer
 take-law size pages firsts indexes (Ok y) well is = take-index size pages firsts indexes y.0 y.1 (take-answer size pages firsts indexes (Ok y) well is)
 take-law size pages firsts indexes (Err why) well is = take-answer size pages firsts indexes (Err why) well is
 
 write-law : (size : ℕ) (pages : Pages) (firsts indexes : List ℕ) (page : ℕ) (bytes : List ℕ) → WellFormed size pages firsts indexes → Contains indexes page
-    → WellFormed size (written pages page bytes) firsts indexes × AllStay size pages (written pages page bytes) firsts
+    → WellFormed size (with_bytes pages page bytes) firsts indexes × AllStay size pages (with_bytes pages page bytes) firsts
 write-law size pages firsts indexes page bytes well has =
-    let after = written pages page bytes in
+    let after = with_bytes pages page bytes in
     let held : (p : ℕ) → times p (pages_held well.chains indexes well.free) ≡ times p (flat_map pages_of well.chains) + (times p indexes + times p well.free) =
     λ p. times-append p (flat_map pages_of well.chains) (indexes ++ well.free) ∙ ap (λ (k : ℕ). times p (flat_map pages_of well.chains) + k) (times-append p indexes well.free) in
     let there = times-some indexes page has in
@@ -64,5 +64,5 @@ write-law size pages firsts indexes page bytes well has =
       all-stay size pages after firsts indexes well in_chains,
     )
 
-pub index_law : IndexLaw
-index_law = record { take = take-law; write = write-law }
+pub index_pages_law : IndexPagesLaw
+index_pages_law = record { take = take-law; write = write-law }

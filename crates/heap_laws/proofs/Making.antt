@@ -2,13 +2,13 @@
 use Rattle.std.proofs.Common.{◌≡◌, ◌<◌, ◌≤◌, ◌+◌, ◌++◌, ◌∙◌, ℕ, List, [], ◌∷◌, flat_map, Ok, Err, inl, inr, refl, sym, ap, arith, subst, eq-eqb}
 use Rattle.std.proofs.lemmas.List.{map-append}
 use Rattle.std.proofs.lemmas.List.Sorted.{IsPermutation-refl, IsNonDecreasingBy-short}
-use Rattle.pager.specs.Pages.{Pages, written}
+use Rattle.pager.specs.Pages.{Pages, with_bytes}
 use Rattle.heap_file.specs.declared.chain.Placed.{Placed}
 use Rattle.heap_file.specs.Chain.{IsAt, rows_of}
 use Rattle.heap_file.specs.HeapPage.{empty_page, page_bytes}
-use Rattle.heap_laws.specs.Laws.{Answers, MakeLaw}
+use Rattle.heap_laws.specs.Laws.{DoesOrIsFull, MakeLaw}
 use Rattle.heap_laws.specs.Store.{Chain, IsChain, IsSized, free_pages, pages_behind, pages_held, pages_inner, pages_of, root_at, times, times_numbered}
-use Rattle.heap_laws.specs.Table.{Edits, IsTable, Makes}
+use Rattle.heap_laws.specs.Table.{EditsExactly, IsTable, MakesTable}
 use Rattle.heap_laws.proofs.Counts.{one_if}
 use Rattle.heap_laws.proofs.Editing.{edits-write, free-same}
 use Rattle.heap_laws.proofs.Reading.{ok-err}
@@ -48,11 +48,11 @@ empty-table size pages page at = record {
 }
 
 -- the page that was taken becomes the first page of a table
-make-on : (size : ℕ) (pages : Pages) (firsts indexes : List ℕ) (page : ℕ) (base : Pages) → Taken size pages firsts indexes page base → Makes size pages firsts indexes page (written base page (page_bytes empty_page))
+make-on : (size : ℕ) (pages : Pages) (firsts indexes : List ℕ) (page : ℕ) (base : Pages) → Taken size pages firsts indexes page base → MakesTable size pages firsts indexes page (with_bytes base page (page_bytes empty_page))
 make-on size pages firsts indexes page base taken =
     let well = taken.well in
     let bytes = page_bytes empty_page in
-    let after = written base page bytes in
+    let after = with_bytes base page bytes in
     let now : Chain = record { first = page; links = link_of page empty_page ∷ [] } in
     let held : (p : ℕ) (list : List ℕ) → times p (pages_held well.chains list well.free) ≡ times p (flat_map pages_of well.chains) + (times p list + times p well.free) =
     λ p list. times-append p (flat_map pages_of well.chains) (list ++ well.free) ∙ ap (λ (k : ℕ). times p (flat_map pages_of well.chains) + k) (times-append p list well.free) in
@@ -84,12 +84,12 @@ make-on size pages firsts indexes page base taken =
         inner = λ p some. well.inner p (omega (arith, some, inner p));
       };
       takes = record { next = taken.takes.next; one_less = ap (λ (k : ℕ). 1 + k) (free-same size base after zero_same) ∙ taken.takes.one_less };
-      edits = edits-write pages base (0 ∷ []) page bytes (subst (λ (q : Pages). Edits pages q (0 ∷ [])) (sym taken.after_is) (rooted-edits pages taken.root));
+      edits = edits-write pages base (0 ∷ []) page bytes (subst (λ (q : Pages). EditsExactly pages q (0 ∷ [])) (sym taken.after_is) (rooted-edits pages taken.root));
     }
 
 pub make_law : MakeLaw
 make_law size pages firsts indexes (Ok y) well (next, take, h) =
-    subst (Answers size (λ first after. Makes size pages firsts indexes first after) (free_pages size pages ≡ 0)) h
+    subst (DoesOrIsFull size (λ first after. MakesTable size pages firsts indexes first after) (free_pages size pages ≡ 0)) h
     (make-on size pages firsts indexes next.0 next.1 (take-answer size pages firsts indexes (Ok next) well take))
 make_law size pages firsts indexes (Err why) well (inl take) = take-answer size pages firsts indexes (Err why) well take
 make_law size pages firsts indexes (Err why) well (inr (next, take, h)) = ok-err h

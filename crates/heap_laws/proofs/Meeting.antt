@@ -1,9 +1,11 @@
 -- A page of a chain is met on the way along it, so what is done to it may be told of that way.
-use Rattle.std.proofs.Common.{◌≡◌, ◌<◌, ◌≤◌, ◌-◌, ◌++◌, ◌∙◌, ◌⊎◌, ℕ, List, [], ◌∷◌, length, map, get_or, Result, Ok, Err, inl, inr, refl, sym, ap, arith, subst, length-append}
+use Rattle.heap_file.proofs.Positions.{position-at}
+use Rattle.std.proofs.lemmas.Bool.{ne_eqb}
+use Rattle.std.proofs.Common.{◌≡◌, ◌<◌, ◌≤◌, ◌-◌, ◌++◌, ◌∙◌, ◌⊎◌, ℕ, List, [], ◌∷◌, length, map, get_or, Result, Ok, Err, inl, inr, refl, sym, ap, arith, subst, length-append, eqb, eq-eqb}
 use Rattle.std.proofs.lemmas.List.{get_or_append_left, get_or_at, get_or_default}
 use Rattle.std.specs.List.{insert}
 use Rattle.retro_base.specs.declared.refusal.Refusal.{Refusal}
-use Rattle.pager.specs.Pages.{Pages, written}
+use Rattle.pager.specs.Pages.{Pages, with_bytes}
 use Rattle.pager.specs.Allows.{◌>>=◌, only, either}
 use Rattle.heap_file.specs.declared.page.Entry.{Entry}
 use Rattle.heap_file.specs.declared.page.HeapPage.{HeapPage}
@@ -39,6 +41,7 @@ meets size pages first links placed route few stands =
     let here = around size pages first stands.before x stands.behind (subst (IsRoute size pages first) stands.links_are route) in
     let long : length stands.before < length links = omega (arith, ap length stands.links_are, length-append stands.before (x ∷ stands.behind)) in
     let back = before_it stands.before x stands.behind in
+    let stands_there : (d : Link) → get_or links (length stands.before) d ≡ x = λ d. subst (λ (ls : List Link). get_or ls (length stands.before) d ≡ x) (sym stands.links_are) (get_or_at stands.before x stands.behind d (length stands.before) refl) in
     record {
       previous = back.0;
       held = stands.held;
@@ -47,9 +50,10 @@ meets size pages first links placed route few stands =
         (omega (arith, long), few, route.leads),
         record {
           place = length stands.before;
-          there = long;
-          here = λ d. subst (λ (ls : List Link). get_or ls (length stands.before) d ≡ x) (sym stands.links_are) (get_or_at stands.before x stands.behind d (length stands.before) refl);
-          first = λ k d lt e. absurd (apart k d lt here.off_before (subst (λ (ls : List Link). (get_or ls k d).page ≡ placed.page) stands.links_are e));
+          first = position-at (λ (link : Link). eqb link.page placed.page) links (length stands.before) x long
+              (eq-eqb (get_or links (length stands.before) x).page placed.page (ap (λ (l : Link). l.page) (stands_there x)))
+              (λ k lt. ne_eqb (get_or links k x).page placed.page (λ e. apart k x lt here.off_before (subst (λ (ls : List Link). (get_or ls k x).page ≡ placed.page) stands.links_are e)));
+          here = stands_there;
           behind = subst (λ (ls : List Link). ((length stands.before ≡ 0) × (back.0 ≡ 0)) ⊎ ((0 < length stands.before) × ((d : Link) → (get_or ls (length stands.before - 1) d).page ≡ back.0))) (sym stands.links_are) back.1;
         },
       );
@@ -67,8 +71,8 @@ abbrev pub changed_on : ℕ → Pages → ℕ → ℕ → Entry → HeapPage →
 changed_on size pages first page entry held =
     place_in page entry.number held.entries >>= λ place.
     either (have_room ((without held place).entries ++ entry ∷ []))
-    (only (Ok (page, written pages page (page_bytes (record (without held place) { entries = insert (without held place).entries place entry })))))
-    (appended size (written pages page (page_bytes (without held place))) first entry)
+    (only (Ok (page, with_bytes pages page (page_bytes (record (without held place) { entries = insert (without held place).entries place entry })))))
+    (appended size (with_bytes pages page (page_bytes (without held place))) first entry)
 
 abbrev pub changed_met : ℕ → Pages → ℕ → ℕ → Entry → Result (ℕ × Pages) Refusal → Type 0
 changed_met size pages first page entry = met size pages first page >>= λ found. changed_on size pages first page entry found.1

@@ -1,5 +1,6 @@
 -- The pages of a chain determine what is answered of it.
-use Rattle.std.proofs.Common.{◌≡◌, ◌<◌, ◌≤◌, ◌-◌, ◌∙◌, ◌⊎◌, ℕ, zero, suc, List, [], ◌∷◌, length, get_or, Ok, Err, inl, inr, refl, sym, ap, arith, subst, length-append}
+use Rattle.heap_file.proofs.Positions.{some-is, some-none}
+use Rattle.std.proofs.Common.{◌≡◌, ◌<◌, ◌≤◌, ◌-◌, ◌∙◌, ◌⊎◌, ℕ, zero, suc, List, [], ◌∷◌, length, get_or, Ok, Err, inl, inr, refl, sym, ap, arith, subst, length-append, None}
 use Rattle.std.proofs.lemmas.Bool.{cases_lt}
 use Rattle.std.proofs.lemmas.Bool.Decides.{eqb_tells}
 use Rattle.retro_base.specs.declared.refusal.Refusal.{Refusal}
@@ -7,9 +8,9 @@ use Rattle.pager.specs.Pages.{Pages, broken}
 use Rattle.heap_file.specs.declared.page.Entry.{Entry}
 use Rattle.heap_file.specs.declared.page.HeapPage.{HeapPage}
 use Rattle.heap_file.specs.declared.chain.Link.{Link}
-use Rattle.heap_file.specs.Chain.{chain, IsAt, Leads, met, StandsIn, Stops}
+use Rattle.heap_file.specs.Chain.{chain, IsAt, IsWay, met, StandsIn, Stops, link_place}
 use Rattle.heap_file.specs.Laws.{IsOne}
-use Rattle.heap_file.specs.Work.{place_in, renamed, unlinked}
+use Rattle.heap_file.specs.Work.{place_in, renamed, unlinked, place_of}
 use Rattle.heap_file.proofs.Ones.{appended-one, differ, either-one, next-one, only-one, page-one}
 use Rattle.heap_laws.specs.Laws.{ChainAnswersAreOne}
 use Rattle.heap_laws.specs.Store.{times}
@@ -27,25 +28,25 @@ same-page size pages from l o p q at also =
     at-one size size pages from l.held o.held (subst (λ (n : ℕ). IsAt size pages n l.held) p at) (subst (λ (n : ℕ). IsAt size pages n o.held) q also)
 
 -- ways of one length end at one page
-same-end : (size : ℕ) (pages : Pages) (from : ℕ) (links others : List Link) (a b : ℕ) → Leads size pages from links a → Leads size pages from others b → length links ≡ length others → a ≡ b
+same-end : (size : ℕ) (pages : Pages) (from : ℕ) (links others : List Link) (a b : ℕ) → IsWay size pages from links a → IsWay size pages from others b → length links ≡ length others → a ≡ b
 same-end size pages from [] [] a b leads also long = sym leads ∙ also
 same-end size pages from [] (o ∷ os) a b leads also long = absurd (omega (arith, long))
 same-end size pages from (l ∷ ls) [] a b leads also long = absurd (omega (arith, long))
 same-end size pages from (l ∷ ls) (o ∷ os) a b leads also long =
     let held = same-page size pages from l o leads.0 also.0 leads.1 also.1 in
-    same-end size pages o.held.next ls os a b (subst (λ (h : HeapPage). Leads size pages h.next ls a) held leads.2) also.2 (omega (arith, long))
+    same-end size pages o.held.next ls os a b (subst (λ (h : HeapPage). IsWay size pages h.next ls a) held leads.2) also.2 (omega (arith, long))
 
 -- a shorter way goes on
-goes-on : (size : ℕ) (pages : Pages) (from : ℕ) (links longer : List Link) (a b : ℕ) → Leads size pages from links a → Leads size pages from longer b → length links < length longer → Unread size pages a → ⊥
+goes-on : (size : ℕ) (pages : Pages) (from : ℕ) (links longer : List Link) (a b : ℕ) → IsWay size pages from links a → IsWay size pages from longer b → length links < length longer → Unread size pages a → ⊥
 goes-on size pages from [] [] a b leads also short unread = omega (arith, short)
 goes-on size pages from [] (o ∷ os) a b leads also short unread = unread o.held (subst (λ (p : ℕ). IsAt size pages p o.held) (also.0 ∙ leads) also.1)
 goes-on size pages from (l ∷ ls) [] a b leads also short unread = omega (arith, short)
 goes-on size pages from (l ∷ ls) (o ∷ os) a b leads also short unread =
     let held = same-page size pages from l o leads.0 also.0 leads.1 also.1 in
-    goes-on size pages o.held.next ls os a b (subst (λ (h : HeapPage). Leads size pages h.next ls a) held leads.2) also.2 (omega (arith, short)) unread
+    goes-on size pages o.held.next ls os a b (subst (λ (h : HeapPage). IsWay size pages h.next ls a) held leads.2) also.2 (omega (arith, short)) unread
 
 -- a way to a page that is none of a heap's comes to no page twice
-never-twice : (size : ℕ) (pages : Pages) (from : ℕ) (links : List Link) (to : ℕ) → Leads size pages from links to → Unread size pages to → (p : ℕ) → times p (pages_on links) ≤ 1
+never-twice : (size : ℕ) (pages : Pages) (from : ℕ) (links : List Link) (to : ℕ) → IsWay size pages from links to → Unread size pages to → (p : ℕ) → times p (pages_on links) ≤ 1
 never-twice size pages from [] to leads unread p = omega arith
 never-twice size pages from (link ∷ links) to leads unread p =
     elim (eqb_tells link.page p) [
@@ -60,8 +61,8 @@ never-twice size pages from (link ∷ links) to leads unread p =
     first zero none same = rw (sym same) (omega (arith, none, times-here link.page (pages_on links)))
     first (suc k) some same =
         let split = keyed-split (λ (l : Link). l.page) link.page links (omega (arith, some, keyed-map (λ (l : Link). l.page) link.page links)) in
-        let parts = leads-split size pages link.held.next split.0 (split.1 ∷ split.2) to (subst (λ (l : List Link). Leads size pages link.held.next l to) split.3 leads.2) in
-        let back : Leads size pages from (split.1 ∷ split.2) to = (split.4 ∙ leads.0, parts.2.1, parts.2.2) in
+        let parts = leads-split size pages link.held.next split.0 (split.1 ∷ split.2) to (subst (λ (l : List Link). IsWay size pages link.held.next l to) split.3 leads.2) in
+        let back : IsWay size pages from (split.1 ∷ split.2) to = (split.4 ∙ leads.0, parts.2.1, parts.2.2) in
         absurd (goes-on size pages from (split.1 ∷ split.2) (link ∷ links) to to back leads (omega (arith, ap length split.3, length-append split.0 (split.1 ∷ split.2))) unread)
 
 length-pages : (links : List Link) → length (pages_on links) ≡ length links
@@ -69,7 +70,7 @@ length-pages [] = refl
 length-pages (link ∷ links) = ap suc (length-pages links)
 
 -- the pages of a way are the store's
-way-inside : (size : ℕ) (pages : Pages) (from : ℕ) (links : List Link) (to : ℕ) → Leads size pages from links to → (p : ℕ) → 0 < times p (pages_on links) → (0 ≤ p) × (p < size)
+way-inside : (size : ℕ) (pages : Pages) (from : ℕ) (links : List Link) (to : ℕ) → IsWay size pages from links to → (p : ℕ) → 0 < times p (pages_on links) → (0 ≤ p) × (p < size)
 way-inside size pages from [] to leads p some = absurd (omega (arith, some))
 way-inside size pages from (link ∷ links) to leads p some =
     elim (eqb_tells link.page p) [
@@ -78,12 +79,12 @@ way-inside size pages from (link ∷ links) to leads p some =
     ]
 
 -- such a way is no longer than the store
-way-short : (size : ℕ) (pages : Pages) (from : ℕ) (links : List Link) (to : ℕ) → Leads size pages from links to → Unread size pages to → length links ≤ size
+way-short : (size : ℕ) (pages : Pages) (from : ℕ) (links : List Link) (to : ℕ) → IsWay size pages from links to → Unread size pages to → length links ≤ size
 way-short size pages from links to leads unread =
     omega (arith, length-pages links, pigeons size 0 (pages_on links) (never-twice size pages from links to leads unread) (λ p some. let inside = way-inside size pages from links to leads p some in (inside.0, omega (arith, inside.1))))
 
 -- ways that stop, one at a page that is none of a heap's, stop at one page
-stops-one : (size : ℕ) (pages : Pages) (from : ℕ) (links others : List Link) (a b : ℕ) → Leads size pages from links a → Leads size pages from others b → Stops size pages links a → Unread size pages b → a ≡ b
+stops-one : (size : ℕ) (pages : Pages) (from : ℕ) (links others : List Link) (a b : ℕ) → IsWay size pages from links a → IsWay size pages from others b → Stops size pages links a → Unread size pages b → a ≡ b
 stops-one size pages from links others a b leads also (inl long) unread =
     elim (cases_lt (length others) (length links)) [
       | inl short ↦ absurd (goes-on size pages from others links b a also leads short unread)
@@ -99,13 +100,13 @@ stops-one size pages from links others a b leads also (inr ends) unread =
           ]
     ]
 
-stop-pages : (size : ℕ) (pages : Pages) (from : ℕ) (links others : List Link) (a b : ℕ) → Leads size pages from links a → Leads size pages from others b → Stops size pages links a → Stops size pages others b → a ≡ b
+stop-pages : (size : ℕ) (pages : Pages) (from : ℕ) (links others : List Link) (a b : ℕ) → IsWay size pages from links a → IsWay size pages from others b → Stops size pages links a → Stops size pages others b → a ≡ b
 stop-pages size pages from links others a b leads also stops (inr unread) = stops-one size pages from links others a b leads also stops unread
 stop-pages size pages from links others a b leads also (inr unread) (inl long) = sym (stops-one size pages from others links b a also leads (inl long) unread)
 stop-pages size pages from links others a b leads also (inl long) (inl same) = same-end size pages from links others a b leads also (omega (arith, long, same))
 
 -- a chain is one
-started : (size : ℕ) (pages : Pages) (first : ℕ) (links : List Link) → 1 ≤ length links → Leads size pages first links 0 → first ≡ 0 → ⊥
+started : (size : ℕ) (pages : Pages) (first : ℕ) (links : List Link) → 1 ≤ length links → IsWay size pages first links 0 → first ≡ 0 → ⊥
 started size pages first [] some leads e = omega (arith, some)
 started size pages first (link ∷ links) some leads e = omega (arith, e, leads.0, leads.1.named)
 
@@ -121,15 +122,7 @@ stands-one : (links : List Link) (page : ℕ) (p q : ℕ) (held other : HeapPage
 stands-one links page p q held other a b =
     let d = link_of page held in
     let at_a = a.here d in
-    let place : a.place ≡ b.place =
-    elim (cases_lt a.place b.place) [
-      | inl early ↦ absurd (b.first a.place d early (ap (λ (l : Link). l.page) at_a))
-      | inr late ↦
-          elim (cases_lt b.place a.place) [
-            | inl early ↦ absurd (a.first b.place d early (ap (λ (l : Link). l.page) (b.here d)))
-            | inr same ↦ omega (arith, late, same)
-          ]
-    ] in
+    let place : a.place ≡ b.place = some-is (link_place page links) a.place b.place a.first b.first in
     let links_same : link_of page held ≡ link_of page other = sym at_a ∙ ap (λ (k : ℕ). get_or links k d) place ∙ b.here d in
     (before d place a.behind b.behind, ap (λ (l : Link). l.held) links_same)
   where
@@ -144,8 +137,8 @@ stands-one links page p q held other a b =
 chains-one : (size : ℕ) (pages : Pages) (first : ℕ) (links others : List Link) → chain size pages first (Ok links) → chain size pages first (Ok others) → links ≡ others
 chains-one size pages first links others a b = leads-one size size pages first links others a.2 b.2
 
-none-stands : (links : List Link) (page previous : ℕ) (held : HeapPage) → StandsIn links page previous held → ((k : ℕ) (d : Link) → k < length links → (get_or links k d).page ≡ page → ⊥) → ⊥
-none-stands links page previous held in_ none = none in_.place (link_of page held) in_.there (ap (λ (l : Link). l.page) (in_.here (link_of page held)))
+none-stands : (links : List Link) (page previous : ℕ) (held : HeapPage) → StandsIn links page previous held → link_place page links ≡ None → ⊥
+none-stands links page previous held in_ none = some-none (link_place page links) in_.place in_.first none
 
 pub met-one : (size : ℕ) (pages : Pages) (first page : ℕ) → IsOne (met size pages first page)
 met-one size pages first page (Ok x) (Ok y) (links, whole, at) (others, also, there) =
@@ -170,19 +163,9 @@ met-one size pages first page (Err why) (Err reason) (inr (links, whole, is, non
 
 -- a number has one place on a page
 place-one : (page number : ℕ) (entries : List Entry) → IsOne (place_in page number entries)
-place-one page number entries (Ok i) (Ok j) a b =
-    let d : Entry = record { number = 0; row = [] } in
-    ap (λ (k : ℕ). Ok k)
-    (elim (cases_lt i j) [
-      | inl early ↦ absurd (b.2 i d early (a.1 d))
-      | inr late ↦
-          elim (cases_lt j i) [
-            | inl early ↦ absurd (a.2 j d early (b.1 d))
-            | inr same ↦ omega (arith, late, same)
-          ]
-    ])
-place-one page number entries (Ok i) (Err why) a b = let d : Entry = record { number = 0; row = [] } in absurd (b.1 i d a.0 (a.1 d))
-place-one page number entries (Err why) (Ok j) a b = let d : Entry = record { number = 0; row = [] } in absurd (a.1 j d b.0 (b.1 d))
+place-one page number entries (Ok i) (Ok j) a b = ap (λ (k : ℕ). Ok k) (some-is (place_of number entries) i j a b)
+place-one page number entries (Ok i) (Err why) a b = some-none (place_of number entries) i a b.1
+place-one page number entries (Err why) (Ok j) a b = some-none (place_of number entries) j b a.1
 place-one page number entries (Err why) (Err reason) a b = ap (λ (w : Refusal). Err w) (a.0 ∙ sym b.0)
 
 renamed-one : (size : ℕ) (pages : Pages) (first last next : ℕ) → IsOne (renamed size pages first last next)

@@ -12,7 +12,7 @@ use Rattle.heap_file.specs.declared.page.HeapPage.{HeapPage}
 use Rattle.heap_file.specs.declared.chain.Link.{Link}
 use Rattle.heap_file.specs.declared.chain.Placed.{Placed}
 use Rattle.heap_file.specs.Laws.{IsOne}
-use Rattle.heap_file.specs.Chain.{chain, GoesOn, IsAt, last_page, Leads, rows_of, scanned, Stops}
+use Rattle.heap_file.specs.Chain.{chain, IsOpenWay, IsAt, last_page, IsWay, rows_of, scanned, Stops}
 use Rattle.heap_file.specs.Work.{got, next_of}
 use Rattle.heap_laws.specs.Laws.{ReadLaw}
 use Rattle.heap_laws.specs.Store.{Chain, WellFormed, end_of, pages_of, pages_held, root_at, times, times_numbered}
@@ -47,7 +47,7 @@ reads size pages firsts indexes first well has =
     record {
       one = one;
       route = record {
-        leads = subst (λ (f : ℕ). Leads size pages f one.chain.links 0) one.named one.lawful.leads;
+        leads = subst (λ (f : ℕ). IsWay size pages f one.chain.links 0) one.named one.lawful.leads;
         sized = one.lawful.sized;
         once = λ p. omega (arith, well.once p, held p);
       };
@@ -62,22 +62,22 @@ reads size pages firsts indexes first well has =
     length-pages (link ∷ links) = ap suc (length-pages links)
 
 -- a way that stops at a page goes on where another goes on
-goes-on : (size : ℕ) (pages : Pages) (from : ℕ) (links whole : List Link) (page : ℕ) → Leads size pages from links page → Leads size pages from whole 0 → (page ≡ 0 → ⊥) → (length links < length whole) × (held : HeapPage) × IsAt size pages page held
+goes-on : (size : ℕ) (pages : Pages) (from : ℕ) (links whole : List Link) (page : ℕ) → IsWay size pages from links page → IsWay size pages from whole 0 → (page ≡ 0 → ⊥) → (length links < length whole) × (held : HeapPage) × IsAt size pages page held
 goes-on size pages from [] [] page leads all named = absurd (named (sym leads ∙ all))
 goes-on size pages from [] (w ∷ ws) page leads all named = (omega arith, w.held, subst (λ (p : ℕ). IsAt size pages p w.held) (all.0 ∙ leads) all.1)
 goes-on size pages from (l ∷ ls) [] page leads all named = absurd (omega (arith, all, leads.0, leads.1.named))
 goes-on size pages from (l ∷ ls) (w ∷ ws) page leads all named =
     let held : l.held ≡ w.held = at-one size size pages from l.held w.held (subst (λ (p : ℕ). IsAt size pages p l.held) leads.0 leads.1) (subst (λ (p : ℕ). IsAt size pages p w.held) all.0 all.1) in
-    let more = goes-on size pages w.held.next ls ws page (subst (λ (h : HeapPage). Leads size pages h.next ls page) held leads.2) all.2 named in
+    let more = goes-on size pages w.held.next ls ws page (subst (λ (h : HeapPage). IsWay size pages h.next ls page) held leads.2) all.2 named in
     (omega (arith, more.0), more.1, more.2)
 
 -- a chain that ends is read to its end
-pub chain-never : (size : ℕ) (pages : Pages) (first : ℕ) (whole : List Link) (why : Refusal) → Leads size pages first whole 0 → length whole ≤ size → (first ≡ 0 → ⊥) → chain size pages first (Err why) → ⊥
+pub chain-never : (size : ℕ) (pages : Pages) (first : ℕ) (whole : List Link) (why : Refusal) → IsWay size pages first whole 0 → length whole ≤ size → (first ≡ 0 → ⊥) → chain size pages first (Err why) → ⊥
 chain-never size pages first whole why all few named (links, page, e, leads, goes, stops) =
     let more = goes-on size pages first links whole page leads all (open_ links leads goes) in
     stuck more.0 more.1 more.2 stops
   where
-    open_ : (links : List Link) → Leads size pages first links page → GoesOn links page → page ≡ 0 → ⊥
+    open_ : (links : List Link) → IsWay size pages first links page → IsOpenWay links page → page ≡ 0 → ⊥
     open_ [] leads goes e = named (leads ∙ e)
     open_ (link ∷ links) leads goes e = goes e
 
@@ -101,7 +101,7 @@ pub record Rows (size : ℕ) (pages : Pages) (first : ℕ) (table : Table) (link
   pub permutation : IsPermutation (rows_of links) table.rows
   pub sorted : IsNonDecreasingBy (λ (placed : Placed). placed.number) table.rows
 
-pub rows-read : (size : ℕ) (pages : Pages) (first : ℕ) (table : Table) (links : List Link) (head : HeapPage) → IsTable size pages first table → Leads size pages first links 0 → IsAt size pages first head → Rows size pages first table links head
+pub rows-read : (size : ℕ) (pages : Pages) (first : ℕ) (table : Table) (links : List Link) (head : HeapPage) → IsTable size pages first table → IsWay size pages first links 0 → IsAt size pages first head → Rows size pages first table links head
 rows-read size pages first table links head shows leads at =
     let one : links ≡ shows.rows.0 = leads-one size size pages first links shows.rows.0 leads shows.rows.1.2 in
     let head_is : head ≡ shows.next_number.0 = at-one size size pages first head shows.next_number.0 at shows.next_number.1 in

@@ -6,20 +6,20 @@ use Rattle.std.proofs.lemmas.Bool.Decides.{eqb_tells}
 use Rattle.std.proofs.lemmas.List.{map-append}
 use Rattle.std.proofs.lemmas.List.Sorted.{Contains-permutation, IsPermutation-sym}
 use Rattle.retro_base.specs.declared.refusal.Refusal.{Refusal}
-use Rattle.pager.specs.Pages.{Pages, written}
+use Rattle.pager.specs.Pages.{Pages, with_bytes}
 use Rattle.pager.specs.Allows.{◌>>=◌, only, either}
 use Rattle.heap_file.specs.declared.page.Entry.{Entry}
 use Rattle.heap_file.specs.declared.page.HeapPage.{HeapPage}
 use Rattle.heap_file.specs.declared.chain.Link.{Link}
 use Rattle.heap_file.specs.declared.chain.Placed.{Placed}
-use Rattle.heap_file.specs.Chain.{heap_page, InOrder, IsAt, last_page, Leads, met, rows_of, rows_on}
+use Rattle.heap_file.specs.Chain.{heap_page, InOrder, IsAt, last_page, IsWay, met, rows_of, rows_on}
 use Rattle.heap_file.specs.HeapPage.{page_bytes}
-use Rattle.heap_file.specs.Work.{IsPlace, last_field, place_in, removed, renamed, unlinked, without}
+use Rattle.heap_file.specs.Work.{place_of, last_field, place_in, removed, renamed, unlinked, without}
 use Rattle.heap_file.proofs.Ones.{differ}
 use Rattle.heap_file.proofs.Packing.{without_fits}
-use Rattle.heap_laws.specs.Laws.{Answers, RemoveLaw}
+use Rattle.heap_laws.specs.Laws.{DoesOrIsFull, RemoveLaw}
 use Rattle.heap_laws.specs.Store.{IsSized, WellFormed, end_of, times, times_numbered}
-use Rattle.heap_laws.specs.Table.{Edits, IsTable, leaves, Removes, Table, without_row}
+use Rattle.heap_laws.specs.Table.{EditsExactly, IsTable, leaves, RemovesRow, Table, without_row}
 use Rattle.heap_laws.proofs.Adding.{not-broken}
 use Rattle.heap_laws.proofs.Appending.{first-there, head-sized, last-sized, next-sized, rehead, update-head}
 use Rattle.heap_laws.proofs.Counts.{keyed-gone, keyed-left, one_if, others}
@@ -71,7 +71,7 @@ rows-left before page held behind front rest e =
 -- the row is taken out of its page, which stays in the chain
 pub take-out : (size : ℕ) (pages : Pages) (firsts indexes : List ℕ) (first : ℕ) (table : Table) (page number previous : ℕ) (held : HeapPage) (place : ℕ) (well : WellFormed size pages firsts indexes) → Contains firsts first → IsTable size pages first table
     → (read : Reads size pages firsts indexes first well) → Spot read.one.chain.links page number previous held place
-    → Finished size pages (written pages page (page_bytes (without held place))) firsts indexes first (without_row table number)
+    → Finished size pages (with_bytes pages page (page_bytes (without held place))) firsts indexes first (without_row table number)
 take-out size pages firsts indexes first table page number previous held place well has shows read it =
     let links = read.one.chain.links in
     let lawful = read.one.lawful in
@@ -88,7 +88,7 @@ take-out size pages firsts indexes first table page number previous held place w
     let count : (p : ℕ) → times p (pages_on now) ≡ times p (pages_on links) =
     λ p. times-links p it.before (link_of page left) it.behind ∙ sym (times-links p it.before (link_of page held) it.behind) ∙ ap (λ (l : List Link). times p (pages_on l)) (sym it.links_are) in
     let names : last_page first lawful.head ≡ end_of first links = subst (λ (f : ℕ). last_page f lawful.head ≡ end_of f links) read.one.named lawful.names_last in
-    finish size pages (written pages page (page_bytes left)) firsts indexes indexes first (without_row table number) well read has (record {
+    finish size pages (with_bytes pages page (page_bytes left)) firsts indexes indexes first (without_row table number) well read has (record {
       now = now;
       route = route-update size pages first it.before (link_of page held) it.behind left route refl sized;
       head = head.0;
@@ -111,7 +111,7 @@ last-named first last some =
     ]
 
 -- nothing leads on from page 0
-no-way : (size : ℕ) (pages : Pages) (from : ℕ) (links : List Link) → from ≡ 0 → Leads size pages from links 0 → links ≡ []
+no-way : (size : ℕ) (pages : Pages) (from : ℕ) (links : List Link) → from ≡ 0 → IsWay size pages from links 0 → links ≡ []
 no-way size pages from [] e leads = refl
 no-way size pages from (link ∷ links) e leads = absurd (omega (arith, e, leads.0, leads.1.named))
 
@@ -134,7 +134,7 @@ relinked_pages first previous next = cond (eqb next 0) (first ∷ previous ∷ [
 pub record Unlinked (size : ℕ) (pages after : Pages) (firsts indexes : List ℕ) (first page previous next : ℕ) (table : Table) : Type 0 where
   pub done : Finished size pages after firsts (page ∷ indexes) first table
   pub root_same : after.at 0 ≡ pages.at 0
-  pub edits : Edits pages after (relinked_pages first previous next)
+  pub edits : EditsExactly pages after (relinked_pages first previous next)
 
 -- a page whose only row is taken out, behind another of its chain
 pub record Lone (size : ℕ) (pages : Pages) (first : ℕ) (links : List Link) (page number previous : ℕ) (held before : HeapPage) : Type 0 where
@@ -143,7 +143,7 @@ pub record Lone (size : ℕ) (pages : Pages) (first : ℕ) (links : List Link) (
   pub links_are : links ≡ front ++ link_of previous before ∷ link_of page held ∷ behind
   pub rows_left : others number_of number (rows_of links) ≡ rows_of (front ++ link_of previous before ∷ behind)
   pub at_previous : Around size pages first front (link_of previous before) (link_of page held ∷ behind)
-  pub next_part : Leads size pages held.next behind 0
+  pub next_part : IsWay size pages held.next behind 0
   pub sized : IsSized held
   pub sized_behind : AllSized behind
 
@@ -191,9 +191,9 @@ past before next = record before { next = next }
 
 -- the chain once the page before names the next one
 pub record Relinked (size : ℕ) (pages : Pages) (first : ℕ) (links : List Link) (head : HeapPage) (page previous : ℕ) (front : List Link) (now : HeapPage) (behind : List Link) : Type 0 where
-  pub route : IsRoute size (written pages previous (page_bytes now)) first (front ++ link_of previous now ∷ behind)
+  pub route : IsRoute size (with_bytes pages previous (page_bytes now)) first (front ++ link_of previous now ∷ behind)
   pub head_now : HeapPage
-  pub at_first : IsAt size (written pages previous (page_bytes now)) first head_now
+  pub at_first : IsAt size (with_bytes pages previous (page_bytes now)) first head_now
   pub last_same : head_now.last ≡ head.last
   pub next_number : head_now.next_number ≡ head.next_number
   pub counts : (p : ℕ) → times p (pages_on (front ++ link_of previous now ∷ behind)) + one_if (eqb page p) ≡ times p (pages_on links)
@@ -257,7 +257,7 @@ unlinked-done size pages after firsts indexes first table page number previous h
 abbrev renamed_first : ℕ → Pages → ℕ → ℕ → Result (Unit {0} × Pages) Refusal → Type 0
 renamed_first size pages first last = do
   head ← heap_page size pages first
-  only (Ok (tt, written pages first (page_bytes (record head { last = last_field first last }))))
+  only (Ok (tt, with_bytes pages first (page_bytes (record head { last = last_field first last }))))
 
 abbrev unchanged : Pages → Result (Unit {0} × Pages) Refusal → Type 0
 unchanged pages = only (Ok (tt, pages))
@@ -269,12 +269,12 @@ after-one e = ap (λ (x : Unit {0} × Pages). x.1) (ok-one e)
 -- the way goes past the page, and the first page names the last one
 pub unlink : (size : ℕ) (pages after : Pages) (firsts indexes : List ℕ) (first : ℕ) (table : Table) (page number previous : ℕ) (held before : HeapPage) (well : WellFormed size pages firsts indexes) → Contains firsts first → IsTable size pages first table
     → (read : Reads size pages firsts indexes first well) → Lone size pages first read.one.chain.links page number previous held before
-    → renamed size (written pages previous (page_bytes (past before held.next))) first previous held.next (Ok (tt, after))
+    → renamed size (with_bytes pages previous (page_bytes (past before held.next))) first previous held.next (Ok (tt, after))
     → Unlinked size pages after firsts indexes first page previous held.next (without_row table number)
 unlink size pages after firsts indexes first table page number previous held before well has shows read it work =
     go (eqb held.next 0) refl work
   where
-    go : (b : Bool) → eqb held.next 0 ≡ b → either b (renamed_first size (written pages previous (page_bytes (past before held.next))) first previous) (unchanged (written pages previous (page_bytes (past before held.next)))) (Ok (tt, after))
+    go : (b : Bool) → eqb held.next 0 ≡ b → either b (renamed_first size (with_bytes pages previous (page_bytes (past before held.next))) first previous) (unchanged (with_bytes pages previous (page_bytes (past before held.next)))) (Ok (tt, after))
         → Unlinked size pages after firsts indexes first page previous held.next (without_row table number)
     go true e (found, found_at, h) =
         let links = read.one.chain.links in
@@ -282,20 +282,20 @@ unlink size pages after firsts indexes first table page number previous held bef
         let again = relinked size pages first links read.one.lawful.head page number previous held before read.route read.head_at it in
         let linked = it.front ++ link_of previous (past before held.next) ∷ it.behind in
         let named : HeapPage = record found { last = last_field first previous } in
-        let found_is : found ≡ again.head_now = at-one size size (written pages previous (page_bytes (past before held.next))) first found again.head_now found_at again.at_first in
-        let sized = last-sized found (last_field first previous) (head-sized size (written pages previous (page_bytes (past before held.next))) first linked found again.route found_at) (omega (arith, well.small, last-le first previous, q.here.there)) in
-        let renamed_ = rehead size (written pages previous (page_bytes (past before held.next))) first linked found named again.route found_at refl refl sized in
-        let after_is : written (written pages previous (page_bytes (past before held.next))) first (page_bytes named) ≡ after = after-one h in
+        let found_is : found ≡ again.head_now = at-one size size (with_bytes pages previous (page_bytes (past before held.next))) first found again.head_now found_at again.at_first in
+        let sized = last-sized found (last_field first previous) (head-sized size (with_bytes pages previous (page_bytes (past before held.next))) first linked found again.route found_at) (omega (arith, well.small, last-le first previous, q.here.there)) in
+        let renamed_ = rehead size (with_bytes pages previous (page_bytes (past before held.next))) first linked found named again.route found_at refl refl sized in
+        let after_is : with_bytes (with_bytes pages previous (page_bytes (past before held.next))) first (page_bytes named) ≡ after = after-one h in
         let none : it.behind ≡ [] = no-way size pages held.next it.behind (eqb-true held.next 0 e) it.next_part in
         let ends : end_of first linked ≡ previous = end-append first it.front (link_of previous (past before held.next)) it.behind ∙ ap (end_of previous) none in
         subst (λ (a : Pages). Unlinked size pages a firsts indexes first page previous held.next (without_row table number)) after_is (record {
-          done = unlinked-done size pages (written (written pages previous (page_bytes (past before held.next))) first (page_bytes named)) firsts indexes first table page number previous held before well has shows read it
-              renamed_.now renamed_.route renamed_.pages_same renamed_.rows_same named (at-written size (written pages previous (page_bytes (past before held.next))) first named found_at.named found_at.there sized)
+          done = unlinked-done size pages (with_bytes (with_bytes pages previous (page_bytes (past before held.next))) first (page_bytes named)) firsts indexes first table page number previous held before well has shows read it
+              renamed_.now renamed_.route renamed_.pages_same renamed_.rows_same named (at-written size (with_bytes pages previous (page_bytes (past before held.next))) first named found_at.named found_at.there sized)
               (ap (λ (h : HeapPage). h.next_number) found_is ∙ again.next_number)
               (last-named first previous (λ z. absurd (omega (arith, z, q.here.named))) ∙ sym ends ∙ sym renamed_.end_same)
-              (λ p first_ previous_. written-other (written pages previous (page_bytes (past before held.next))) first p (page_bytes named) first_ ∙ written-other pages previous p (page_bytes (past before held.next)) previous_);
-          root_same = written-other (written pages previous (page_bytes (past before held.next))) first 0 (page_bytes named) (λ z. absurd (omega (arith, z, found_at.named))) ∙ written-other pages previous 0 (page_bytes (past before held.next)) (λ z. absurd (omega (arith, z, q.here.named)));
-          edits = rw e (edits-write pages (written pages previous (page_bytes (past before held.next))) (previous ∷ []) first (page_bytes named) (edits-write pages pages [] previous (page_bytes (past before held.next)) (edits-none pages)));
+              (λ p first_ previous_. written-other (with_bytes pages previous (page_bytes (past before held.next))) first p (page_bytes named) first_ ∙ written-other pages previous p (page_bytes (past before held.next)) previous_);
+          root_same = written-other (with_bytes pages previous (page_bytes (past before held.next))) first 0 (page_bytes named) (λ z. absurd (omega (arith, z, found_at.named))) ∙ written-other pages previous 0 (page_bytes (past before held.next)) (λ z. absurd (omega (arith, z, q.here.named)));
+          edits = rw e (edits-write pages (with_bytes pages previous (page_bytes (past before held.next))) (previous ∷ []) first (page_bytes named) (edits-write pages pages [] previous (page_bytes (past before held.next)) (edits-none pages)));
         })
       where
         last-le : (first last : ℕ) → last_field first last ≤ last
@@ -309,12 +309,12 @@ unlink size pages after firsts indexes first table page number previous held bef
         let lawful = read.one.lawful in
         let again = relinked size pages first links lawful.head page number previous held before read.route read.head_at it in
         let linked = it.front ++ link_of previous (past before held.next) ∷ it.behind in
-        let some : it.behind ≡ [] → ⊥ = λ none. absurd (ended e (subst (λ (l : List Link). Leads size pages held.next l 0) none it.next_part)) in
+        let some : it.behind ≡ [] → ⊥ = λ none. absurd (ended e (subst (λ (l : List Link). IsWay size pages held.next l 0) none it.next_part)) in
         let names : last_page first lawful.head ≡ end_of first links = subst (λ (f : ℕ). last_page f lawful.head ≡ end_of f links) read.one.named lawful.names_last in
         let ends : end_of first links ≡ end_of first linked =
         ap (end_of first) it.links_are ∙ end-append first it.front (link_of previous before) (link_of page held ∷ it.behind) ∙ end-other page previous it.behind some ∙ sym (end-append first it.front (link_of previous (past before held.next)) it.behind) in
         subst (λ (a : Pages). Unlinked size pages a firsts indexes first page previous held.next (without_row table number)) (after-one h) (record {
-          done = unlinked-done size pages (written pages previous (page_bytes (past before held.next))) firsts indexes first table page number previous held before well has shows read it
+          done = unlinked-done size pages (with_bytes pages previous (page_bytes (past before held.next))) firsts indexes first table page number previous held before well has shows read it
               linked again.route refl refl again.head_now again.at_first again.next_number
               (ap (λ (l : ℕ). cond (eqb l 0) first l) again.last_same ∙ names ∙ ends)
               (λ p first_ previous_. written-other pages previous p (page_bytes (past before held.next)) previous_);
@@ -347,7 +347,7 @@ first-page : (size : ℕ) (pages : Pages) (first : ℕ) (links : List Link) (hea
 first-page size pages first links head page number previous held place route at it =
     elim it.previous_is [
       | inl start ↦
-          let leads : Leads size pages first (link_of page held ∷ it.behind) 0 = subst (λ (l : List Link). Leads size pages first l 0) (it.links_are ∙ ap (λ (l : List Link). l ++ link_of page held ∷ it.behind) start.0) route.leads in
+          let leads : IsWay size pages first (link_of page held ∷ it.behind) 0 = subst (λ (l : List Link). IsWay size pages first l 0) (it.links_are ∙ ap (λ (l : List Link). l ++ link_of page held ∷ it.behind) start.0) route.leads in
           eq-eqb previous 0 start.1 ∙ sym (eq-eqb page first leads.0)
       | inr later ↦ behind later.0 later.1 later.2 later.3
     ]
@@ -382,7 +382,7 @@ leaves-is size pages first links head page number previous held place route at i
     ]
 
 -- the pages edited, in the order in which the law names them
-edits-order : (pages after : Pages) (first page previous next : ℕ) → Edits pages after (0 ∷ page ∷ relinked_pages first previous next) → Edits pages after (previous ∷ page ∷ 0 ∷ cond (eqb next 0) (first ∷ []) [])
+edits-order : (pages after : Pages) (first page previous next : ℕ) → EditsExactly pages after (0 ∷ page ∷ relinked_pages first previous next) → EditsExactly pages after (previous ∷ page ∷ 0 ∷ cond (eqb next 0) (first ∷ []) [])
 edits-order pages after first page previous next edits =
     edits-as pages after (0 ∷ page ∷ relinked_pages first previous next) (previous ∷ page ∷ 0 ∷ cond (eqb next 0) (first ∷ []) []) (λ p. go (eqb next 0) (eqb p 0) (eqb p page) (eqb p first) (eqb p previous) p refl refl refl refl) edits
   where
@@ -427,7 +427,7 @@ and-both false b e = absurd cc
 leave : (size : ℕ) (pages : Pages) (firsts indexes : List ℕ) (first : ℕ) (table : Table) (page number previous : ℕ) (held : HeapPage) (place : ℕ) (well : WellFormed size pages firsts indexes) → Contains firsts first → IsTable size pages first table
     → (read : Reads size pages firsts indexes first well) → met size pages first page (Ok (previous, held)) → Spot read.one.chain.links page number previous held place
     → (not (eqb previous 0) && eqb (length (without held place).entries) 0) ≡ true → (after : Pages) → unlinked size pages first previous page held.next (Ok (tt, after))
-    → Removes size pages firsts indexes first table page number after
+    → RemovesRow size pages firsts indexes first table page number after
 leave size pages firsts indexes first table page number previous held place well has shows read found it goes after (before, at, (named, renamed_, freed_)) =
     let parts = and-both (not (eqb previous 0)) _ goes in
     let some : previous ≡ 0 → ⊥ = λ e. absurd (nonzero parts.0 (eq-eqb previous 0 e)) in
@@ -437,7 +437,7 @@ leave size pages firsts indexes first table page number previous held place well
     let past_ = unlink size pages named.1 firsts indexes first table page number previous held before well has shows read alone renamed_ in
     let free = freed-well size named.1 firsts indexes page past_.done.well in
     let after_is : free.0 ≡ after = after-one (sym free.1 ∙ freed_) in
-    subst (Removes size pages firsts indexes first table page number) after_is (record {
+    subst (RemovesRow size pages firsts indexes first table page number) after_is (record {
       shows = free.2.stay first has (without_row table number) past_.done.shows;
       others = λ other there differ table_ shows_. free.2.stay other there table_ (past_.done.others other there differ table_ shows_);
       well = free.2.well;
@@ -447,8 +447,8 @@ leave size pages firsts indexes first table page number previous held place well
       effect = rw (leaves-is size pages first links read.one.lawful.head page number previous held place read.route read.head_at it, goes) (
         record { front = free.2.frees.front; one_more = free.2.frees.one_more ∙ ap (λ (k : ℕ). 1 + k) (free-same size pages named.1 past_.root_same) },
         edits-order pages free.0 first page previous held.next
-            (subst (λ (q : Pages). Edits pages q (0 ∷ page ∷ relinked_pages first previous held.next)) (sym free.2.after_is)
-            (edits-write pages (written named.1 page _) (page ∷ relinked_pages first previous held.next) 0 _ (edits-write pages named.1 (relinked_pages first previous held.next) page _ past_.edits))),
+            (subst (λ (q : Pages). EditsExactly pages q (0 ∷ page ∷ relinked_pages first previous held.next)) (sym free.2.after_is)
+            (edits-write pages (with_bytes named.1 page _) (page ∷ relinked_pages first previous held.next) 0 _ (edits-write pages named.1 (relinked_pages first previous held.next) page _ past_.edits))),
       );
     })
   where
@@ -462,7 +462,7 @@ leave size pages firsts indexes first table page number previous held place well
 keep : (size : ℕ) (pages : Pages) (firsts indexes : List ℕ) (first : ℕ) (table : Table) (page number previous : ℕ) (held : HeapPage) (place : ℕ) (well : WellFormed size pages firsts indexes) → Contains firsts first → IsTable size pages first table
     → (read : Reads size pages firsts indexes first well) → met size pages first page (Ok (previous, held)) → Spot read.one.chain.links page number previous held place
     → (not (eqb previous 0) && eqb (length (without held place).entries) 0) ≡ false
-    → Removes size pages firsts indexes first table page number (written pages page (page_bytes (without held place)))
+    → RemovesRow size pages firsts indexes first table page number (with_bytes pages page (page_bytes (without held place)))
 keep size pages firsts indexes first table page number previous held place well has shows read found it stays =
     let done = take-out size pages firsts indexes first table page number previous held place well has shows read it in
     let links = read.one.chain.links in
@@ -476,7 +476,7 @@ keep size pages firsts indexes first table page number previous held place well 
       held = held;
       stood = found;
       effect = rw (leaves-is size pages first links read.one.lawful.head page number previous held place read.route read.head_at it, stays)
-          (free-same size pages (written pages page bytes) (written-other pages page 0 bytes (λ e. absurd (omega (arith, e, here.here.named)))), edits-write pages pages [] page bytes (edits-none pages));
+          (free-same size pages (with_bytes pages page bytes) (written-other pages page 0 bytes (λ e. absurd (omega (arith, e, here.here.named)))), edits-write pages pages [] page bytes (edits-none pages));
     }
 
 -- the way past a page is found, and the page is freed
@@ -497,13 +497,13 @@ unlinked-never size pages firsts indexes first table page number previous held p
     alone : (before : HeapPage) → IsAt size pages previous before → Lone size pages first read.one.chain.links page number previous held before
     alone before at = lone size pages first read.one.chain.links page number previous held before place read.route it some (ap length (sym (rest-are read.one.chain.links page number previous held place it)) ∙ eqb-true (length (without held place).entries) 0 parts.1) (read.one.lawful.differ number) at
 
-    missed : (before : HeapPage) → IsAt size pages previous before → renamed size (written pages previous (page_bytes (record before { next = held.next }))) first previous held.next (Err why) → ⊥
+    missed : (before : HeapPage) → IsAt size pages previous before → renamed size (with_bytes pages previous (page_bytes (record before { next = held.next }))) first previous held.next (Err why) → ⊥
     missed before at h = either-never (eqb held.next 0) h
       where
-        either-never : (b : Bool) → either b (renamed_first size (written pages previous (page_bytes (past before held.next))) first previous) (unchanged (written pages previous (page_bytes (past before held.next)))) (Err why) → ⊥
+        either-never : (b : Bool) → either b (renamed_first size (with_bytes pages previous (page_bytes (past before held.next))) first previous) (unchanged (with_bytes pages previous (page_bytes (past before held.next)))) (Err why) → ⊥
         either-never true (inl refused) =
             let again = relinked size pages first read.one.chain.links read.one.lawful.head page number previous held before read.route read.head_at (alone before at) in
-            not-broken size (written pages previous (page_bytes (past before held.next))) first again.head_now why again.at_first refused
+            not-broken size (with_bytes pages previous (page_bytes (past before held.next))) first again.head_now why again.at_first refused
         either-never true (inr next) = ok-err next.2
         either-never false h = ok-err h
 
@@ -523,7 +523,7 @@ removed_on size pages first page number held =
     place_in page number held.entries >>= λ place.
     either (not (eqb page first) && eqb (length (without held place).entries) 0)
     (met size pages first page >>= λ found. unlinked size pages first found.0 page held.next)
-    (only (Ok (tt, written pages page (page_bytes (without held place)))))
+    (only (Ok (tt, with_bytes pages page (page_bytes (without held place)))))
 
 abbrev removed_met : ℕ → Pages → ℕ → ℕ → ℕ → Result (Unit {0} × Pages) Refusal → Type 0
 removed_met size pages first page number =
@@ -531,7 +531,7 @@ removed_met size pages first page number =
     place_in page number found.1.entries >>= λ place.
     either (not (eqb found.0 0) && eqb (length (without found.1 place).entries) 0)
     (unlinked size pages first found.0 page found.1.next)
-    (only (Ok (tt, written pages page (page_bytes (without found.1 place)))))
+    (only (Ok (tt, with_bytes pages page (page_bytes (without found.1 place)))))
 
 removed-met : (size : ℕ) (pages : Pages) (first : ℕ) (links : List Link) (head : HeapPage) (page number : ℕ) (meets : Meets size pages first page) → IsRoute size pages first links → IsAt size pages first head
     → (a : Result (Unit {0} × Pages) Refusal) → removed size pages first page number a → removed_met size pages first page number a
@@ -544,19 +544,19 @@ removed-met size pages first links head page number meets route at_first a work 
         one e = cc
 
     relink : (place : ℕ) (b : Bool) (a : Result (Unit {0} × Pages) Refusal)
-        → either b (met size pages first page >>= λ found. unlinked size pages first found.0 page meets.held.next) (only (Ok (tt, written pages page (page_bytes (without meets.held place))))) a
-        → either b (unlinked size pages first meets.previous page meets.held.next) (only (Ok (tt, written pages page (page_bytes (without meets.held place))))) a
+        → either b (met size pages first page >>= λ found. unlinked size pages first found.0 page meets.held.next) (only (Ok (tt, with_bytes pages page (page_bytes (without meets.held place))))) a
+        → either b (unlinked size pages first meets.previous page meets.held.next) (only (Ok (tt, with_bytes pages page (page_bytes (without meets.held place))))) a
     relink place true (Ok y) (found, at, h) = subst (λ (p : ℕ). unlinked size pages first p page meets.held.next (Ok y)) (previous_is found at) h
     relink place true (Err why) (inl refused) = differ (meets.previous, meets.held) why (met-one size pages first page (Ok (meets.previous, meets.held)) (Err why) meets.found refused)
     relink place true (Err why) (inr (found, at, h)) = subst (λ (p : ℕ). unlinked size pages first p page meets.held.next (Err why)) (previous_is found at) h
     relink place false a h = h
 
-    turned : (place : ℕ) → IsPlace number meets.held.entries (Some place) → (a : Result (Unit {0} × Pages) Refusal)
-        → either (not (eqb page first) && eqb (length (without meets.held place).entries) 0) (met size pages first page >>= λ found. unlinked size pages first found.0 page meets.held.next) (only (Ok (tt, written pages page (page_bytes (without meets.held place))))) a
-        → either (not (eqb meets.previous 0) && eqb (length (without meets.held place).entries) 0) (unlinked size pages first meets.previous page meets.held.next) (only (Ok (tt, written pages page (page_bytes (without meets.held place))))) a
+    turned : (place : ℕ) → place_of number meets.held.entries ≡ Some place → (a : Result (Unit {0} × Pages) Refusal)
+        → either (not (eqb page first) && eqb (length (without meets.held place).entries) 0) (met size pages first page >>= λ found. unlinked size pages first found.0 page meets.held.next) (only (Ok (tt, with_bytes pages page (page_bytes (without meets.held place))))) a
+        → either (not (eqb meets.previous 0) && eqb (length (without meets.held place).entries) 0) (unlinked size pages first meets.previous page meets.held.next) (only (Ok (tt, with_bytes pages page (page_bytes (without meets.held place))))) a
     turned place is a h =
         let it = spot size pages first page number meets.previous place meets.held links route.leads meets.found is in
-        subst (λ (b : Bool). either (not b && eqb (length (without meets.held place).entries) 0) (unlinked size pages first meets.previous page meets.held.next) (only (Ok (tt, written pages page (page_bytes (without meets.held place))))) a)
+        subst (λ (b : Bool). either (not b && eqb (length (without meets.held place).entries) 0) (unlinked size pages first meets.previous page meets.held.next) (only (Ok (tt, with_bytes pages page (page_bytes (without meets.held place))))) a)
         (sym (first-page size pages first links head page number meets.previous meets.held place route at_first it))
         (relink place (not (eqb page first) && eqb (length (without meets.held place).entries) 0) a h)
 
@@ -587,17 +587,17 @@ remove_law size pages firsts indexes first table placed answer well has shows am
         let rows = rows-read size pages first table read.one.chain.links read.one.lawful.head shows read.route.leads read.head_at in
         standing read.one.chain.links placed (Contains-permutation table.rows (rows_of read.one.chain.links) placed (IsPermutation-sym (rows_of read.one.chain.links) table.rows rows.permutation) among_rows)
 
-    go : (answer : Result (Unit {0} × Pages) Refusal) → removed_met size pages first placed.page placed.number answer → Answers size (λ u after. Removes size pages firsts indexes first table placed.page placed.number after) ⊥ answer
+    go : (answer : Result (Unit {0} × Pages) Refusal) → removed_met size pages first placed.page placed.number answer → DoesOrIsFull size (λ u after. RemovesRow size pages firsts indexes first table placed.page placed.number after) ⊥ answer
     go (Ok y) (found, at, (place, is, work)) = choose (not (eqb found.0 0) && eqb (length (without found.1 place).entries) 0) refl work
       where
         it : Spot (reads size pages firsts indexes first well has).one.chain.links placed.page placed.number found.0 found.1 place
         it = let read = reads size pages firsts indexes first well has in spot size pages first placed.page placed.number found.0 place found.1 read.one.chain.links read.route.leads at is
 
         choose : (b : Bool) → (not (eqb found.0 0) && eqb (length (without found.1 place).entries) 0) ≡ b
-            → either b (unlinked size pages first found.0 placed.page found.1.next) (unchanged (written pages placed.page (page_bytes (without found.1 place)))) (Ok y)
-            → Removes size pages firsts indexes first table placed.page placed.number y.1
+            → either b (unlinked size pages first found.0 placed.page found.1.next) (unchanged (with_bytes pages placed.page (page_bytes (without found.1 place)))) (Ok y)
+            → RemovesRow size pages firsts indexes first table placed.page placed.number y.1
         choose true e h = leave size pages firsts indexes first table placed.page placed.number found.0 found.1 place well has shows (reads size pages firsts indexes first well has) at it e y.1 h
-        choose false e h = subst (Removes size pages firsts indexes first table placed.page placed.number) (after-one h) (keep size pages firsts indexes first table placed.page placed.number found.0 found.1 place well has shows (reads size pages firsts indexes first well has) at it e)
+        choose false e h = subst (RemovesRow size pages firsts indexes first table placed.page placed.number) (after-one h) (keep size pages firsts indexes first table placed.page placed.number found.0 found.1 place well has shows (reads size pages firsts indexes first well has) at it e)
     go (Err why) (inl refused) =
         let read = reads size pages firsts indexes first well has in
         absurd (met-never size pages first read.one.chain.links placed why read.route read.few (λ e. absurd (omega (arith, e, read.head_at.named))) stands refused)
@@ -607,7 +607,7 @@ remove_law size pages firsts indexes first table placed answer well has shows am
     go (Err why) (inr (found, at, inr (place, is, work))) = absurd (choose (not (eqb found.0 0) && eqb (length (without found.1 place).entries) 0) refl work)
       where
         choose : (b : Bool) → (not (eqb found.0 0) && eqb (length (without found.1 place).entries) 0) ≡ b
-            → either b (unlinked size pages first found.0 placed.page found.1.next) (unchanged (written pages placed.page (page_bytes (without found.1 place)))) (Err why) → ⊥
+            → either b (unlinked size pages first found.0 placed.page found.1.next) (unchanged (with_bytes pages placed.page (page_bytes (without found.1 place)))) (Err why) → ⊥
         choose true e h =
             let read = reads size pages firsts indexes first well has in
             unlinked-never size pages firsts indexes first table placed.page placed.number found.0 found.1 place why well has shows read (spot size pages first placed.page placed.number found.0 place found.1 read.one.chain.links read.route.leads at is) e h

@@ -7,11 +7,11 @@ use Rattle.retro_base.specs.Gives.{◌>>=◌}
 use Rattle.retro_base.proofs.FieldLaws.{length-field_bytes, number_at-field}
 use Rattle.retro_base.specs.declared.refusal.Refusal.{Refusal}
 use Rattle.retro_base.specs.declared.refusal.Refusal.TheVariants.{PagesFull}
-use Rattle.pager.specs.Pages.{Pages, written, broken}
+use Rattle.pager.specs.Pages.{Pages, with_bytes, broken}
 use Rattle.pager.specs.Root.{behind_first, first_free, free_bytes, free_count, freed, in_front, is_root, never_used, next_page, page_in, root_bytes, root_in, root_of, taken, IsFreeList}
 use Rattle.pager.specs.declared.root.Root.{Root}
 use Rattle.heap_laws.specs.Store.{WellFormed, free_pages, next_free, pages_of, pages_behind, pages_held, pages_inner, root_at, times}
-use Rattle.heap_laws.specs.Table.{AllStay, Edits, Frees, Takes}
+use Rattle.heap_laws.specs.Table.{AllStay, EditsExactly, Frees, TakesPage}
 use Rattle.heap_laws.proofs.Counts.{one_if, pigeons}
 use Rattle.heap_laws.proofs.Routes.{times-append, times-cons, times-here, written-other}
 use Rattle.heap_laws.proofs.Stores.{all-stay, chains-same, frees-same, root-apart}
@@ -99,7 +99,7 @@ root-made size pages some is = rw (lt-ltb 0 size some, root-true size (root_at p
 
 -- the pages of a store after its root page alone was written
 abbrev pub rooted : Pages → Root → Pages
-rooted pages root = written pages 0 (root_bytes root)
+rooted pages root = with_bytes pages 0 (root_bytes root)
 
 pub root-written : (size : ℕ) (pages : Pages) (root : Root) → size < 2 ^ 32 → IsRoot size root → root_at (rooted pages root) ≡ root
 root-written size pages root small is =
@@ -113,7 +113,7 @@ root-written size pages root small is =
 pub rooted-same : (pages : Pages) (root : Root) (p : ℕ) → (p ≡ 0 → ⊥) → (rooted pages root).at p ≡ pages.at p
 rooted-same pages root p other = written-other pages 0 p (root_bytes root) other
 
-pub rooted-edits : (pages : Pages) (root : Root) → Edits pages (rooted pages root) (0 ∷ [])
+pub rooted-edits : (pages : Pages) (root : Root) → EditsExactly pages (rooted pages root) (0 ∷ [])
 rooted-edits pages root = record {
   same = λ p off. rooted-same pages root p (λ e. absurd (clash (sym (ap (λ (n : ℕ). eqb n 0 || false) e) ∙ off)));
   edited = λ p. last (eqb p 0) (pages.edited p);
@@ -132,7 +132,7 @@ pub record Taken (size : ℕ) (pages : Pages) (firsts indexes : List ℕ) (page 
   pub after_is : after ≡ rooted pages root
   pub well : WellFormed size after firsts (page ∷ indexes)
   pub stay : AllStay size pages after firsts
-  pub takes : Takes size pages after page
+  pub takes : TakesPage size pages after page
   pub behind : 2 ≤ page
   pub there : page < size
 
@@ -324,7 +324,7 @@ take-answer size pages firsts indexes answer well is =
 -- the indexes' first page was freed
 pub record Freed (size : ℕ) (pages : Pages) (firsts indexes : List ℕ) (page : ℕ) (after : Pages) : Type 0 where
   pub root : Root
-  pub after_is : after ≡ rooted (written pages page (free_bytes (root_at pages).first_free)) root
+  pub after_is : after ≡ rooted (with_bytes pages page (free_bytes (root_at pages).first_free)) root
   pub well : WellFormed size after firsts indexes
   pub stay : AllStay size pages after firsts
   pub frees : Frees size pages after page
@@ -333,7 +333,7 @@ pub freed-well : (size : ℕ) (pages : Pages) (firsts indexes : List ℕ) (page 
 freed-well size pages firsts indexes page well =
     let root = root_at pages in
     let front = in_front page root in
-    let linked = written pages page (free_bytes root.first_free) in
+    let linked = with_bytes pages page (free_bytes root.first_free) in
     let after = rooted linked front in
     let room = root-is size pages well.root in
     let held : (p : ℕ) (list more : List ℕ) → times p (pages_held well.chains more list) ≡ times p (flat_map pages_of well.chains) + (times p more + times p list) =

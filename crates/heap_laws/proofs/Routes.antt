@@ -3,12 +3,12 @@ use Rattle.std.proofs.Common.{◌≡◌, ◌<◌, ◌≤◌, ◌+◌, ◌++◌, 
 use Rattle.std.specs.List.{AllByRecursion}
 use Rattle.std.proofs.lemmas.List.{map-append}
 use Rattle.std.proofs.lemmas.List.Concat.{flat_map-cons, flat_map-append}
-use Rattle.pager.specs.Pages.{Pages, written}
+use Rattle.pager.specs.Pages.{Pages, with_bytes}
 use Rattle.heap_file.specs.declared.page.HeapPage.{HeapPage}
 use Rattle.heap_file.specs.declared.chain.Link.{Link}
 use Rattle.heap_file.specs.declared.chain.Placed.{Placed}
-use Rattle.heap_file.specs.Chain.{IsAt, Leads, rows_of, rows_on}
-use Rattle.heap_file.specs.HeapPage.{Holds, page_bytes}
+use Rattle.heap_file.specs.Chain.{IsAt, IsWay, rows_of, rows_on}
+use Rattle.heap_file.specs.HeapPage.{HoldsRows, page_bytes}
 use Rattle.heap_file.proofs.Packing.{holds_one, written_holds}
 use Rattle.heap_laws.specs.Store.{IsSized, end_of, times}
 use Rattle.heap_laws.proofs.Counts.{keyed-append, keyed-cons, keyed-same, one_if}
@@ -39,14 +39,14 @@ times-links p a link b =
     ap (times p) (map-append (λ (l : Link). l.page) a (link ∷ b)) ∙ times-append p (pages_on a) (link.page ∷ pages_on b) ∙ ap (λ (k : ℕ). times p (pages_on a) + k) (times-cons p link.page (pages_on b))
 
 -- a page that was written
-pub at-written : (size : ℕ) (pages : Pages) (page : ℕ) (held : HeapPage) → 0 < page → page < size → IsSized held → IsAt size (written pages page (page_bytes held)) page held
+pub at-written : (size : ℕ) (pages : Pages) (page : ℕ) (held : HeapPage) → 0 < page → page < size → IsSized held → IsAt size (with_bytes pages page (page_bytes held)) page held
 at-written size pages page held some there sized = record {
   named = some;
   there = there;
   holds = rw (eq-eqb page page refl) (written_holds held sized.next sized.next_number sized.last sized.page);
 }
 
-pub written-other : (pages : Pages) (page q : ℕ) (bytes : List ℕ) → (q ≡ page → ⊥) → (written pages page bytes).at q ≡ pages.at q
+pub written-other : (pages : Pages) (page q : ℕ) (bytes : List ℕ) → (q ≡ page → ⊥) → (with_bytes pages page bytes).at q ≡ pages.at q
 written-other pages page q bytes differ = rw (ne_eqb q page differ) refl
 
 -- a page with the same bytes holds the same
@@ -54,7 +54,7 @@ pub at-same : (size : ℕ) (pages after : Pages) (page : ℕ) (held : HeapPage) 
 at-same size pages after page held same is = record {
   named = is.named;
   there = is.there;
-  holds = subst (λ (bytes : List ℕ). Holds bytes held) (sym same) is.holds;
+  holds = subst (λ (bytes : List ℕ). HoldsRows bytes held) (sym same) is.holds;
 }
 
 -- a page holds one thing
@@ -62,7 +62,7 @@ pub at-one : (size width : ℕ) (pages : Pages) (page : ℕ) (p q : HeapPage) �
 at-one size width pages page p q is also = holds_one (pages.at page) p q is.holds also.holds
 
 -- a way over pages that stay
-pub leads-same : (size : ℕ) (pages after : Pages) (from : ℕ) (links : List Link) (to : ℕ) → ((p : ℕ) → 0 < times p (pages_on links) → after.at p ≡ pages.at p) → Leads size pages from links to → Leads size after from links to
+pub leads-same : (size : ℕ) (pages after : Pages) (from : ℕ) (links : List Link) (to : ℕ) → ((p : ℕ) → 0 < times p (pages_on links) → after.at p ≡ pages.at p) → IsWay size pages from links to → IsWay size after from links to
 leads-same size pages after from [] to same leads = leads
 leads-same size pages after from (link ∷ links) to same leads = (
   leads.0,
@@ -71,26 +71,26 @@ leads-same size pages after from (link ∷ links) to same leads = (
 )
 
 -- a way goes along a part and then along the rest
-pub leads-split : (size : ℕ) (pages : Pages) (from : ℕ) (a b : List Link) (to : ℕ) → Leads size pages from (a ++ b) to → (mid : ℕ) × Leads size pages from a mid × Leads size pages mid b to
+pub leads-split : (size : ℕ) (pages : Pages) (from : ℕ) (a b : List Link) (to : ℕ) → IsWay size pages from (a ++ b) to → (mid : ℕ) × IsWay size pages from a mid × IsWay size pages mid b to
 leads-split size pages from [] b to leads = (from, refl, leads)
 leads-split size pages from (link ∷ a) b to leads =
     let rest = leads-split size pages link.held.next a b to leads.2 in
     (rest.0, (leads.0, leads.1, rest.1), rest.2)
 
-pub leads-join : (size : ℕ) (pages : Pages) (from : ℕ) (a b : List Link) (mid to : ℕ) → Leads size pages from a mid → Leads size pages mid b to → Leads size pages from (a ++ b) to
-leads-join size pages from [] b mid to first then_ = subst (λ (n : ℕ). Leads size pages n b to) (sym first) then_
+pub leads-join : (size : ℕ) (pages : Pages) (from : ℕ) (a b : List Link) (mid to : ℕ) → IsWay size pages from a mid → IsWay size pages mid b to → IsWay size pages from (a ++ b) to
+leads-join size pages from [] b mid to first then_ = subst (λ (n : ℕ). IsWay size pages n b to) (sym first) then_
 leads-join size pages from (link ∷ a) b mid to first then_ =
     (first.0, first.1, leads-join size pages link.held.next a b mid to first.2 then_)
 
 -- the way from a page on to the end is one
-pub leads-one : (size width : ℕ) (pages : Pages) (from : ℕ) (links others : List Link) → Leads size pages from links 0 → Leads width pages from others 0 → links ≡ others
+pub leads-one : (size width : ℕ) (pages : Pages) (from : ℕ) (links others : List Link) → IsWay size pages from links 0 → IsWay width pages from others 0 → links ≡ others
 leads-one size width pages from [] [] leads also = refl
 leads-one size width pages from [] (o ∷ os) leads also = absurd (omega (arith, leads, also.0, also.1.named))
 leads-one size width pages from (l ∷ ls) [] leads also = absurd (omega (arith, also, leads.0, leads.1.named))
 leads-one size width pages from (l ∷ ls) (o ∷ os) leads also =
     let page : l.page ≡ o.page = leads.0 ∙ sym also.0 in
     let held : l.held ≡ o.held = at-one size width pages o.page l.held o.held (subst (λ (p : ℕ). IsAt size pages p l.held) page leads.1) also.1 in
-    let rest = leads-one size width pages o.held.next ls os (subst (λ (h : HeapPage). Leads size pages h.next ls 0) held leads.2) also.2 in
+    let rest = leads-one size width pages o.held.next ls os (subst (λ (h : HeapPage). IsWay size pages h.next ls 0) held leads.2) also.2 in
     both (made page held) rest
   where
     made : l.page ≡ o.page → l.held ≡ o.held → l ≡ o
@@ -100,18 +100,18 @@ leads-one size width pages from (l ∷ ls) (o ∷ os) leads also =
     both p q = λ i. p i ∷ q i
 
 -- a page of a way is written anew and names where the way goes on
-pub leads-relink : (size : ℕ) (pages : Pages) (from : ℕ) (a : List Link) (page : ℕ) (held : HeapPage) (b : List Link) (to : ℕ) → Leads size pages from a page → Leads size pages held.next b to
+pub leads-relink : (size : ℕ) (pages : Pages) (from : ℕ) (a : List Link) (page : ℕ) (held : HeapPage) (b : List Link) (to : ℕ) → IsWay size pages from a page → IsWay size pages held.next b to
     → times page (pages_on a) ≡ 0 → times page (pages_on b) ≡ 0 → 0 < page → page < size → IsSized held
-    → Leads size (written pages page (page_bytes held)) from (a ++ link_of page held ∷ b) to
+    → IsWay size (with_bytes pages page (page_bytes held)) from (a ++ link_of page held ∷ b) to
 leads-relink size pages from a page held b to first then_ off_a off_b some there sized =
-    let after = written pages page (page_bytes held) in
+    let after = with_bytes pages page (page_bytes held) in
     leads-join size after from a (link_of page held ∷ b) page to
     (leads-same size pages after from a page (λ p some. written-other pages page p (page_bytes held) (λ e. absurd (omega (arith, subst (λ (q : ℕ). 0 < times q (pages_on a)) e some, off_a)))) first)
     (refl, at-written size pages page held some there sized, leads-same size pages after held.next b to (λ p some. written-other pages page p (page_bytes held) (λ e. absurd (omega (arith, subst (λ (q : ℕ). 0 < times q (pages_on b)) e some, off_b)))) then_)
 
 -- the way of a chain, with pages that can be written, none twice
 pub record IsRoute (size : ℕ) (pages : Pages) (first : ℕ) (links : List Link) : Type 0 where
-  pub leads : Leads size pages first links 0
+  pub leads : IsWay size pages first links 0
   pub sized : AllSized links
   pub once : (p : ℕ) → times p (pages_on links) ≤ 1
 
@@ -125,9 +125,9 @@ sized-split (link ∷ a) b all = let rest = sized-split a b all.1 in ((all.0, re
 
 -- what stands at a link of a route
 pub record Around (size : ℕ) (pages : Pages) (first : ℕ) (a : List Link) (link : Link) (b : List Link) : Type 0 where
-  pub first_part : Leads size pages first a link.page
+  pub first_part : IsWay size pages first a link.page
   pub here : IsAt size pages link.page link.held
-  pub rest : Leads size pages link.held.next b 0
+  pub rest : IsWay size pages link.held.next b 0
   pub sized_before : AllSized a
   pub sized_here : IsSized link.held
   pub sized_behind : AllSized b
@@ -140,7 +140,7 @@ around size pages first a link b route =
     let sized = sized-split a (link ∷ b) route.sized in
     let count = times-links link.page a link b ∙ ap (λ (t : Bool). times link.page (pages_on a) + (one_if t + times link.page (pages_on b))) (eq-eqb link.page link.page refl) in
     record {
-      first_part = subst (λ (p : ℕ). Leads size pages first a p) (sym split.2.0) split.1;
+      first_part = subst (λ (p : ℕ). IsWay size pages first a p) (sym split.2.0) split.1;
       here = split.2.1;
       rest = split.2.2;
       sized_before = sized.0;
@@ -152,11 +152,11 @@ around size pages first a link b route =
 
 -- the page of a link is written anew, and names the same next page
 pub route-update : (size : ℕ) (pages : Pages) (first : ℕ) (a : List Link) (link : Link) (b : List Link) (held : HeapPage) → IsRoute size pages first (a ++ link ∷ b) → held.next ≡ link.held.next → IsSized held
-    → IsRoute size (written pages link.page (page_bytes held)) first (a ++ link_of link.page held ∷ b)
+    → IsRoute size (with_bytes pages link.page (page_bytes held)) first (a ++ link_of link.page held ∷ b)
 route-update size pages first a link b held route next sized =
     let at = around size pages first a link b route in
     record {
-      leads = leads-relink size pages first a link.page held b 0 at.first_part (subst (λ (n : ℕ). Leads size pages n b 0) (sym next) at.rest) at.off_before at.off_behind at.here.named at.here.there sized;
+      leads = leads-relink size pages first a link.page held b 0 at.first_part (subst (λ (n : ℕ). IsWay size pages n b 0) (sym next) at.rest) at.off_before at.off_behind at.here.named at.here.there sized;
       sized = sized-append a (link_of link.page held ∷ b) at.sized_before (sized, at.sized_behind);
       once = λ p. omega (arith, route.once p, times-links p a link b, times-links p a (link_of link.page held) b);
     }
@@ -187,7 +187,7 @@ last_link first link (next ∷ links) =
     (link ∷ rest.0, rest.1, ap (λ l. link ∷ l) rest.2, rest.3)
 
 -- the first link of a way is that of its first page
-pub first_link : (size : ℕ) (pages : Pages) (first : ℕ) (links : List Link) (head : HeapPage) → Leads size pages first links 0 → IsAt size pages first head → (rest : List Link) × (links ≡ link_of first head ∷ rest)
+pub first_link : (size : ℕ) (pages : Pages) (first : ℕ) (links : List Link) (head : HeapPage) → IsWay size pages first links 0 → IsAt size pages first head → (rest : List Link) × (links ≡ link_of first head ∷ rest)
 first_link size pages first [] head leads at = absurd (omega (arith, leads, at.named))
 first_link size pages first (link ∷ links) head leads at =
     let held : link.held ≡ head = at-one size size pages first link.held head (subst (λ (p : ℕ). IsAt size pages p link.held) leads.0 leads.1) at in

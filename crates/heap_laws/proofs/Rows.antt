@@ -1,5 +1,8 @@
 -- The rows of a chain: where each stands, and how often its number.
-use Rattle.std.proofs.Common.{◌≡◌, ◌<◌, ◌+◌, ◌-◌, ◌++◌, ◌∙◌, ◌⊎◌, ℕ, zero, suc, cond, eqb, List, [], ◌∷◌, length, map, get_or, take, drop, Some, None, inl, inr, refl, sym, ap, arith, subst, eq-eqb, ne_eqb, append_assoc, length-append, take-suc}
+use Rattle.heap_file.proofs.Positions.{none-at}
+use Rattle.std.proofs.lemmas.List.Quantifiers.{position-Some}
+use Rattle.std.proofs.lemmas.Bool.{eqb-false}
+use Rattle.std.proofs.Common.{◌≡◌, ◌<◌, ◌+◌, ◌-◌, ◌++◌, ◌∙◌, ◌⊎◌, ℕ, zero, suc, cond, eqb, List, [], ◌∷◌, length, map, get_or, take, drop, Some, None, inl, inr, refl, sym, ap, arith, subst, eq-eqb, ne_eqb, append_assoc, length-append, take-suc, false, eqb-true}
 use Rattle.std.specs.List.{Contains, remove, insert}
 use Rattle.std.specs.List.Sorted.{IsPermutation}
 use Rattle.std.proofs.lemmas.Bool.Decides.{eqb_tells}
@@ -11,7 +14,7 @@ use Rattle.heap_file.specs.declared.page.HeapPage.{HeapPage}
 use Rattle.heap_file.specs.declared.chain.Link.{Link}
 use Rattle.heap_file.specs.declared.chain.Placed.{Placed}
 use Rattle.heap_file.specs.Chain.{rows_of, rows_on, StandsIn}
-use Rattle.heap_file.specs.Work.{IsPlace, row_of}
+use Rattle.heap_file.specs.Work.{place_of, row_numbered}
 use Rattle.heap_laws.specs.Store.{times_numbered}
 use Rattle.heap_laws.proofs.Counts.{keyed, keyed-append, keyed-cons, keyed-other, keyed-same, one_if}
 use Rattle.heap_laws.proofs.Routes.{link_of, rows-cons, rows-middle}
@@ -106,7 +109,7 @@ standing (link ∷ links) placed has =
     ]
 
 -- the row under a number that stands once
-pub row-of : (number : ℕ) (front : List Entry) (entry : Entry) (rest : List Entry) → entry.number ≡ number → entries_numbered number front ≡ 0 → row_of number (front ++ entry ∷ rest) ≡ Some entry.row
+pub row-of : (number : ℕ) (front : List Entry) (entry : Entry) (rest : List Entry) → entry.number ≡ number → entries_numbered number front ≡ 0 → row_numbered number (front ++ entry ∷ rest) ≡ Some entry.row
 row-of number [] entry rest is none = rw (eq-eqb entry.number number is) refl
 row-of number (other ∷ front) entry rest is none =
     elim (eqb_tells other.number number) [
@@ -123,24 +126,28 @@ pub record PlaceAt (number : ℕ) (entries : List Entry) (place : ℕ) : Type 0 
   pub place_is : length front ≡ place
   pub number_is : entry.number ≡ number
 
-pub place-at : (number : ℕ) (entries : List Entry) (place : ℕ) → IsPlace number entries (Some place) → PlaceAt number entries place
+pub place-at : (number : ℕ) (entries : List Entry) (place : ℕ) → place_of number entries ≡ Some place → PlaceAt number entries place
 place-at number entries place is =
     let d : Entry = record { number = 0; row = [] } in
+    let it = position-Some (λ (entry : Entry). eqb entry.number number) entries place d is in
     record {
       front = take place entries;
       entry = get_or entries place d;
       rest = drop (place + 1) entries;
-      entries_are = sym (take-append-drop place entries) ∙ ap (λ (es : List Entry). take place entries ++ es) (drop_more entries place d is.0);
-      place_is = length-take-le place entries (omega (arith, is.0));
-      number_is = is.1 d;
+      entries_are = sym (take-append-drop place entries) ∙ ap (λ (es : List Entry). take place entries ++ es) (drop_more entries place d it.0);
+      place_is = length-take-le place entries (omega (arith, it.0));
+      number_is = eqb-true (get_or entries place d).number number it.1;
     }
 
 -- a number that has no place stands nowhere
-pub no-place : (number : ℕ) (entries : List Entry) → IsPlace number entries None → entries_numbered number entries ≡ 0
-no-place number [] none = refl
-no-place number (entry ∷ entries) none =
-    keyed-other (λ (e : Entry). e.number) number entry entries (λ e. none 0 entry (omega arith) e)
-    ∙ no-place number entries (λ k d lt. none (suc k) d (omega (arith, lt)))
+pub no-place : (number : ℕ) (entries : List Entry) → place_of number entries ≡ None → entries_numbered number entries ≡ 0
+no-place number entries none = nowhere entries (none-at (λ (entry : Entry). eqb entry.number number) entries none)
+  where
+    nowhere : (rest : List Entry) → ((k : ℕ) (d : Entry) → k < length rest → eqb (get_or rest k d).number number ≡ false) → entries_numbered number rest ≡ 0
+    nowhere [] apart = refl
+    nowhere (entry ∷ rest) apart =
+        keyed-other (λ (e : Entry). e.number) number entry rest (eqb-false entry.number number (apart 0 entry (omega arith)))
+        ∙ nowhere rest (λ k d lt. apart (suc k) d (omega (arith, lt)))
 
 pub remove-at : (front : List Entry) (entry : Entry) (rest : List Entry) (place : ℕ) → length front ≡ place → remove (front ++ entry ∷ rest) place ≡ front ++ rest
 remove-at front entry rest place is =
@@ -162,13 +169,14 @@ pub met-at : (links : List Link) (page previous : ℕ) (held : HeapPage) → Sta
 met-at links page previous held in_ =
     let d : Link = link_of page held in
     let place = in_.place in
+    let there = (position-Some (λ (link : Link). eqb link.page page) links place d in_.first).0 in
     record {
       before = take place links;
       behind = drop (place + 1) links;
-      links_are = sym (take-append-drop place links) ∙ ap (λ (ls : List Link). take place links ++ ls) (drop_more links place d in_.there ∙ ap (λ (l : Link). l ∷ drop (place + 1) links) (in_.here d));
+      links_are = sym (take-append-drop place links) ∙ ap (λ (ls : List Link). take place links ++ ls) (drop_more links place d there ∙ ap (λ (l : Link). l ∷ drop (place + 1) links) (in_.here d));
       previous_is = elim in_.behind [
         | inl start ↦ inl (ap (λ (k : ℕ). take k links) start.0, start.1)
-        | inr later ↦ inr (take (place - 1) links, get_or links (place - 1) d, last place links in_.there later.0, later.1 d)
+        | inr later ↦ inr (take (place - 1) links, get_or links (place - 1) d, last place links there later.0, later.1 d)
       ];
     }
   where

@@ -1,5 +1,7 @@
 -- A row of a table, found on its page, and the rows around it.
-use Rattle.std.proofs.Common.{◌≡◌, ◌≤◌, ◌+◌, ◌++◌, ◌∙◌, ◌⊎◌, ℕ, List, [], ◌∷◌, length, map, Some, Ok, Err, inl, inr, refl, sym, ap, arith, subst, eq-eqb, append_assoc, length-append}
+use Rattle.heap_file.proofs.Positions.{none-at}
+use Rattle.std.proofs.lemmas.Bool.{eqb-false}
+use Rattle.std.proofs.Common.{◌≡◌, ◌≤◌, ◌+◌, ◌++◌, ◌∙◌, ◌⊎◌, ℕ, List, [], ◌∷◌, length, map, Some, Ok, Err, inl, inr, refl, sym, ap, arith, subst, eq-eqb, append_assoc, length-append, eqb, get_or}
 use Rattle.std.proofs.lemmas.List.{get_or_at, map-append}
 use Rattle.retro_base.specs.declared.refusal.Refusal.{Refusal}
 use Rattle.pager.specs.Pages.{Pages}
@@ -7,8 +9,8 @@ use Rattle.heap_file.specs.declared.page.Entry.{Entry}
 use Rattle.heap_file.specs.declared.page.HeapPage.{HeapPage}
 use Rattle.heap_file.specs.declared.chain.Link.{Link}
 use Rattle.heap_file.specs.declared.chain.Placed.{Placed}
-use Rattle.heap_file.specs.Chain.{Leads, met, rows_of, rows_on}
-use Rattle.heap_file.specs.Work.{IsPlace, place_in}
+use Rattle.heap_file.specs.Chain.{IsWay, met, rows_of, rows_on}
+use Rattle.heap_file.specs.Work.{place_of, place_in}
 use Rattle.heap_laws.specs.Store.{times_numbered}
 use Rattle.heap_laws.proofs.Counts.{keyed, keyed-append, keyed-middle, keyed-same, one_if, others, others-append, others-none, others-same}
 use Rattle.heap_laws.proofs.Orders.{number_of}
@@ -30,12 +32,12 @@ pub record Spot (links : List Link) (page number previous : ℕ) (held : HeapPag
   pub number_is : entry.number ≡ number
 
 -- what is met at a page of a chain is one of its links
-pub met-one : (size : ℕ) (pages : Pages) (first page previous : ℕ) (held : HeapPage) (links : List Link) → Leads size pages first links 0 → met size pages first page (Ok (previous, held)) → Met links page previous held
+pub met-one : (size : ℕ) (pages : Pages) (first page previous : ℕ) (held : HeapPage) (links : List Link) → IsWay size pages first links 0 → met size pages first page (Ok (previous, held)) → Met links page previous held
 met-one size pages first page previous held links leads (found, chain_, stands) =
     let one : found ≡ links = leads-one size size pages first found links chain_.2 leads in
     subst (λ (l : List Link). Met l page previous held) one (met-at found page previous held stands)
 
-pub spot : (size : ℕ) (pages : Pages) (first page number previous place : ℕ) (held : HeapPage) (links : List Link) → Leads size pages first links 0 → met size pages first page (Ok (previous, held)) → IsPlace number held.entries (Some place) → Spot links page number previous held place
+pub spot : (size : ℕ) (pages : Pages) (first page number previous place : ℕ) (held : HeapPage) (links : List Link) → IsWay size pages first links 0 → met size pages first page (Ok (previous, held)) → place_of number held.entries ≡ Some place → Spot links page number previous held place
 spot size pages first page number previous place held links leads found at =
     let one = met-one size pages first page previous held links leads found in
     let entry = place-at number held.entries place at in
@@ -61,7 +63,9 @@ met-never size pages first links placed why route few named stands (inr (found, 
   where
     missed : (before behind : List Link) → found ≡ before ++ link_of placed.page stands.held ∷ behind → ⊥
     missed before behind e =
-        none (length before) (link_of placed.page stands.held) (omega (arith, ap length e, length-append before (link_of placed.page stands.held ∷ behind)))
+        let x : Link = link_of placed.page stands.held in
+        let away = none-at (λ (link : Link). eqb link.page placed.page) found none (length before) x (omega (arith, ap length e, length-append before (x ∷ behind))) in
+        eqb-false (get_or found (length before) x).page placed.page away
         (rw e (ap (λ (l : Link). l.page) (get_or_at before (link_of placed.page stands.held) behind (link_of placed.page stands.held) (length before) refl)))
 
 pub place-never : (size : ℕ) (pages : Pages) (first previous : ℕ) (held : HeapPage) (links : List Link) (placed : Placed) (why : Refusal) → IsRoute size pages first links → Standing links placed → met size pages first placed.page (Ok (previous, held)) → place_in placed.page placed.number held.entries (Err why) → ⊥

@@ -4,12 +4,12 @@ use Rattle.std.proofs.lemmas.List.{get_or-replicate, length-replicate}
 use Rattle.pager.specs.MemPages.{MemPages, shown}
 use Rattle.pager.specs.Pages.{Pages, Leads}
 use Rattle.heap_file.specs.Work.{made}
-use Rattle.heap_laws.specs.Table.{Makes}
+use Rattle.heap_laws.specs.Table.{MakesTable}
 use Rattle.heap_laws.proofs.Fresh.{fresh_law}
 use Rattle.heap_laws.proofs.Making.{make_law}
 
 pub started : (size : ℕ) (old new : MemPages) (first : ℕ) → 2 ≤ size → size < 2 ^ 32 → old.pages ≡ replicate size (replicate 1024 0)
-    → Leads (λ base now. now ≡ shown old) (λ base now. now ≡ shown new) (λ was now. made (length old.pages) was (Ok (first, now))) → Makes size (shown old) [] [] first (shown new)
+    → Leads (λ base now. now ≡ shown old) (λ base now. now ≡ shown new) (λ was now. made (length old.pages) was (Ok (first, now))) → MakesTable size (shown old) [] [] first (shown new)
 started size old new first some small pages work =
     let ready = work (shown new) (shown new) refl in
     let long : length old.pages ≡ size = ap length pages ∙ length-replicate size (replicate 1024 0) in

@@ -4,29 +4,30 @@ use Rattle.std.specs.List.{Contains}
 use Rattle.retro_base.specs.declared.refusal.Refusal.{Refusal}
 use Rattle.retro_base.specs.declared.refusal.Refusal.TheVariants.{PagesFull}
 use Rattle.values.specs.declared.value.Value.{Value}
-use Rattle.pager.specs.Pages.{Pages, written}
+use Rattle.pager.specs.Pages.{Pages, with_bytes}
 use Rattle.pager.specs.Root.{taken}
 use Rattle.heap_file.specs.declared.page.Entry.{Entry}
 use Rattle.heap_file.specs.declared.page.HeapPage.{HeapPage}
 use Rattle.heap_file.specs.declared.chain.Link.{Link}
 use Rattle.heap_file.specs.declared.chain.Placed.{Placed}
 use Rattle.heap_file.specs.Chain.{chain, scanned}
-use Rattle.heap_file.specs.HeapPage.{Holds}
+use Rattle.heap_file.specs.HeapPage.{HoldsRows}
 use Rattle.heap_file.specs.Laws.{IsOne}
 use Rattle.heap_file.specs.Work.{added, changed, got, made, next_of, removed}
 use Rattle.heap_laws.specs.Store.{IsSized, WellFormed, end_of, free_pages, times_numbered}
-use Rattle.heap_laws.specs.Table.{AllStay, Edits, EndsAt, Table, Takes, IsNumbered, IsTable, IsStorable, Adds, AddIsFull, Makes, Removes, Changes, ChangeIsFull}
+use Rattle.heap_laws.specs.Table.{AllStay, EditsExactly, EndsAt, Table, TakesPage, IsNumbered, IsTable, IsStorable, AddsRow, AddIsFull, MakesTable, RemovesRow, ChangesRow, ChangeIsFull}
 
 -- an answer with the pages after it is this, and a refusal is want of pages, as this says
-abbrev pub Answers : {A : Type 0} → ℕ → (A → Pages → Type 0) → Type 0 → Result (A × Pages) Refusal → Type 0
-Answers size done full (Ok answer) = done answer.0 answer.1
-Answers size done full (Err why) = (why ≡ PagesFull size) × full
+abbrev pub DoesOrIsFull : {A : Type 0} → ℕ → (A → Pages → Type 0) → Type 0 → Result (A × Pages) Refusal → Type 0
+DoesOrIsFull size done full (Ok answer) = done answer.0 answer.1
+DoesOrIsFull size done full (Err why) = (why ≡ PagesFull size) × full
 
 -- A table is made on the page that was next to be taken. It is refused exactly where no page is free.
 abbrev pub MakeLaw : Type 0
 MakeLaw = (size : ℕ) (pages : Pages) (firsts indexes : List ℕ) (answer : Result (ℕ × Pages) Refusal)
     → WellFormed size pages firsts indexes → made size pages answer
-    → Answers size (λ first after. Makes size pages firsts indexes first after) (free_pages size pages ≡ 0) answer
+    → DoesOrIsFull size (λ first after. MakesTable size pages firsts indexes first after) (free_pages size pages ≡ 0)
+    answer
 
 -- A row is added to a table, below the last row number. It is refused exactly where it has no room on the last page and
 -- no page is free.
@@ -35,7 +36,7 @@ AddLaw = (size : ℕ) (pages : Pages) (firsts indexes : List ℕ) (first : ℕ) 
     (answer : Result ((ℕ × ℕ) × Pages) Refusal)
     → WellFormed size pages firsts indexes → Contains firsts first → IsTable size pages first table
     → IsStorable row → table.next_number < 2 ^ 64 - 1 → added size pages first row answer
-    → Answers size (λ placed after. Adds size pages firsts indexes first table row placed after)
+    → DoesOrIsFull size (λ placed after. AddsRow size pages firsts indexes first table row placed after)
     (AddIsFull size pages first (record { number = table.next_number; row = row })) answer
 
 -- A row of a table is taken out. That is never refused.
@@ -44,7 +45,8 @@ RemoveLaw = (size : ℕ) (pages : Pages) (firsts indexes : List ℕ) (first : �
     (answer : Result (Unit {0} × Pages) Refusal)
     → WellFormed size pages firsts indexes → Contains firsts first → IsTable size pages first table
     → Contains table.rows placed → removed size pages first placed.page placed.number answer
-    → Answers size (λ u after. Removes size pages firsts indexes first table placed.page placed.number after) ⊥ answer
+    → DoesOrIsFull size
+    (λ u after. RemovesRow size pages firsts indexes first table placed.page placed.number after) ⊥ answer
 
 -- A row of a table is changed. It is refused exactly where it has no room on its page and none on the last page, and no
 -- page is free.
@@ -54,8 +56,8 @@ ChangeLaw = (size : ℕ) (pages : Pages) (firsts indexes : List ℕ) (first : �
     → WellFormed size pages firsts indexes → Contains firsts first → IsTable size pages first table
     → Contains table.rows placed → IsStorable row
     → changed size pages first placed.page (record { number = placed.number; row = row }) answer
-    → Answers size
-    (λ to after. Changes size pages firsts indexes first table placed.page
+    → DoesOrIsFull size
+    (λ to after. ChangesRow size pages firsts indexes first table placed.page
     (record { number = placed.number; row = row }) to after)
     (ChangeIsFull size pages first placed.page (record { number = placed.number; row = row })) answer
 
@@ -104,22 +106,23 @@ pub record FreshLaw : Type 0 where
 -- A page of bytes holds only what can be written again.
 abbrev pub SizedLaw : Type 0
 SizedLaw = (bytes : List ℕ) (held : HeapPage) → length bytes ≡ 1024 → ((place : ℕ) → slice_index bytes place < 256)
-    → Holds bytes held → IsSized held
+    → HoldsRows bytes held → IsSized held
 
 -- a page was taken for an index
 pub record TakesForIndex (size : ℕ) (pages : Pages) (firsts indexes : List ℕ) (page : ℕ) (after : Pages) : Type 0 where
-  pub takes : Takes size pages after page
-  pub edits : Edits pages after (0 ∷ [])
+  pub takes : TakesPage size pages after page
+  pub edits : EditsExactly pages after (0 ∷ [])
   pub stay : AllStay size pages after firsts
   pub well : WellFormed size after firsts (page ∷ indexes)
 
 -- The pages of the indexes: one is taken as a table's first page is, and whatever is written on one, the store stays
 -- well-formed and each table as it was.
-pub record IndexLaw : Type 0 where
+pub record IndexPagesLaw : Type 0 where
   pub take : (size : ℕ) (pages : Pages) (firsts indexes : List ℕ) (answer : Result (ℕ × Pages) Refusal)
       → WellFormed size pages firsts indexes → taken size pages ≡ answer
-      → Answers size (λ page after. TakesForIndex size pages firsts indexes page after) (free_pages size pages ≡ 0)
+      → DoesOrIsFull size (λ page after. TakesForIndex size pages firsts indexes page after) (free_pages size pages ≡ 0)
       answer
   pub write : (size : ℕ) (pages : Pages) (firsts indexes : List ℕ) (page : ℕ) (bytes : List ℕ)
       → WellFormed size pages firsts indexes → Contains indexes page
-      → WellFormed size (written pages page bytes) firsts indexes × AllStay size pages (written pages page bytes) firsts
+      → WellFormed size (with_bytes pages page bytes) firsts indexes
+      × AllStay size pages (with_bytes pages page bytes) firsts

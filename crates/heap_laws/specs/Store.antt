@@ -7,7 +7,7 @@ use Rattle.pager.specs.declared.root.Root.{Root}
 use Rattle.heap_file.specs.declared.page.HeapPage.{HeapPage}
 use Rattle.heap_file.specs.declared.chain.Link.{Link}
 use Rattle.heap_file.specs.declared.chain.Placed.{Placed}
-use Rattle.heap_file.specs.Chain.{IsAt, Leads, rows_of, last_page}
+use Rattle.heap_file.specs.Chain.{IsAt, IsWay, rows_of, last_page}
 use Rattle.heap_file.specs.HeapPage.{IsHeapPage}
 
 -- the chain of a table: its first page, and all its pages in order with what they hold
@@ -46,7 +46,7 @@ pub record IsSized (held : HeapPage) : Type 0 where
 -- The chain of a table over the pages: the first page names the last one, and the row numbers differ and are less than
 -- the next row number.
 pub record IsChain (size : ℕ) (pages : Pages) (chain : Chain) : Type 0 where
-  pub leads : Leads size pages chain.first chain.links 0
+  pub leads : IsWay size pages chain.first chain.links 0
   pub sized : AllByRecursion (λ (link : Link). IsSized link.held) chain.links
   pub head : HeapPage
   pub at_first : IsAt size pages chain.first head

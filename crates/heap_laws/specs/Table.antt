@@ -3,13 +3,13 @@ use Rattle.std.specs.Prelude.{◌≡◌, ◌<◌, ◌≢◌, ◌+◌, ◌++◌, 
 use Rattle.std.specs.List.{Contains, filter, list_any}
 use Rattle.values.specs.declared.value.Value.{Value}
 use Rattle.row_codec.specs.RowCode.{row_code, IsEncoded}
-use Rattle.pager.specs.Pages.{Pages, written}
+use Rattle.pager.specs.Pages.{Pages, with_bytes}
 use Rattle.heap_file.specs.declared.page.Entry.{Entry}
 use Rattle.heap_file.specs.declared.page.HeapPage.{HeapPage}
 use Rattle.heap_file.specs.declared.chain.Placed.{Placed}
 use Rattle.heap_file.specs.Chain.{IsAt, last_page, met, scanned}
 use Rattle.heap_file.specs.HeapPage.{page_bytes, have_room}
-use Rattle.heap_file.specs.Work.{next_of, without, IsPlace}
+use Rattle.heap_file.specs.Work.{next_of, without, place_of}
 use Rattle.heap_laws.specs.Store.{WellFormed, free_pages, next_free, root_at}
 
 -- what a table has: the next row number, and the rows in rising number, each with the page where it stands
@@ -66,12 +66,12 @@ AllStay size pages after firsts =
     → IsTable size after first table
 
 -- these pages are edited; every other page is as before
-pub record Edits (pages after : Pages) (list : List ℕ) : Type 0 where
+pub record EditsExactly (pages after : Pages) (list : List ℕ) : Type 0 where
   pub same : (page : ℕ) → list_any (λ other. page == other) list ≡ false → after.at page ≡ pages.at page
   pub edited : (page : ℕ) → after.edited page ≡ (list_any (λ other. page == other) list || pages.edited page)
 
 -- the page that was next to be taken is taken
-pub record Takes (size : ℕ) (pages after : Pages) (page : ℕ) : Type 0 where
+pub record TakesPage (size : ℕ) (pages after : Pages) (page : ℕ) : Type 0 where
   pub next : page ≡ next_free pages
   pub one_less : 1 + free_pages size after ≡ free_pages size pages
 
@@ -93,12 +93,12 @@ has_room held entry = have_room (held.entries ++ entry ∷ [])
 -- an added row goes to the last page where it has room, else to a page that is taken
 abbrev pub IsAdded : Bool → ℕ → Pages → Pages → ℕ → ℕ → ℕ → Type 0
 IsAdded true size pages after first last page = (page ≡ last) × TakesNone size pages after
-    × Edits pages after (first ∷ last ∷ [])
-IsAdded false size pages after first last page = Takes size pages after page
-    × Edits pages after (first ∷ last ∷ page ∷ 0 ∷ [])
+    × EditsExactly pages after (first ∷ last ∷ [])
+IsAdded false size pages after first last page = TakesPage size pages after page
+    × EditsExactly pages after (first ∷ last ∷ page ∷ 0 ∷ [])
 
 -- a row was added to a table: it stands last, under the next row number
-pub record Adds (size : ℕ) (pages : Pages) (firsts indexes : List ℕ) (first : ℕ) (table : Table) (row : List Value)
+pub record AddsRow (size : ℕ) (pages : Pages) (firsts indexes : List ℕ) (first : ℕ) (table : Table) (row : List Value)
     (placed : ℕ × ℕ) (after : Pages) : Type 0 where
   pub number : placed.0 ≡ table.next_number
   pub shows : IsTable size after first (with_row table placed.1 row)
@@ -119,12 +119,12 @@ pub record AddIsFull (size : ℕ) (pages : Pages) (first : ℕ) (entry : Entry) 
   pub none : free_pages size pages ≡ 0
 
 -- a table was made: its first page was free, and it has no row
-pub record Makes (size : ℕ) (pages : Pages) (firsts indexes : List ℕ) (first : ℕ) (after : Pages) : Type 0 where
+pub record MakesTable (size : ℕ) (pages : Pages) (firsts indexes : List ℕ) (first : ℕ) (after : Pages) : Type 0 where
   pub shows : IsTable size after first (record { next_number = 0; rows = [] })
   pub others : AllStay size pages after firsts
   pub well : WellFormed size after (firsts ++ first ∷ []) indexes
-  pub takes : Takes size pages after first
-  pub edits : Edits pages after (first ∷ 0 ∷ [])
+  pub takes : TakesPage size pages after first
+  pub edits : EditsExactly pages after (first ∷ 0 ∷ [])
 
 -- the page is now the front of the free list, before those that were there
 pub record Frees (size : ℕ) (pages after : Pages) (page : ℕ) : Type 0 where
@@ -138,12 +138,14 @@ leaves first page held = not (page == first) && (length held.entries == 1)
 -- a page that is left without a row is freed: the page before it names the next one, and where there is none, the first
 -- page names it as the last
 abbrev pub IsRemoved : Bool → ℕ → Pages → Pages → ℕ → ℕ → ℕ → HeapPage → Type 0
-IsRemoved false size pages after first previous page held = TakesNone size pages after × Edits pages after (page ∷ [])
+IsRemoved false size pages after first previous page held = TakesNone size pages after
+    × EditsExactly pages after (page ∷ [])
 IsRemoved true size pages after first previous page held =
-    Frees size pages after page × Edits pages after (previous ∷ page ∷ 0 ∷ (if held.next == 0 then first ∷ [] else []))
+    Frees size pages after page
+    × EditsExactly pages after (previous ∷ page ∷ 0 ∷ (if held.next == 0 then first ∷ [] else []))
 
 -- a row was taken out of a table; the next row number stays
-pub record Removes (size : ℕ) (pages : Pages) (firsts indexes : List ℕ) (first : ℕ) (table : Table) (page number : ℕ)
+pub record RemovesRow (size : ℕ) (pages : Pages) (firsts indexes : List ℕ) (first : ℕ) (table : Table) (page number : ℕ)
     (after : Pages) : Type 0 where
   pub shows : IsTable size after first (without_row table number)
   pub others : OthersStay size pages after firsts first
@@ -155,28 +157,28 @@ pub record Removes (size : ℕ) (pages : Pages) (firsts indexes : List ℕ) (fir
 
 -- where a changed row stands: at its place where its page has room for it there, else at the end of the chain, which
 -- the page without it still has
-pub record Stands (size : ℕ) (pages : Pages) (first page : ℕ) (entry : Entry) (rest : HeapPage) (last : ℕ)
+pub record StandsChanged (size : ℕ) (pages : Pages) (first page : ℕ) (entry : Entry) (rest : HeapPage) (last : ℕ)
     (tail : HeapPage) : Type 0 where
   pub previous : ℕ
   pub held : HeapPage
   pub place : ℕ
   pub stood : met size pages first page (Ok (previous, held))
-  pub here : IsPlace entry.number held.entries (Some place)
+  pub here : place_of entry.number held.entries ≡ Some place
   pub rest_is : rest ≡ without held place
-  pub ends : EndsAt size (written pages page (page_bytes rest)) first last tail
+  pub ends : EndsAt size (with_bytes pages page (page_bytes rest)) first last tail
 
 -- a changed row stays on its page where it has room there, else it goes to the last page where it has room there, else
 -- to a page that is taken
 abbrev pub IsChanged : Bool → Bool → ℕ → Pages → Pages → ℕ → ℕ → ℕ → ℕ → Type 0
 IsChanged true room size pages after first page last to = (to ≡ page) × TakesNone size pages after
-    × Edits pages after (page ∷ [])
+    × EditsExactly pages after (page ∷ [])
 IsChanged false true size pages after first page last to = (to ≡ last) × TakesNone size pages after
-    × Edits pages after (page ∷ last ∷ [])
-IsChanged false false size pages after first page last to = Takes size pages after to
-    × Edits pages after (page ∷ first ∷ last ∷ to ∷ 0 ∷ [])
+    × EditsExactly pages after (page ∷ last ∷ [])
+IsChanged false false size pages after first page last to = TakesPage size pages after to
+    × EditsExactly pages after (page ∷ first ∷ last ∷ to ∷ 0 ∷ [])
 
 -- a row of a table was changed, and keeps its number
-pub record Changes (size : ℕ) (pages : Pages) (firsts indexes : List ℕ) (first : ℕ) (table : Table) (page : ℕ)
+pub record ChangesRow (size : ℕ) (pages : Pages) (firsts indexes : List ℕ) (first : ℕ) (table : Table) (page : ℕ)
     (entry : Entry) (to : ℕ) (after : Pages) : Type 0 where
   pub shows : IsTable size after first
       (with_changed table (record { number = entry.number; page = to; row = entry.row }))
@@ -185,7 +187,7 @@ pub record Changes (size : ℕ) (pages : Pages) (firsts indexes : List ℕ) (fir
   pub rest : HeapPage
   pub last : ℕ
   pub tail : HeapPage
-  pub stands : Stands size pages first page entry rest last tail
+  pub stands : StandsChanged size pages first page entry rest last tail
   pub effect : IsChanged (has_room rest entry) (has_room tail entry) size pages after first page last to
 
 -- a changed row is refused: neither its page nor the last page has room for it, and no page is free
@@ -193,7 +195,7 @@ pub record ChangeIsFull (size : ℕ) (pages : Pages) (first page : ℕ) (entry :
   pub rest : HeapPage
   pub last : ℕ
   pub tail : HeapPage
-  pub stands : Stands size pages first page entry rest last tail
+  pub stands : StandsChanged size pages first page entry rest last tail
   pub room_here : has_room rest entry ≡ false
   pub room_last : has_room tail entry ≡ false
   pub none : free_pages size pages ≡ 0

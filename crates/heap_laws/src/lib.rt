@@ -3,7 +3,7 @@
 
 mod store;
 
-ghost use Rattle.heap_laws.specs.Laws.{AddLaw, ChainAnswersAreOne, ChangeLaw, FreshLaw, IndexLaw, MakeLaw, ReadLaw, RemoveLaw, SizedLaw};
+ghost use Rattle.heap_laws.specs.Laws.{AddLaw, ChainAnswersAreOne, ChangeLaw, FreshLaw, IndexPagesLaw, MakeLaw, ReadLaw, RemoveLaw, SizedLaw};
 
 pub use store::with_table;
 
@@ -32,8 +32,8 @@ pub fn make_law()
     ensures { MakeLaw }
 {}
 
-/// A row is added last, under the next row number, and takes at most one page. It is refused exactly where its last page
-/// has no room and no page is free.
+/// A row is added last, under the next row number, and takes at most one page. It is refused exactly where its last
+/// page has no room and no page is free.
 pub fn add_law()
     ensures { AddLaw }
 {}
@@ -50,6 +50,6 @@ pub fn change_law()
 {}
 
 /// A page is taken for an index, and what is written on it leaves the tables.
-pub fn index_law()
-    ensures { IndexLaw }
+pub fn index_pages_law()
+    ensures { IndexPagesLaw }
 {}

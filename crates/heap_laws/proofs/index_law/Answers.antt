@@ -1,5 +1,0 @@
-use Rattle.heap_laws.proofs.Indexing.{index_law}
-use Rattle.heap_laws.proofs.index_law.Goals as goal
-
-pub returns : goal.returns
-returns c = index_law
