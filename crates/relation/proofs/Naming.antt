@@ -1,5 +1,6 @@
 -- What is found by name.
-use Rattle.std.proofs.Common.{◌≡◌, ◌∙◌, ◌<◌, ◌+◌, ◌++◌, ℕ, Bool, true, false, List, [], ◌∷◌, length, get_or, take, Option, Some, None, Ordering, Result, cond, refl, sym, ap, subst, arith, inl, inr, eqb-true, eq-eqb}
+use Rattle.heap_file.proofs.Positions.{position-at, position-none}
+use Rattle.std.proofs.Common.{◌≡◌, ◌∙◌, ◌<◌, ◌+◌, ◌++◌, ℕ, Bool, true, false, List, [], ◌∷◌, length, get_or, take, Option, Some, None, Ordering, Result, cond, refl, sym, ap, subst, arith, inl, inr, eqb-true, eq-eqb, ◌≤◌}
 use Rattle.std.specs.Prelude.{is_some}
 use Rattle.std.specs.BTreeMap.{BTreeMap, get, is_at}
 use Rattle.std.specs.Cmp.Lexicographic.{pointwise_decides, slice_cmp}
@@ -15,7 +16,7 @@ use Rattle.relation.specs.declared.catalog.CatalogEntry.{CatalogEntry}
 use Rattle.relation.specs.declared.row.CatalogRow.TheVariants.{Column}
 use Rattle.relation.specs.declared.row.ColumnRow.{ColumnRow}
 use Rattle.relation.specs.declared.row.TableRow.{TableRow}
-use Rattle.relation.specs.Catalog.{as_column, column_rows, table_told, table_with}
+use Rattle.relation.specs.Catalog.{as_column, column_rows, table_told, table_with, table_place}
 use Rattle.values.specs.Name.{same_name}
 use Rattle.relation.specs.Named.{place_under, rows_under}
 use Rattle.relation.proofs.Steps.{filter_map-next, filter_map-none}
@@ -73,6 +74,13 @@ IsPlaceBelow count name tables None = (k : ℕ) (d : StoredTable) → k < count 
 IsPlaceBelow count name tables (Some i) =
     (i < count) × ((d : StoredTable) → same_name (get_or tables i d).name name ≡ true)
     × ((k : ℕ) (d : StoredTable) → k < i → same_name (get_or tables k d).name name ≡ false)
+
+-- among all tables it is the place
+pub place-is : (name : List ℕ) (tables : List StoredTable) (count : ℕ) (o : Option ℕ) → length tables ≤ count → count ≤ length tables → IsPlaceBelow count name tables o → o ≡ table_place name tables
+place-is name tables count None all few none = sym (position-none (λ (table : StoredTable). same_name table.name name) tables (λ k d lt. none k d (omega (arith, lt, all))))
+place-is name [] count (Some i) all few at = absurd (omega (arith, at.0, few))
+place-is name (table ∷ tables) count (Some i) all few at =
+    sym (position-at (λ (table : StoredTable). same_name table.name name) (table ∷ tables) i table (omega (arith, at.0, few)) (at.1 table) (λ k below. at.2 k table below))
 
 -- one table more, of another name
 further : (name : List ℕ) (tables : List StoredTable) (count : ℕ) (table : StoredTable) (o : Option ℕ) → count < length tables → table ≡ get_or tables count table → same_name table.name name ≡ false → IsPlaceBelow count name tables o → IsPlaceBelow (count + 1) name tables o

@@ -1,5 +1,5 @@
 -- What the catalog says: the tables, with their first pages and columns, and the indexes.
-use Rattle.std.specs.Prelude.{◌≡◌, ◌≤◌, ◌<◌, ◌==◌, ℕ, Bool, true, false, List, length, map, Option, Some, None, Result, Ok, Err, slice_get, slice_index_or, if◌then◌else◌}
+use Rattle.std.specs.Prelude.{◌≡◌, ◌≤◌, ◌<◌, ◌==◌, ℕ, Bool, true, false, List, length, map, Option, Some, None, Result, Ok, Err, slice_get, slice_index_or, if◌then◌else◌, position}
 use Rattle.std.specs.List.{AllByRecursion, filter_map, find}
 use Rattle.retro_base.specs.declared.refusal.Refusal.{Refusal}
 use Rattle.sql_tree.specs.declared.schema.IndexSchema.{IndexSchema}
@@ -24,16 +24,16 @@ use Rattle.relation.specs.Each.{each}
 use Rattle.values.specs.Name.{same_name}
 
 -- what a stored row of the catalog tells; a row of none of the three kinds breaks its page
-abbrev pub told : Placed → Result CatalogEntry Refusal → Type 0
-told placed (Ok row) = (row.page ≡ placed.page) × IsRowOf placed.row (Some row.row)
-told placed (Err why) = (why ≡ broken placed.page) × IsRowOf placed.row None
+abbrev pub row_told : Placed → Result CatalogEntry Refusal → Type 0
+row_told placed (Ok row) = (row.page ≡ placed.page) × IsRowOf placed.row (Some row.row)
+row_told placed (Err why) = (why ≡ broken placed.page) × IsRowOf placed.row None
 
 -- The rows of the catalog, in rising number. The first page is broken where its next row number is not their count.
 abbrev pub catalog_rows : ℕ → Pages → Result (List CatalogEntry) Refusal → Type 0
 catalog_rows size pages = do
   rows ← scanned size pages CATALOG
   next ← next_of size pages CATALOG
-  either (next == length rows) (each told rows) (only (Err (broken CATALOG)))
+  either (next == length rows) (each row_told rows) (only (Err (broken CATALOG)))
 
 -- a table's row, with its page
 abbrev pub as_table : ℕ → CatalogRow → Option (ℕ × TableRow)
@@ -63,15 +63,14 @@ abbrev pub index_rows : List CatalogEntry → List (ℕ × IndexRow)
 index_rows rows = filter_map (λ (told : CatalogEntry). as_index told.page told.row) rows
 
 -- some row tells that column at that place
-abbrev pub IsTold : List ColumnRow → ℕ → TableColumn → Type 0
-IsTold rows place column =
+abbrev pub IsColumnTold : List ColumnRow → ℕ → TableColumn → Type 0
+IsColumnTold rows place column =
     (k : ℕ) × (k < length rows) ×
     ((d : ColumnRow) → ((slice_index_or rows k d).place ≡ place) × ((slice_index_or rows k d).column ≡ column))
 
 -- which of the rows tells a column at that place, or none where none does
-abbrev pub IsPlaceTold : ℕ → List ColumnRow → Option ℕ → Type 0
-IsPlaceTold place rows None = (k : ℕ) (d : ColumnRow) → k < length rows → (slice_index_or rows k d).place ≡ place → ⊥
-IsPlaceTold place rows (Some k) = (k < length rows) × ((d : ColumnRow) → (slice_index_or rows k d).place ≡ place)
+abbrev pub row_at : ℕ → List ColumnRow → Option ℕ
+row_at place rows = position (λ (row : ColumnRow). row.place == place) rows
 
 -- The columns that these rows tell: one to sixteen, as many as the rows, and for each place from 0 on the column that a
 -- row tells there.
@@ -79,7 +78,8 @@ pub record AreColumns (rows : List ColumnRow) (columns : List TableColumn) : Typ
   pub some : 1 ≤ length columns
   pub few : length columns ≤ 16
   pub many : length rows ≡ length columns
-  pub each : (place : ℕ) (d : TableColumn) → place < length columns → IsTold rows place (slice_index_or columns place d)
+  pub each : (place : ℕ) (d : TableColumn) → place < length columns
+      → IsColumnTold rows place (slice_index_or columns place d)
 
 -- the columns that these rows tell, or none where they tell no table's columns
 abbrev pub AreColumnsOf : List ColumnRow → Option (List TableColumn) → Type 0
@@ -100,12 +100,8 @@ abbrev pub table_named : List ℕ → List StoredTable → Option StoredTable
 table_named name tables = find (λ (table : StoredTable). same_name table.name name) tables
 
 -- the place of the first table of that name, or none where no table has it
-abbrev pub IsPlaceNamed : List ℕ → List StoredTable → Option ℕ → Type 0
-IsPlaceNamed name tables None = (k : ℕ) (d : StoredTable) → k < length tables
-    → same_name (slice_index_or tables k d).name name ≡ false
-IsPlaceNamed name tables (Some i) =
-    (i < length tables) × ((d : StoredTable) → same_name (slice_index_or tables i d).name name ≡ true)
-    × ((k : ℕ) (d : StoredTable) → k < i → same_name (slice_index_or tables k d).name name ≡ false)
+abbrev pub table_place : List ℕ → List StoredTable → Option ℕ
+table_place name tables = position (λ (table : StoredTable). same_name table.name name) tables
 
 -- the column at that place of a table
 abbrev pub column_at : ℕ → Option StoredTable → Option TableColumn

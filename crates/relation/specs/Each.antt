@@ -22,6 +22,6 @@ in_turn step (x ∷ xs) pages = do
   in_turn step xs next.1
 
 -- an answer is one that the definition allows, and a refusal tells a broken page, unless memory ran out
-abbrev pub Tells : {X Y : Type 0} → (X → Y) → (Result Y Refusal → Type 0) → Result X Refusal → Type 0
-Tells view allows (Ok x) = allows (Ok (view x))
-Tells view allows (Err why) = (why ≡ OutOfMemory) ⊎ (allows (Err why) × ((page : ℕ) × (why ≡ broken page)))
+abbrev pub TellsPage : {X Y : Type 0} → (X → Y) → (Result Y Refusal → Type 0) → Result X Refusal → Type 0
+TellsPage view allows (Ok x) = allows (Ok (view x))
+TellsPage view allows (Err why) = (why ≡ OutOfMemory) ⊎ (allows (Err why) × ((page : ℕ) × (why ≡ broken page)))

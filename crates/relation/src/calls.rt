@@ -56,8 +56,8 @@ pub fn next_number<P: Pager>(
     heap_file::drafting::next_number(alloc, pager, &draft, table.first)
 }
 
-/// Makes a table without rows. Its name is to be a new one, and its columns are 1 to 16 with different names. Refused before
-/// the first edit where more pages are needed than are free.
+/// Makes a table without rows. Its name is to be a new one, and its columns are 1 to 16 with different names. Refused
+/// before the first edit where more pages are needed than are free.
 pub fn create_table<P: EditPager>(
     alloc: Global,
     pager: &mut P,
@@ -75,9 +75,9 @@ pub fn create_table<P: EditPager>(
     Ok(())
 }
 
-/// Makes an index over the column at that place of a table. It is kept by name alone: it takes no page, and lists nothing. Its
-/// name is to be a new one, and the table is to have that column. Refused before the first edit where more pages are needed
-/// than are free.
+/// Makes an index over the column at that place of a table. It is kept by name alone: it takes no page, and lists
+/// nothing. Its name is to be a new one, and the table is to have that column. Refused before the first edit where more
+/// pages are needed than are free.
 pub fn create_index<P: EditPager>(
     alloc: Global,
     pager: &mut P,
@@ -95,8 +95,8 @@ pub fn create_index<P: EditPager>(
     Ok(())
 }
 
-/// Adds rows to a table, in order, under the next row numbers. Each row is to have one value of each column's kind. Refused
-/// before the first edit where more pages are needed than are free.
+/// Adds rows to a table, in order, under the next row numbers. Each row is to have one value of each column's kind.
+/// Refused before the first edit where more pages are needed than are free.
 pub fn insert<P: EditPager>(
     alloc: Global,
     pager: &mut P,
@@ -114,9 +114,9 @@ pub fn insert<P: EditPager>(
     Ok(())
 }
 
-/// Changes rows of a table, in order: each stands on its page under its number, as `rows` told, and becomes this. A row that
-/// does not stand there is refused as a page that is broken. Refused before the first edit where more pages are needed than are
-/// free.
+/// Changes rows of a table, in order: each stands on its page under its number, as `rows` told, and becomes this. A row
+/// that does not stand there is refused as a page that is broken. Refused before the first edit where more pages are
+/// needed than are free.
 pub fn update<P: EditPager>(
     alloc: Global,
     pager: &mut P,
@@ -134,8 +134,8 @@ pub fn update<P: EditPager>(
     Ok(())
 }
 
-/// Takes rows out of a table, in order, each of the page where it stands, as `rows` told. A row that does not stand there is
-/// refused as a page that is broken.
+/// Takes rows out of a table, in order, each of the page where it stands, as `rows` told. A row that does not stand
+/// there is refused as a page that is broken.
 pub fn delete<P: EditPager>(
     alloc: Global,
     pager: &mut P,

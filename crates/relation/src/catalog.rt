@@ -3,8 +3,8 @@
 ghost use Rattle.std.specs.Prelude.{◌≡◌, None, Some, MatchOption, IfOk};
 ghost use Rattle.pager.specs.Draft.{Reads};
 ghost use Rattle.pager.specs.Stop.{OnlyReads};
-ghost use Rattle.relation.specs.Catalog.{AreColumnsOf, as_index, as_table, IsPlaceNamed, IsPlaceTold, HaveFewColumns, catalog, catalog_rows, index_rows, index_told, schema_of, table_named, table_rows, table_told, table_with, told};
-ghost use Rattle.relation.specs.Each.{each, Tells};
+ghost use Rattle.relation.specs.Catalog.{AreColumnsOf, as_index, as_table, HaveFewColumns, catalog, catalog_rows, index_rows, index_told, schema_of, table_named, table_rows, table_told, table_with, row_told, row_at, table_place};
+ghost use Rattle.relation.specs.Each.{each, TellsPage};
 ghost use Rattle.relation.specs.Named.{ArePlaces, rows_under};
 
 use crate::named::{ColumnRows, Places, columns_by_table, places_of};
@@ -114,7 +114,7 @@ fn read_rows<P: Pager>(
 
 // What stored rows of the catalog tell.
 fn all_told(alloc: Global, rows: &[Placed]) -> Result<Vec<CatalogEntry>, Refusal>
-    ensures { Tells (λ told. told.items) (each told rows.now) result }
+    ensures { TellsPage (λ told. told.items) (each row_told rows.now) result }
 {
     let mut all = Vec::new(alloc);
     for placed in rows {
@@ -125,7 +125,7 @@ fn all_told(alloc: Global, rows: &[Placed]) -> Result<Vec<CatalogEntry>, Refusal
 
 // What a stored row of the catalog tells.
 fn told_by(alloc: Global, placed: &Placed) -> Result<CatalogEntry, Refusal>
-    ensures { Tells (λ told. told) (told placed.now) result }
+    ensures { TellsPage (λ told. told) (row_told placed.now) result }
 {
     let page = placed.page;
     match row_of(alloc, placed.row.as_slice())? {
@@ -136,7 +136,7 @@ fn told_by(alloc: Global, placed: &Placed) -> Result<CatalogEntry, Refusal>
 
 // The tables that the rows tell.
 fn tables_told(alloc: Global, rows: &[CatalogEntry]) -> Result<Vec<StoredTable>, Refusal>
-    ensures { Tells (λ tables. tables.items) (each (table_told rows.now) (table_rows rows.now)) result }
+    ensures { TellsPage (λ tables. tables.items) (each (table_told rows.now) (table_rows rows.now)) result }
 {
     let mut tables = Vec::new(alloc);
     let columns = columns_by_table(alloc, rows)?;
@@ -167,7 +167,7 @@ fn table_told(
     page: u32,
     row: &TableRow,
 ) -> Result<StoredTable, Refusal>
-    ensures { Tells (λ table. table) (table_with (rows_under columns.now row.now.name) (page, row.now)) result }
+    ensures { TellsPage (λ table. table) (table_with (rows_under columns.now row.now.name) (page, row.now)) result }
 {
     let Some(columns) = columns_under(alloc, columns, &row.name)? else {
         return Err(broken(page));
@@ -212,7 +212,7 @@ fn columns_of(alloc: Global, rows: &[ColumnRow]) -> Result<Option<Seq<Column>>, 
 
 // Which of the rows tells the column at that place.
 fn at_place(rows: &[ColumnRow], place: u32) -> Option<usize>
-    ensures { IsPlaceTold place rows.now result }
+    ensures { result ≡ row_at place rows.now }
 {
     rows.iter().position(|row| row.place == place)
 }
@@ -223,7 +223,7 @@ fn indexes_told(
     tables: &[StoredTable],
     rows: &[CatalogEntry],
 ) -> Result<Vec<IndexSchema>, Refusal>
-    ensures { Tells (λ indexes. indexes.items) (each (index_told tables.now) (index_rows rows.now)) result }
+    ensures { TellsPage (λ indexes. indexes.items) (each (index_told tables.now) (index_rows rows.now)) result }
 {
     let mut indexes = Vec::new(alloc);
     let places = places_of(alloc, tables)?;
@@ -256,7 +256,7 @@ fn index_told(
     row: &IndexRow,
 ) -> Result<IndexSchema, Refusal>
     requires { ArePlaces tables.now places.now }
-    ensures { Tells (λ index. index) (index_told tables.now (page, row.now)) result }
+    ensures { TellsPage (λ index. index) (index_told tables.now (page, row.now)) result }
 {
     let Some(table) = places.get(&row.table) else {
         return Err(broken(page));
@@ -273,7 +273,7 @@ fn index_told(
 
 // The place of the first table of that name.
 fn find(tables: &[StoredTable], name: &Name) -> Option<usize>
-    ensures { IsPlaceNamed name.now tables.now result }
+    ensures { result ≡ table_place name.now tables.now }
 {
     tables.iter().position(|table| table.name == *name)
 }

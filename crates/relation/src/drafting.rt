@@ -7,7 +7,7 @@ ghost use Rattle.pager.specs.Allows.{only};
 ghost use Rattle.heap_file.specs.HeapPage.{IsShort};
 ghost use Rattle.heap_file.specs.declared.chain.Placed.{Placed};
 ghost use Rattle.relation.specs.CatalogRow.{row_values};
-ghost use Rattle.relation.specs.Each.{Tells, each};
+ghost use Rattle.relation.specs.Each.{TellsPage, each};
 ghost use Rattle.relation.specs.Work.{AllPlacedFit, all_added, all_changed, all_removed, created, fitting, index_added, rows_at, rows_of_table};
 ghost use Rattle.sql_tree.specs.Rows.{fits};
 
@@ -41,7 +41,7 @@ pub fn rows<P: Pager>(
 
 // Refused where a row does not fit the columns.
 fn check_rows(columns: &[Column], rows: &[Placed]) -> Result<(), Refusal>
-    ensures { Tells (λ u. rows.now) (each (λ placed. only (fitting columns.now placed)) rows.now) result }
+    ensures { TellsPage (λ u. rows.now) (each (λ placed. only (fitting columns.now placed)) rows.now) result }
 {
     for placed in rows {
         if !fits(columns, placed.row.as_slice()) {

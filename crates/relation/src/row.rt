@@ -1,6 +1,6 @@
 //! The rows of the catalog.
 
-ghost use Rattle.std.specs.Prelude.{◌≡◌, ◌↔◌, ◌∷◌, [], pos, IsTrue, IfOk};
+ghost use Rattle.std.specs.Prelude.{◌≡◌, ◌∷◌, [], pos, IfOk};
 ghost use Rattle.values.specs.Name.{IsName};
 ghost use Rattle.heap_file.specs.HeapPage.{IsShort};
 ghost use Rattle.relation.specs.CatalogRow.{IsRowOf, IsNameOf, IsNumber, IsKind, IsForm, row_values, kind_number};
@@ -25,7 +25,8 @@ pub struct ColumnRow {
     pub column: Column,
 }
 
-/// How an index keeps its entries: not at all, where it is kept by name alone, in a sorted chain of pages, or in a tree.
+/// How an index keeps its entries: not at all, where it is kept by name alone, in a sorted chain of pages, or in a
+/// tree.
 #[derive(Clone, Copy)]
 pub enum IndexForm {
     Named,
@@ -33,8 +34,8 @@ pub enum IndexForm {
     Tree,
 }
 
-/// The row of an index: its name, its table's name, its column's place, its form and its root page, which is 0 where the
-/// index is kept by name alone.
+/// The row of an index: its name, its table's name, its column's place, its form and its root page, which is 0 where
+/// the index is kept by name alone.
 #[derive(Drop)]
 pub struct IndexRow {
     pub name: Name,
