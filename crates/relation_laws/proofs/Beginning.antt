@@ -11,7 +11,7 @@ use Rattle.relation.specs.declared.catalog.Catalog.{Catalog}
 use Rattle.relation.specs.declared.catalog.StoredTable.{StoredTable}
 use Rattle.relation.specs.Catalog.{catalog_rows}
 use Rattle.relation_laws.specs.Laws.{IsStoreOf, StoreLaw, no_tables}
-use Rattle.relation_laws.specs.Tables.{PlainTable, PlainTables, Shows, TablesOf, numbered_row}
+use Rattle.relation_laws.specs.Tables.{PlainTable, PlainTables, ShowsTable, TablesOf, numbered_row}
 use Rattle.relation_laws.proofs.Lists.{contains-cons, contains-head}
 use Rattle.relation_laws.proofs.Singling.{firsts_of, has-first, pages_in, shown-here, store-catalog}
 
@@ -27,7 +27,7 @@ zip-same R (x ∷ xs) (y ∷ ys) (z ∷ zs) go one two =
     cc (here, rest)
 
 -- what the pages show of a table is one
-shows-one : (size : ℕ) (pages : Pages) (all : PlainTables) (is : IsStoreOf size pages all) (stored : StoredTable) (a b : PlainTable) → Contains is.store.found.tables stored → Shows size pages stored a → Shows size pages stored b → a ≡ b
+shows-one : (size : ℕ) (pages : Pages) (all : PlainTables) (is : IsStoreOf size pages all) (stored : StoredTable) (a b : PlainTable) → Contains is.store.found.tables stored → ShowsTable size pages stored a → ShowsTable size pages stored b → a ≡ b
 shows-one size pages all is stored a b has p q =
     let placed : p.placed ≡ q.placed = ok-one (read_law.rows_one size pages (firsts_of is.store.found) (pages_in is.store.held) stored.first is.store.heap (has-first is.store.found stored has) (Ok p.placed) (Ok q.placed) p.is_table.rows q.is_table.rows) in
     let name : a.name ≡ b.name = p.name ∙ sym q.name in
@@ -41,8 +41,8 @@ tables-one : (size : ℕ) (pages : Pages) (all other : PlainTables) → IsStoreO
 tables-one size pages all other is of =
     let same : of.found ≡ is.store.found = ok-one (store-catalog size pages is.store (Ok of.found) of.read) in
     let here = shown-here size pages all is in
-    let shown : AllZip (Shows size pages) is.store.found.tables other.tables = subst (λ (c : Catalog). AllZip (Shows size pages) c.tables other.tables) same of.shown in
-    let tables : other.tables ≡ all.tables = zip-same (Shows size pages) is.store.found.tables other.tables all.tables (shows-one size pages all is) shown here.0 in
+    let shown : AllZip (ShowsTable size pages) is.store.found.tables other.tables = subst (λ (c : Catalog). AllZip (ShowsTable size pages) c.tables other.tables) same of.shown in
+    let tables : other.tables ≡ all.tables = zip-same (ShowsTable size pages) is.store.found.tables other.tables all.tables (shows-one size pages all is) shown here.0 in
     let indexes : other.indexes ≡ all.indexes = of.indexes ∙ ap (λ (c : Catalog). c.indexes) same ∙ sym here.1 in
     let joined : record { tables = other.tables; indexes = other.indexes } ≡ record { tables = all.tables; indexes = all.indexes } = cc (tables, indexes) in
     joined

@@ -18,13 +18,13 @@ use Rattle.relation.specs.declared.catalog.CatalogEntry.{CatalogEntry}
 use Rattle.relation.specs.declared.row.CatalogRow.{CatalogRow}
 use Rattle.relation.specs.declared.row.CatalogRow.TheVariants.{Table, Column, Index}
 use Rattle.relation.specs.declared.row.ColumnRow.{ColumnRow}
-use Rattle.relation.specs.Catalog.{AreColumns, as_column, column_rows, index_rows, table_rows, told}
+use Rattle.relation.specs.Catalog.{AreColumns, as_column, column_rows, index_rows, table_rows, row_told}
 use Rattle.relation.specs.CatalogRow.{IsCatalogRow, kind_number, row_values}
 use Rattle.relation.specs.Each.{each}
 use Rattle.relation.specs.Work.{row_of_index, rows_of_columns, rows_of_table}
 use Rattle.relation.proofs.Fitting.{column_short, index_short, is_text, table_short}
 use Rattle.relation_laws.specs.Laws.{AreTableColumns}
-use Rattle.relation_laws.specs.Tables.{IsKept, numbered, numbered_row}
+use Rattle.relation_laws.specs.Tables.{SpeaksOfTable, numbered, numbered_row}
 use Rattle.relation_laws.proofs.Lists.{all-at}
 use Rattle.relation_laws.proofs.Names.{name-is, name-same}
 
@@ -83,7 +83,7 @@ abbrev pub tells : List Placed → List CatalogRow → List CatalogEntry
 tells (placed ∷ more) (row ∷ rows) = record { page = placed.page; row = row } ∷ tells more rows
 tells _ _ = []
 
-pub are-told : (next : ℕ) (more : List Placed) (rows : List CatalogRow) → map numbered_row more ≡ numbered next (map row_values rows) → AllByRecursion IsCatalogRow rows → each told more (Ok (tells more rows))
+pub are-told : (next : ℕ) (more : List Placed) (rows : List CatalogRow) → map numbered_row more ≡ numbered next (map row_values rows) → AllByRecursion IsCatalogRow rows → each row_told more (Ok (tells more rows))
 are-told next [] [] same all = refl
 are-told next [] (row ∷ rows) same all = absurd cc
 are-told next (placed ∷ more) [] same all = absurd cc
@@ -162,19 +162,19 @@ are-columns name columns are = record {
 }
 
 -- no column's row is one of a table that is not there
-pub strangers : (pages : Pages) (names : List (List ℕ)) (name : List ℕ) (rows : List CatalogEntry) (held : List (List ℕ)) → AllByRecursion (λ other. other ≢ name) names → AllZip (λ (row : CatalogEntry) (some : List ℕ). IsKept pages names row.row some) rows held → column_rows name rows ≡ []
+pub strangers : (pages : Pages) (names : List (List ℕ)) (name : List ℕ) (rows : List CatalogEntry) (held : List (List ℕ)) → AllByRecursion (λ other. other ≢ name) names → AllZip (λ (row : CatalogEntry) (some : List ℕ). SpeaksOfTable pages names row.row some) rows held → column_rows name rows ≡ []
 strangers pages names name [] held apart kept = refl
 strangers pages names name (row ∷ rows) [] apart kept = absurd kept
 strangers pages names name (row ∷ rows) (some ∷ held) apart kept = go (strangers pages names name rows held apart kept.1) row.row kept.0
   where
-    go : column_rows name rows ≡ [] → (r : CatalogRow) → IsKept pages names r some → cons_option (as_column name r) (column_rows name rows) ≡ []
+    go : column_rows name rows ≡ [] → (r : CatalogRow) → SpeaksOfTable pages names r some → cons_option (as_column name r) (column_rows name rows) ≡ []
     go rest (Table t) k = rest
     go rest (Column c) k = rw (not-same c.table name (all-at (λ other. other ≢ name) names c.table apart k.0)) rest
     go rest (Index i) k = rest
 
 -- the rows are kept, with no page of an index
 pub kept-columns : (pages : Pages) (names : List (List ℕ)) (more : List Placed) (name : List ℕ) (place : ℕ) (columns : List TableColumn) → Contains names name
-    → AllZip (λ (row : CatalogEntry) (some : List ℕ). IsKept pages names row.row some) (tells more (rows_of_columns name place columns)) (map (λ (row : CatalogEntry). []) (tells more (rows_of_columns name place columns)))
+    → AllZip (λ (row : CatalogEntry) (some : List ℕ). SpeaksOfTable pages names row.row some) (tells more (rows_of_columns name place columns)) (map (λ (row : CatalogEntry). []) (tells more (rows_of_columns name place columns)))
 kept-columns pages names [] name place [] has = tt
 kept-columns pages names [] name place (column ∷ columns) has = tt
 kept-columns pages names (placed ∷ more) name place [] has = tt

@@ -24,7 +24,7 @@ use Rattle.relation.specs.declared.row.ColumnRow.{ColumnRow}
 use Rattle.relation.specs.declared.row.IndexForm.{IndexForm}
 use Rattle.relation.specs.declared.row.IndexForm.TheVariants.{Named, Chain, Tree}
 use Rattle.relation.specs.declared.row.TableRow.{TableRow}
-use Rattle.relation.specs.Catalog.{AreColumns, catalog, catalog_rows, column_rows, index_rows, index_told, table_rows, table_told, told}
+use Rattle.relation.specs.Catalog.{AreColumns, catalog, catalog_rows, column_rows, index_rows, index_told, table_rows, table_told, row_told}
 use Rattle.relation.specs.CatalogRow.{form_number, kind_number, row_values}
 use Rattle.relation.specs.Each.{each}
 use Rattle.relation_laws.proofs.Lists.{keyed-one, placed-once}
@@ -77,7 +77,7 @@ same a b page row =
     let joined : Same {A = CatalogEntry} (Ok (record { page = a.page; row = a.row })) (Ok (record { page = b.page; row = b.row })) = cc (page, row) in
     joined
 
-told-one : (placed : Placed) → IsOne (told placed)
+told-one : (placed : Placed) → IsOne (row_told placed)
 told-one placed (Ok a) (Ok b) p q =
     let row : a.row ≡ b.row = same-row a.row b.row (sym p.1.1 ∙ q.1.1) in
     let page : a.page ≡ b.page = p.0 ∙ sym q.0 in
@@ -130,7 +130,7 @@ pub rows-one : (size : ℕ) (pages : Pages) (firsts indexes : List ℕ) → Well
 rows-one size pages firsts indexes well has =
     next-one _ _ (read_law.rows_one size pages firsts indexes CATALOG well has) (λ rows.
     next-one _ _ (answers_are_one.next_number size pages CATALOG) (λ next.
-    either-one _ _ _ (each-one told told-one rows) (only-one _)))
+    either-one _ _ _ (each-one row_told told-one rows) (only-one _)))
 
 -- the pages tell one catalog
 pub catalog-one : (size : ℕ) (pages : Pages) (firsts indexes : List ℕ) → WellFormed size pages firsts indexes → Contains firsts CATALOG → IsOne (catalog size pages)

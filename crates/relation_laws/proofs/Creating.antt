@@ -11,7 +11,7 @@ use Rattle.sql_tree.specs.declared.statement.Column.{Column as TableColumn}
 use Rattle.pager.specs.Pages.{Pages}
 use Rattle.heap_file.specs.declared.chain.Placed.{Placed}
 use Rattle.heap_laws.specs.Store.{WellFormed}
-use Rattle.heap_laws.specs.Table.{IsStorable, IsTable, Makes, Table as HeapTable}
+use Rattle.heap_laws.specs.Table.{IsStorable, IsTable, MakesTable, Table as HeapTable}
 use Rattle.heap_laws.proofs.Counts.{keyed-same}
 use Rattle.heap_laws.proofs.Making.{make_law}
 use Rattle.heap_laws.proofs.Reading.{ok-one, reads}
@@ -24,13 +24,13 @@ use Rattle.relation.specs.declared.catalog.CatalogEntry.{CatalogEntry}
 use Rattle.relation.specs.declared.row.ColumnRow.{ColumnRow}
 use Rattle.relation.specs.declared.row.IndexRow.{IndexRow}
 use Rattle.relation.specs.declared.row.TableRow.{TableRow}
-use Rattle.relation.specs.Catalog.{AreColumnsOf, as_column, catalog, catalog_told, column_rows, index_told, table_rows, table_told, told}
+use Rattle.relation.specs.Catalog.{AreColumnsOf, as_column, catalog, catalog_told, column_rows, index_told, table_rows, table_told, row_told}
 use Rattle.relation.specs.CatalogRow.{row_values}
 use Rattle.relation.specs.Each.{each}
 use Rattle.relation.specs.Work.{created, rows_of_table}
-use Rattle.relation_laws.specs.Laws.{AreTableColumns, CreateLaw, IsNewName, IsStoreOf, Leaves, empty_table, with_new}
+use Rattle.relation_laws.specs.Laws.{AreTableColumns, CreateLaw, IsNewName, IsStoreOf, LeavesOrIsFull, empty_table, with_new}
 use Rattle.relation_laws.specs.Reach.{IsPageOf, IsUntouched, ReachesCatalog}
-use Rattle.relation_laws.specs.Tables.{AreDifferent, IsStore, PlainTables, Shows, names_of, numbered, numbered_row}
+use Rattle.relation_laws.specs.Tables.{AreDifferent, IsStore, PlainTables, ShowsTable, names_of, numbered, numbered_row}
 use Rattle.relation_laws.proofs.CatalogRows.{are-columns, columns_from, kept-columns, length-more, length-rows, no-indexes, no-tables, other-columns, own-columns, rows-lawful, rows-storable, strangers, tells}
 use Rattle.relation_laws.proofs.Entries.{entries, few-rows}
 use Rattle.relation_laws.proofs.Growing.{Grows, apart-new, grown, grown_store, shows-stays}
@@ -44,7 +44,7 @@ use Rattle.relation_laws.proofs.Singling.{firsts_of, has-catalog, has-first, pag
 record Creates (size : ℕ) (pages : Pages) (all : PlainTables) (is : IsStoreOf size pages all) (name : List ℕ) (columns : List TableColumn) (first : ℕ) (base after : Pages) : Type 0 where
   new_name : IsNewName all name
   are : AreTableColumns columns
-  makes : Makes size pages (firsts_of is.store.found) (pages_in is.store.held) first base
+  makes : MakesTable size pages (firsts_of is.store.found) (pages_in is.store.held) first base
   extends : Extends size base (firsts_of is.store.found ++ first ∷ []) (pages_in is.store.held) CATALOG (record { next_number = length is.store.placed; rows = is.store.placed }) (map row_values (rows_of_table name first columns)) after
   small : first < 2 ^ 32
 
@@ -73,10 +73,10 @@ created_store size pages all is name columns first base after it = grown_store s
     not_catalog : first ≢ CATALOG
     not_catalog e = omega (arith, firsts-once size base (firsts_of is.store.found ++ first ∷ []) (pages_in is.store.held) it.makes.well CATALOG, times-append CATALOG (firsts_of is.store.found) (first ∷ []), times-here CATALOG (map first_of is.store.found.tables), keyed-same (λ (m : ℕ). m) CATALOG first [] e)
 
-    shown : AllZip (Shows size after) (more_tables is.store.found (stored_as name first columns)) (all.tables ++ empty_table name columns ∷ [])
+    shown : AllZip (ShowsTable size after) (more_tables is.store.found (stored_as name first columns)) (all.tables ++ empty_table name columns ∷ [])
     shown =
-        zip-join (Shows size after) is.store.found.tables ((stored_as name first columns) ∷ []) all.tables (empty_table name columns ∷ [])
-        (zip-weaken (Shows size pages) (Shows size after) is.store.found.tables all.tables (λ s t has told. shows-stays size pages after s t (older s has) told) (shown-here size pages all is).0)
+        zip-join (ShowsTable size after) is.store.found.tables ((stored_as name first columns) ∷ []) all.tables (empty_table name columns ∷ [])
+        (zip-weaken (ShowsTable size pages) (ShowsTable size after) is.store.found.tables all.tables (λ s t has told. shows-stays size pages after s t (older s has) told) (shown-here size pages all is).0)
         (newer, tt)
       where
         older : (s : StoredTable) → Contains is.store.found.tables s → (t : HeapTable) → IsTable size pages s.first t → IsTable size after s.first t
@@ -84,7 +84,7 @@ created_store size pages all is name columns first base after it = grown_store s
             it.extends.others s.first (contains-left (firsts_of is.store.found) (first ∷ []) s.first (has-first is.store.found s has)) (λ e. first-apart size pages is.store.found.tables (pages_in is.store.held) s is.store.heap has (sym e)) t
             (it.makes.others s.first (has-first is.store.found s has) t told)
 
-        newer : Shows size after (stored_as name first columns) (empty_table name columns)
+        newer : ShowsTable size after (stored_as name first columns) (empty_table name columns)
         newer = record {
           name = refl;
           columns = refl;
@@ -150,7 +150,7 @@ pub record Ready (size : ℕ) (pages : Pages) (store : IsStore size pages) (name
   pub room : length store.placed + length (map row_values (rows_of_table name first columns)) < 2 ^ 64
   pub small : first < 2 ^ 32
 
-pub ready : (size : ℕ) (pages : Pages) (store : IsStore size pages) (name : List ℕ) (columns : List TableColumn) (first : ℕ) (base : Pages) → IsName name → AreTableColumns columns → Makes size pages (firsts_of store.found) (pages_in store.held) first base → Ready size pages store name columns first base
+pub ready : (size : ℕ) (pages : Pages) (store : IsStore size pages) (name : List ℕ) (columns : List TableColumn) (first : ℕ) (base : Pages) → IsName name → AreTableColumns columns → MakesTable size pages (firsts_of store.found) (pages_in store.held) first base → Ready size pages store name columns first base
 ready size pages store name columns first base is_name are makes =
     let there = reads size base (firsts_of store.found ++ first ∷ []) (pages_in store.held) first makes.well (contains-last (firsts_of store.found) first) in
     let small : first < 2 ^ 32 = omega (arith, there.head_at.there, makes.well.small) in
@@ -167,7 +167,7 @@ create_law size pages all name columns answer is new_name are work = go answer w
     has_catalog : (first : ℕ) → Contains (firsts_of is.store.found ++ first ∷ []) CATALOG
     has_catalog first = contains-left (firsts_of is.store.found) (first ∷ []) CATALOG (has-catalog is.store.found)
 
-    spared : (table : ℕ × Pages) → Makes size pages (firsts_of is.store.found) (pages_in is.store.held) table.0 table.1 → (after : Pages) → Spares false size table.1 after (firsts_of is.store.found ++ table.0 ∷ []) CATALOG
+    spared : (table : ℕ × Pages) → MakesTable size pages (firsts_of is.store.found) (pages_in is.store.held) table.0 table.1 → (after : Pages) → Spares false size table.1 after (firsts_of is.store.found ++ table.0 ∷ []) CATALOG
         → (found : Catalog) (other : StoredTable) (page : ℕ) → catalog size pages (Ok found) → Contains found.tables other → IsPageOf size pages other.first page → IsUntouched pages after page
     spared table makes after spares found other page read has here =
         let same : found ≡ is.store.found = ok-one (store-catalog size pages is.store (Ok found) read) in
@@ -179,7 +179,7 @@ create_law size pages all name columns answer is new_name are work = go answer w
         let then_ = spares.others other.first (contains-left (firsts_of is.store.found) (table.0 ∷ []) other.first (has-first is.store.found other also)) (λ e. first-apart size pages is.store.found.tables (pages_in is.store.held) other is.store.heap also (sym e)) links (leads-same size pages table.1 other.first links 0 (λ p some. (first_half p some).0) leads) page (times-some (pages_on links) page here.2) in
         (then_.0 ∙ there.0, then_.1 ∙ there.1)
 
-    go : (answer : Result (Unit {0} × Pages) Refusal) → created size pages name columns answer → Leaves size (λ after. IsStoreOf size after (with_new (empty_table name columns) all) × ReachesCatalog size pages after) answer
+    go : (answer : Result (Unit {0} × Pages) Refusal) → created size pages name columns answer → LeavesOrIsFull size (λ after. IsStoreOf size after (with_new (empty_table name columns) all) × ReachesCatalog size pages after) answer
     go (Ok y) (table, make, add) =
         let makes = make_law size pages (firsts_of is.store.found) (pages_in is.store.held) (Ok table) is.store.heap make in
         let base = ready size pages is.store name columns table.0 table.1 new_name.is_name are makes in

@@ -9,7 +9,7 @@ use Rattle.pager.specs.Pages.{Pages}
 use Rattle.heap_file.specs.declared.chain.Placed.{Placed}
 use Rattle.pager.specs.Allows.{◌>>=◌}
 use Rattle.heap_file.specs.Work.{removed}
-use Rattle.heap_laws.specs.Laws.{Answers}
+use Rattle.heap_laws.specs.Laws.{DoesOrIsFull}
 use Rattle.heap_laws.specs.Store.{WellFormed}
 use Rattle.heap_laws.specs.Table.{IsTable, OthersStay, Table, without_row}
 use Rattle.heap_laws.proofs.Removing.{remove_law}
@@ -20,7 +20,7 @@ use Rattle.sql_tree.specs.Rows.{fits}
 use Rattle.relation.proofs.Steps.{left_pages}
 use Rattle.relation_laws.specs.Laws.{DeleteLaw, IsStoreOf, with_table, without_rows}
 use Rattle.relation_laws.specs.Reach.{Reaches}
-use Rattle.relation_laws.specs.Tables.{AreDifferent, PlainTable, Shows, numbered_row}
+use Rattle.relation_laws.specs.Tables.{AreDifferent, PlainTable, ShowsTable, numbered_row}
 use Rattle.relation_laws.proofs.Catalogs.{goes-on}
 use Rattle.relation_laws.proofs.Lists.{contains-cases, contains-cons, contains-head, contains-of}
 use Rattle.relation_laws.proofs.Reaching.{Spares, removed-spares, spares-none, spares-then}
@@ -152,8 +152,8 @@ fitting-left P test (x ∷ xs) all = go (fitting-left P test xs all.1) (test x)
     go rest true = (all.0, rest)
     go rest false = rest
 
-shorter-shows : (size : ℕ) (pages after : Pages) (firsts indexes : List ℕ) (stored : StoredTable) (table : PlainTable) (numbers : List ℕ) (shows : Shows size pages stored table)
-    → Shrinks size pages firsts indexes stored.first (record { next_number = table.next_number; rows = shows.placed }) numbers after → Shows size after stored (without_rows numbers table)
+shorter-shows : (size : ℕ) (pages after : Pages) (firsts indexes : List ℕ) (stored : StoredTable) (table : PlainTable) (numbers : List ℕ) (shows : ShowsTable size pages stored table)
+    → Shrinks size pages firsts indexes stored.first (record { next_number = table.next_number; rows = shows.placed }) numbers after → ShowsTable size after stored (without_rows numbers table)
 shorter-shows size pages after firsts indexes stored table numbers shows shrinks =
     let before : Table = record { next_number = table.next_number; rows = shows.placed } in
     record {
@@ -179,7 +179,7 @@ delete_law size pages all table numbers answer is has these work = go answer (go
     there = still one.stored.first before numbers (subst (λ (rows : List (ℕ × List Value)). AllByRecursion (λ (number : ℕ). Contains (map (λ (row : ℕ × List Value). row.0) rows) number) numbers) one.shows.rows these.0) these.1
 
     go : (answer : Result (Unit {0} × Pages) Refusal) → in_turn (row_removed size one.stored.first one.shows.placed) numbers pages answer
-        → Answers size (λ u after. IsStoreOf size after (with_table (without_rows numbers table) all) × Reaches size pages table.name after) ⊥ answer
+        → DoesOrIsFull size (λ u after. IsStoreOf size after (with_table (without_rows numbers table) all) × Reaches size pages table.name after) ⊥ answer
     go (Ok y) h =
         let shrinks = shrunk size pages y.1 (firsts_of is.store.found) (pages_in is.store.held) one.stored.first one.shows.placed before numbers is.store.heap (has-first is.store.found one.stored one.has) one.shows.is_table there h in (
           one-changed size pages y.1 all table (without_rows numbers table) is one refl shrinks.others shrinks.well (shorter-shows size pages y.1 (firsts_of is.store.found) (pages_in is.store.held) one.stored table numbers one.shows shrinks),

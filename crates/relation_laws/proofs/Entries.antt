@@ -22,7 +22,7 @@ use Rattle.heap_laws.proofs.Reading.{ok-one, read_law, reads, rows-read}
 use Rattle.heap_laws.proofs.Routes.{rows-cons}
 use Rattle.heap_file.proofs.Ones.{differ}
 use Rattle.relation.specs.declared.catalog.TheConstants.{CATALOG}
-use Rattle.relation.specs.Catalog.{told}
+use Rattle.relation.specs.Catalog.{row_told}
 use Rattle.relation.specs.Each.{each}
 use Rattle.relation_laws.specs.Tables.{IsStore}
 use Rattle.relation_laws.proofs.Singling.{firsts_of, has-catalog, pages_in}
@@ -51,7 +51,7 @@ few-rows size pages firsts indexes first table well has is =
 -- the catalog's table: what its rows tell, and its next row number, which is their count
 pub record Entries (size : ℕ) (pages : Pages) (store : IsStore size pages) : Type 0 where
   pub is_table : IsTable size pages CATALOG (record { next_number = length store.placed; rows = store.placed })
-  pub tell : each told store.placed (Ok store.told)
+  pub tell : each row_told store.placed (Ok store.told)
 
 pub entries : (size : ℕ) (pages : Pages) (store : IsStore size pages) → Entries size pages store
 entries size pages store =
@@ -63,9 +63,9 @@ entries size pages store =
         next_number = subst (λ (l : List Placed). next_of size pages CATALOG (Ok (length l))) same (subst (λ (n : ℕ). next_of size pages CATALOG (Ok n)) counted.0 rows.2.1);
         rows = store.scan;
       };
-      tell = subst (λ (l : List Placed). each told l (Ok store.told)) same counted.1;
+      tell = subst (λ (l : List Placed). each row_told l (Ok store.told)) same counted.1;
     }
   where
-    count : (placed : List Placed) (next : ℕ) (b : Bool) → (next == length placed) ≡ b → either b (each told placed) (only (Err (broken CATALOG))) (Ok store.told) → (next ≡ length placed) × each told placed (Ok store.told)
+    count : (placed : List Placed) (next : ℕ) (b : Bool) → (next == length placed) ≡ b → either b (each row_told placed) (only (Err (broken CATALOG))) (Ok store.told) → (next ≡ length placed) × each row_told placed (Ok store.told)
     count placed next true e h = (eqb-true next (length placed) e, h)
     count placed next false e h = differ store.told (broken CATALOG) (sym h)

@@ -4,7 +4,7 @@ use Rattle.std.specs.List.{Contains}
 use Rattle.std.proofs.lemmas.Bool.Decides.{eqb_tells}
 use Rattle.retro_base.specs.declared.refusal.Refusal.{Refusal}
 use Rattle.values.specs.declared.value.Value.{Value}
-use Rattle.pager.specs.Pages.{Pages, written}
+use Rattle.pager.specs.Pages.{Pages, with_bytes}
 use Rattle.heap_file.specs.declared.page.Entry.{Entry}
 use Rattle.heap_file.specs.declared.page.HeapPage.{HeapPage}
 use Rattle.pager.specs.Allows.{either, only}
@@ -49,7 +49,7 @@ last-of : (first : ℕ) (a b : HeapPage) → a.last ≡ b.last → last_page fir
 last-of first a b e = ap (λ (l : ℕ). cond (l == 0) first l) e
 
 put-here : (size : ℕ) (pages : Pages) (first : ℕ) (entry : Entry) (head tail : HeapPage) → IsAt size pages first head → IsAt size pages (last_page first head) tail → IsSized tail → IsEntry entry → has_room tail entry ≡ true
-    → Ended size (written pages (last_page first head) (page_bytes (record tail { entries = tail.entries ++ entry ∷ [] }))) first (last_page first head) (tail.entries ++ entry ∷ [])
+    → Ended size (with_bytes pages (last_page first head) (page_bytes (record tail { entries = tail.entries ++ entry ∷ [] }))) first (last_page first head) (tail.entries ++ entry ∷ [])
 put-here size pages first entry head tail at at_last tail_sized is room =
     let more : HeapPage = record tail { entries = tail.entries ++ entry ∷ [] } in
     let sized = more-sized tail entry tail_sized is room in
@@ -62,15 +62,15 @@ put-here size pages first entry head tail at at_last tail_sized is room =
 
 -- a page that was taken, with an entry, and then linked behind the last page
 abbrev base_put : Pages → ℕ → Entry → Pages
-base_put base page entry = written base page (page_bytes (page_with entry))
+base_put base page entry = with_bytes base page (page_bytes (page_with entry))
 
 abbrev base_linked : Pages → ℕ → ℕ → Entry → HeapPage → Pages
-base_linked base last page entry tail = written (base_put base page entry) last (page_bytes (record tail { next = page }))
+base_linked base last page entry tail = with_bytes (base_put base page entry) last (page_bytes (record tail { next = page }))
 
 put-there : (size : ℕ) (pages : Pages) (firsts indexes : List ℕ) (first : ℕ) (entry : Entry) (page : ℕ) (base : Pages) (head tail found : HeapPage) → WellFormed size pages firsts indexes → Contains firsts first → IsEntry entry → Taken size pages firsts indexes page base
     → IsAt size pages first head → IsAt size pages (last_page first head) tail
-    → IsAt size (written (written base page (page_bytes (page_with entry))) (last_page first head) (page_bytes (record tail { next = page }))) first found
-    → Ended size (written (written (written base page (page_bytes (page_with entry))) (last_page first head) (page_bytes (record tail { next = page }))) first (page_bytes (record found { last = page }))) first page (entry ∷ [])
+    → IsAt size (with_bytes (with_bytes base page (page_bytes (page_with entry))) (last_page first head) (page_bytes (record tail { next = page }))) first found
+    → Ended size (with_bytes (with_bytes (with_bytes base page (page_bytes (page_with entry))) (last_page first head) (page_bytes (record tail { next = page }))) first (page_bytes (record found { last = page }))) first page (entry ∷ [])
 put-there size pages firsts indexes first entry page base head tail found well has is taken at at_last found_at =
     record {
       tail = page_with entry;
@@ -124,27 +124,27 @@ put-ends size pages firsts indexes first entry y well has is (head, at, (tail, a
     ending : (after : Pages) (to page : ℕ) → Ended size after first to (entries_after (has_room tail entry) tail entry) → (has_room tail entry ≡ true → to ≡ last_page first head) → (has_room tail entry ≡ false → to ≡ page) → PutEnds size pages after first entry page
     ending after to page ended stays moves = record { last = last_page first head; tail = tail; ends = before; to = to; ended = ended; stays = stays; moves = moves }
 
-    room : (b : Bool) → has_room tail entry ≡ b → either b (only (Ok (last_page first head, written pages (last_page first head) (page_bytes (record tail { entries = tail.entries ++ entry ∷ [] }))))) (lengthened size pages first (last_page first head) tail entry) (Ok y) → PutEnds size pages y.1 first entry y.0
+    room : (b : Bool) → has_room tail entry ≡ b → either b (only (Ok (last_page first head, with_bytes pages (last_page first head) (page_bytes (record tail { entries = tail.entries ++ entry ∷ [] }))))) (lengthened size pages first (last_page first head) tail entry) (Ok y) → PutEnds size pages y.1 first entry y.0
     room true e h =
         subst (λ (a : Result (ℕ × Pages) Refusal). PutEnds size pages (value_of y a).1 first entry (value_of y a).0) h
-        (ending _ (last_page first head) (last_page first head) (subst (λ (b : Bool). Ended size (written pages (last_page first head) (page_bytes (record tail { entries = tail.entries ++ entry ∷ [] }))) first (last_page first head) (entries_after b tail entry)) (sym e)
+        (ending _ (last_page first head) (last_page first head) (subst (λ (b : Bool). Ended size (with_bytes pages (last_page first head) (page_bytes (record tail { entries = tail.entries ++ entry ∷ [] }))) first (last_page first head) (entries_after b tail entry)) (sym e)
         (put-here size pages first entry head tail at at_last (tail-facts size pages firsts indexes first well has head tail at at_last).0 is e)) (λ t. refl) (λ t. refl))
     room false e (next, take, (found, found_at, h)) =
         subst (λ (a : Result (ℕ × Pages) Refusal). PutEnds size pages (value_of y a).1 first entry (value_of y a).0) h
-        (ending _ next.0 next.0 (subst (λ (b : Bool). Ended size (written (written (written next.1 next.0 (page_bytes (page_with entry))) (last_page first head) (page_bytes (record tail { next = next.0 }))) first (page_bytes (record found { last = next.0 }))) first next.0 (entries_after b tail entry)) (sym e)
+        (ending _ next.0 next.0 (subst (λ (b : Bool). Ended size (with_bytes (with_bytes (with_bytes next.1 next.0 (page_bytes (page_with entry))) (last_page first head) (page_bytes (record tail { next = next.0 }))) first (page_bytes (record found { last = next.0 }))) first next.0 (entries_after b tail entry)) (sym e)
         (put-there size pages firsts indexes first entry next.0 next.1 head tail found well has is (take-answer size pages firsts indexes (Ok next) well take) at at_last found_at)) (λ t. absurd (clash (sym t ∙ e))) (λ t. refl))
 
 -- the first page counts one row more
-count-ends : (size : ℕ) (mid : Pages) (first last number : ℕ) (found : HeapPage) (entries : List Entry) → IsAt size mid first found → IsSized (record found { next_number = number }) → Ended size mid first last entries → Ended size (written mid first (page_bytes (record found { next_number = number }))) first last entries
+count-ends : (size : ℕ) (mid : Pages) (first last number : ℕ) (found : HeapPage) (entries : List Entry) → IsAt size mid first found → IsSized (record found { next_number = number }) → Ended size mid first last entries → Ended size (with_bytes mid first (page_bytes (record found { next_number = number }))) first last entries
 count-ends size mid first last number found entries at sized ended = elim (eqb_tells last first) [
   | inl same ↦
       let one : ended.tail ≡ found = at-one size size mid first ended.tail found (subst (λ (p : ℕ). IsAt size mid p ended.tail) same.1 ended.ends.at_last) at in
-      record { tail = (record found { next_number = number }); ends = record { head = (record found { next_number = number }); at_first = first_at; named = named; at_last = subst (λ (p : ℕ). IsAt size (written mid first (page_bytes (record found { next_number = number }))) p (record found { next_number = number })) (sym same.1) first_at }; are = ap (λ (h : HeapPage). h.entries) (sym one) ∙ ended.are }
+      record { tail = (record found { next_number = number }); ends = record { head = (record found { next_number = number }); at_first = first_at; named = named; at_last = subst (λ (p : ℕ). IsAt size (with_bytes mid first (page_bytes (record found { next_number = number }))) p (record found { next_number = number })) (sym same.1) first_at }; are = ap (λ (h : HeapPage). h.entries) (sym one) ∙ ended.are }
   | inr differ ↦
-      record { tail = ended.tail; ends = record { head = (record found { next_number = number }); at_first = first_at; named = named; at_last = at-same size mid (written mid first (page_bytes (record found { next_number = number }))) last ended.tail (written-other mid first last (page_bytes (record found { next_number = number })) differ.1) ended.ends.at_last }; are = ended.are }
+      record { tail = ended.tail; ends = record { head = (record found { next_number = number }); at_first = first_at; named = named; at_last = at-same size mid (with_bytes mid first (page_bytes (record found { next_number = number }))) last ended.tail (written-other mid first last (page_bytes (record found { next_number = number })) differ.1) ended.ends.at_last }; are = ended.are }
 ]
   where
-    first_at : IsAt size (written mid first (page_bytes (record found { next_number = number }))) first (record found { next_number = number })
+    first_at : IsAt size (with_bytes mid first (page_bytes (record found { next_number = number }))) first (record found { next_number = number })
     first_at = at-written size mid first (record found { next_number = number }) at.named at.there sized
 
     named : last_page first (record found { next_number = number }) ≡ last
@@ -170,7 +170,7 @@ add-ends size pages firsts indexes first table row y well has shows storable sma
     not_last = ne_eqb table.next_number (2 ^ 64 - 1) (λ e. absurd (omega (arith, small, e)))
 
     counts : (placed : ℕ × Pages) → appended size pages first (record { number = table.next_number; row = row }) (Ok placed) → (found : HeapPage) → IsAt size placed.1 first found
-        → PutEnds size pages (written placed.1 first (page_bytes (record found { next_number = table.next_number + 1 }))) first (record { number = table.next_number; row = row }) placed.0
+        → PutEnds size pages (with_bytes placed.1 first (page_bytes (record found { next_number = table.next_number + 1 }))) first (record { number = table.next_number; row = row }) placed.0
     counts placed work found found_at =
         let put = put-answer size pages firsts indexes first (record { number = table.next_number; row = row }) (Ok placed) well has is work in
         let ended = put-ends size pages firsts indexes first (record { number = table.next_number; row = row }) placed well has is work in

@@ -22,12 +22,12 @@ use Rattle.relation.specs.declared.row.CatalogRow.TheVariants.{Table, Column, In
 use Rattle.relation.specs.declared.row.ColumnRow.{ColumnRow}
 use Rattle.relation.specs.declared.row.IndexRow.{IndexRow}
 use Rattle.relation.specs.declared.row.TableRow.{TableRow}
-use Rattle.relation.specs.Catalog.{AreColumnsOf, as_column, as_index, as_table, catalog_rows, catalog_told, column_at, column_rows, index_over, index_rows, index_told, table_named, table_rows, table_told, told}
+use Rattle.relation.specs.Catalog.{AreColumnsOf, as_column, as_index, as_table, catalog_rows, catalog_told, column_at, column_rows, index_over, index_rows, index_told, table_named, table_rows, table_told, row_told}
 use Rattle.values.specs.Name.{same_name}
 use Rattle.relation.specs.CatalogRow.{IsCatalogRow, row_values}
 use Rattle.relation.specs.Each.{each}
 use Rattle.relation_laws.specs.Laws.{IsNewName, IsStoreOf}
-use Rattle.relation_laws.specs.Tables.{AreDifferent, IsKept, PlainTable, PlainTables, Shows, names_of, numbered, numbered_row}
+use Rattle.relation_laws.specs.Tables.{AreDifferent, SpeaksOfTable, PlainTable, PlainTables, ShowsTable, names_of, numbered, numbered_row}
 use Rattle.relation_laws.proofs.CatalogRows.{are-told, length-more, tells}
 use Rattle.relation_laws.proofs.Eaches.{each-append, each-weaken, find-append, map-map, range-append, range-numbered}
 use Rattle.relation_laws.proofs.Entries.{entries}
@@ -94,13 +94,13 @@ grown rows more found tables indexes is =
       ),
     )
 
-kept-wider : (pages : Pages) (names wider : List (List ℕ)) (row : CatalogRow) (held : List ℕ) → ((name : List ℕ) → Contains names name → Contains wider name) → IsKept pages names row held → IsKept pages wider row held
+kept-wider : (pages : Pages) (names wider : List (List ℕ)) (row : CatalogRow) (held : List ℕ) → ((name : List ℕ) → Contains names name → Contains wider name) → SpeaksOfTable pages names row held → SpeaksOfTable pages wider row held
 kept-wider pages names wider (Table row) held go h = h
 kept-wider pages names wider (Column row) held go h = (go row.table h.0, h.1)
 kept-wider pages names wider (Index row) held go h = (go row.table h.0, h.1)
 
 -- names that are told apart from those of the tables shown
-apart-shown : (size : ℕ) (pages : Pages) (name : List ℕ) (stored : List StoredTable) (tables : List PlainTable) → AllZip (Shows size pages) stored tables → AllByRecursion (λ (table : PlainTable). table.name ≢ name) tables → AllByRecursion (λ other. other ≢ name) (names_of stored)
+apart-shown : (size : ℕ) (pages : Pages) (name : List ℕ) (stored : List StoredTable) (tables : List PlainTable) → AllZip (ShowsTable size pages) stored tables → AllByRecursion (λ (table : PlainTable). table.name ≢ name) tables → AllByRecursion (λ other. other ≢ name) (names_of stored)
 apart-shown size pages name [] [] shown apart = tt
 apart-shown size pages name [] (t ∷ ts) shown apart = tt
 apart-shown size pages name (s ∷ ss) [] shown apart = absurd shown
@@ -115,7 +115,7 @@ apart-new size pages all is name new = (
 )
 
 -- what is shown of a table that stays
-pub shows-stays : (size : ℕ) (pages after : Pages) (stored : StoredTable) (table : PlainTable) → ((t : HeapTable) → IsTable size pages stored.first t → IsTable size after stored.first t) → Shows size pages stored table → Shows size after stored table
+pub shows-stays : (size : ℕ) (pages after : Pages) (stored : StoredTable) (table : PlainTable) → ((t : HeapTable) → IsTable size pages stored.first t → IsTable size after stored.first t) → ShowsTable size pages stored table → ShowsTable size after stored table
 shows-stays size pages after stored table stays told = record {
   name = told.name;
   columns = told.columns;
@@ -139,11 +139,11 @@ pub record Grows (size : ℕ) (pages : Pages) (all : PlainTables) (is : IsStoreO
   pub found : Catalog
   pub read : catalog_told (is.store.told ++ tells more rows) (Ok found)
   pub wider : (name : List ℕ) → Contains (names_of is.store.found.tables) name → Contains (names_of found.tables) name
-  pub kept : AllZip (λ (row : CatalogEntry) (some : List ℕ). IsKept after (names_of found.tables) row.row some) (tells more rows) (map (λ (row : CatalogEntry). []) (tells more rows))
+  pub kept : AllZip (λ (row : CatalogEntry) (some : List ℕ). SpeaksOfTable after (names_of found.tables) row.row some) (tells more rows) (map (λ (row : CatalogEntry). []) (tells more rows))
   pub well : WellFormed size after (firsts_of found) (pages_in is.store.held)
   pub names : AreDifferent (names_of found.tables ++ map (λ (index : IndexSchema). index.name) found.indexes)
   pub columns : AllByRecursion (λ (table : StoredTable). AreDifferent (map (λ (column : TableColumn). column.name) table.columns)) found.tables
-  pub shown : AllZip (Shows size after) found.tables behind.tables
+  pub shown : AllZip (ShowsTable size after) found.tables behind.tables
   pub indexes : behind.indexes ≡ found.indexes
 
 pub grown_store : (size : ℕ) (pages : Pages) (all : PlainTables) (is : IsStoreOf size pages all) (rows : List CatalogRow) (after : Pages) (behind : PlainTables) → Grows size pages all is rows after behind → IsStoreOf size after behind
@@ -170,8 +170,8 @@ grown_store size pages all is rows after behind it = record {
     count : length is.store.placed + length (map row_values rows) ≡ length (is.store.placed ++ it.more)
     count = omega (arith, length-append is.store.placed it.more, length-more (length is.store.placed) it.more (map row_values rows) it.are)
 
-    all_told : each told (is.store.placed ++ it.more) (Ok (is.store.told ++ tells it.more rows))
-    all_told = each-append told is.store.placed it.more is.store.told (tells it.more rows) (entries size pages is.store).tell (are-told (length is.store.placed) it.more rows it.are it.lawful)
+    all_told : each row_told (is.store.placed ++ it.more) (Ok (is.store.told ++ tells it.more rows))
+    all_told = each-append row_told is.store.placed it.more is.store.told (tells it.more rows) (entries size pages is.store).tell (are-told (length is.store.placed) it.more rows it.are it.lawful)
 
     all_rows : catalog_rows size after (Ok (is.store.told ++ tells it.more rows))
     all_rows = (
@@ -180,7 +180,7 @@ grown_store size pages all is rows after behind it = record {
       (
         length is.store.placed + length (map row_values rows),
         it.is_table.next_number,
-        subst (λ (b : Bool). either b (each told (is.store.placed ++ it.more)) (only (Err (broken CATALOG))) (Ok (is.store.told ++ tells it.more rows))) (sym (eq-eqb (length is.store.placed + length (map row_values rows)) (length (is.store.placed ++ it.more)) count)) all_told,
+        subst (λ (b : Bool). either b (each row_told (is.store.placed ++ it.more)) (only (Err (broken CATALOG))) (Ok (is.store.told ++ tells it.more rows))) (sym (eq-eqb (length is.store.placed + length (map row_values rows)) (length (is.store.placed ++ it.more)) count)) all_told,
       ),
     )
 
@@ -195,9 +195,9 @@ grown_store size pages all is rows after behind it = record {
         ∙ sym (range-append 0 (length is.store.placed) (length (map row_values rows)))
         ∙ ap (range_with_len 0) count
 
-    kept : AllZip (λ (row : CatalogEntry) (some : List ℕ). IsKept after (names_of it.found.tables) row.row some) (is.store.told ++ tells it.more rows) (all_held is.store.held (tells it.more rows))
+    kept : AllZip (λ (row : CatalogEntry) (some : List ℕ). SpeaksOfTable after (names_of it.found.tables) row.row some) (is.store.told ++ tells it.more rows) (all_held is.store.held (tells it.more rows))
     kept =
-        zip-join (λ (row : CatalogEntry) (some : List ℕ). IsKept after (names_of it.found.tables) row.row some) is.store.told (tells it.more rows) is.store.held (map (λ (row : CatalogEntry). []) (tells it.more rows))
-        (zip-weaken (λ (row : CatalogEntry) (some : List ℕ). IsKept pages (names_of is.store.found.tables) row.row some) (λ (row : CatalogEntry) (some : List ℕ). IsKept after (names_of it.found.tables) row.row some) is.store.told is.store.held
+        zip-join (λ (row : CatalogEntry) (some : List ℕ). SpeaksOfTable after (names_of it.found.tables) row.row some) is.store.told (tells it.more rows) is.store.held (map (λ (row : CatalogEntry). []) (tells it.more rows))
+        (zip-weaken (λ (row : CatalogEntry) (some : List ℕ). SpeaksOfTable pages (names_of is.store.found.tables) row.row some) (λ (row : CatalogEntry) (some : List ℕ). SpeaksOfTable after (names_of it.found.tables) row.row some) is.store.told is.store.held
         (λ row some has h. kept-wider after (names_of is.store.found.tables) (names_of it.found.tables) row.row some it.wider (kept-stays pages after (names_of is.store.found.tables) row.row some h)) is.store.kept)
         it.kept

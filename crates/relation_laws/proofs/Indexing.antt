@@ -23,14 +23,14 @@ use Rattle.relation.specs.declared.catalog.CatalogEntry.{CatalogEntry}
 use Rattle.relation.specs.declared.row.CatalogRow.{CatalogRow}
 use Rattle.relation.specs.declared.row.CatalogRow.TheVariants.{Table, Column, Index}
 use Rattle.relation.specs.declared.row.IndexForm.TheVariants.{Named}
-use Rattle.relation.specs.Catalog.{as_table, catalog, catalog_told, index_told, table_named, table_rows, table_told, told}
+use Rattle.relation.specs.Catalog.{as_table, catalog, catalog_told, index_told, table_named, table_rows, table_told, row_told}
 use Rattle.relation.specs.CatalogRow.{IsCatalogRow, row_values}
 use Rattle.relation.specs.Each.{each}
 use Rattle.relation.specs.Work.{index_added, indexed, or_broken, row_of_index}
 use Rattle.relation.proofs.Told.{few-told}
-use Rattle.relation_laws.specs.Laws.{HasColumn, IndexLaw, IsNewName, IsStoreOf, Leaves, with_index}
+use Rattle.relation_laws.specs.Laws.{HasColumn, IndexLaw, IsNewName, IsStoreOf, LeavesOrIsFull, with_index}
 use Rattle.relation_laws.specs.Reach.{IsPageOf, IsUntouched, ReachesCatalog}
-use Rattle.relation_laws.specs.Tables.{AreDifferent, PlainTable, PlainTables, Shows, names_of, numbered, numbered_row}
+use Rattle.relation_laws.specs.Tables.{AreDifferent, PlainTable, PlainTables, ShowsTable, names_of, numbered, numbered_row}
 use Rattle.relation_laws.proofs.CatalogRows.{index-storable, tells}
 use Rattle.relation_laws.proofs.Catalogs.{goes-on}
 use Rattle.relation_laws.proofs.Entries.{entries, few-rows}
@@ -82,7 +82,7 @@ place-found column columns at_column =
     position_from-zero (λ (c : TableColumn). same_name c.name column) columns ∙ at_column.placed 0 ∙ ap (λ (k : ℕ). Some k) (let same : 0 + at_column.place ≡ at_column.place = omega arith in same)
 
 -- what the catalog's rows tell is lawful
-lawful-told : (placed : List Placed) (rows : List CatalogEntry) → each told placed (Ok rows) → AllByRecursion (λ (row : CatalogEntry). IsCatalogRow row.row) rows
+lawful-told : (placed : List Placed) (rows : List CatalogEntry) → each row_told placed (Ok rows) → AllByRecursion (λ (row : CatalogEntry). IsCatalogRow row.row) rows
 lawful-told [] rows h = let same : [] ≡ rows = cc h in subst (λ (l : List CatalogEntry). AllByRecursion (λ (row : CatalogEntry). IsCatalogRow row.row) l) same tt
 lawful-told (p ∷ placed) rows h =
     let same : h.0 ∷ h.2.0 ≡ rows = cc h.2.2 in
@@ -177,7 +177,7 @@ index-store size pages all table is one name column after new ready ext = grown_
       names = subst AreDifferent (append_assoc (names_of is.store.found.tables) _ _ ∙ ap (λ (l : List (List ℕ)). names_of is.store.found.tables ++ l) (sym (map-append (λ (i : IndexSchema). i.name) is.store.found.indexes (index ∷ []))))
           (different-push (names_of is.store.found.tables ++ map (λ (i : IndexSchema). i.name) is.store.found.indexes) name is.store.names apart);
       columns = is.store.columns;
-      shown = zip-weaken (Shows size pages) (Shows size after) is.store.found.tables all.tables (λ s t has shows. shows-stays size pages after s t (stays s has) shows) (shown-here size pages all is).0;
+      shown = zip-weaken (ShowsTable size pages) (ShowsTable size after) is.store.found.tables all.tables (λ s t has shows. shows-stays size pages after s t (stays s has) shows) (shown-here size pages all is).0;
       indexes = ap (λ (l : List IndexSchema). l ++ index ∷ []) (shown-here size pages all is).1;
     }
       where
@@ -205,7 +205,7 @@ index_law size pages all table name column answer is has new there work = go ans
         let also : Contains is.store.found.tables other = subst (λ (c : Catalog). Contains c.tables other) same among in
         spares.others other.first (has-first is.store.found other also) (λ e. first-apart size pages is.store.found.tables (pages_in is.store.held) other is.store.heap also (sym e)) here.0 here.1.2 page (times-some (pages_on here.0) page here.2)
 
-    go : (answer : Result (Unit {0} × Pages) Refusal) → index_added size name one.stored.name ready.at_column.place pages answer → Leaves size (λ after. IsStoreOf size after (with_index (record { name = name; table = table.name; column = column }) all) × ReachesCatalog size pages after) answer
+    go : (answer : Result (Unit {0} × Pages) Refusal) → index_added size name one.stored.name ready.at_column.place pages answer → LeavesOrIsFull size (λ after. IsStoreOf size after (with_index (record { name = name; table = table.name; column = column }) all) × ReachesCatalog size pages after) answer
     go (Ok y) h =
         let ext = extended size pages y.1 (firsts_of is.store.found) (pages_in is.store.held) CATALOG (record { next_number = length is.store.placed; rows = is.store.placed }) (row_values (row_of_index name one.stored.name ready.at_column.place) ∷ []) is.store.heap (has-catalog is.store.found) ready.is_table ready.storable ready.room h in (
           index-store size pages all table is one name column y.1 new ready ext,

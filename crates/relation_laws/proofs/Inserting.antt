@@ -15,9 +15,9 @@ use Rattle.relation.specs.declared.catalog.StoredTable.{StoredTable}
 use Rattle.relation.specs.Work.{all_added}
 use Rattle.sql_tree.specs.Rows.{fits}
 use Rattle.relation.proofs.Steps.{left_pages}
-use Rattle.relation_laws.specs.Laws.{InsertLaw, IsRowFor, IsStoreOf, Leaves, with_rows, with_table}
+use Rattle.relation_laws.specs.Laws.{InsertLaw, IsRowFor, IsStoreOf, LeavesOrIsFull, with_rows, with_table}
 use Rattle.relation_laws.specs.Reach.{Reaches}
-use Rattle.relation_laws.specs.Tables.{PlainTable, Shows, numbered, numbered_row}
+use Rattle.relation_laws.specs.Tables.{PlainTable, ShowsTable, numbered, numbered_row}
 use Rattle.relation_laws.proofs.Reaching.{Spares, added-spares, spares-none, spares-then}
 use Rattle.relation_laws.proofs.Spared.{reaches}
 use Rattle.relation_laws.proofs.Singling.{Single, by-name, firsts_of, has-first, one-changed, pages_in, single}
@@ -80,8 +80,8 @@ fitting-rows table next [] all = tt
 fitting-rows table next (row ∷ rows) all = (all.0.1, fitting-rows table (next + 1) rows all.1)
 
 -- what the pages show of a table with more rows
-longer-shows : (size : ℕ) (pages after : Pages) (firsts indexes : List ℕ) (stored : StoredTable) (table : PlainTable) (rows : List (List Value)) (shows : Shows size pages stored table) → AllByRecursion (IsRowFor table) rows
-    → Extends size pages firsts indexes stored.first (record { next_number = table.next_number; rows = shows.placed }) rows after → Shows size after stored (with_rows rows table)
+longer-shows : (size : ℕ) (pages after : Pages) (firsts indexes : List ℕ) (stored : StoredTable) (table : PlainTable) (rows : List (List Value)) (shows : ShowsTable size pages stored table) → AllByRecursion (IsRowFor table) rows
+    → Extends size pages firsts indexes stored.first (record { next_number = table.next_number; rows = shows.placed }) rows after → ShowsTable size after stored (with_rows rows table)
 longer-shows size pages after firsts indexes stored table rows shows all ext = record {
   name = shows.name;
   columns = shows.columns;
@@ -98,7 +98,7 @@ insert_law size pages all table rows answer is has fit room work = go answer (by
     one = single size pages all table is has
 
     go : (answer : Result (Unit {0} × Pages) Refusal) → all_added size one.stored.first rows pages answer
-        → Leaves size (λ after. IsStoreOf size after (with_table (with_rows rows table) all) × Reaches size pages table.name after) answer
+        → LeavesOrIsFull size (λ after. IsStoreOf size after (with_table (with_rows rows table) all) × Reaches size pages table.name after) answer
     go (Ok y) h =
         let ext = extended size pages y.1 (firsts_of is.store.found) (pages_in is.store.held) one.stored.first (record { next_number = table.next_number; rows = one.shows.placed }) rows is.store.heap (has-first is.store.found one.stored one.has) one.shows.is_table (storable-rows table rows fit) room h in (
           one-changed size pages y.1 all table (with_rows rows table) is one refl ext.others ext.well (longer-shows size pages y.1 (firsts_of is.store.found) (pages_in is.store.held) one.stored table rows one.shows fit ext),

@@ -16,7 +16,7 @@ use Rattle.heap_file.specs.Chain.{IsAt, last_page}
 use Rattle.heap_file.specs.HeapPage.{entry_bytes, entry_code}
 use Rattle.heap_file.specs.Work.{added}
 use Rattle.heap_laws.specs.Store.{WellFormed, free_pages}
-use Rattle.heap_laws.specs.Table.{Adds, Edits, EndsAt, IsAdded, IsStorable, IsTable, Makes, Table, has_room, with_row}
+use Rattle.heap_laws.specs.Table.{AddsRow, EditsExactly, EndsAt, IsAdded, IsStorable, IsTable, MakesTable, Table, has_room, with_row}
 use Rattle.heap_laws.proofs.Adding.{add_law, tail-there}
 use Rattle.heap_laws.proofs.Editing.{edits-as}
 use Rattle.heap_laws.proofs.Making.{make_law}
@@ -29,7 +29,7 @@ use Rattle.relation.specs.CatalogRow.{row_values}
 use Rattle.relation.specs.Work.{all_added, created, index_added, indexed, inserted, row_of_index, rows_of_columns, rows_of_table}
 use Rattle.relation.proofs.Steps.{left_pages}
 use Rattle.relation_laws.specs.Laws.{AreTableColumns, EditsLaw, HasColumn, IsNewName, IsRowFor, IsStoreOf}
-use Rattle.relation_laws.specs.Needs.{CreateNeeds, IndexNeeds, InsertNeeds, TakesNeeded, next_pages, opened, entry_size, taken_after}
+use Rattle.relation_laws.specs.Needs.{CreateNeeds, IndexNeeds, InsertNeeds, TakesNeeded, next_pages, pages_opened, entry_size, taken_after}
 use Rattle.relation_laws.specs.Reach.{with_root}
 use Rattle.relation_laws.specs.Tables.{PlainTable, PlainTables}
 use Rattle.relation_laws.proofs.Creating.{ready}
@@ -74,7 +74,7 @@ or-none : (a b : Bool) → (a || b) ≡ false → (a ≡ false) × (b ≡ false)
 or-none true b e = absurd cc
 or-none false b e = (refl, e)
 
-edits-then : (pages mid after : Pages) (one two all : List ℕ) → ((p : ℕ) → list_any (λ other. p == other) all ≡ (list_any (λ other. p == other) two || list_any (λ other. p == other) one)) → Edits pages mid one → Edits mid after two → Edits pages after all
+edits-then : (pages mid after : Pages) (one two all : List ℕ) → ((p : ℕ) → list_any (λ other. p == other) all ≡ (list_any (λ other. p == other) two || list_any (λ other. p == other) one)) → EditsExactly pages mid one → EditsExactly mid after two → EditsExactly pages after all
 edits-then pages mid after one two all joined first_half second_half = record {
   same = λ p none.
       let parts = or-none (list_any (λ other. p == other) two) (list_any (λ other. p == other) one) (sym (joined p) ∙ none) in
@@ -92,7 +92,7 @@ abbrev end_in : Bool → ℕ → ℕ → ℕ
 end_in room last page = cond room last page
 
 -- the edits of a row and of those behind it
-rows-join : (pages mid after : Pages) (first last page : ℕ) (room : Bool) (more : List ℕ) → Edits pages mid (first ∷ last ∷ with_root (opens_ room page)) → Edits mid after (first ∷ end_in room last page ∷ with_root more) → Edits pages after (first ∷ last ∷ with_root (opens_ room page ++ more))
+rows-join : (pages mid after : Pages) (first last page : ℕ) (room : Bool) (more : List ℕ) → EditsExactly pages mid (first ∷ last ∷ with_root (opens_ room page)) → EditsExactly mid after (first ∷ end_in room last page ∷ with_root more) → EditsExactly pages after (first ∷ last ∷ with_root (opens_ room page ++ more))
 rows-join pages mid after first last page true more one two =
     edits-then pages mid after (first ∷ last ∷ []) (first ∷ last ∷ with_root more) (first ∷ last ∷ with_root more) (λ p. again (p == first) (p == last) (list_any (λ other. p == other) (with_root more))) one two
   where
@@ -133,9 +133,9 @@ record Steps (size : ℕ) (pages after : Pages) (first last : ℕ) (tail : HeapP
   page : ℕ
   next : HeapPage
   ends : EndsAt size after first (end_in room last page) next
-  opens : (rows : List (List Value)) → opened (length (entry_bytes tail.entries)) (row ∷ rows) ≡ length (opens_ room page) + opened (length (entry_bytes next.entries)) rows
+  opens : (rows : List (List Value)) → pages_opened (length (entry_bytes tail.entries)) (row ∷ rows) ≡ length (opens_ room page) + pages_opened (length (entry_bytes next.entries)) rows
   takes : length (opens_ room page) + free_pages size after ≡ free_pages size pages
-  edits : Edits pages after (first ∷ last ∷ with_root (opens_ room page))
+  edits : EditsExactly pages after (first ∷ last ∷ with_root (opens_ room page))
   are : opens_ room page ≡ next_pages pages (length (opens_ room page))
   draws : Draws pages after (length (opens_ room page))
 
@@ -155,7 +155,7 @@ open-join pages mid true page count are draws = draws-pages pages mid 0 0 count 
 open-join pages mid false page count are draws = ap (λ (l : List ℕ). l ++ next_pages mid count) are ∙ next-more pages mid count draws
 
 steps : (size : ℕ) (pages : Pages) (firsts indexes : List ℕ) (first : ℕ) (table : Table) (row : List Value) (y : (ℕ × ℕ) × Pages) (last : ℕ) (tail : HeapPage) → WellFormed size pages firsts indexes → Contains firsts first → IsTable size pages first table → IsStorable row → table.next_number < 2 ^ 64 - 1
-    → added size pages first row (Ok y) → Adds size pages firsts indexes first table row y.0 y.1 → EndsAt size pages first last tail → Steps size pages y.1 first last tail row
+    → added size pages first row (Ok y) → AddsRow size pages firsts indexes first table row y.0 y.1 → EndsAt size pages first last tail → Steps size pages y.1 first last tail row
 steps size pages firsts indexes first table row y last tail well has shows storable small work adds ends =
     let put = add-ends size pages firsts indexes first table row y well has shows storable small work in
     let entry : Entry = record { number = table.next_number; row = row } in
@@ -188,7 +188,7 @@ steps size pages firsts indexes first table row y last tail well has shows stora
           page = y.0.1;
           next = next;
           ends = subst (λ (p : ℕ). EndsAt size y.1 first p next) (stays refl) ended;
-          opens = λ rows. omega (arith, ap (λ (b : Bool). cond b (opened (length (entry_bytes tail.entries) + entry_size row) rows) (1 + opened (entry_size row) rows)) e, ap (λ (n : ℕ). opened n rows) long);
+          opens = λ rows. omega (arith, ap (λ (b : Bool). cond b (pages_opened (length (entry_bytes tail.entries) + entry_size row) rows) (1 + pages_opened (entry_size row) rows)) e, ap (λ (n : ℕ). pages_opened n rows) long);
           takes = omega (arith, effect.1);
           edits = effect.2;
           are = refl;
@@ -201,7 +201,7 @@ steps size pages firsts indexes first table row y last tail well has shows stora
           page = y.0.1;
           next = next;
           ends = subst (λ (p : ℕ). EndsAt size y.1 first p next) (moves refl) ended;
-          opens = λ rows. omega (arith, ap (λ (b : Bool). cond b (opened (length (entry_bytes tail.entries) + entry_size row) rows) (1 + opened (entry_size row) rows)) e, ap (λ (n : ℕ). opened n rows) long);
+          opens = λ rows. omega (arith, ap (λ (b : Bool). cond b (pages_opened (length (entry_bytes tail.entries) + entry_size row) rows) (1 + pages_opened (entry_size row) rows)) e, ap (λ (n : ℕ). pages_opened n rows) long);
           takes = omega (arith, effect.0.one_less);
           edits = edits-as pages y.1 (first ∷ last ∷ y.0.1 ∷ 0 ∷ []) (first ∷ last ∷ 0 ∷ y.0.1 ∷ []) (λ p. turn (p == first) (p == last) (p == y.0.1) (p == 0)) effect.1;
           are = ap (λ (p : ℕ). p ∷ []) (effect.0.next ∙ next-first pages);
@@ -210,7 +210,7 @@ steps size pages firsts indexes first table row y last tail well has shows stora
 
 -- rows that are added take the pages that they open
 pub rows-take : (size : ℕ) (pages after : Pages) (firsts indexes : List ℕ) (first : ℕ) (table : Table) (rows : List (List Value)) (last : ℕ) (tail : HeapPage) → WellFormed size pages firsts indexes → Contains firsts first → IsTable size pages first table → AllByRecursion IsStorable rows → table.next_number + length rows < 2 ^ 64 → EndsAt size pages first last tail
-    → all_added size first rows pages (Ok (tt, after)) → opened (length (entry_bytes tail.entries)) rows + free_pages size after ≡ free_pages size pages
+    → all_added size first rows pages (Ok (tt, after)) → pages_opened (length (entry_bytes tail.entries)) rows + free_pages size after ≡ free_pages size pages
 rows-take size pages after firsts indexes first table [] last tail well among is storable room ends h = omega (arith, ap (λ (p : Pages). free_pages size p) (left_pages pages after h))
 rows-take size pages after firsts indexes first table (row ∷ rows) last tail well among is storable room ends h =
     let one = add_law size pages firsts indexes first table row (Ok h.0) well among is storable.0 (omega (arith, room)) h.1 in
@@ -221,36 +221,36 @@ rows-take size pages after firsts indexes first table (row ∷ rows) last tail w
 
 -- the pages that are taken behind those that added rows open
 pub rows-draw : (size : ℕ) (pages after : Pages) (firsts indexes : List ℕ) (first : ℕ) (table : Table) (rows : List (List Value)) (last : ℕ) (tail : HeapPage) → WellFormed size pages firsts indexes → Contains firsts first → IsTable size pages first table → AllByRecursion IsStorable rows → table.next_number + length rows < 2 ^ 64 → EndsAt size pages first last tail
-    → all_added size first rows pages (Ok (tt, after)) → Draws pages after (opened (length (entry_bytes tail.entries)) rows)
+    → all_added size first rows pages (Ok (tt, after)) → Draws pages after (pages_opened (length (entry_bytes tail.entries)) rows)
 rows-draw size pages after firsts indexes first table [] last tail well among is storable room ends h = subst (λ (p : Pages). Draws pages p 0) (left_pages pages after h) (draws-still pages)
 rows-draw size pages after firsts indexes first table (row ∷ rows) last tail well among is storable room ends h =
     let one = add_law size pages firsts indexes first table row (Ok h.0) well among is storable.0 (omega (arith, room)) h.1 in
     let step = steps size pages firsts indexes first table row h.0 last tail well among is storable.0 (omega (arith, room)) h.1 one ends in
     let rest = rows-draw size h.0.1 after firsts indexes first (with_row table h.0.0.1 row) rows (end_in step.room last step.page) step.next one.well among one.shows storable.1 (omega (arith, room)) step.ends h.2 in
-    subst (Draws pages after) (sym (step.opens rows)) (draws-then pages h.0.1 after (length (opens_ step.room step.page)) (opened (length (entry_bytes step.next.entries)) rows) step.draws rest)
+    subst (Draws pages after) (sym (step.opens rows)) (draws-then pages h.0.1 after (length (opens_ step.room step.page)) (pages_opened (length (entry_bytes step.next.entries)) rows) step.draws rest)
 
 -- the pages that added rows edit
 pub rows-edit : (size : ℕ) (pages after : Pages) (firsts indexes : List ℕ) (first : ℕ) (table : Table) (rows : List (List Value)) (last : ℕ) (tail : HeapPage) → WellFormed size pages firsts indexes → Contains firsts first → IsTable size pages first table → AllByRecursion IsStorable rows → table.next_number + length rows < 2 ^ 64 → EndsAt size pages first last tail → 1 ≤ length rows
-    → all_added size first rows pages (Ok (tt, after)) → Edits pages after (first ∷ last ∷ with_root (next_pages pages (opened (length (entry_bytes tail.entries)) rows)))
+    → all_added size first rows pages (Ok (tt, after)) → EditsExactly pages after (first ∷ last ∷ with_root (next_pages pages (pages_opened (length (entry_bytes tail.entries)) rows)))
 rows-edit size pages after firsts indexes first table [] last tail well among is storable room ends some h = absurd (omega (arith, some))
 rows-edit size pages after firsts indexes first table (row ∷ []) last tail well among is storable room ends some h =
     let one = add_law size pages firsts indexes first table row (Ok h.0) well among is storable.0 (omega (arith, room)) h.1 in
     let step = steps size pages firsts indexes first table row h.0 last tail well among is storable.0 (omega (arith, room)) h.1 one ends in
-    let count : length (opens_ step.room step.page) ≡ opened (length (entry_bytes tail.entries)) (row ∷ []) = omega (arith, step.opens []) in
-    subst (λ (n : ℕ). Edits pages after (first ∷ last ∷ with_root (next_pages pages n))) count
-    (subst (λ (l : List ℕ). Edits pages after (first ∷ last ∷ with_root l)) step.are (subst (λ (p : Pages). Edits pages p (first ∷ last ∷ with_root (opens_ step.room step.page))) (left_pages h.0.1 after h.2) step.edits))
+    let count : length (opens_ step.room step.page) ≡ pages_opened (length (entry_bytes tail.entries)) (row ∷ []) = omega (arith, step.opens []) in
+    subst (λ (n : ℕ). EditsExactly pages after (first ∷ last ∷ with_root (next_pages pages n))) count
+    (subst (λ (l : List ℕ). EditsExactly pages after (first ∷ last ∷ with_root l)) step.are (subst (λ (p : Pages). EditsExactly pages p (first ∷ last ∷ with_root (opens_ step.room step.page))) (left_pages h.0.1 after h.2) step.edits))
 rows-edit size pages after firsts indexes first table (row ∷ next ∷ rows) last tail well among is storable room ends some h =
     let one = add_law size pages firsts indexes first table row (Ok h.0) well among is storable.0 (omega (arith, room)) h.1 in
     let step = steps size pages firsts indexes first table row h.0 last tail well among is storable.0 (omega (arith, room)) h.1 one ends in
-    let count = opened (length (entry_bytes step.next.entries)) (next ∷ rows) in
+    let count = pages_opened (length (entry_bytes step.next.entries)) (next ∷ rows) in
     let rest = rows-edit size h.0.1 after firsts indexes first (with_row table h.0.0.1 row) (next ∷ rows) (end_in step.room last step.page) step.next one.well among one.shows storable.1 (omega (arith, room)) step.ends (omega arith) h.2 in
-    let joined : opens_ step.room step.page ++ next_pages h.0.1 count ≡ next_pages pages (opened (length (entry_bytes tail.entries)) (row ∷ next ∷ rows)) =
+    let joined : opens_ step.room step.page ++ next_pages h.0.1 count ≡ next_pages pages (pages_opened (length (entry_bytes tail.entries)) (row ∷ next ∷ rows)) =
     open-join pages h.0.1 step.room step.page count step.are step.draws ∙ ap (next_pages pages) (sym (step.opens (next ∷ rows))) in
-    subst (λ (l : List ℕ). Edits pages after (first ∷ last ∷ with_root l)) joined (rows-join pages h.0.1 after first last step.page step.room (next_pages h.0.1 count) step.edits rest)
+    subst (λ (l : List ℕ). EditsExactly pages after (first ∷ last ∷ with_root l)) joined (rows-join pages h.0.1 after first last step.page step.room (next_pages h.0.1 count) step.edits rest)
 
 -- rows that are refused open more pages than are free
 pub rows-full : (size : ℕ) (pages : Pages) (firsts indexes : List ℕ) (first : ℕ) (table : Table) (rows : List (List Value)) (why : Refusal) (last : ℕ) (tail : HeapPage) → WellFormed size pages firsts indexes → Contains firsts first → IsTable size pages first table → AllByRecursion IsStorable rows → table.next_number + length rows < 2 ^ 64 → EndsAt size pages first last tail
-    → all_added size first rows pages (Err why) → free_pages size pages < opened (length (entry_bytes tail.entries)) rows
+    → all_added size first rows pages (Err why) → free_pages size pages < pages_opened (length (entry_bytes tail.entries)) rows
 rows-full size pages firsts indexes first table [] why last tail well among is storable room ends h = absurd cc
 rows-full size pages firsts indexes first table (row ∷ rows) why last tail well among is storable room ends (inl h) =
     let full = (add_law size pages firsts indexes first table row (Err why) well among is storable.0 (omega (arith, room)) h).1 in
@@ -261,7 +261,7 @@ rows-full size pages firsts indexes first table (row ∷ rows) why last tail wel
     clash e = absurd cc
 
     none : (b : Bool) → nat_le (length (entry_bytes tail.entries) + entry_size row) 1004 ≡ b → free_pages size pages ≡ 0 → has_room tail (record { number = table.next_number; row = row }) ≡ false
-        → free_pages size pages < cond b (opened (length (entry_bytes tail.entries) + entry_size row) rows) (1 + opened (entry_size row) rows)
+        → free_pages size pages < cond b (pages_opened (length (entry_bytes tail.entries) + entry_size row) rows) (1 + pages_opened (entry_size row) rows)
     none true e free room = absurd (clash (sym e ∙ sym (ap (λ (n : ℕ). nat_le n 1004) (bytes-push tail.entries (record { number = table.next_number; row = row }) ∙ ap (λ (k : ℕ). length (entry_bytes tail.entries) + k) (entry-length table.next_number row))) ∙ room))
     none false e free room = omega (arith, free)
 rows-full size pages firsts indexes first table (row ∷ rows) why last tail well among is storable room ends (inr h) =
@@ -279,17 +279,17 @@ ends-there size pages firsts indexes first well has =
     (last_page first read.one.lawful.head, tail.0, record { head = read.one.lawful.head; at_first = read.head_at; named = refl; at_last = tail.1 })
 
 -- rows of one length before others open as many pages
-opened-as : (taken : ℕ) (row other : List Value) (rows : List (List Value)) → entry_size row ≡ entry_size other → opened taken (row ∷ rows) ≡ opened taken (other ∷ rows)
+opened-as : (taken : ℕ) (row other : List Value) (rows : List (List Value)) → entry_size row ≡ entry_size other → pages_opened taken (row ∷ rows) ≡ pages_opened taken (other ∷ rows)
 opened-as taken row other rows long =
-    ap (λ (n : ℕ). cond (nat_le (taken + n) 1004) (opened (taken + n) rows) (1 + opened n rows)) long
+    ap (λ (n : ℕ). cond (nat_le (taken + n) 1004) (pages_opened (taken + n) rows) (1 + pages_opened n rows)) long
 
 -- a table's row in the catalog is as long whatever its first page is
-pub opened-same : (taken : ℕ) (name : List ℕ) (first other : ℕ) (columns : List TableColumn) → opened taken (map row_values (rows_of_table name first columns)) ≡ opened taken (map row_values (rows_of_table name other columns))
+pub opened-same : (taken : ℕ) (name : List ℕ) (first other : ℕ) (columns : List TableColumn) → pages_opened taken (map row_values (rows_of_table name first columns)) ≡ pages_opened taken (map row_values (rows_of_table name other columns))
 opened-same taken name first other columns =
     opened-as taken (row_values (TableOf (record { name = name; first = first }))) (row_values (TableOf (record { name = name; first = other }))) (map row_values (rows_of_columns name 0 columns)) refl
 
 -- an index's row is as long whatever its column's place is
-pub opened-index : (taken : ℕ) (name table : List ℕ) (place other : ℕ) → opened taken (row_values (row_of_index name table place) ∷ []) ≡ opened taken (row_values (row_of_index name table other) ∷ [])
+pub opened-index : (taken : ℕ) (name table : List ℕ) (place other : ℕ) → pages_opened taken (row_values (row_of_index name table place) ∷ []) ≡ pages_opened taken (row_values (row_of_index name table other) ∷ [])
 opened-index taken name table place other = opened-as taken (row_values (row_of_index name table place)) (row_values (row_of_index name table other)) [] refl
 
 pub insert-needs : (size : ℕ) (pages : Pages) (all : PlainTables) (table : PlainTable) (rows : List (List Value)) (answer : Result (Unit {0} × Pages) Refusal)
@@ -298,14 +298,14 @@ pub insert-needs : (size : ℕ) (pages : Pages) (all : PlainTables) (table : Pla
 insert-needs size pages all table rows answer is has fit room work =
     let one = single size pages all table is has in
     let end = ends-there size pages (firsts_of is.store.found) (pages_in is.store.held) one.stored.first is.store.heap (has-first is.store.found one.stored one.has) in
-    (opened (length (entry_bytes end.1.entries)) rows, (one.stored, named-here size pages all table is one, (end.0, end.1, end.2, refl)), go one end.0 end.1 end.2 answer (by-name size pages all table is one (λ stored. all_added size stored.first rows pages) answer work))
+    (pages_opened (length (entry_bytes end.1.entries)) rows, (one.stored, named-here size pages all table is one, (end.0, end.1, end.2, refl)), go one end.0 end.1 end.2 answer (by-name size pages all table is one (λ stored. all_added size stored.first rows pages) answer work))
   where
-    go : (one : Single size pages all table is) (last : ℕ) (tail : HeapPage) → EndsAt size pages one.stored.first last tail → (answer : Result (Unit {0} × Pages) Refusal) → all_added size one.stored.first rows pages answer → TakesNeeded size pages (opened (length (entry_bytes tail.entries)) rows) answer
+    go : (one : Single size pages all table is) (last : ℕ) (tail : HeapPage) → EndsAt size pages one.stored.first last tail → (answer : Result (Unit {0} × Pages) Refusal) → all_added size one.stored.first rows pages answer → TakesNeeded size pages (pages_opened (length (entry_bytes tail.entries)) rows) answer
     go one last tail ends (Ok y) h = rows-take size pages y.1 (firsts_of is.store.found) (pages_in is.store.held) one.stored.first (record { next_number = table.next_number; rows = one.shows.placed }) rows last tail is.store.heap (has-first is.store.found one.stored one.has) one.shows.is_table (storable-rows table rows fit) room ends h
     go one last tail ends (Err why) h = rows-full size pages (firsts_of is.store.found) (pages_in is.store.held) one.stored.first (record { next_number = table.next_number; rows = one.shows.placed }) rows why last tail is.store.heap (has-first is.store.found one.stored one.has) one.shows.is_table (storable-rows table rows fit) room ends h
 
 -- the catalog ends where it did once a table's first page is made
-pub ends-made : {all : PlainTables} (size : ℕ) (pages : Pages) (is : IsStoreOf size pages all) (table : ℕ × Pages) → Makes size pages (firsts_of is.store.found) (pages_in is.store.held) table.0 table.1 → (last : ℕ) (tail : HeapPage) → EndsAt size pages CATALOG last tail → EndsAt size table.1 CATALOG last tail
+pub ends-made : {all : PlainTables} (size : ℕ) (pages : Pages) (is : IsStoreOf size pages all) (table : ℕ × Pages) → MakesTable size pages (firsts_of is.store.found) (pages_in is.store.held) table.0 table.1 → (last : ℕ) (tail : HeapPage) → EndsAt size pages CATALOG last tail → EndsAt size table.1 CATALOG last tail
 ends-made size pages is table makes last tail ends =
     let read = reads size pages (firsts_of is.store.found) (pages_in is.store.held) CATALOG is.store.heap (has-catalog is.store.found) in
     let same = made-spares size pages table.1 (firsts_of is.store.found) (pages_in is.store.held) table.0 is.store.heap makes CATALOG (has-catalog is.store.found) read.one.chain.links read.route.leads in
@@ -321,10 +321,10 @@ pub create-needs : (size : ℕ) (pages : Pages) (all : PlainTables) (name : List
     → created size pages name columns answer → (needs : ℕ) × CreateNeeds size pages name columns needs × TakesNeeded size pages needs answer
 create-needs size pages all name columns answer is new_name are work =
     let end = ends-there size pages (firsts_of is.store.found) (pages_in is.store.held) CATALOG is.store.heap (has-catalog is.store.found) in
-    let behind = opened (length (entry_bytes end.1.entries)) (map row_values (rows_of_table name 0 columns)) in
+    let behind = pages_opened (length (entry_bytes end.1.entries)) (map row_values (rows_of_table name 0 columns)) in
     (1 + behind, (behind, (end.0, end.1, end.2, refl), refl), go end.0 end.1 end.2 answer work)
   where
-    go : (last : ℕ) (tail : HeapPage) → EndsAt size pages CATALOG last tail → (answer : Result (Unit {0} × Pages) Refusal) → created size pages name columns answer → TakesNeeded size pages (1 + opened (length (entry_bytes tail.entries)) (map row_values (rows_of_table name 0 columns))) answer
+    go : (last : ℕ) (tail : HeapPage) → EndsAt size pages CATALOG last tail → (answer : Result (Unit {0} × Pages) Refusal) → created size pages name columns answer → TakesNeeded size pages (1 + pages_opened (length (entry_bytes tail.entries)) (map row_values (rows_of_table name 0 columns))) answer
     go last tail ends (Ok y) (table, make, add) =
         let makes = make_law size pages (firsts_of is.store.found) (pages_in is.store.held) (Ok table) is.store.heap make in
         let base = ready size pages is.store name columns table.0 table.1 new_name.is_name are makes in
@@ -347,14 +347,14 @@ index-needs size pages all table name column answer is has new there work =
     let one = single size pages all table is has in
     let ready = index-ready size pages all table is one name column new.is_name there in
     let end = ends-there size pages (firsts_of is.store.found) (pages_in is.store.held) CATALOG is.store.heap (has-catalog is.store.found) in
-    let same : opened (length (entry_bytes end.1.entries)) (row_values (row_of_index name one.stored.name ready.at_column.place) ∷ []) ≡ opened (length (entry_bytes end.1.entries)) (row_values (row_of_index name table.name 0) ∷ []) =
-    opened-index (length (entry_bytes end.1.entries)) name one.stored.name ready.at_column.place 0 ∙ ap (λ (n : List ℕ). opened (length (entry_bytes end.1.entries)) (row_values (row_of_index name n 0) ∷ [])) (sym one.shows.name) in (
-      opened (length (entry_bytes end.1.entries)) (row_values (row_of_index name table.name 0) ∷ []),
+    let same : pages_opened (length (entry_bytes end.1.entries)) (row_values (row_of_index name one.stored.name ready.at_column.place) ∷ []) ≡ pages_opened (length (entry_bytes end.1.entries)) (row_values (row_of_index name table.name 0) ∷ []) =
+    opened-index (length (entry_bytes end.1.entries)) name one.stored.name ready.at_column.place 0 ∙ ap (λ (n : List ℕ). pages_opened (length (entry_bytes end.1.entries)) (row_values (row_of_index name n 0) ∷ [])) (sym one.shows.name) in (
+      pages_opened (length (entry_bytes end.1.entries)) (row_values (row_of_index name table.name 0) ∷ []),
       (end.0, end.1, end.2, refl),
       subst (λ (n : ℕ). TakesNeeded size pages n answer) same (go one.stored ready end.0 end.1 end.2 answer (row-added size pages all table is one name column ready answer work)),
     )
   where
-    go : (stored : StoredTable) (ready : IndexReady size pages all is stored name column) (last : ℕ) (tail : HeapPage) → EndsAt size pages CATALOG last tail → (answer : Result (Unit {0} × Pages) Refusal) → index_added size name stored.name ready.at_column.place pages answer → TakesNeeded size pages (opened (length (entry_bytes tail.entries)) (row_values (row_of_index name stored.name ready.at_column.place) ∷ [])) answer
+    go : (stored : StoredTable) (ready : IndexReady size pages all is stored name column) (last : ℕ) (tail : HeapPage) → EndsAt size pages CATALOG last tail → (answer : Result (Unit {0} × Pages) Refusal) → index_added size name stored.name ready.at_column.place pages answer → TakesNeeded size pages (pages_opened (length (entry_bytes tail.entries)) (row_values (row_of_index name stored.name ready.at_column.place) ∷ [])) answer
     go stored ready last tail ends (Ok y) h = rows-take size pages y.1 (firsts_of is.store.found) (pages_in is.store.held) CATALOG (record { next_number = length is.store.placed; rows = is.store.placed }) (row_values (row_of_index name stored.name ready.at_column.place) ∷ []) last tail is.store.heap (has-catalog is.store.found) ready.is_table ready.storable ready.room ends h
     go stored ready last tail ends (Err why) h = rows-full size pages (firsts_of is.store.found) (pages_in is.store.held) CATALOG (record { next_number = length is.store.placed; rows = is.store.placed }) (row_values (row_of_index name stored.name ready.at_column.place) ∷ []) why last tail is.store.heap (has-catalog is.store.found) ready.is_table ready.storable ready.room ends h
 

@@ -8,9 +8,9 @@ use Rattle.pager.specs.Pages.{Pages}
 use Rattle.pager.specs.Root.{IsFreeList}
 use Rattle.heap_file.specs.declared.chain.Link.{Link}
 use Rattle.heap_file.specs.declared.page.HeapPage.{HeapPage}
-use Rattle.heap_file.specs.Chain.{Leads, met}
+use Rattle.heap_file.specs.Chain.{IsWay, met}
 use Rattle.heap_laws.specs.Store.{Chain, WellFormed, end_of, free_pages, next_free, pages_of, pages_held, root_at, times}
-use Rattle.heap_laws.specs.Table.{Adds, Edits, EndsAt, IsAdded, IsRemoved, Makes, Removes, Table, has_room, leaves}
+use Rattle.heap_laws.specs.Table.{AddsRow, EditsExactly, EndsAt, IsAdded, IsRemoved, MakesTable, RemovesRow, Table, has_room, leaves}
 use Rattle.heap_laws.proofs.Counts.{one_if}
 use Rattle.heap_laws.proofs.Reading.{read_law, reads}
 use Rattle.heap_laws.proofs.Routes.{last_link, leads-one, leads-same, link_of, pages_on, times-append, times-here, times-links}
@@ -45,7 +45,7 @@ two-chains p (e ∷ chains) c d has also apart =
 abbrev pub own : (size : ℕ) (pages : Pages) (firsts indexes : List ℕ) (first : ℕ) (well : WellFormed size pages firsts indexes) → Contains firsts first → List ℕ
 own size pages firsts indexes first well has = pages_on (reads size pages firsts indexes first well has).one.chain.links
 
-own-links : (size : ℕ) (pages : Pages) (firsts indexes : List ℕ) (first : ℕ) (well : WellFormed size pages firsts indexes) (has : Contains firsts first) (links : List Link) → Leads size pages first links 0 → (p : ℕ) → times p (pages_on links) ≡ times p (own size pages firsts indexes first well has)
+own-links : (size : ℕ) (pages : Pages) (firsts indexes : List ℕ) (first : ℕ) (well : WellFormed size pages firsts indexes) (has : Contains firsts first) (links : List Link) → IsWay size pages first links 0 → (p : ℕ) → times p (pages_on links) ≡ times p (own size pages firsts indexes first well has)
 own-links size pages firsts indexes first well has links leads p =
     let read = reads size pages firsts indexes first well has in
     ap (λ (l : List Link). times p (pages_on l)) (leads-one size size pages first links read.one.chain.links leads read.route.leads)
@@ -101,7 +101,7 @@ pub not-any : (p : ℕ) (list : List ℕ) → AllByRecursion (λ q. p ≡ q → 
 not-any p [] all = refl
 not-any p (q ∷ list) all = rw (ne_eqb p q all.0) (not-any p list all.1)
 
-pub untouched : (pages after : Pages) (list : List ℕ) (p : ℕ) → Edits pages after list → AllByRecursion (λ q. p ≡ q → ⊥) list → IsUntouched pages after p
+pub untouched : (pages after : Pages) (list : List ℕ) (p : ℕ) → EditsExactly pages after list → AllByRecursion (λ q. p ≡ q → ⊥) list → IsUntouched pages after p
 untouched pages after list p edits all =
     let none = not-any p list all in
     (edits.same p none, edits.edited p ∙ ap (λ (b : Bool). b || pages.edited p) none)
@@ -137,7 +137,7 @@ turns-still false a b c p q e = (omega (arith, p, q, e), omega (arith, p, q, e))
 
 -- the pages of the other tables are left alone, and so is the root page unless a page is taken or freed
 pub record Spares (rises : Bool) (size : ℕ) (pages after : Pages) (firsts : List ℕ) (first : ℕ) : Type 0 where
-  pub others : (other : ℕ) → Contains firsts other → (other ≡ first → ⊥) → (links : List Link) → Leads size pages other links 0 → (p : ℕ) → 0 < times p (pages_on links) → IsUntouched pages after p
+  pub others : (other : ℕ) → Contains firsts other → (other ≡ first → ⊥) → (links : List Link) → IsWay size pages other links 0 → (p : ℕ) → 0 < times p (pages_on links) → IsUntouched pages after p
   pub root : free_pages size after ≡ free_pages size pages → IsUntouched pages after 0
   pub turn : Turns rises (free_pages size pages) (free_pages size after)
 
@@ -163,19 +163,19 @@ spares-then rises size pages mid after firsts first one two = record {
 }
 
 -- a list of edited pages that a call on a table may edit
-pub others-spared : (size : ℕ) (pages after : Pages) (firsts indexes : List ℕ) (first : ℕ) (well : WellFormed size pages firsts indexes) (has : Contains firsts first) (list : List ℕ) → Edits pages after list → AllByRecursion (Within size pages firsts indexes first well has) list
-    → (other : ℕ) → Contains firsts other → (other ≡ first → ⊥) → (links : List Link) → Leads size pages other links 0 → (p : ℕ) → 0 < times p (pages_on links) → IsUntouched pages after p
+pub others-spared : (size : ℕ) (pages after : Pages) (firsts indexes : List ℕ) (first : ℕ) (well : WellFormed size pages firsts indexes) (has : Contains firsts first) (list : List ℕ) → EditsExactly pages after list → AllByRecursion (Within size pages firsts indexes first well has) list
+    → (other : ℕ) → Contains firsts other → (other ≡ first → ⊥) → (links : List Link) → IsWay size pages other links 0 → (p : ℕ) → 0 < times p (pages_on links) → IsUntouched pages after p
 others-spared size pages after firsts indexes first well has list edits all other also differ links leads p there =
     untouched pages after list p edits (all-imp (Within size pages firsts indexes first well has) (λ q. p ≡ q → ⊥) list
     (λ q within e. within-apart size pages firsts indexes first other well has also differ p q (subst (λ (k : ℕ). 0 < k) (own-links size pages firsts indexes other well also links leads p) there) within e) all)
 
-own-spared : (size : ℕ) (pages after : Pages) (firsts indexes : List ℕ) (first : ℕ) (well : WellFormed size pages firsts indexes) (has : Contains firsts first) (list : List ℕ) → Edits pages after list → AllByRecursion (λ q. 0 < times q (own size pages firsts indexes first well has)) list → IsUntouched pages after 0
+own-spared : (size : ℕ) (pages after : Pages) (firsts indexes : List ℕ) (first : ℕ) (well : WellFormed size pages firsts indexes) (has : Contains firsts first) (list : List ℕ) → EditsExactly pages after list → AllByRecursion (λ q. 0 < times q (own size pages firsts indexes first well has)) list → IsUntouched pages after 0
 own-spared size pages after firsts indexes first well has list edits all =
     untouched pages after list 0 edits (all-imp (λ q. 0 < times q (own size pages firsts indexes first well has)) (λ q. 0 ≡ q → ⊥) list
     (λ q here e. zero-apart size pages firsts indexes first well has (subst (λ (k : ℕ). 0 < times k (own size pages firsts indexes first well has)) (sym e) here)) all)
 
 -- edits of a table's own pages alone
-pub own-alone : (rises : Bool) (size : ℕ) (pages after : Pages) (firsts indexes : List ℕ) (first : ℕ) (well : WellFormed size pages firsts indexes) (has : Contains firsts first) (list : List ℕ) → free_pages size after ≡ free_pages size pages → Edits pages after list → AllByRecursion (λ q. 0 < times q (own size pages firsts indexes first well has)) list → Spares rises size pages after firsts first
+pub own-alone : (rises : Bool) (size : ℕ) (pages after : Pages) (firsts indexes : List ℕ) (first : ℕ) (well : WellFormed size pages firsts indexes) (has : Contains firsts first) (list : List ℕ) → free_pages size after ≡ free_pages size pages → EditsExactly pages after list → AllByRecursion (λ q. 0 < times q (own size pages firsts indexes first well has)) list → Spares rises size pages after firsts first
 own-alone rises size pages after firsts indexes first well has list same edits all = record {
   others = others-spared size pages after firsts indexes first well has list edits (all-imp (λ q. 0 < times q (own size pages firsts indexes first well has)) (Within size pages firsts indexes first well has) list (λ q here. inr (inl here)) all);
   root = λ e. own-spared size pages after firsts indexes first well has list edits all;
@@ -222,7 +222,7 @@ previous-within size pages firsts indexes first page previous held well has stoo
 ]
 
 -- a row that is added
-pub added-spares : (size : ℕ) (pages after : Pages) (firsts indexes : List ℕ) (first : ℕ) (table : Table) (row : List Value) (placed : ℕ × ℕ) → WellFormed size pages firsts indexes → Contains firsts first → Adds size pages firsts indexes first table row placed after → Spares false size pages after firsts first
+pub added-spares : (size : ℕ) (pages after : Pages) (firsts indexes : List ℕ) (first : ℕ) (table : Table) (row : List Value) (placed : ℕ × ℕ) → WellFormed size pages firsts indexes → Contains firsts first → AddsRow size pages firsts indexes first table row placed after → Spares false size pages after firsts first
 added-spares size pages after firsts indexes first table row placed well has adds = go (has_room adds.tail (record { number = table.next_number; row = row })) adds.effect
   where
     go : (b : Bool) → IsAdded b size pages after first adds.last placed.1 → Spares false size pages after firsts first
@@ -235,7 +235,7 @@ added-spares size pages after firsts indexes first table row placed well has add
     }
 
 -- a row that is taken out
-pub removed-spares : (size : ℕ) (pages after : Pages) (firsts indexes : List ℕ) (first : ℕ) (table : Table) (page number : ℕ) → WellFormed size pages firsts indexes → Contains firsts first → Removes size pages firsts indexes first table page number after → Spares true size pages after firsts first
+pub removed-spares : (size : ℕ) (pages after : Pages) (firsts indexes : List ℕ) (first : ℕ) (table : Table) (page number : ℕ) → WellFormed size pages firsts indexes → Contains firsts first → RemovesRow size pages firsts indexes first table page number after → Spares true size pages after firsts first
 removed-spares size pages after firsts indexes first table page number well has removes = go (leaves first page removes.held) removes.effect
   where
     here : 0 < times page (own size pages firsts indexes first well has)
@@ -255,8 +255,8 @@ removed-spares size pages after firsts indexes first table page number well has 
     }
 
 -- a table that is made
-pub made-spares : (size : ℕ) (pages after : Pages) (firsts indexes : List ℕ) (first : ℕ) → WellFormed size pages firsts indexes → Makes size pages firsts indexes first after
-    → (other : ℕ) → Contains firsts other → (links : List Link) → Leads size pages other links 0 → (p : ℕ) → 0 < times p (pages_on links) → IsUntouched pages after p
+pub made-spares : (size : ℕ) (pages after : Pages) (firsts indexes : List ℕ) (first : ℕ) → WellFormed size pages firsts indexes → MakesTable size pages firsts indexes first after
+    → (other : ℕ) → Contains firsts other → (links : List Link) → IsWay size pages other links 0 → (p : ℕ) → 0 < times p (pages_on links) → IsUntouched pages after p
 made-spares size pages after firsts indexes first well makes other also links leads p there =
     let here : 0 < times p (own size pages firsts indexes other well also) = subst (λ (k : ℕ). 0 < k) (own-links size pages firsts indexes other well also links leads p) there in
     untouched pages after (first ∷ 0 ∷ []) p makes.edits ((λ e. free-apart size pages firsts indexes other well also p here (e ∙ makes.takes.next)), ((λ e. zero-apart size pages firsts indexes other well also (subst (λ (k : ℕ). 0 < times k (own size pages firsts indexes other well also)) e here)), tt))

@@ -12,7 +12,7 @@ use Rattle.relation.specs.declared.catalog.StoredTable.{StoredTable}
 use Rattle.relation.specs.Catalog.{catalog, schema_of}
 use Rattle.relation.specs.Work.{rows_at}
 use Rattle.relation_laws.specs.Laws.{IsRead, ReadLaw, without_contents}
-use Rattle.relation_laws.specs.Tables.{PlainTable, Shows, numbered_row}
+use Rattle.relation_laws.specs.Tables.{PlainTable, ShowsTable, numbered_row}
 use Rattle.relation_laws.proofs.Catalogs.{goes-on}
 use Rattle.relation_laws.proofs.Placing.{numbered}
 use Rattle.relation_laws.proofs.Singling.{by-name, rows-read, shown-here, single, store-catalog}
@@ -20,7 +20,7 @@ use Rattle.relation_laws.proofs.Singling.{by-name, rows-read, shown-here, single
 is-read : {A : Type 0} (P : A → Type 0) (answer : Result A Refusal) (x : A) → answer ≡ Ok x → P x → IsRead P answer
 is-read P answer x e h = subst (λ (r : Result _ Refusal). IsRead P r) (sym e) h
 
-schemas : (size : ℕ) (pages : Pages) (stored : List StoredTable) (tables : List PlainTable) → AllZip (Shows size pages) stored tables → map (λ (table : StoredTable). record { name = table.name; columns = table.columns }) stored ≡ map without_contents tables
+schemas : (size : ℕ) (pages : Pages) (stored : List StoredTable) (tables : List PlainTable) → AllZip (ShowsTable size pages) stored tables → map (λ (table : StoredTable). record { name = table.name; columns = table.columns }) stored ≡ map without_contents tables
 schemas size pages [] [] all = refl
 schemas size pages [] (t ∷ ts) all = absurd all
 schemas size pages (s ∷ ss) [] all = absurd all

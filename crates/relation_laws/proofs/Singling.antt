@@ -25,7 +25,7 @@ use Rattle.relation.specs.Each.{each}
 use Rattle.relation.specs.Work.{fitting, or_broken, rows_at, table_in}
 use Rattle.sql_tree.specs.Rows.{fits}
 use Rattle.relation_laws.specs.Laws.{IsStoreOf, with_table}
-use Rattle.relation_laws.specs.Tables.{HoldsPages, IsKept, IsStore, PlainTable, PlainTables, Shows, names_of, numbered_row}
+use Rattle.relation_laws.specs.Tables.{HoldsPages, SpeaksOfTable, IsStore, PlainTable, PlainTables, ShowsTable, names_of, numbered_row}
 use Rattle.relation_laws.proofs.Catalogs.{catalog-one, each-one, goes-on}
 use Rattle.relation_laws.proofs.Lists.{contains-head, contains-cons, contains-map, different-split, one-keyed, zip-left, zip-map, zip-weaken}
 use Rattle.relation_laws.proofs.Names.{first-apart, first-one, first_of, name-is, name-same, named-there}
@@ -53,10 +53,10 @@ store-catalog size pages store a told =
     catalog-one size pages (firsts_of store.found) (pages_in store.held) store.heap (has-catalog store.found) a (Ok store.found) told (read-here size pages store)
 
 -- the tables shown are those of the store's own catalog
-pub shown-here : (size : ℕ) (pages : Pages) (all : PlainTables) (is : IsStoreOf size pages all) → AllZip (Shows size pages) is.store.found.tables all.tables × (all.indexes ≡ is.store.found.indexes)
+pub shown-here : (size : ℕ) (pages : Pages) (all : PlainTables) (is : IsStoreOf size pages all) → AllZip (ShowsTable size pages) is.store.found.tables all.tables × (all.indexes ≡ is.store.found.indexes)
 shown-here size pages all is =
     let same : is.tables.found ≡ is.store.found = ok-one (store-catalog size pages is.store (Ok is.tables.found) is.tables.read) in
-    (subst (λ (c : Catalog). AllZip (Shows size pages) c.tables all.tables) same is.tables.shown, is.tables.indexes ∙ ap (λ (c : Catalog). c.indexes) same)
+    (subst (λ (c : Catalog). AllZip (ShowsTable size pages) c.tables all.tables) same is.tables.shown, is.tables.indexes ∙ ap (λ (c : Catalog). c.indexes) same)
 
 -- the names of tables differ
 pub names-apart : (size : ℕ) (pages : Pages) (store : IsStore size pages) (a b : StoredTable) → Contains store.found.tables a → Contains store.found.tables b → a.name ≡ b.name → a ≡ b
@@ -67,11 +67,11 @@ names-apart size pages store a b has also same =
 pub record Single (size : ℕ) (pages : Pages) (all : PlainTables) (table : PlainTable) (is : IsStoreOf size pages all) : Type 0 where
   pub stored : StoredTable
   pub has : Contains is.store.found.tables stored
-  pub shows : Shows size pages stored table
+  pub shows : ShowsTable size pages stored table
 
 pub single : (size : ℕ) (pages : Pages) (all : PlainTables) (table : PlainTable) (is : IsStoreOf size pages all) → Contains all.tables table → Single size pages all table is
 single size pages all table is has =
-    let one = zip-left (Shows size pages) is.store.found.tables all.tables table (shown-here size pages all is).0 has in
+    let one = zip-left (ShowsTable size pages) is.store.found.tables all.tables table (shown-here size pages all is).0 has in
     record { stored = one.0; has = one.1; shows = one.2 }
 
 -- the catalog tells a table by its name
@@ -120,14 +120,14 @@ held-stays Named pages after root held h = h
 held-stays Chain pages after root held h = absurd h
 held-stays Tree pages after root held h = absurd h
 
-pub kept-stays : (pages after : Pages) (names : List (List ℕ)) (row : CatalogRow) (held : List ℕ) → IsKept pages names row held → IsKept after names row held
+pub kept-stays : (pages after : Pages) (names : List (List ℕ)) (row : CatalogRow) (held : List ℕ) → SpeaksOfTable pages names row held → SpeaksOfTable after names row held
 kept-stays pages after names (Table row) held h = h
 kept-stays pages after names (Column row) held h = h
 kept-stays pages after names (Index row) held h = (h.0, held-stays row.form pages after row.root held h.1)
 
 -- a store whose catalog stays, and whose tables are shown
 pub store-stays : (size : ℕ) (pages after : Pages) (store : IsStore size pages) (all : PlainTables) → ((table : HeapTable) → IsTable size pages CATALOG table → IsTable size after CATALOG table)
-    → WellFormed size after (firsts_of store.found) (pages_in store.held) → AllZip (Shows size after) store.found.tables all.tables → all.indexes ≡ store.found.indexes → IsStoreOf size after all
+    → WellFormed size after (firsts_of store.found) (pages_in store.held) → AllZip (ShowsTable size after) store.found.tables all.tables → all.indexes ≡ store.found.indexes → IsStoreOf size after all
 store-stays size pages after store all stays well shown same = record {
   store = record {
     found = store.found;
@@ -138,7 +138,7 @@ store-stays size pages after store all stays well shown same = record {
     told = store.told;
     rows = rows-stay size pages after store.told stays store.rows;
     held = store.held;
-    kept = zip-weaken (λ (row : CatalogEntry) (some : List ℕ). IsKept pages (names_of store.found.tables) row.row some) (λ (row : CatalogEntry) (some : List ℕ). IsKept after (names_of store.found.tables) row.row some) store.told store.held (λ row some has h. kept-stays pages after (names_of store.found.tables) row.row some h) store.kept;
+    kept = zip-weaken (λ (row : CatalogEntry) (some : List ℕ). SpeaksOfTable pages (names_of store.found.tables) row.row some) (λ (row : CatalogEntry) (some : List ℕ). SpeaksOfTable after (names_of store.found.tables) row.row some) store.told store.held (λ row some has h. kept-stays pages after (names_of store.found.tables) row.row some h) store.kept;
     heap = well;
     names = store.names;
     columns = store.columns;
@@ -150,12 +150,12 @@ store-stays size pages after store all stays well shown same = record {
 
 -- a store of which one table changed
 pub one-changed : (size : ℕ) (pages after : Pages) (all : PlainTables) (table changed : PlainTable) (is : IsStoreOf size pages all) (one : Single size pages all table is) → changed.name ≡ table.name
-    → OthersStay size pages after (firsts_of is.store.found) one.stored.first → WellFormed size after (firsts_of is.store.found) (pages_in is.store.held) → Shows size after one.stored changed → IsStoreOf size after (with_table changed all)
+    → OthersStay size pages after (firsts_of is.store.found) one.stored.first → WellFormed size after (firsts_of is.store.found) (pages_in is.store.held) → ShowsTable size after one.stored changed → IsStoreOf size after (with_table changed all)
 one-changed size pages after all table changed is one named others well shows =
     store-stays size pages after is.store (with_table changed all)
     (λ catalog told. others CATALOG (has-catalog is.store.found) (first-apart size pages is.store.found.tables (pages_in is.store.held) one.stored is.store.heap one.has) catalog told)
     well
-    (zip-map (Shows size pages) (Shows size after) (λ (t : PlainTable). cond (same_name t.name changed.name) changed t) is.store.found.tables all.tables beside (shown-here size pages all is).0)
+    (zip-map (ShowsTable size pages) (ShowsTable size after) (λ (t : PlainTable). cond (same_name t.name changed.name) changed t) is.store.found.tables all.tables beside (shown-here size pages all is).0)
     (shown-here size pages all is).1
   where
     clash : false ≡ true → ⊥
@@ -164,13 +164,13 @@ one-changed size pages after all table changed is one named others well shows =
     here : changed.name ≡ one.stored.name
     here = named ∙ one.shows.name
 
-    beside : (stored : StoredTable) (t : PlainTable) → Contains is.store.found.tables stored → Shows size pages stored t → Shows size after stored (cond (same_name t.name changed.name) changed t)
+    beside : (stored : StoredTable) (t : PlainTable) → Contains is.store.found.tables stored → ShowsTable size pages stored t → ShowsTable size after stored (cond (same_name t.name changed.name) changed t)
     beside stored t has told = go (same_name t.name changed.name) refl
       where
-        go : (b : Bool) → same_name t.name changed.name ≡ b → Shows size after stored (cond b changed t)
+        go : (b : Bool) → same_name t.name changed.name ≡ b → ShowsTable size after stored (cond b changed t)
         go true e =
             let same : one.stored ≡ stored = names-apart size pages is.store one.stored stored one.has has (sym here ∙ sym (name-is t.name changed.name e) ∙ told.name) in
-            subst (λ (s : StoredTable). Shows size after s changed) same shows
+            subst (λ (s : StoredTable). ShowsTable size after s changed) same shows
         go false e =
             let apart : stored.first ≢ one.stored.first = λ same.
             clash (sym e ∙ name-same t.name changed.name (told.name ∙ ap (λ (s : StoredTable). s.name) (first-one size pages is.store.found.tables (pages_in is.store.held) stored one.stored is.store.heap has one.has same) ∙ sym here)) in

@@ -17,7 +17,7 @@ use Rattle.relation.specs.Each.{in_turn}
 use Rattle.relation.specs.Work.{page_of, row_changed, rows_at}
 use Rattle.sql_tree.specs.Rows.{fits}
 use Rattle.relation.proofs.Steps.{left_pages}
-use Rattle.relation_laws.specs.Laws.{IsRowFor, IsStoreOf, Leaves, UpdateLaw, changed_to, with_changes, with_table}
+use Rattle.relation_laws.specs.Laws.{IsRowFor, IsStoreOf, LeavesOrIsFull, UpdateLaw, changed_to, with_changes, with_table}
 use Rattle.relation_laws.specs.Reach.{Reaches}
 use Rattle.relation_laws.specs.Tables.{PlainTable, numbered_row}
 use Rattle.relation_laws.proofs.Catalogs.{goes-on}
@@ -140,7 +140,7 @@ update_law size pages all table changes answer is has these work = go answer (go
     there = still one.stored.first before (numbers_of changes) (subst (λ (rows : List (ℕ × List Value)). AllByRecursion (λ (number : ℕ). Contains (map (λ (row : ℕ × List Value). row.0) rows) number) (numbers_of changes)) one.shows.rows these.0.0) these.0.1
 
     go : (answer : Result (Unit {0} × Pages) Refusal) → in_turn (row_changed size one.stored.first one.shows.placed) changes pages answer
-        → Leaves size (λ after. IsStoreOf size after (with_table (with_changes changes table) all) × Reaches size pages table.name after) answer
+        → LeavesOrIsFull size (λ after. IsStoreOf size after (with_table (with_changes changes table) all) × Reaches size pages table.name after) answer
     go (Ok y) h =
         let alters = altered size pages y.1 (firsts_of is.store.found) (pages_in is.store.held) one.stored.first one.shows.placed before changes is.store.heap (has-first is.store.found one.stored one.has) one.shows.is_table (storable-changes table changes these.1) there h in (
           one-changed size pages y.1 all table (with_changes changes table) is one refl alters.others alters.well (record {

@@ -7,7 +7,7 @@ use Rattle.pager.specs.Pages.{Pages}
 use Rattle.heap_file.specs.declared.chain.Placed.{Placed}
 use Rattle.heap_file.specs.declared.page.HeapPage.{HeapPage}
 use Rattle.heap_laws.specs.Store.{WellFormed, times}
-use Rattle.heap_laws.specs.Table.{Edits, EndsAt, IsRemoved, IsStorable, IsTable, Removes, Table, leaves, with_changed, without_row}
+use Rattle.heap_laws.specs.Table.{EditsExactly, EndsAt, IsRemoved, IsStorable, IsTable, RemovesRow, Table, leaves, with_changed, without_row}
 use Rattle.heap_laws.proofs.Counts.{one_if}
 use Rattle.heap_laws.proofs.Reading.{reads}
 use Rattle.heap_laws.proofs.Removing.{remove_law}
@@ -47,7 +47,7 @@ within-touches T pages after list touches all page = go (in-or-off T list page a
     go (inl off) = inl (touches page off)
     go (inr here) = inr here
 
-pub within-edits : (T : ℕ → Type 0) (pages after : Pages) (list : List ℕ) → Edits pages after list → AllByRecursion T list → EditsWithin pages after T
+pub within-edits : (T : ℕ → Type 0) (pages after : Pages) (list : List ℕ) → EditsExactly pages after list → AllByRecursion T list → EditsWithin pages after T
 within-edits T pages after list edits = within-touches T pages after list (λ page off. untouched pages after list page edits off)
 
 pub within-then : (S T U : ℕ → Type 0) (pages mid after : Pages) → ((page : ℕ) → S page → U page) → ((page : ℕ) → T page → U page) → EditsWithin pages mid S → EditsWithin mid after T → EditsWithin pages after U
@@ -158,7 +158,7 @@ changes-within T size pages after firsts indexes first rows table (change ∷ ch
     at_first ways.1 (moved-pages T change h.0.0 table.rows on ways.0) parts.1 h.2)
 
 -- one row that is taken out edits the pages of its table, and the root page
-removed-within : (T : ℕ → Type 0) (size : ℕ) (pages after : Pages) (firsts indexes : List ℕ) (first : ℕ) (table : Table) (page number : ℕ) (well : WellFormed size pages firsts indexes) → Contains firsts first → Closed T size pages → T first → T page → Removes size pages firsts indexes first table page number after → EditsWithin pages after (λ p. (p ≡ 0) ⊎ T p)
+removed-within : (T : ℕ → Type 0) (size : ℕ) (pages after : Pages) (firsts indexes : List ℕ) (first : ℕ) (table : Table) (page number : ℕ) (well : WellFormed size pages firsts indexes) → Contains firsts first → Closed T size pages → T first → T page → RemovesRow size pages firsts indexes first table page number after → EditsWithin pages after (λ p. (p ≡ 0) ⊎ T p)
 removed-within T size pages after firsts indexes first table page number well has closed head_in here removes = go (leaves first page removes.held) removes.effect
   where
     before : (removes.previous ≡ 0) ⊎ (0 < times removes.previous (own size pages firsts indexes first well has)) → (removes.previous ≡ 0) ⊎ T removes.previous

@@ -22,9 +22,9 @@ use Rattle.relation.specs.Each.{in_turn}
 use Rattle.relation.specs.Work.{all_added, created, deleted, indexed, inserted, row_changed, row_of_index, row_removed, rows_at, rows_of_table, updated}
 use Rattle.relation.proofs.Steps.{left_pages}
 use Rattle.relation_laws.specs.Laws.{AreChangesOf, AreNumbersOf, AreTableColumns, HasColumn, IsNewName, IsRowFor, IsStoreOf, with_changes, with_rows, with_table, without_rows}
-use Rattle.relation_laws.specs.Needs.{InsertNeeds, RowsNeed, UpdateNeeds, changes_open, next_pages, opened, taken_after}
+use Rattle.relation_laws.specs.Needs.{InsertNeeds, RowsNeed, UpdateNeeds, changes_open, next_pages, pages_opened, taken_after}
 use Rattle.relation_laws.specs.Reach.{with_root}
-use Rattle.relation_laws.specs.Tables.{AreDifferent, PlainTable, PlainTables, Shows, names_of}
+use Rattle.relation_laws.specs.Tables.{AreDifferent, PlainTable, PlainTables, ShowsTable, names_of}
 use Rattle.relation_laws.specs.Work.{AreAllowed, AreWorked, Changes, Creates, EditsWithin, Indexes, Inserts, IsAllowed, IsInReach, IsInReachOf, IsOfTable, IsWorked, Needs, Removes, Work, WorkLaw, all_worked, tables_behind, where_named, worked}
 use Rattle.relation_laws.proofs.Catalogs.{goes-on}
 use Rattle.relation_laws.proofs.Counting.{needs_law}
@@ -53,7 +53,7 @@ map-in {B = B} f g (x ∷ xs) same = both (same x (contains-head x xs)) (map-in 
     both e f = λ i. e i ∷ f i
 
 -- the names of the tables are those of the catalog
-names-shown : (size : ℕ) (pages : Pages) (stored : List StoredTable) (tables : List PlainTable) → AllZip (Shows size pages) stored tables → names_of stored ≡ map (λ (table : PlainTable). table.name) tables
+names-shown : (size : ℕ) (pages : Pages) (stored : List StoredTable) (tables : List PlainTable) → AllZip (ShowsTable size pages) stored tables → names_of stored ≡ map (λ (table : PlainTable). table.name) tables
 names-shown size pages [] [] all = refl
 names-shown size pages [] (t ∷ ts) all = absurd all
 names-shown size pages (s ∷ ss) [] all = absurd all
@@ -96,7 +96,7 @@ insert-within size pages after all table (row ∷ rows) is has fit room work =
     let one = single size pages all table is has in
     let among = has-first is.store.found one.stored one.has in
     let end = ends-there size pages (firsts_of is.store.found) (pages_in is.store.held) one.stored.first is.store.heap among in
-    let count = opened (length (entry_bytes end.1.entries)) (row ∷ rows) in
+    let count = pages_opened (length (entry_bytes end.1.entries)) (row ∷ rows) in
     let edits = rows-edit size pages after (firsts_of is.store.found) (pages_in is.store.held) one.stored.first (record { next_number = table.next_number; rows = one.shows.placed }) (row ∷ rows) end.0 end.1 is.store.heap among one.shows.is_table (storable-rows table (row ∷ rows) fit) room end.2 (omega arith)
     (by-name size pages all table is one (λ stored. all_added size stored.first (row ∷ rows) pages) (Ok (tt, after)) work) in
     within-edits (IsInReach size pages (Inserts table.name (row ∷ rows))) pages after (one.stored.first ∷ end.0 ∷ with_root (next_pages pages count)) edits (
@@ -134,7 +134,7 @@ create-within size pages after all name columns is new_name are (table, make, ad
     let makes = make_law size pages firsts held (Ok table) is.store.heap make in
     let base = ready size pages is.store name columns table.0 table.1 new_name.is_name are makes in
     let end = ends-there size pages firsts held CATALOG is.store.heap among in
-    let behind = opened (length (entry_bytes end.1.entries)) (map row_values (rows_of_table name 0 columns)) in
+    let behind = pages_opened (length (entry_bytes end.1.entries)) (map row_values (rows_of_table name 0 columns)) in
     let rows = map row_values (rows_of_table name table.0 columns) in
     let edits = rows-edit size table.1 after (firsts ++ table.0 ∷ []) held CATALOG (record { next_number = length is.store.placed; rows = is.store.placed }) rows end.0 end.1 makes.well (contains-left firsts (table.0 ∷ []) CATALOG among) base.is_table base.storable base.room (ends-made size pages is table makes end.0 end.1 end.2) (omega arith) add in
     let T : ℕ → Type 0 = IsInReach size pages (Creates name columns) in
@@ -143,7 +143,7 @@ create-within size pages after all name columns is new_name are (table, make, ad
     let mine : (p : ℕ) → 0 < times p (own size pages firsts held CATALOG is.store.heap among) → T p = λ p here. inl (own-page size pages firsts held CATALOG is.store.heap among p here) in
     within-then T T T pages table.1 after (λ p t. t) (λ p t. t)
     (within-edits T pages table.1 (table.0 ∷ 0 ∷ []) makes.edits (subst T (sym (makes.takes.next ∙ next-first pages)) all_taken.1.0, (all_taken.0, tt)))
-    (within-edits T table.1 after (CATALOG ∷ end.0 ∷ with_root (next_pages table.1 (opened (length (entry_bytes end.1.entries)) rows))) edits (
+    (within-edits T table.1 after (CATALOG ∷ end.0 ∷ with_root (next_pages table.1 (pages_opened (length (entry_bytes end.1.entries)) rows))) edits (
       mine CATALOG (own-first size pages firsts held CATALOG is.store.heap among),
       (
         mine end.0 (own-last size pages firsts held CATALOG end.0 end.1 is.store.heap among end.2),
@@ -165,20 +165,20 @@ index-within size pages after all table name column is has new there work =
     let T : ℕ → Type 0 = IsInReach size pages (Indexes name table.name column) in
     let mine : (p : ℕ) → 0 < times p (own size pages firsts held CATALOG is.store.heap among) → T p = λ p here. inl (own-page size pages firsts held CATALOG is.store.heap among p here) in
     let same : row_values (row_of_index name one.stored.name 0) ≡ row_values (row_of_index name table.name 0) = ap (λ (n : List ℕ). row_values (row_of_index name n 0)) (sym one.shows.name) in
-    let count : opened (length (entry_bytes end.1.entries)) (row ∷ []) ≡ opened (length (entry_bytes end.1.entries)) (row_values (row_of_index name table.name 0) ∷ []) =
-    opened-index (length (entry_bytes end.1.entries)) name one.stored.name ready.at_column.place 0 ∙ ap (λ (r : List Value). opened (length (entry_bytes end.1.entries)) (r ∷ [])) same in
-    within-edits T pages after (CATALOG ∷ end.0 ∷ with_root (next_pages pages (opened (length (entry_bytes end.1.entries)) (row ∷ [])))) edits (
+    let count : pages_opened (length (entry_bytes end.1.entries)) (row ∷ []) ≡ pages_opened (length (entry_bytes end.1.entries)) (row_values (row_of_index name table.name 0) ∷ []) =
+    opened-index (length (entry_bytes end.1.entries)) name one.stored.name ready.at_column.place 0 ∙ ap (λ (r : List Value). pages_opened (length (entry_bytes end.1.entries)) (r ∷ [])) same in
+    within-edits T pages after (CATALOG ∷ end.0 ∷ with_root (next_pages pages (pages_opened (length (entry_bytes end.1.entries)) (row ∷ [])))) edits (
       mine CATALOG (own-first size pages firsts held CATALOG is.store.heap among),
       (
         mine end.0 (own-last size pages firsts held CATALOG end.0 end.1 is.store.heap among end.2),
-        taken-within size pages (Indexes name table.name column) (opened (length (entry_bytes end.1.entries)) (row ∷ [])) (end.0, end.1, end.2, count),
+        taken-within size pages (Indexes name table.name column) (pages_opened (length (entry_bytes end.1.entries)) (row ∷ [])) (end.0, end.1, end.2, count),
       ),
     )
 
 -- what rows need at the end of a table is one number
 rows-need : (size : ℕ) (pages : Pages) (first : ℕ) (rows : List (List Value)) (needs other : ℕ) → RowsNeed size pages first rows needs → RowsNeed size pages first rows other → needs ≡ other
 rows-need size pages first rows needs other one two =
-    one.3 ∙ ap (λ (t : HeapPage). opened (length (entry_bytes t.entries)) rows) (ends-one size pages first one.0 two.0 one.1 two.1 one.2 two.2) ∙ sym two.3
+    one.3 ∙ ap (λ (t : HeapPage). pages_opened (length (entry_bytes t.entries)) rows) (ends-one size pages first one.0 two.0 one.1 two.1 one.2 two.2) ∙ sym two.3
 
 -- the number that a piece of work needs is one
 need-one : (size : ℕ) (pages : Pages) (all : PlainTables) (work : Work) (needs other : ℕ) → IsStoreOf size pages all → IsAllowed all work → Needs size pages work needs → Needs size pages work other → needs ≡ other

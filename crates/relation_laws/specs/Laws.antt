@@ -11,7 +11,7 @@ use Rattle.sql_tree.specs.declared.schema.TableSchema.{TableSchema}
 use Rattle.sql_tree.specs.declared.statement.Column.{Column as TableColumn}
 use Rattle.pager.specs.Pages.{Pages}
 use Rattle.heap_file.specs.declared.chain.Placed.{Placed}
-use Rattle.heap_laws.specs.Laws.{Answers, AreZero}
+use Rattle.heap_laws.specs.Laws.{DoesOrIsFull, AreZero}
 use Rattle.heap_laws.specs.Table.{IsStorable}
 use Rattle.relation.specs.declared.catalog.StoredTable.{StoredTable}
 use Rattle.relation.specs.Each.{in_turn}
@@ -32,9 +32,9 @@ with_table changed all = record all
     { tables = map (λ (table : PlainTable). if same_name table.name changed.name then changed else table) all.tables }
 
 -- a call leaves this, and is refused only for want of pages
-abbrev pub Leaves : ℕ → (Pages → Type 0) → Result (Unit {0} × Pages) Refusal → Type 0
-Leaves size done (Ok answer) = done answer.1
-Leaves size done (Err why) = why ≡ PagesFull size
+abbrev pub LeavesOrIsFull : ℕ → (Pages → Type 0) → Result (Unit {0} × Pages) Refusal → Type 0
+LeavesOrIsFull size done (Ok answer) = done answer.1
+LeavesOrIsFull size done (Err why) = why ≡ PagesFull size
 
 -- what is read is never refused, and is this
 abbrev pub IsRead : {A : Type 0} → (A → Type 0) → Result A Refusal → Type 0
@@ -96,7 +96,7 @@ InsertLaw = (size : ℕ) (pages : Pages) (all : PlainTables) (table : PlainTable
     → IsStoreOf size pages all → Contains all.tables table → AllByRecursion (IsRowFor table) rows
     → table.next_number + length rows < 2 ^ 64
     → inserted size pages table.name rows answer
-    → Leaves size
+    → LeavesOrIsFull size
     (λ after. IsStoreOf size after (with_table (with_rows rows table) all) × Reaches size pages table.name after)
     answer
 
@@ -126,7 +126,7 @@ DeleteLaw = (size : ℕ) (pages : Pages) (all : PlainTables) (table : PlainTable
     (answer : Result (Unit {0} × Pages) Refusal)
     → IsStoreOf size pages all → Contains all.tables table → AreNumbersOf table numbers
     → deleted size pages table.name numbers answer
-    → Answers size
+    → DoesOrIsFull size
     (λ u after. IsStoreOf size after (with_table (without_rows numbers table) all)
     × Reaches size pages table.name after) ⊥ answer
 
@@ -151,7 +151,7 @@ UpdateLaw = (size : ℕ) (pages : Pages) (all : PlainTables) (table : PlainTable
     (answer : Result (Unit {0} × Pages) Refusal)
     → IsStoreOf size pages all → Contains all.tables table → AreChangesOf table changes
     → updated size pages table.name changes answer
-    → Leaves size
+    → LeavesOrIsFull size
     (λ after. IsStoreOf size after (with_table (with_changes changes table) all)
     × Reaches size pages table.name after) answer
 
@@ -182,7 +182,7 @@ CreateLaw = (size : ℕ) (pages : Pages) (all : PlainTables) (name : List ℕ) (
     (answer : Result (Unit {0} × Pages) Refusal)
     → IsStoreOf size pages all → IsNewName all name → AreTableColumns columns
     → created size pages name columns answer
-    → Leaves size
+    → LeavesOrIsFull size
     (λ after. IsStoreOf size after (with_new (empty_table name columns) all) × ReachesCatalog size pages after)
     answer
 
@@ -200,7 +200,7 @@ IndexLaw = (size : ℕ) (pages : Pages) (all : PlainTables) (table : PlainTable)
     (answer : Result (Unit {0} × Pages) Refusal)
     → IsStoreOf size pages all → Contains all.tables table → IsNewName all name → HasColumn column table
     → indexed size pages name table.name column answer
-    → Leaves size
+    → LeavesOrIsFull size
     (λ after. IsStoreOf size after (with_index (record { name = name; table = table.name; column = column }) all)
     × ReachesCatalog size pages after) answer
 

@@ -23,10 +23,11 @@ entry_size row = 2 + row_bytes row
 
 -- How many pages rows open at the end of a table whose last page has so many bytes of rows: each stands on the last
 -- page where it has room there, else on a new one.
-abbrev pub opened : ℕ → List (List Value) → ℕ
-opened taken [] = 0
-opened taken (row ∷ rows) =
-    if nat_le (taken + entry_size row) 1004 then opened (taken + entry_size row) rows else 1 + opened (entry_size row) rows
+abbrev pub pages_opened : ℕ → List (List Value) → ℕ
+pages_opened taken [] = 0
+pages_opened taken (row ∷ rows) =
+    if nat_le (taken + entry_size row) 1004 then pages_opened (taken + entry_size row) rows
+    else 1 + pages_opened (entry_size row) rows
 
 -- the page so many places behind a page of the free list
 abbrev pub free_behind : Pages → ℕ → ℕ → ℕ
@@ -47,7 +48,7 @@ next_pages pages count = map (taken_after pages) (range_with_len 0 count)
 abbrev pub RowsNeed : ℕ → Pages → ℕ → List (List Value) → ℕ → Type 0
 RowsNeed size pages first rows needs =
     (last : ℕ) × (tail : HeapPage) × EndsAt size pages first last tail
-    × (needs ≡ opened (length (entry_bytes tail.entries)) rows)
+    × (needs ≡ pages_opened (length (entry_bytes tail.entries)) rows)
 
 -- how many pages an insert into the table of that name needs
 abbrev pub InsertNeeds : ℕ → Pages → List ℕ → List (List Value) → ℕ → Type 0

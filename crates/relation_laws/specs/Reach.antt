@@ -8,13 +8,13 @@ use Rattle.heap_file.specs.declared.page.HeapPage.{HeapPage}
 use Rattle.heap_file.specs.Chain.{chain}
 use Rattle.heap_file.specs.HeapPage.{entry_bytes}
 use Rattle.heap_laws.specs.Store.{free_pages}
-use Rattle.heap_laws.specs.Table.{Edits, EndsAt}
+use Rattle.heap_laws.specs.Table.{EditsExactly, EndsAt}
 use Rattle.relation.specs.declared.catalog.Catalog.{Catalog}
 use Rattle.relation.specs.declared.catalog.StoredTable.{StoredTable}
 use Rattle.relation.specs.declared.catalog.TheConstants.{CATALOG}
 use Rattle.relation.specs.Catalog.{catalog}
 use Rattle.relation.specs.Work.{table_in}
-use Rattle.relation_laws.specs.Needs.{next_pages, opened}
+use Rattle.relation_laws.specs.Needs.{next_pages, pages_opened}
 
 -- a page of the table that begins with a page
 abbrev pub IsPageOf : ℕ → Pages → ℕ → ℕ → Type 0
@@ -48,8 +48,8 @@ pub record EditsEnds (size : ℕ) (pages : Pages) (name : List ℕ) (rows : List
   pub last : ℕ
   pub tail : HeapPage
   pub ends : EndsAt size pages table.first last tail
-  pub edits : Edits pages after
-      (table.first ∷ last ∷ with_root (next_pages pages (opened (length (entry_bytes tail.entries)) rows)))
+  pub edits : EditsExactly pages after
+      (table.first ∷ last ∷ with_root (next_pages pages (pages_opened (length (entry_bytes tail.entries)) rows)))
 
 -- what making a table or an index leaves alone: the pages of all tables
 pub record ReachesCatalog (size : ℕ) (pages : Pages) (after : Pages) : Type 0 where

@@ -37,7 +37,7 @@ pub record PlainTable : Type 0 where
   pub rows : List (ℕ × List Value)
 
 -- what the pages show of a table of the catalog; each of its rows has one value of each column's kind
-pub record Shows (size : ℕ) (pages : Pages) (stored : StoredTable) (table : PlainTable) : Type 0 where
+pub record ShowsTable (size : ℕ) (pages : Pages) (stored : StoredTable) (table : PlainTable) : Type 0 where
   pub name : table.name ≡ stored.name
   pub columns : table.columns ≡ stored.columns
   pub placed : List Placed
@@ -54,7 +54,7 @@ pub record PlainTables : Type 0 where
 pub record TablesOf (size : ℕ) (pages : Pages) (all : PlainTables) : Type 0 where
   pub found : Catalog
   pub read : catalog size pages (Ok found)
-  pub shown : AllZip (Shows size pages) found.tables all.tables
+  pub shown : AllZip (ShowsTable size pages) found.tables all.tables
   pub indexes : all.indexes ≡ found.indexes
 
 -- no two of these are the same
@@ -74,10 +74,10 @@ HoldsPages Chain pages root held = ⊥
 HoldsPages Tree pages root held = ⊥
 
 -- a column's and an index's row speaks of a table that is there, and an index holds its pages
-abbrev pub IsKept : Pages → List (List ℕ) → CatalogRow → List ℕ → Type 0
-IsKept pages names (Table row) held = held ≡ []
-IsKept pages names (Column row) held = Contains names row.table × (held ≡ [])
-IsKept pages names (Index row) held = Contains names row.table × HoldsPages row.form pages row.root held
+abbrev pub SpeaksOfTable : Pages → List (List ℕ) → CatalogRow → List ℕ → Type 0
+SpeaksOfTable pages names (Table row) held = held ≡ []
+SpeaksOfTable pages names (Column row) held = Contains names row.table × (held ≡ [])
+SpeaksOfTable pages names (Index row) held = Contains names row.table × HoldsPages row.form pages row.root held
 
 -- Well-formed pages: the catalog and each table can be read, no page is used twice, the catalog's rows are numbered
 -- from 0 on without gaps, the names of tables and indexes differ, the names of a table's columns differ, and each row
@@ -91,11 +91,12 @@ pub record IsStore (size : ℕ) (pages : Pages) : Type 0 where
   pub found : Catalog
   pub read : catalog_told told (Ok found)
   pub held : List (List ℕ)
-  pub kept : AllZip (λ (row : CatalogEntry) (some : List ℕ). IsKept pages (names_of found.tables) row.row some) told held
+  pub kept : AllZip
+      (λ (row : CatalogEntry) (some : List ℕ). SpeaksOfTable pages (names_of found.tables) row.row some) told held
   pub heap : WellFormed size pages (CATALOG ∷ map (λ (table : StoredTable). table.first) found.tables)
       (flat_map (λ (some : List ℕ). some) held)
   pub names : AreDifferent (names_of found.tables ++ map (λ (index : IndexSchema). index.name) found.indexes)
   pub columns : AllByRecursion
       (λ (table : StoredTable). AreDifferent (map (λ (column : TableColumn). column.name) table.columns)) found.tables
   pub tables : List PlainTable
-  pub shown : AllZip (Shows size pages) found.tables tables
+  pub shown : AllZip (ShowsTable size pages) found.tables tables

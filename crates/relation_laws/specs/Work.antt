@@ -83,20 +83,20 @@ Needs size pages (Changes name changes) needs = UpdateNeeds size pages name chan
 Needs size pages (Removes name numbers) needs = needs ≡ 0
 
 -- how many pages can be taken before it and after it; only taking rows out gives pages back
-abbrev pub Takes : Work → ℕ → ℕ → ℕ → Type 0
-Takes (Creates name columns) needs before after = needs + after ≡ before
-Takes (Indexes name table column) needs before after = needs + after ≡ before
-Takes (Inserts name rows) needs before after = needs + after ≡ before
-Takes (Changes name changes) needs before after = needs + after ≡ before
-Takes (Removes name numbers) needs before after = before ≤ after
+abbrev pub LeavesFree : Work → ℕ → ℕ → ℕ → Type 0
+LeavesFree (Creates name columns) needs before after = needs + after ≡ before
+LeavesFree (Indexes name table column) needs before after = needs + after ≡ before
+LeavesFree (Inserts name rows) needs before after = needs + after ≡ before
+LeavesFree (Changes name changes) needs before after = needs + after ≡ before
+LeavesFree (Removes name numbers) needs before after = before ≤ after
 
 -- a page of the table of that name
 abbrev pub IsOfTable : ℕ → Pages → List ℕ → ℕ → Type 0
 IsOfTable size pages name page = (table : StoredTable) × table_in size pages name (Ok table)
     × IsPageOf size pages table.first page
 
--- a page that is in use already and that a piece of work may edit: the catalog's for a new table or index, else those of
--- the table that it names, and the root page where rows are taken out, since pages may be freed
+-- a page that is in use already and that a piece of work may edit: the catalog's for a new table or index, else those
+-- of the table that it names, and the root page where rows are taken out, since pages may be freed
 abbrev pub IsInUse : ℕ → Pages → Work → ℕ → Type 0
 IsInUse size pages (Creates name columns) page = IsPageOf size pages CATALOG page
 IsInUse size pages (Indexes name table column) page = IsPageOf size pages CATALOG page
@@ -129,16 +129,16 @@ IsFullAtOne size pages (work ∷ works) =
 
 -- what a piece of work leaves: the tables behind it, on pages of which it edited only those of its reach, and took as
 -- many as it needs
-pub record Leaves (size : ℕ) (pages : Pages) (all : PlainTables) (work : Work) (after : Pages) : Type 0 where
+pub record LeavesWorked (size : ℕ) (pages : Pages) (all : PlainTables) (work : Work) (after : Pages) : Type 0 where
   pub store : IsStoreOf size after (tables_behind work all)
   pub needs : ℕ
   pub are_needed : Needs size pages work needs
-  pub takes : Takes work needs (free_pages size pages) (free_pages size after)
+  pub takes : LeavesFree work needs (free_pages size pages) (free_pages size after)
   pub within : EditsWithin pages after (IsInReach size pages work)
 
 -- a piece of work leaves that, and is refused exactly where it needs more pages than can be taken
 abbrev pub IsWorked : ℕ → Pages → PlainTables → Work → Result (Unit {0} × Pages) Refusal → Type 0
-IsWorked size pages all work (Ok answer) = Leaves size pages all work answer.1
+IsWorked size pages all work (Ok answer) = LeavesWorked size pages all work answer.1
 IsWorked size pages all work (Err why) = (why ≡ PagesFull size)
     × ((needs : ℕ) × Needs size pages work needs × (free_pages size pages < needs))
 
