@@ -20,11 +20,11 @@ use Rattle.heap_file.proofs.Ones.{differ}
 use Rattle.relation.specs.Work.{created}
 use Rattle.relation_laws.specs.Laws.{AreTableColumns, IsNewName, IsStoreOf, empty_table, with_new, without_contents}
 use Rattle.relation_laws.specs.Tables.{AreDifferent, PlainTable, PlainTables}
-use Rattle.relation_laws.specs.Work.{IsWorked, Leaves}
+use Rattle.relation_laws.specs.Work.{IsWorked, LeavesWorked}
 use Rattle.relation_laws.specs.Work.Work.{Creates}
 use Rattle.relation_laws.proofs.Names.{name-same}
 use Rattle.relation_laws.proofs.Working.{work_law}
-use Rattle.sql_exec.specs.Promises.{Done, IsRun}
+use Rattle.sql_exec.specs.Promises.{IsDoneOver, IsRunOver}
 use Rattle.sql_exec.specs.Running.{AreNames, made_table}
 use Rattle.sql_exec.specs.Stored.{contents_of, plain}
 use Rattle.sql_exec.proofs.Fitting.{passed}
@@ -91,13 +91,13 @@ module _ (size : ℕ) (pages : Pages) (all : PlainTables) (is : IsStoreOf size p
       let contents = sym (map-append contents_of all.tables (empty_table create.table create.columns ∷ [])) in
       cc (schemas, contents)
 
-  made-law : AreNames create → (b : Result (Reply × Pages) Refusal) → (created size pages create.table create.columns >>= (λ (done : Unit {0} × Pages). only (Ok (Plain, done.1)))) b → IsRun size (CreateTable create) snapshot pages (plain all) b
-  made-law names (Ok y) (done, added, e) = subst (λ (r : Result (Reply × Pages) Refusal). IsRun size (CreateTable create) snapshot pages (plain all) r) e made
+  made-law : AreNames create → (b : Result (Reply × Pages) Refusal) → (created size pages create.table create.columns >>= (λ (done : Unit {0} × Pages). only (Ok (Plain, done.1)))) b → IsRunOver size (CreateTable create) snapshot pages (plain all) b
+  made-law names (Ok y) (done, added, e) = subst (λ (r : Result (Reply × Pages) Refusal). IsRunOver size (CreateTable create) snapshot pages (plain all) r) e made
     where
-      leaves : Leaves size pages all (Creates create.table create.columns) done.1
+      leaves : LeavesWorked size pages all (Creates create.table create.columns) done.1
       leaves = worked-as names (Ok done) added
 
-      made : Done size (CreateTable create) snapshot pages (plain all) Plain done.1
+      made : IsDoneOver size (CreateTable create) snapshot pages (plain all) Plain done.1
       made = record {
         behind = plain (with_new (empty_table create.table create.columns) all);
         means = does-passed (CreateTable create) snapshot (plain all) passes ∙ ap (λ (t : Tables). Ok (t, Plain)) tables-same;
@@ -111,7 +111,7 @@ module _ (size : ℕ) (pages : Pages) (all : PlainTables) (is : IsStoreOf size p
       inr (refused.0, Some (Creates create.table create.columns), refl, refused.1)
   made-law names (Err why) (inr (done, added, e)) = differ _ why e
 
-  pub create-law : (b : Result (Reply × Pages) Refusal) → made_table size create pages b → IsRun size (CreateTable create) snapshot pages (plain all) b
+  pub create-law : (b : Result (Reply × Pages) Refusal) → made_table size create pages b → IsRunOver size (CreateTable create) snapshot pages (plain all) b
   create-law (Ok y) (u, names, h) = made-law names (Ok y) h
   create-law (Err why) (inl none) = absurd none
   create-law (Err why) (inr (u, names, h)) = made-law names (Err why) h

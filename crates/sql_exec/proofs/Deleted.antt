@@ -27,7 +27,7 @@ use Rattle.relation.specs.Each.{in_turn}
 use Rattle.relation.proofs.Steps.{next_step}
 use Rattle.relation_laws.specs.Laws.{AreNumbersOf, IsStoreOf, without_rows}
 use Rattle.relation_laws.specs.Tables.{AreDifferent, PlainTables, numbered_row}
-use Rattle.relation_laws.specs.Work.{IsWorked, Leaves, where_named}
+use Rattle.relation_laws.specs.Work.{IsWorked, LeavesWorked, where_named}
 use Rattle.relation_laws.specs.Work.Work.{Removes}
 use Rattle.relation_laws.proofs.Catalogs.{goes-on}
 use Rattle.relation_laws.proofs.Lists.{contains-map}
@@ -36,7 +36,7 @@ use Rattle.relation_laws.proofs.Singling.{firsts_of, has-first, named-here, page
 use Rattle.relation_laws.proofs.Working.{work_law}
 use Rattle.sql_exec.specs.Asking.{schema_at}
 use Rattle.sql_exec.specs.Planning.{picked, row_numbers}
-use Rattle.sql_exec.specs.Promises.{Done, IsRun}
+use Rattle.sql_exec.specs.Promises.{IsDoneOver, IsRunOver}
 use Rattle.sql_exec.specs.Running.{at_table, deleted_from, numbered_at, placed_gone}
 use Rattle.sql_exec.specs.Stored.{contents_of, plain, row_under}
 use Rattle.sql_exec.proofs.Choosing.{all-contained, any-chosen, chosen-all, chosen-differ, filter-chosen, number_of, rising-differ}
@@ -103,13 +103,13 @@ module _ (size : ℕ) (pages : Pages) (all : PlainTables) (is : IsStoreOf size p
         ∙ ap (λ (rows : List (ℕ × List Value)). map row_under rows) (filter-chosen choose numbers here.shows.placed (any-chosen choose here.shows.placed (numbers-differ size pages all is delete.table here)))
         ∙ unders (filter (stays (schema_at here.found) snapshot delete) here.shows.placed))
 
-    gone-law : Parts (schema_at here.found) snapshot delete here.shows.placed → (b : Result (Reply × Pages) Refusal) → (all_removed size here.found.first gone pages >>= (λ (done : Unit {0} × Pages). only (Ok (Count (length gone), done.1)))) b → IsRun size (Delete delete) snapshot pages (plain all) b
-    gone-law parts (Ok y) (done, removed, e) = subst (λ (r : Result (Reply × Pages) Refusal). IsRun size (Delete delete) snapshot pages (plain all) r) e made
+    gone-law : Parts (schema_at here.found) snapshot delete here.shows.placed → (b : Result (Reply × Pages) Refusal) → (all_removed size here.found.first gone pages >>= (λ (done : Unit {0} × Pages). only (Ok (Count (length gone), done.1)))) b → IsRunOver size (Delete delete) snapshot pages (plain all) b
+    gone-law parts (Ok y) (done, removed, e) = subst (λ (r : Result (Reply × Pages) Refusal). IsRunOver size (Delete delete) snapshot pages (plain all) r) e made
       where
-        leaves : Leaves size pages all (Removes delete.table numbers) done.1
+        leaves : LeavesWorked size pages all (Removes delete.table numbers) done.1
         leaves = worked-as (Ok done) removed
 
-        made : Done size (Delete delete) snapshot pages (plain all) (Count (length gone)) done.1
+        made : IsDoneOver size (Delete delete) snapshot pages (plain all) (Count (length gone)) done.1
         made = record {
           behind = plain (where_named delete.table (without_rows numbers) all);
           means = does-passed (Delete delete) snapshot (plain all) passes
@@ -128,15 +128,15 @@ module _ (size : ℕ) (pages : Pages) (all : PlainTables) (is : IsStoreOf size p
         inr (so.0, Some (Removes delete.table numbers), work-deletes delete snapshot (plain all) (found_as here) numbers (found-plain size pages delete.table is.store.found.tables all here) (ap (λ (rows : List NumberedRow). picked (row_numbers (schema_at here.found) snapshot delete) rows) (rows-under size pages here.found here.table here.shows) ∙ parts.numbers), so.1)
     gone-law parts (Err why) (inr (done, removed, e)) = differ _ why e
 
-    from-law : (b : Result (Reply × Pages) Refusal) → deleted_from size snapshot delete here.found pages b → IsRun size (Delete delete) snapshot pages (plain all) b
+    from-law : (b : Result (Reply × Pages) Refusal) → deleted_from size snapshot delete here.found pages b → IsRunOver size (Delete delete) snapshot pages (plain all) b
     from-law b h = parts (parted (schema_at here.found) snapshot delete here.shows.placed)
       where
         behind : (only (picked (placed_gone (schema_at here.found) snapshot delete) here.shows.placed) >>= (λ (gone : List Placed). all_removed size here.found.first gone pages >>= (λ (done : Unit {0} × Pages). only (Ok (Count (length gone), done.1))))) b
         behind = goes-on (rows_at size pages here.found) (λ (rows : List Placed). only (picked (placed_gone (schema_at here.found) snapshot delete) rows) >>= (λ (gone : List Placed). all_removed size here.found.first gone pages >>= (λ (done : Unit {0} × Pages). only (Ok (Count (length gone), done.1))))) here.shows.placed
             (rows-read size pages all here.table is (single-of size pages all is delete.table here)) b h
 
-        parts : PartsNot (schema_at here.found) snapshot delete here.shows.placed ⊎ Parts (schema_at here.found) snapshot delete here.shows.placed → IsRun size (Delete delete) snapshot pages (plain all) b
-        parts (inl none) = subst (λ (r : Result (Reply × Pages) Refusal). IsRun size (Delete delete) snapshot pages (plain all) r)
+        parts : PartsNot (schema_at here.found) snapshot delete here.shows.placed ⊎ Parts (schema_at here.found) snapshot delete here.shows.placed → IsRunOver size (Delete delete) snapshot pages (plain all) b
+        parts (inl none) = subst (λ (r : Result (Reply × Pages) Refusal). IsRunOver size (Delete delete) snapshot pages (plain all) r)
             (sym (ends-there (only (picked (placed_gone (schema_at here.found) snapshot delete) here.shows.placed)) (λ (gone : List Placed). all_removed size here.found.first gone pages >>= (λ (done : Unit {0} × Pages). only (Ok (Count (length gone), done.1)))) none.why
             (λ (a : Result (List Placed) Refusal) (e : picked (placed_gone (schema_at here.found) snapshot delete) here.shows.placed ≡ a). sym e ∙ none.gone) b behind))
             (inl (refused here none.why none.left))
@@ -144,11 +144,11 @@ module _ (size : ℕ) (pages : Pages) (all : PlainTables) (is : IsStoreOf size p
             (goes-on (only (picked (placed_gone (schema_at here.found) snapshot delete) here.shows.placed)) (λ (gone : List Placed). all_removed size here.found.first gone pages >>= (λ (done : Unit {0} × Pages). only (Ok (Count (length gone), done.1)))) gone
             (λ (a : Result (List Placed) Refusal) (e : picked (placed_gone (schema_at here.found) snapshot delete) here.shows.placed ≡ a). sym e ∙ some.gone) b behind)
 
-  pub delete-law : (b : Result (Reply × Pages) Refusal) → at_table is.store.found delete.table (λ (table : StoredTable). deleted_from size snapshot delete table pages) b → IsRun size (Delete delete) snapshot pages (plain all) b
+  pub delete-law : (b : Result (Reply × Pages) Refusal) → at_table is.store.found delete.table (λ (table : StoredTable). deleted_from size snapshot delete table pages) b → IsRunOver size (Delete delete) snapshot pages (plain all) b
   delete-law b h = found (by-name-here size pages all is delete.table)
     where
-      found : Missing delete.table is.store.found.tables all.tables ⊎ Here size pages delete.table is.store.found.tables all.tables → IsRun size (Delete delete) snapshot pages (plain all) b
-      found (inl none) = subst (λ (r : Result (Reply × Pages) Refusal). IsRun size (Delete delete) snapshot pages (plain all) r) (sym (table-missing is.store.found delete.table (λ (table : StoredTable). deleted_from size snapshot delete table pages) none.named b h))
+      found : Missing delete.table is.store.found.tables all.tables ⊎ Here size pages delete.table is.store.found.tables all.tables → IsRunOver size (Delete delete) snapshot pages (plain all) b
+      found (inl none) = subst (λ (r : Result (Reply × Pages) Refusal). IsRunOver size (Delete delete) snapshot pages (plain all) r) (sym (table-missing is.store.found delete.table (λ (table : StoredTable). deleted_from size snapshot delete table pages) none.named b h))
           (inl (does-passed (Delete delete) snapshot (plain all) passes ∙ performed-unknown delete.table (plain all) (λ (schema : TableSchema) (contents : Contents). remaining snapshot delete schema contents) (missing-plain delete.table is.store.found.tables all none)))
       found (inr here) = from-law here b (table-there is.store.found delete.table here.found (λ (table : StoredTable). deleted_from size snapshot delete table pages) here.named b h)
 

@@ -26,7 +26,7 @@ use Rattle.relation.specs.Work.{index_added, or_broken, table_in}
 use Rattle.relation.proofs.Steps.{next_step}
 use Rattle.relation_laws.specs.Laws.{HasColumn, IsStoreOf, with_index}
 use Rattle.relation_laws.specs.Tables.{PlainTables}
-use Rattle.relation_laws.specs.Work.{IsWorked, Leaves}
+use Rattle.relation_laws.specs.Work.{IsWorked, LeavesWorked}
 use Rattle.relation_laws.specs.Work.Work.{Indexes}
 use Rattle.relation_laws.proofs.Catalogs.{goes-on}
 use Rattle.relation_laws.proofs.Indexing.{ColumnAt, column-at, place-found}
@@ -34,7 +34,7 @@ use Rattle.relation_laws.proofs.Lists.{contains-cons, contains-head}
 use Rattle.relation_laws.proofs.Names.{name-is}
 use Rattle.relation_laws.proofs.Working.{work_law}
 use Rattle.sql_exec.specs.Asking.{schema_at}
-use Rattle.sql_exec.specs.Promises.{Done, IsRun}
+use Rattle.sql_exec.specs.Promises.{IsDoneOver, IsRunOver}
 use Rattle.sql_exec.specs.Running.{at_table, given, made_index}
 use Rattle.sql_exec.specs.Stored.{plain}
 use Rattle.sql_exec.proofs.Created.{new-name}
@@ -108,13 +108,13 @@ module _ (size : ℕ) (pages : Pages) (all : PlainTables) (is : IsStoreOf size p
         (next_step (only (or_broken (column_place create.column here.found.columns))) (λ (place : ℕ). index_added size create.index create.table place pages) at_column.place (ap (λ (p : Option ℕ). or_broken p) (place-found create.column here.found.columns at_column)) b
         (subst (λ (name : List ℕ). index_added size create.index name at_column.place pages b) (sym here.shows.name ∙ here.is_name) h)))
 
-    added-law : IsName create.index → (b : Result (Reply × Pages) Refusal) → (index_added size create.index here.found.name at_column.place pages >>= (λ (done : Unit {0} × Pages). only (Ok (Plain, done.1)))) b → IsRun size (CreateIndex create) snapshot pages (plain all) b
-    added-law named (Ok y) (done, added, e) = subst (λ (r : Result (Reply × Pages) Refusal). IsRun size (CreateIndex create) snapshot pages (plain all) r) e made
+    added-law : IsName create.index → (b : Result (Reply × Pages) Refusal) → (index_added size create.index here.found.name at_column.place pages >>= (λ (done : Unit {0} × Pages). only (Ok (Plain, done.1)))) b → IsRunOver size (CreateIndex create) snapshot pages (plain all) b
+    added-law named (Ok y) (done, added, e) = subst (λ (r : Result (Reply × Pages) Refusal). IsRunOver size (CreateIndex create) snapshot pages (plain all) r) e made
       where
-        leaves : Leaves size pages all (Indexes create.index create.table create.column) done.1
+        leaves : LeavesWorked size pages all (Indexes create.index create.table create.column) done.1
         leaves = worked-as named (Ok done) added
 
-        made : Done size (CreateIndex create) snapshot pages (plain all) Plain done.1
+        made : IsDoneOver size (CreateIndex create) snapshot pages (plain all) Plain done.1
         made = record {
           behind = plain (with_index (record { name = create.index; table = create.table; column = create.column }) all);
           means = does-passed (CreateIndex create) snapshot (plain all) passes;
@@ -128,15 +128,15 @@ module _ (size : ℕ) (pages : Pages) (all : PlainTables) (is : IsStoreOf size p
         inr (refused.0, Some (Indexes create.index create.table create.column), refl, refused.1)
     added-law named (Err why) (inr (done, added, e)) = differ _ why e
 
-    made-law : (b : Result (Reply × Pages) Refusal) → (given (IsName create.index) >>= (λ (u : Unit {0}). index_added size create.index here.found.name at_column.place pages >>= (λ (done : Unit {0} × Pages). only (Ok (Plain, done.1))))) b → IsRun size (CreateIndex create) snapshot pages (plain all) b
+    made-law : (b : Result (Reply × Pages) Refusal) → (given (IsName create.index) >>= (λ (u : Unit {0}). index_added size create.index here.found.name at_column.place pages >>= (λ (done : Unit {0} × Pages). only (Ok (Plain, done.1))))) b → IsRunOver size (CreateIndex create) snapshot pages (plain all) b
     made-law (Ok y) (u, named, h) = added-law named (Ok y) h
     made-law (Err why) (inl none) = absurd none
     made-law (Err why) (inr (u, named, h)) = added-law named (Err why) h
 
-  pub index-law : (b : Result (Reply × Pages) Refusal) → at_table is.store.found create.table (λ (table : StoredTable). made_index size create table pages) b → IsRun size (CreateIndex create) snapshot pages (plain all) b
+  pub index-law : (b : Result (Reply × Pages) Refusal) → at_table is.store.found create.table (λ (table : StoredTable). made_index size create table pages) b → IsRunOver size (CreateIndex create) snapshot pages (plain all) b
   index-law b h = found (by-name-here size pages all is create.table)
     where
-      found : Missing create.table is.store.found.tables all.tables ⊎ Here size pages create.table is.store.found.tables all.tables → IsRun size (CreateIndex create) snapshot pages (plain all) b
+      found : Missing create.table is.store.found.tables all.tables ⊎ Here size pages create.table is.store.found.tables all.tables → IsRunOver size (CreateIndex create) snapshot pages (plain all) b
       found (inl none) = clash (lacks-not None (missing-in create.table is.store.found.tables none.named))
       found (inr here) = made-law here b
           (goes-on (only (known (column_place create.column here.found.columns))) (λ (place : ℕ). given (IsName create.index) >>= (λ (u : Unit {0}). index_added size create.index here.found.name place pages >>= (λ (done : Unit {0} × Pages). only (Ok (Plain, done.1))))) (at_column here).place

@@ -34,12 +34,12 @@ use Rattle.relation.specs.Work.{all_added, or_broken, table_in}
 use Rattle.relation.proofs.Steps.{next_step}
 use Rattle.relation_laws.specs.Laws.{IsRowFor, IsStoreOf, with_rows}
 use Rattle.relation_laws.specs.Tables.{PlainTable, PlainTables, numbered as numbered_pairs}
-use Rattle.relation_laws.specs.Work.{IsWorked, Leaves, where_named}
+use Rattle.relation_laws.specs.Work.{IsWorked, LeavesWorked, where_named}
 use Rattle.relation_laws.specs.Work.Work.{Inserts}
 use Rattle.relation_laws.proofs.Catalogs.{goes-on}
 use Rattle.relation_laws.proofs.Singling.{read-here}
 use Rattle.relation_laws.proofs.Working.{work_law}
-use Rattle.sql_exec.specs.Promises.{Done, IsRun}
+use Rattle.sql_exec.specs.Promises.{IsDoneOver, IsRunOver}
 use Rattle.sql_exec.specs.Running.{at_table, given, inserted_into}
 use Rattle.sql_exec.specs.Stored.{contents_of, plain, row_under}
 use Rattle.sql_exec.proofs.Fitting.{each-fits, tuples-fit}
@@ -99,13 +99,13 @@ module _ (size : ℕ) (pages : Pages) (all : PlainTables) (is : IsStoreOf size p
       (next_step (table_in size pages insert.table) (λ (t : StoredTable). all_added size t.first insert.tuples pages) here.found (table-by-name size pages all is insert.table here) b h)
 
   added-law : (here : Here size pages insert.table is.store.found.tables all.tables) → here.table.next_number + length insert.tuples ≤ 2 ^ 64 - 1 → check_lengths insert.tuples ≡ Ok tt → AllByRecursion IsRow insert.tuples
-      → (b : Result (Reply × Pages) Refusal) → (all_added size here.found.first insert.tuples pages >>= (λ (done : Unit {0} × Pages). only (Ok (Count (length insert.tuples), done.1)))) b → IsRun size (Insert insert) snapshot pages (plain all) b
-  added-law here room short lawful (Ok y) (done, added, e) = subst (λ (r : Result (Reply × Pages) Refusal). IsRun size (Insert insert) snapshot pages (plain all) r) e made
+      → (b : Result (Reply × Pages) Refusal) → (all_added size here.found.first insert.tuples pages >>= (λ (done : Unit {0} × Pages). only (Ok (Count (length insert.tuples), done.1)))) b → IsRunOver size (Insert insert) snapshot pages (plain all) b
+  added-law here room short lawful (Ok y) (done, added, e) = subst (λ (r : Result (Reply × Pages) Refusal). IsRunOver size (Insert insert) snapshot pages (plain all) r) e made
     where
-      leaves : Leaves size pages all (Inserts insert.table insert.tuples) done.1
+      leaves : LeavesWorked size pages all (Inserts insert.table insert.tuples) done.1
       leaves = worked-as here room short lawful (Ok done) added
 
-      made : Done size (Insert insert) snapshot pages (plain all) (Count (length insert.tuples)) done.1
+      made : IsDoneOver size (Insert insert) snapshot pages (plain all) (Count (length insert.tuples)) done.1
       made = record {
         behind = plain (where_named insert.table (with_rows insert.tuples) all);
         means = does-passed (Insert insert) snapshot (plain all) passes
@@ -122,7 +122,7 @@ module _ (size : ℕ) (pages : Pages) (all : PlainTables) (is : IsStoreOf size p
       inr (refused_so.0, Some (Inserts insert.table insert.tuples), refl, refused_so.1)
   added-law here room short lawful (Err why) (inr (done, added, e)) = differ _ why e
 
-  into-law : (here : Here size pages insert.table is.store.found.tables all.tables) (b : Result (Reply × Pages) Refusal) → inserted_into size insert.tuples here.found pages b → IsRun size (Insert insert) snapshot pages (plain all) b
+  into-law : (here : Here size pages insert.table is.store.found.tables all.tables) (b : Result (Reply × Pages) Refusal) → inserted_into size insert.tuples here.found pages b → IsRunOver size (Insert insert) snapshot pages (plain all) b
   into-law here b h = room (nat_le (here.table.next_number + length insert.tuples) (2 ^ 64 - 1)) refl
     where
       behind : (only (inserted insert.tuples (record { next = here.table.next_number; rows = [] })) >>= (λ (after : Contents × ℕ). given (AllByRecursion IsRow insert.tuples) >>= (λ (u : Unit {0}). all_added size here.found.first insert.tuples pages >>= (λ (done : Unit {0} × Pages). only (Ok (Count after.1, done.1)))))) b
@@ -133,15 +133,15 @@ module _ (size : ℕ) (pages : Pages) (all : PlainTables) (is : IsStoreOf size p
       stops why gives = ends-there (only (inserted insert.tuples (record { next = here.table.next_number; rows = [] }))) (λ (after : Contents × ℕ). given (AllByRecursion IsRow insert.tuples) >>= (λ (u : Unit {0}). all_added size here.found.first insert.tuples pages >>= (λ (done : Unit {0} × Pages). only (Ok (Count after.1, done.1))))) why
           (λ (a : Result (Contents × ℕ) Refusal) (e : inserted insert.tuples (record { next = here.table.next_number; rows = [] }) ≡ a). sym e ∙ gives) b behind
 
-      out : (why : Refusal) → inserted insert.tuples (record { next = here.table.next_number; rows = [] }) ≡ Err why → inserted insert.tuples (contents_of here.table) ≡ Err why → IsRun size (Insert insert) snapshot pages (plain all) b
-      out why gives means = subst (λ (r : Result (Reply × Pages) Refusal). IsRun size (Insert insert) snapshot pages (plain all) r) (sym (stops why gives)) (inl (refused here why means))
+      out : (why : Refusal) → inserted insert.tuples (record { next = here.table.next_number; rows = [] }) ≡ Err why → inserted insert.tuples (contents_of here.table) ≡ Err why → IsRunOver size (Insert insert) snapshot pages (plain all) b
+      out why gives means = subst (λ (r : Result (Reply × Pages) Refusal). IsRunOver size (Insert insert) snapshot pages (plain all) r) (sym (stops why gives)) (inl (refused here why means))
 
-      lawfully : here.table.next_number + length insert.tuples ≤ 2 ^ 64 - 1 → check_lengths insert.tuples ≡ Ok tt → (r : Result (Reply × Pages) Refusal) → (given (AllByRecursion IsRow insert.tuples) >>= (λ (u : Unit {0}). all_added size here.found.first insert.tuples pages >>= (λ (done : Unit {0} × Pages). only (Ok (Count (length insert.tuples), done.1))))) r → IsRun size (Insert insert) snapshot pages (plain all) r
+      lawfully : here.table.next_number + length insert.tuples ≤ 2 ^ 64 - 1 → check_lengths insert.tuples ≡ Ok tt → (r : Result (Reply × Pages) Refusal) → (given (AllByRecursion IsRow insert.tuples) >>= (λ (u : Unit {0}). all_added size here.found.first insert.tuples pages >>= (λ (done : Unit {0} × Pages). only (Ok (Count (length insert.tuples), done.1))))) r → IsRunOver size (Insert insert) snapshot pages (plain all) r
       lawfully fit short (Ok y) (u, lawful, added) = added-law here fit short lawful (Ok y) added
       lawfully fit short (Err why) (inl none) = absurd none
       lawfully fit short (Err why) (inr (u, lawful, added)) = added-law here fit short lawful (Err why) added
 
-      lengths : nat_le (here.table.next_number + length insert.tuples) (2 ^ 64 - 1) ≡ true → (r : Result (Unit {0}) Refusal) → check_lengths insert.tuples ≡ r → IsRun size (Insert insert) snapshot pages (plain all) b
+      lengths : nat_le (here.table.next_number + length insert.tuples) (2 ^ 64 - 1) ≡ true → (r : Result (Unit {0}) Refusal) → check_lengths insert.tuples ≡ r → IsRunOver size (Insert insert) snapshot pages (plain all) b
       lengths fit (Err why) long = out why (inserted-long insert.tuples (record { next = here.table.next_number; rows = [] }) why fit long) (inserted-long insert.tuples (contents_of here.table) why fit long)
       lengths fit (Ok tt) short =
           let small : here.table.next_number + length insert.tuples ≤ 2 ^ 64 - 1 = leb-true (here.table.next_number + length insert.tuples) (2 ^ 64 - 1) fit in
@@ -150,15 +150,15 @@ module _ (size : ℕ) (pages : Pages) (all : PlainTables) (is : IsStoreOf size p
           (record { next = here.table.next_number + length insert.tuples; rows = [] ++ numbered here.table.next_number insert.tuples }, length insert.tuples)
           (λ (a : Result (Contents × ℕ) Refusal) (e : inserted insert.tuples (record { next = here.table.next_number; rows = [] }) ≡ a). sym e ∙ inserted-passes insert.tuples (record { next = here.table.next_number; rows = [] }) small short) b behind)
 
-      room : (fit : Bool) → nat_le (here.table.next_number + length insert.tuples) (2 ^ 64 - 1) ≡ fit → IsRun size (Insert insert) snapshot pages (plain all) b
+      room : (fit : Bool) → nat_le (here.table.next_number + length insert.tuples) (2 ^ 64 - 1) ≡ fit → IsRunOver size (Insert insert) snapshot pages (plain all) b
       room false over = out Overflow (inserted-over insert.tuples (record { next = here.table.next_number; rows = [] }) over) (inserted-over insert.tuples (contents_of here.table) over)
       room true fit = lengths fit (check_lengths insert.tuples) refl
 
-  pub insert-law : (b : Result (Reply × Pages) Refusal) → at_table is.store.found insert.table (λ (table : StoredTable). inserted_into size insert.tuples table pages) b → IsRun size (Insert insert) snapshot pages (plain all) b
+  pub insert-law : (b : Result (Reply × Pages) Refusal) → at_table is.store.found insert.table (λ (table : StoredTable). inserted_into size insert.tuples table pages) b → IsRunOver size (Insert insert) snapshot pages (plain all) b
   insert-law b h = found (by-name-here size pages all is insert.table)
     where
-      found : Missing insert.table is.store.found.tables all.tables ⊎ Here size pages insert.table is.store.found.tables all.tables → IsRun size (Insert insert) snapshot pages (plain all) b
-      found (inl none) = subst (λ (r : Result (Reply × Pages) Refusal). IsRun size (Insert insert) snapshot pages (plain all) r) (sym (table-missing is.store.found insert.table (λ (table : StoredTable). inserted_into size insert.tuples table pages) none.named b h))
+      found : Missing insert.table is.store.found.tables all.tables ⊎ Here size pages insert.table is.store.found.tables all.tables → IsRunOver size (Insert insert) snapshot pages (plain all) b
+      found (inl none) = subst (λ (r : Result (Reply × Pages) Refusal). IsRunOver size (Insert insert) snapshot pages (plain all) r) (sym (table-missing is.store.found insert.table (λ (table : StoredTable). inserted_into size insert.tuples table pages) none.named b h))
           (inl (does-passed (Insert insert) snapshot (plain all) passes ∙ performed-unknown insert.table (plain all) (λ (schema : TableSchema) (contents : Contents). inserted insert.tuples contents) (missing-plain insert.table is.store.found.tables all none)))
       found (inr here) = into-law here b (table-there is.store.found insert.table here.found (λ (table : StoredTable). inserted_into size insert.tuples table pages) here.named b h)
 

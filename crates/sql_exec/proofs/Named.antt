@@ -16,7 +16,7 @@ use Rattle.relation.specs.declared.catalog.StoredTable.{StoredTable}
 use Rattle.relation.specs.Catalog.{schema_of, table_named}
 use Rattle.values.specs.Name.{same_name}
 use Rattle.relation_laws.specs.Laws.{IsStoreOf, without_contents}
-use Rattle.relation_laws.specs.Tables.{AreDifferent, PlainTable, PlainTables, Shows, names_of, numbered_row}
+use Rattle.relation_laws.specs.Tables.{AreDifferent, PlainTable, PlainTables, ShowsTable, names_of, numbered_row}
 use Rattle.relation_laws.specs.Work.{where_named}
 use Rattle.relation_laws.proofs.Lists.{contains-cons, contains-head, different-split}
 use Rattle.relation_laws.proofs.Names.{name-is}
@@ -33,7 +33,7 @@ abbrev pub at_name : List ℕ → (PlainTable → PlainTable) → PlainTable →
 at_name name becomes table = cond (same_name table.name name) (becomes table) table
 
 -- where no other table has the name, they stay
-others-stay : (size : ℕ) (pages : Pages) (name : List ℕ) (stored : List StoredTable) (tables : List PlainTable) (becomes : PlainTable → PlainTable) → AllByRecursion (λ (other : List ℕ). other ≢ name) (names_of stored) → AllZip (Shows size pages) stored tables → map (at_name name becomes) tables ≡ tables
+others-stay : (size : ℕ) (pages : Pages) (name : List ℕ) (stored : List StoredTable) (tables : List PlainTable) (becomes : PlainTable → PlainTable) → AllByRecursion (λ (other : List ℕ). other ≢ name) (names_of stored) → AllZip (ShowsTable size pages) stored tables → map (at_name name becomes) tables ≡ tables
 others-stay size pages name [] [] becomes apart all = refl
 others-stay size pages name [] (t ∷ ts) becomes apart all = absurd all
 others-stay size pages name (s ∷ ss) [] becomes apart all = absurd all
@@ -54,7 +54,7 @@ pub record Here (size : ℕ) (pages : Pages) (name : List ℕ) (stored : List St
   pub contents : slice_get (map contents_of tables) place ≡ Some (contents_of table)
   pub in_catalog : Contains stored found
   pub has : Contains tables table
-  pub shows : Shows size pages found table
+  pub shows : ShowsTable size pages found table
   pub is_name : table.name ≡ name
   pub set : (becomes : PlainTable → PlainTable) → slice_set (map contents_of tables) place (contents_of (becomes table)) ≡ map contents_of (map (at_name name becomes) tables)
 
@@ -63,7 +63,7 @@ pub record Missing (name : List ℕ) (stored : List StoredTable) (tables : List 
   pub named : table_named name stored ≡ None
   pub placed : (i : ℕ) → position_from (has_name name) i (map without_contents tables) ≡ None
 
-pub by-name : (size : ℕ) (pages : Pages) (name : List ℕ) (stored : List StoredTable) (tables : List PlainTable) → AreDifferent (names_of stored) → AllZip (Shows size pages) stored tables → Missing name stored tables ⊎ Here size pages name stored tables
+pub by-name : (size : ℕ) (pages : Pages) (name : List ℕ) (stored : List StoredTable) (tables : List PlainTable) → AreDifferent (names_of stored) → AllZip (ShowsTable size pages) stored tables → Missing name stored tables ⊎ Here size pages name stored tables
 by-name size pages name [] [] apart all = inl (record { named = refl; placed = λ i. refl })
 by-name size pages name [] (t ∷ ts) apart all = absurd all
 by-name size pages name (s ∷ ss) [] apart all = absurd all
@@ -124,7 +124,7 @@ missing-plain name stored all none =
     rw place refl
 
 -- the catalog without pages is the schema of the tables
-schemas : (size : ℕ) (pages : Pages) (stored : List StoredTable) (tables : List PlainTable) → AllZip (Shows size pages) stored tables → map schema_at stored ≡ map without_contents tables
+schemas : (size : ℕ) (pages : Pages) (stored : List StoredTable) (tables : List PlainTable) → AllZip (ShowsTable size pages) stored tables → map schema_at stored ≡ map without_contents tables
 schemas size pages [] [] all = refl
 schemas size pages [] (t ∷ ts) all = absurd all
 schemas size pages (s ∷ ss) [] all = absurd all
@@ -146,7 +146,7 @@ pub rows-same : (rows : List Placed) → rows_of (map row_under (map numbered_ro
 rows-same [] = refl
 rows-same (row ∷ rows) = ap (λ (rest : List (List Value)). row.row ∷ rest) (rows-same rows)
 
-pub rows-here : (size : ℕ) (pages : Pages) (found : StoredTable) (table : PlainTable) (shows : Shows size pages found table) → rows_of (contents_of table).rows ≡ map (λ (placed : Placed). placed.row) shows.placed
+pub rows-here : (size : ℕ) (pages : Pages) (found : StoredTable) (table : PlainTable) (shows : ShowsTable size pages found table) → rows_of (contents_of table).rows ≡ map (λ (placed : Placed). placed.row) shows.placed
 rows-here size pages found table shows = ap (λ (rows : List (ℕ × List Value)). rows_of (map row_under rows)) shows.rows ∙ rows-same shows.placed
 
 abbrev pub single-of : (size : ℕ) (pages : Pages) (all : PlainTables) (is : IsStoreOf size pages all) (name : List ℕ) (here : Here size pages name is.store.found.tables all.tables) → Single size pages all here.table is
@@ -175,5 +175,5 @@ pub unders : (rows : List Placed) → map row_under (map numbered_row rows) ≡ 
 unders [] = refl
 unders (row ∷ rows) = ap (λ (rest : List NumberedRow). numbered_at row ∷ rest) (unders rows)
 
-pub rows-under : (size : ℕ) (pages : Pages) (found : StoredTable) (table : PlainTable) (shows : Shows size pages found table) → (contents_of table).rows ≡ map numbered_at shows.placed
+pub rows-under : (size : ℕ) (pages : Pages) (found : StoredTable) (table : PlainTable) (shows : ShowsTable size pages found table) → (contents_of table).rows ≡ map numbered_at shows.placed
 rows-under size pages found table shows = ap (λ (rows : List (ℕ × List Value)). map row_under rows) shows.rows ∙ unders shows.placed

@@ -20,7 +20,7 @@ use Rattle.relation_laws.specs.Laws.{IsStoreOf}
 use Rattle.relation_laws.specs.Tables.{PlainTables}
 use Rattle.relation_laws.proofs.Catalogs.{goes-on}
 use Rattle.sql_exec.specs.Asking.{answered, opened}
-use Rattle.sql_exec.specs.Promises.{IsRun, Runs}
+use Rattle.sql_exec.specs.Promises.{IsRunOver, Runs}
 use Rattle.sql_exec.specs.Running.{done_on, ran}
 use Rattle.sql_exec.specs.Stored.{IsStored, plain}
 use Rattle.sql_exec.proofs.Asked.{answer-law, opened-err, opened-ok}
@@ -34,8 +34,8 @@ use Rattle.sql_exec.proofs.Updated.{update-law}
 use Rattle.sql_exec.proofs.Steps.{ends-there}
 
 select-law : (size : ℕ) (pages : Pages) (all : PlainTables) (is : IsStoreOf size pages all) (query : SelectRecord) (snapshot : Option ℕ) → checked (Select query) snapshot (plain all).schema ≡ Ok tt → (b : Result (Reply × Pages) Refusal)
-    → (answered size is.store.found query snapshot pages >>= (λ (answer : Answer). only (Ok (Rows answer, pages)))) b → IsRun size (Select query) snapshot pages (plain all) b
-select-law size pages all is query snapshot passes (Ok y) (answer, told, e) = subst (λ (r : Result (Reply × Pages) Refusal). IsRun size (Select query) snapshot pages (plain all) r) e (record {
+    → (answered size is.store.found query snapshot pages >>= (λ (answer : Answer). only (Ok (Rows answer, pages)))) b → IsRunOver size (Select query) snapshot pages (plain all) b
+select-law size pages all is query snapshot passes (Ok y) (answer, told, e) = subst (λ (r : Result (Reply × Pages) Refusal). IsRunOver size (Select query) snapshot pages (plain all) r) e (record {
   behind = plain all;
   means = does-passed (Select query) snapshot (plain all) passes ∙ selected-ok query snapshot (plain all) answer (answer-law size pages all is query snapshot (Ok answer) told);
   stored = record { all = all; store = is; same = refl };
@@ -47,7 +47,7 @@ select-law size pages all is query snapshot passes (Err why) (inl refused) = inl
 select-law size pages all is query snapshot passes (Err why) (inr (answer, told, e)) = differ _ why e
 
 -- a statement that was checked
-done-law : (size : ℕ) (pages : Pages) (all : PlainTables) (is : IsStoreOf size pages all) (statement : Statement) (snapshot : Option ℕ) → IsStatement statement → checked statement snapshot (plain all).schema ≡ Ok tt → (b : Result (Reply × Pages) Refusal) → done_on size is.store.found statement snapshot pages b → IsRun size statement snapshot pages (plain all) b
+done-law : (size : ℕ) (pages : Pages) (all : PlainTables) (is : IsStoreOf size pages all) (statement : Statement) (snapshot : Option ℕ) → IsStatement statement → checked statement snapshot (plain all).schema ≡ Ok tt → (b : Result (Reply × Pages) Refusal) → done_on size is.store.found statement snapshot pages b → IsRunOver size statement snapshot pages (plain all) b
 done-law size pages all is (CreateTable create) snapshot limits passes b h = create-law size pages all is create snapshot limits passes b h
 done-law size pages all is (CreateIndex create) snapshot limits passes b h = index-law size pages all is create snapshot passes b h
 done-law size pages all is (Insert insert) snapshot limits passes b h = insert-law size pages all is insert snapshot passes b h
@@ -55,12 +55,12 @@ done-law size pages all is (Update update) snapshot limits passes b h = update-l
 done-law size pages all is (Delete delete) snapshot limits passes b h = delete-law size pages all is delete snapshot passes b h
 done-law size pages all is (Select query) snapshot limits passes b h = select-law size pages all is query snapshot passes b h
 
-pub ran-law : (size : ℕ) (pages : Pages) (all : PlainTables) (is : IsStoreOf size pages all) (statement : Statement) (snapshot : Option ℕ) → IsStatement statement → (b : Result (Reply × Pages) Refusal) → ran size statement snapshot pages b → IsRun size statement snapshot pages (plain all) b
+pub ran-law : (size : ℕ) (pages : Pages) (all : PlainTables) (is : IsStoreOf size pages all) (statement : Statement) (snapshot : Option ℕ) → IsStatement statement → (b : Result (Reply × Pages) Refusal) → ran size statement snapshot pages b → IsRunOver size statement snapshot pages (plain all) b
 ran-law size pages all is statement snapshot limits b h = go (checked statement snapshot (plain all).schema) refl
   where
-    go : (r : Result (Unit {0}) Refusal) → checked statement snapshot (plain all).schema ≡ r → IsRun size statement snapshot pages (plain all) b
+    go : (r : Result (Unit {0}) Refusal) → checked statement snapshot (plain all).schema ≡ r → IsRunOver size statement snapshot pages (plain all) b
     go (Ok tt) passes = done-law size pages all is statement snapshot limits passes b (goes-on (opened size statement snapshot pages) (λ (c : Catalog). done_on size c statement snapshot pages) is.store.found (opened-ok size pages all is statement snapshot passes) b h)
-    go (Err why) refuses = subst (λ (r : Result (Reply × Pages) Refusal). IsRun size statement snapshot pages (plain all) r)
+    go (Err why) refuses = subst (λ (r : Result (Reply × Pages) Refusal). IsRunOver size statement snapshot pages (plain all) r)
         (sym (ends-there (opened size statement snapshot pages) (λ (c : Catalog). done_on size c statement snapshot pages) why (opened-err size pages all is statement snapshot why refuses) b h))
         (inl (does-refused statement snapshot (plain all) why refuses))
 
@@ -71,8 +71,8 @@ runs-of size statement snapshot before after result limits makes = record {
       let made = makes base now told in (
         made.0,
         made.1,
-        λ (tables : Tables) (stored : IsStored size made.0 tables). leaves-then (λ (reply : Reply). reply) (ran size statement snapshot made.0) (IsRun size statement snapshot made.0 tables) made.0 now
-            (λ b h. subst (λ (t : Tables). IsRun size statement snapshot made.0 t b) (sym stored.same) (ran-law size made.0 stored.all stored.store statement snapshot limits b h)) result made.2,
+        λ (tables : Tables) (stored : IsStored size made.0 tables). leaves-then (λ (reply : Reply). reply) (ran size statement snapshot made.0) (IsRunOver size statement snapshot made.0 tables) made.0 now
+            (λ b h. subst (λ (t : Tables). IsRunOver size statement snapshot made.0 t b) (sym stored.same) (ran-law size made.0 stored.all stored.store statement snapshot limits b h)) result made.2,
       );
   over_pages = makes;
 }

@@ -20,7 +20,7 @@ use Rattle.pager.specs.Pages.{Pages}
 use Rattle.heap_file.specs.declared.chain.Link.{Link}
 use Rattle.heap_file.specs.declared.chain.Placed.{Placed}
 use Rattle.heap_file.specs.declared.page.Entry.{Entry}
-use Rattle.heap_file.specs.Chain.{Leads, rows_of as chain_rows, rows_on, scanned}
+use Rattle.heap_file.specs.Chain.{IsWay, rows_of as chain_rows, rows_on, scanned}
 use Rattle.heap_file.specs.HeapPage.{IsEntry, IsShort}
 use Rattle.heap_laws.proofs.Stores.{all-join}
 use Rattle.heap_laws.specs.Table.{IsStorable}
@@ -75,7 +75,7 @@ entries-short : (page : ℕ) (entries : List Entry) → AllByRecursion IsEntry e
 entries-short page [] all = tt
 entries-short page (entry ∷ entries) all = (omega (arith, row_size entry.number entry.row, all.0.short), entries-short page entries all.1)
 
-links-short : (size : ℕ) (pages : Pages) (from to : ℕ) (links : List Link) → Leads size pages from links to → AllByRecursion (λ (placed : Placed). row_bytes placed.row ≤ 900) (chain_rows links)
+links-short : (size : ℕ) (pages : Pages) (from to : ℕ) (links : List Link) → IsWay size pages from links to → AllByRecursion (λ (placed : Placed). row_bytes placed.row ≤ 900) (chain_rows links)
 links-short size pages from to [] leads = tt
 links-short size pages from to (link ∷ links) leads = rw (flat_map-cons rows_on link links) (all-join (λ (placed : Placed). row_bytes placed.row ≤ 900) (rows_on link) (flat_map rows_on links) (entries-short link.page link.held.entries leads.1.holds.lawful) (links-short size pages link.held.next to links leads.2))
 

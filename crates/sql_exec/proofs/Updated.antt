@@ -33,7 +33,7 @@ use Rattle.relation.specs.Each.{in_turn}
 use Rattle.relation.proofs.Steps.{next_step}
 use Rattle.relation_laws.specs.Laws.{AreChangesOf, IsRowFor, IsStoreOf, changed_to, with_changes}
 use Rattle.relation_laws.specs.Tables.{AreDifferent, PlainTable, PlainTables, numbered_row}
-use Rattle.relation_laws.specs.Work.{IsWorked, Leaves, where_named}
+use Rattle.relation_laws.specs.Work.{IsWorked, LeavesWorked, where_named}
 use Rattle.relation_laws.specs.Work.Work.{Changes}
 use Rattle.relation_laws.proofs.Catalogs.{goes-on}
 use Rattle.relation_laws.proofs.Placing.{placed_law}
@@ -41,7 +41,7 @@ use Rattle.relation_laws.proofs.Singling.{rows-here, rows-read}
 use Rattle.relation_laws.proofs.Working.{work_law}
 use Rattle.sql_exec.specs.Asking.{schema_at}
 use Rattle.sql_exec.specs.Planning.{picked, row_changes, work_of}
-use Rattle.sql_exec.specs.Promises.{Done, IsRun}
+use Rattle.sql_exec.specs.Promises.{IsDoneOver, IsRunOver}
 use Rattle.sql_exec.specs.Running.{IsOfWidth, at_table, given, numbered_at, placed_changes, updated_in, values_of}
 use Rattle.sql_exec.specs.Stored.{contents_of, plain, row_under}
 use Rattle.sql_exec.proofs.Answering.{few-named}
@@ -153,13 +153,13 @@ module _ (size : ℕ) (pages : Pages) (all : PlainTables) (is : IsStoreOf size p
     works = work-updates update snapshot (plain all) (found_as here) pairs (found-plain size pages update.table is.store.found.tables all here)
         (ap (λ (rows : List NumberedRow). picked (row_changes (schema_at here.found) snapshot update) rows) (rows-under size pages here.found here.table here.shows) ∙ sets.numbered)
 
-    changed-law : check_lengths (values_of changed) ≡ Ok tt → AllByRecursion IsRow (values_of changed) → (b : Result (Reply × Pages) Refusal) → (all_changed size here.found.first changed pages >>= (λ (done : Unit {0} × Pages). only (Ok (Count (length changed), done.1)))) b → IsRun size (Update update) snapshot pages (plain all) b
-    changed-law short lawful (Ok y) (done, changes, e) = subst (λ (r : Result (Reply × Pages) Refusal). IsRun size (Update update) snapshot pages (plain all) r) e made
+    changed-law : check_lengths (values_of changed) ≡ Ok tt → AllByRecursion IsRow (values_of changed) → (b : Result (Reply × Pages) Refusal) → (all_changed size here.found.first changed pages >>= (λ (done : Unit {0} × Pages). only (Ok (Count (length changed), done.1)))) b → IsRunOver size (Update update) snapshot pages (plain all) b
+    changed-law short lawful (Ok y) (done, changes, e) = subst (λ (r : Result (Reply × Pages) Refusal). IsRunOver size (Update update) snapshot pages (plain all) r) e made
       where
-        leaves : Leaves size pages all (Changes update.table pairs) done.1
+        leaves : LeavesWorked size pages all (Changes update.table pairs) done.1
         leaves = worked-as short lawful (Ok done) changes
 
-        made : Done size (Update update) snapshot pages (plain all) (Count (length changed)) done.1
+        made : IsDoneOver size (Update update) snapshot pages (plain all) (Count (length changed)) done.1
         made = record {
           behind = plain (where_named update.table (with_changes pairs) all);
           means = does-passed (Update update) snapshot (plain all) passes
@@ -177,26 +177,26 @@ module _ (size : ℕ) (pages : Pages) (all : PlainTables) (is : IsStoreOf size p
         inr (so.0, Some (Changes update.table pairs), works, so.1)
     changed-law short lawful (Err why) (inr (done, changes, e)) = differ _ why e
 
-    given-law : check_lengths (values_of changed) ≡ Ok tt → (b : Result (Reply × Pages) Refusal) → (given (AllByRecursion IsRow (values_of changed)) >>= (λ (u : Unit {0}). all_changed size here.found.first changed pages >>= (λ (done : Unit {0} × Pages). only (Ok (Count (length changed), done.1))))) b → IsRun size (Update update) snapshot pages (plain all) b
+    given-law : check_lengths (values_of changed) ≡ Ok tt → (b : Result (Reply × Pages) Refusal) → (given (AllByRecursion IsRow (values_of changed)) >>= (λ (u : Unit {0}). all_changed size here.found.first changed pages >>= (λ (done : Unit {0} × Pages). only (Ok (Count (length changed), done.1))))) b → IsRunOver size (Update update) snapshot pages (plain all) b
     given-law short (Ok y) (u, lawful, h) = changed-law short lawful (Ok y) h
     given-law short (Err why) (inl none) = absurd none
     given-law short (Err why) (inr (u, lawful, h)) = changed-law short lawful (Err why) h
 
-    short-law : (r : Result (Unit {0}) Refusal) → check_lengths (values_of changed) ≡ r → (b : Result (Reply × Pages) Refusal) → (only (check_lengths (values_of changed)) >>= (λ (v : Unit {0}). given (AllByRecursion IsRow (values_of changed)) >>= (λ (u : Unit {0}). all_changed size here.found.first changed pages >>= (λ (done : Unit {0} × Pages). only (Ok (Count (length changed), done.1)))))) b → IsRun size (Update update) snapshot pages (plain all) b
+    short-law : (r : Result (Unit {0}) Refusal) → check_lengths (values_of changed) ≡ r → (b : Result (Reply × Pages) Refusal) → (only (check_lengths (values_of changed)) >>= (λ (v : Unit {0}). given (AllByRecursion IsRow (values_of changed)) >>= (λ (u : Unit {0}). all_changed size here.found.first changed pages >>= (λ (done : Unit {0} × Pages). only (Ok (Count (length changed), done.1)))))) b → IsRunOver size (Update update) snapshot pages (plain all) b
     short-law (Ok tt) short b h = given-law short b (goes-on (only (check_lengths (values_of changed))) (λ (v : Unit {0}). given (AllByRecursion IsRow (values_of changed)) >>= (λ (u : Unit {0}). all_changed size here.found.first changed pages >>= (λ (done : Unit {0} × Pages). only (Ok (Count (length changed), done.1))))) tt (λ (a : Result (Unit {0}) Refusal) (e : check_lengths (values_of changed) ≡ a). sym e ∙ short) b h)
-    short-law (Err why) long b h = subst (λ (r : Result (Reply × Pages) Refusal). IsRun size (Update update) snapshot pages (plain all) r)
+    short-law (Err why) long b h = subst (λ (r : Result (Reply × Pages) Refusal). IsRunOver size (Update update) snapshot pages (plain all) r)
         (sym (ends-there (only (check_lengths (values_of changed))) (λ (v : Unit {0}). given (AllByRecursion IsRow (values_of changed)) >>= (λ (u : Unit {0}). all_changed size here.found.first changed pages >>= (λ (done : Unit {0} × Pages). only (Ok (Count (length changed), done.1))))) why (λ (a : Result (Unit {0}) Refusal) (e : check_lengths (values_of changed) ≡ a). sym e ∙ long) b h))
         (inl (means-err here why (updated-long snapshot update (schema_at here.found) (contents_of here.table) (afterwards, length changed) why reworks (lengths ∙ long))))
 
-  in-law : (here : Here size pages update.table is.store.found.tables all.tables) (b : Result (Reply × Pages) Refusal) → updated_in size snapshot update here.found pages b → IsRun size (Update update) snapshot pages (plain all) b
+  in-law : (here : Here size pages update.table is.store.found.tables all.tables) (b : Result (Reply × Pages) Refusal) → updated_in size snapshot update here.found pages b → IsRunOver size (Update update) snapshot pages (plain all) b
   in-law here b h = parts (set-all (schema_at here.found) snapshot update here.shows.placed)
     where
       behind : (only (picked (placed_changes (schema_at here.found) snapshot update) here.shows.placed) >>= (λ (changes : List Placed). only (check_lengths (values_of changes)) >>= (λ (v : Unit {0}). given (AllByRecursion IsRow (values_of changes)) >>= (λ (u : Unit {0}). all_changed size here.found.first changes pages >>= (λ (done : Unit {0} × Pages). only (Ok (Count (length changes), done.1))))))) b
       behind = goes-on (rows_at size pages here.found) (λ (rows : List Placed). only (picked (placed_changes (schema_at here.found) snapshot update) rows) >>= (λ (changes : List Placed). only (check_lengths (values_of changes)) >>= (λ (v : Unit {0}). given (AllByRecursion IsRow (values_of changes)) >>= (λ (u : Unit {0}). all_changed size here.found.first changes pages >>= (λ (done : Unit {0} × Pages). only (Ok (Count (length changes), done.1))))))) here.shows.placed
           (rows-read size pages all here.table is (single-of size pages all is update.table here)) b h
 
-      parts : SetsNot (schema_at here.found) snapshot update here.shows.placed ⊎ Sets (schema_at here.found) snapshot update here.shows.placed → IsRun size (Update update) snapshot pages (plain all) b
-      parts (inl none) = subst (λ (r : Result (Reply × Pages) Refusal). IsRun size (Update update) snapshot pages (plain all) r)
+      parts : SetsNot (schema_at here.found) snapshot update here.shows.placed ⊎ Sets (schema_at here.found) snapshot update here.shows.placed → IsRunOver size (Update update) snapshot pages (plain all) b
+      parts (inl none) = subst (λ (r : Result (Reply × Pages) Refusal). IsRunOver size (Update update) snapshot pages (plain all) r)
           (sym (ends-there (only (picked (placed_changes (schema_at here.found) snapshot update) here.shows.placed)) (λ (changes : List Placed). only (check_lengths (values_of changes)) >>= (λ (v : Unit {0}). given (AllByRecursion IsRow (values_of changes)) >>= (λ (u : Unit {0}). all_changed size here.found.first changes pages >>= (λ (done : Unit {0} × Pages). only (Ok (Count (length changes), done.1)))))) none.why
           (λ (a : Result (List Placed) Refusal) (e : picked (placed_changes (schema_at here.found) snapshot update) here.shows.placed ≡ a). sym e ∙ none.changes) b behind))
           (inl (means-err here none.why (updated-err snapshot update (schema_at here.found) (contents_of here.table) none.why (ap (λ (rows : List NumberedRow). reworked (updated_row (schema_at here.found) snapshot update) rows) (rows-under size pages here.found here.table here.shows) ∙ none.after))))
@@ -204,11 +204,11 @@ module _ (size : ℕ) (pages : Pages) (all : PlainTables) (is : IsStoreOf size p
           (goes-on (only (picked (placed_changes (schema_at here.found) snapshot update) here.shows.placed)) (λ (changes : List Placed). only (check_lengths (values_of changes)) >>= (λ (v : Unit {0}). given (AllByRecursion IsRow (values_of changes)) >>= (λ (u : Unit {0}). all_changed size here.found.first changes pages >>= (λ (done : Unit {0} × Pages). only (Ok (Count (length changes), done.1)))))) (map (set_at (schema_at here.found) snapshot update) (filter (hits (schema_at here.found) snapshot update) here.shows.placed))
           (λ (a : Result (List Placed) Refusal) (e : picked (placed_changes (schema_at here.found) snapshot update) here.shows.placed ≡ a). sym e ∙ sets.changes) b behind)
 
-  pub update-law : (b : Result (Reply × Pages) Refusal) → at_table is.store.found update.table (λ (table : StoredTable). updated_in size snapshot update table pages) b → IsRun size (Update update) snapshot pages (plain all) b
+  pub update-law : (b : Result (Reply × Pages) Refusal) → at_table is.store.found update.table (λ (table : StoredTable). updated_in size snapshot update table pages) b → IsRunOver size (Update update) snapshot pages (plain all) b
   update-law b h = found (by-name-here size pages all is update.table)
     where
-      found : Missing update.table is.store.found.tables all.tables ⊎ Here size pages update.table is.store.found.tables all.tables → IsRun size (Update update) snapshot pages (plain all) b
-      found (inl none) = subst (λ (r : Result (Reply × Pages) Refusal). IsRun size (Update update) snapshot pages (plain all) r) (sym (table-missing is.store.found update.table (λ (table : StoredTable). updated_in size snapshot update table pages) none.named b h))
+      found : Missing update.table is.store.found.tables all.tables ⊎ Here size pages update.table is.store.found.tables all.tables → IsRunOver size (Update update) snapshot pages (plain all) b
+      found (inl none) = subst (λ (r : Result (Reply × Pages) Refusal). IsRunOver size (Update update) snapshot pages (plain all) r) (sym (table-missing is.store.found update.table (λ (table : StoredTable). updated_in size snapshot update table pages) none.named b h))
           (inl (does-passed (Update update) snapshot (plain all) passes ∙ performed-unknown update.table (plain all) (λ (schema : TableSchema) (contents : Contents). updated snapshot update schema contents) (missing-plain update.table is.store.found.tables all none)))
       found (inr here) = in-law here b (table-there is.store.found update.table here.found (λ (table : StoredTable). updated_in size snapshot update table pages) here.named b h)
 

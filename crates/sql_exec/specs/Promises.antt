@@ -13,7 +13,7 @@ use Rattle.pager.specs.Pages.{Pages, Leads, Narrows}
 use Rattle.pager.specs.Stop.{Allowed, Answers, IsCaused, Leaves, Makes}
 use Rattle.pager.specs.declared.stop.Stop.{Stop}
 use Rattle.heap_laws.specs.Store.{free_pages}
-use Rattle.relation_laws.specs.Work.{EditsWithin, IsInReach, Needs, Takes, Work}
+use Rattle.relation_laws.specs.Work.{EditsWithin, IsInReach, Needs, LeavesFree, Work}
 use Rattle.sql_exec.specs.Asking.{asked_of}
 use Rattle.sql_exec.specs.Planning.{work_of}
 use Rattle.sql_exec.specs.Running.{ran}
@@ -28,7 +28,7 @@ pub record Asks {F : Type 0} (size : ℕ) (query : SelectRecord) (snapshot : Opt
   pub over_pages : Answers (λ answer. answer) tells (asked_of size query snapshot) result
 
 -- what a call that only reads keeps, and what ended it
-pub record Reads {P X F : Type 0} (tells : P → Pages → Pages → Type 0) (goes : P → P → Type 0)
+pub record KeepsReading {P X F : Type 0} (tells : P → Pages → Pages → Type 0) (goes : P → P → Type 0)
     (size faults : P → ℕ) (old new : P) (result : Result X (Stop F)) : Type 0 where
   pub narrows : Narrows (tells old) (tells new)
   pub goes_on : goes old new
@@ -37,10 +37,11 @@ pub record Reads {P X F : Type 0} (tells : P → Pages → Pages → Type 0) (go
 
 -- what a statement edits: nothing, or only pages in the reach of its piece of work, which takes as many pages as it
 -- needs
-abbrev pub Edits : ℕ → Pages → Pages → Option Work → Type 0
-Edits size was after None = after ≡ was
-Edits size was after (Some work) = (needs : ℕ) × Needs size was work needs
-    × Takes work needs (free_pages size was) (free_pages size after) × EditsWithin was after (IsInReach size was work)
+abbrev pub EditsFor : ℕ → Pages → Pages → Option Work → Type 0
+EditsFor size was after None = after ≡ was
+EditsFor size was after (Some work) = (needs : ℕ) × Needs size was work needs
+    × LeavesFree work needs (free_pages size was) (free_pages size after)
+    × EditsWithin was after (IsInReach size was work)
 
 -- a piece of work needs more pages than can be taken
 abbrev pub IsFull : ℕ → Pages → Option Work → Type 0
@@ -48,34 +49,35 @@ IsFull size was None = ⊥
 IsFull size was (Some work) = (needs : ℕ) × Needs size was work needs × (free_pages size was < needs)
 
 -- what is done by a statement that replies: the pages are well-formed, and hold the tables behind it
-pub record Done (size : ℕ) (statement : Statement) (snapshot : Option ℕ) (was : Pages) (tables : Tables) (reply : Reply)
-    (after : Pages) : Type 0 where
+pub record IsDoneOver (size : ℕ) (statement : Statement) (snapshot : Option ℕ) (was : Pages) (tables : Tables)
+    (reply : Reply) (after : Pages) : Type 0 where
   pub behind : Tables
   pub means : does statement snapshot tables ≡ Ok (behind, reply)
   pub stored : IsStored size after behind
   pub work : Option Work
   pub is_work : work_of statement snapshot tables ≡ Ok work
-  pub edits : Edits size was after work
+  pub edits : EditsFor size was after work
 
 -- what is not done: the statement is refused by its meaning, or needs more pages than can be taken
-abbrev pub IsRefused : ℕ → Statement → Option ℕ → Pages → Tables → Refusal → Type 0
-IsRefused size statement snapshot was tables why =
+abbrev pub IsRefusedOver : ℕ → Statement → Option ℕ → Pages → Tables → Refusal → Type 0
+IsRefusedOver size statement snapshot was tables why =
     (does statement snapshot tables ≡ Err why)
     ⊎ ((why ≡ PagesFull size) × (work : Option Work) × (work_of statement snapshot tables ≡ Ok work)
     × IsFull size was work)
 
 -- what a statement replies and leaves over well-formed pages that hold these tables
-abbrev pub IsRun : ℕ → Statement → Option ℕ → Pages → Tables → Result (Reply × Pages) Refusal → Type 0
-IsRun size statement snapshot was tables (Ok answer) = Done size statement snapshot was tables answer.0 answer.1
-IsRun size statement snapshot was tables (Err why) = IsRefused size statement snapshot was tables why
+abbrev pub IsRunOver : ℕ → Statement → Option ℕ → Pages → Tables → Result (Reply × Pages) Refusal → Type 0
+IsRunOver size statement snapshot was tables (Ok answer) =
+    IsDoneOver size statement snapshot was tables answer.0 answer.1
+IsRunOver size statement snapshot was tables (Err why) = IsRefusedOver size statement snapshot was tables why
 
 -- What a statement does. Wherever the pages shown before it are well-formed and hold tables, it replies and leaves what
 -- it means over those tables; over any pages, that is what it reads of them and makes of them. After a refusal no page
 -- was edited.
-pub record Runs {F : Type 0} (size : ℕ) (statement : Statement) (snapshot : Option ℕ) (before after : Pages → Pages → Type 0)
-    (result : Result Reply (Stop F)) : Type 0 where
+pub record Runs {F : Type 0} (size : ℕ) (statement : Statement) (snapshot : Option ℕ)
+    (before after : Pages → Pages → Type 0) (result : Result Reply (Stop F)) : Type 0 where
   pub over_tables : Leads before after (λ was now. (tables : Tables) → IsStored size was tables
-      → Leaves (λ reply. reply) (IsRun size statement snapshot was tables) was now result)
+      → Leaves (λ reply. reply) (IsRunOver size statement snapshot was tables) was now result)
   pub over_pages : Makes (λ reply. reply) before after (ran size statement snapshot) result
 
 -- what a call that edits keeps whatever it answers, and what ended it

@@ -5,7 +5,7 @@ ghost use Rattle.std.specs.Prelude.{◌≤◌, length};
 ghost use Rattle.pager.specs.Stop.{Answers};
 ghost use Rattle.relation.specs.Catalog.{HaveFewColumns};
 ghost use Rattle.sql_exec.specs.Asking.{answered, over_one, over_two};
-ghost use Rattle.sql_exec.specs.Promises.{Asks, Reads};
+ghost use Rattle.sql_exec.specs.Promises.{Asks, KeepsReading};
 
 use crate::source::{Source, read_table};
 use pager::{Pager, Stop};
@@ -16,7 +16,8 @@ use sql_select::{Answer, select};
 use sql_tree::{Scope, Select};
 use std::alloc::Global;
 
-/// The answer of a select over the tables of the pages. `snapshot` is the number of `current_snapshot()`, where there is one.
+/// The answer of a select over the tables of the pages. `snapshot` is the number of `current_snapshot()`, where there
+/// is one.
 pub fn ask<P: Pager>(
     alloc: Global,
     query: &Select,
@@ -24,7 +25,7 @@ pub fn ask<P: Pager>(
     snapshot: Option<u32>,
 ) -> Result<Answer, Stop<P::Fault>>
     ensures asks { Asks (P.size pager.old) query.now snapshot (P.tells pager.new) result }
-    ensures reads { Reads P.tells P.goes P.size P.faults pager.old pager.new result }
+    ensures reads { KeepsReading P.tells P.goes P.size P.faults pager.old pager.new result }
 {
     let catalog = open(alloc, pager)?;
     let schema = catalog.schema(alloc)?;
@@ -43,7 +44,7 @@ pub fn answer<P: Pager>(
     requires { HaveFewColumns catalog.now.tables }
     ensures answered { Answers (λ answer. answer) (P.tells pager.new)
         (answered (P.size pager.old) catalog.now query.now snapshot) result }
-    ensures reads { Reads P.tells P.goes P.size P.faults pager.old pager.new result }
+    ensures reads { KeepsReading P.tells P.goes P.size P.faults pager.old pager.new result }
 {
     let first = read_table(alloc, pager, catalog, &query.table)?;
     match &query.second {

@@ -1,8 +1,7 @@
 //! How long encoded rows are.
 
-ghost use Rattle.std.specs.Prelude.{◌≡◌, ◌≤◌, ◌∷◌, [], List, OnOk, length};
+ghost use Rattle.std.specs.Prelude.{◌≡◌, ◌∷◌, [], OnOk};
 ghost use Rattle.std.specs.List.{AllByRecursion};
-ghost use Rattle.values.specs.declared.value.Value.{Value as ValueOf};
 ghost use Rattle.row_codec.specs.RowCode.{IsRow};
 ghost use Rattle.tables.specs.Meaning.{check_lengths};
 ghost use Rattle.sql_exec.specs.Running.{IsOfWidth, values_of};

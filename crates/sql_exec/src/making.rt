@@ -3,8 +3,6 @@
 ghost use Rattle.std.specs.Prelude.{◌≡◌, ◌≤◌, List, Ok, None, length};
 ghost use Rattle.std.specs.List.{AllByRecursion};
 ghost use Rattle.values.specs.declared.value.Value.{Value as ValueOf};
-ghost use Rattle.values.specs.Name.{IsName};
-ghost use Rattle.sql_tree.specs.declared.statement.Column.{Column as ColumnOf};
 ghost use Rattle.sql_tree.specs.declared.statement.Statement.TheVariants as statement_of;
 ghost use Rattle.sql_check.specs.Check.{checked};
 ghost use Rattle.pager.specs.Stop.{Makes};

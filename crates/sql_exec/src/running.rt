@@ -18,8 +18,8 @@ use sql_tree::Statement;
 use std::alloc::Global;
 use tables::Reply;
 
-/// Does the statement to the tables of the pages, and replies. `snapshot` is the number of `current_snapshot()`, where there
-/// is one. Refused before the first edit.
+/// Does the statement to the tables of the pages, and replies. `snapshot` is the number of `current_snapshot()`, where
+/// there is one. Refused before the first edit.
 pub fn run<P: EditPager>(
     alloc: Global,
     statement: &Statement,

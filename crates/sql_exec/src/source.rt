@@ -5,7 +5,7 @@ ghost use Rattle.pager.specs.Stop.{Answers};
 ghost use Rattle.heap_file.specs.declared.chain.Placed.{Placed as PlacedOf};
 ghost use Rattle.relation.specs.Catalog.{HaveFewColumns, table_named};
 ghost use Rattle.sql_exec.specs.Asking.{source_at};
-ghost use Rattle.sql_exec.specs.Promises.{Reads};
+ghost use Rattle.sql_exec.specs.Promises.{KeepsReading};
 
 use pager::{Pager, Stop};
 use relation::{Catalog, Placed, StoredTable, rows};
@@ -32,7 +32,7 @@ pub fn read_table<P: Pager>(
     ensures source { Answers (λ source. source) (P.tells pager.new)
         (λ pages. source_at (P.size pager.old) pages (table_named name.now catalog.now.tables)) result }
     ensures few { IfOk result (λ source. length source.schema.columns ≤ 16) }
-    ensures reads { Reads P.tells P.goes P.size P.faults pager.old pager.new result }
+    ensures reads { KeepsReading P.tells P.goes P.size P.faults pager.old pager.new result }
 {
     let Some(table) = catalog.table(name) else {
         return Err(Stop::Refused(Refusal::UnknownName));
