@@ -75,9 +75,9 @@ edited_is old new page bytes also other = by_test (is_among other (pages_of new)
             rest false h = rw (is.0) refl
 
 -- an edit stands over the others
-pub under_edit : (base : pager.Pages) (asked : Option ℕ) (old new : List PageImage) (page : ℕ) (bytes : List ℕ) → AlsoEdits old page bytes new → under base asked new ≡ pager.written (under base asked old) page bytes
+pub under_edit : (base : pager.Pages) (asked : Option ℕ) (old new : List PageImage) (page : ℕ) (bytes : List ℕ) → AlsoEdits old page bytes new → under base asked new ≡ pager.with_bytes (under base asked old) page bytes
 under_edit base asked old new page bytes also =
-    same_pages (under base asked new) (pager.written (under base asked old) page bytes)
+    same_pages (under base asked new) (pager.with_bytes (under base asked old) page bytes)
     (λ q. also.writes base.at q ∙ flip q (eqb_tells q page))
     (λ q. ap (λ (b : Bool). is_asked q asked || (b || base.edited q)) (edited_is old new page bytes also q) ∙ order (is_asked q asked) (q == page) (is_among q (pages_of old)) (base.edited q))
   where

@@ -75,20 +75,20 @@ read_narrows honest page out old new asked a u is gives base shown tells = narro
 
 -- an edit is shown over what was shown
 pub edit_told : (page : ℕ) (bytes : List ℕ) (old new : View) (asked : Option ℕ) (a : Attempt) (u : Unit {0}) → old.work ≡ Open a → EditGives page bytes old new a (Ok u)
-    → pager.Leads (Tells old asked) (Tells new asked) (λ was now. now ≡ pager.written was page bytes)
+    → pager.Leads (Tells old asked) (Tells new asked) (λ was now. now ≡ pager.with_bytes was page bytes)
 edit_told page bytes old new asked a u is gives base shown tells =
     let before = tells_before old new asked a (record a { edits = gives.0 }) is gives.1 refl (λ page h. h) base shown tells in
     (under base asked a.edits, record { attempt = a; is_open = is; agree = before.0; shows = refl }, before.1 ∙ under_edit base asked a.edits gives.0 page bytes gives.2)
 
 -- the page counts as edited where its edit is refused as one too many
 pub asked_told : (page : ℕ) (old new : View) (asked : Option ℕ) (a : Attempt) (kept : Option Refusal) (why : Refusal) → old.work ≡ Open a → Waits old new (Open (record a { kept = kept }))
-    → pager.Leads (Tells old asked) (Tells new (asked_behind asked page why)) (λ was now. (now ≡ was) ⊎ (now ≡ pager.asked was page))
+    → pager.Leads (Tells old asked) (Tells new (asked_behind asked page why)) (λ was now. (now ≡ was) ⊎ (now ≡ pager.with_mark was page))
 asked_told page old new asked a kept why is waits base shown tells = by_asked asked why tells
   where
-    unasked : (asked : Option ℕ) → Tells new asked base shown → (was : pager.Pages) × Tells old asked base was × ((shown ≡ was) ⊎ (shown ≡ pager.asked was page))
+    unasked : (asked : Option ℕ) → Tells new asked base shown → (was : pager.Pages) × Tells old asked base was × ((shown ≡ was) ⊎ (shown ≡ pager.with_mark was page))
     unasked asked tells = (shown, narrows old new asked a (record a { kept = kept }) is waits refl refl (λ page h. h) base shown tells, inl refl)
 
-    by_asked : (asked : Option ℕ) (why : Refusal) → Tells new (asked_behind asked page why) base shown → (was : pager.Pages) × Tells old asked base was × ((shown ≡ was) ⊎ (shown ≡ pager.asked was page))
+    by_asked : (asked : Option ℕ) (why : Refusal) → Tells new (asked_behind asked page why) base shown → (was : pager.Pages) × Tells old asked base was × ((shown ≡ was) ⊎ (shown ≡ pager.with_mark was page))
     by_asked None (refusal.TooManyPages needed) tells =
         let before = tells_before old new (Some page) a (record a { kept = kept }) is waits refl (λ page h. h) base shown tells in
         let was : pager.Pages = under base None a.edits in
@@ -105,7 +105,7 @@ read_refused_narrows honest page out old new asked a (refusal.DiskFault device c
 read_refused_narrows honest page out old new asked a why is gives base shown tells = narrows old new asked a a is gives.0 refl refl (λ page h. h) base shown tells
 
 pub edit_refused_told : (page : ℕ) (bytes : List ℕ) (old new : View) (asked : Option ℕ) (a : Attempt) (why : Refusal) → old.work ≡ Open a → EditGives page bytes old new a (Err why)
-    → pager.Leads (Tells old asked) (Tells new (asked_behind asked page why)) (λ was now. (now ≡ was) ⊎ (now ≡ pager.asked was page))
+    → pager.Leads (Tells old asked) (Tells new (asked_behind asked page why)) (λ was now. (now ≡ was) ⊎ (now ≡ pager.with_mark was page))
 edit_refused_told page bytes old new asked a (refusal.Overlap session item) is gives = asked_told page old new asked a (Some (refusal.Overlap session item)) (refusal.Overlap session item) is gives.0
 edit_refused_told page bytes old new asked a (refusal.DiskFault device count) is gives = asked_told page old new asked a (Some (refusal.DiskFault device count)) (refusal.DiskFault device count) is gives.0
 edit_refused_told page bytes old new asked a (refusal.TooManyPages needed) is gives = asked_told page old new asked a (Some (refusal.TooManyPages needed)) (refusal.TooManyPages needed) is gives.0
