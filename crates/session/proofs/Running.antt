@@ -16,7 +16,7 @@ use Rattle.script.specs.declared.structure.Reading.{Reading}
 use Rattle.script.specs.declared.structure.Reading.TheVariants.{Read, Syntax}
 use Rattle.relation_laws.specs.Work.{IsInReach, Work}
 use Rattle.sql_exec.specs.Planning.{work_of}
-use Rattle.sql_exec.specs.Promises.{Done, Edits, IsRefused, IsRun, Runs}
+use Rattle.sql_exec.specs.Promises.{IsDoneOver, EditsFor, IsRefusedOver, IsRunOver, Runs}
 use Rattle.sql_exec.specs.Running.{ran}
 use Rattle.sql_exec.specs.Stored.{IsStored}
 use Rattle.session.specs.Reach.{AtOne, LineReaches, StepsTo}
@@ -29,20 +29,20 @@ use Rattle.session.proofs.Named.{IsOfMeaning}
 -- ---- one statement
 
 -- a page that counts as edited behind a statement did so before it, or the statement reaches it
-edits_mark : (size : ℕ) (was now : Pages) (work : Option Work) → Edits size was now work → (page : ℕ) → now.edited page ≡ true → (was.edited page ≡ true) ⊎ ((one : Work) × (work ≡ Some one) × IsInReach size was one page)
+edits_mark : (size : ℕ) (was now : Pages) (work : Option Work) → EditsFor size was now work → (page : ℕ) → now.edited page ≡ true → (was.edited page ≡ true) ⊎ ((one : Work) × (work ≡ Some one) × IsInReach size was one page)
 edits_mark size was now None edits page is = inl (ap (λ (p : Pages). p.edited page) (sym edits) ∙ is)
 edits_mark size was now (Some work) edits page is = elim (edits.3 page) [
   | inl untouched ↦ inl (sym untouched.1 ∙ is)
   | inr reached ↦ inr (work, refl, reached)
 ]
 
-done_marks : (size : ℕ) (statement : Statement) (was : Pages) (tables : Tables) (reply : Reply) (now : Pages) → Done size statement None was tables reply now → LineMarks size (Read statement) was tables now
+done_marks : (size : ℕ) (statement : Statement) (was : Pages) (tables : Tables) (reply : Reply) (now : Pages) → IsDoneOver size statement None was tables reply now → LineMarks size (Read statement) was tables now
 done_marks size statement was tables reply now done page is = elim (edits_mark size was now done.work done.edits page is) [
   | inl before ↦ inl before
   | inr reached ↦ inr (ap is_ok done.means, reached.0, (done.is_work ∙ ap (λ (w : Option Work). Ok w) reached.1), reached.2)
 ]
 
-select_leaves : (size : ℕ) (statement : Statement) (was : Pages) (tables : Tables) (now : Pages) (work : Option Work) → changes_line (Read statement) ≡ false → work_of statement None tables ≡ Ok work → Edits size was now work → now ≡ was
+select_leaves : (size : ℕ) (statement : Statement) (was : Pages) (tables : Tables) (now : Pages) (work : Option Work) → changes_line (Read statement) ≡ false → work_of statement None tables ≡ Ok work → EditsFor size was now work → now ≡ was
 select_leaves size (Select query) was tables now None is work edits = edits
 select_leaves size (Select query) was tables now (Some one) is work edits = cc
 select_leaves size (CreateTable create) was tables now work is of edits = cc
@@ -55,7 +55,7 @@ select_leaves size (Delete delete) was tables now work is of edits = cc
 marks_stay : (size : ℕ) (line : Reading Statement) (was : Pages) (tables : Tables) (now : Pages) → now ≡ was → LineMarks size line was tables now
 marks_stay size line was tables now same page is = inl (ap (λ (p : Pages). p.edited page) (sym same) ∙ is)
 
-replied_line : (size : ℕ) (statement : Statement) (was : Pages) (tables : Tables) (now : Pages) (reply : Reply) → Done size statement None was tables reply now → ran size statement None was (Ok (reply, now))
+replied_line : (size : ℕ) (statement : Statement) (was : Pages) (tables : Tables) (now : Pages) (reply : Reply) → IsDoneOver size statement None was tables reply now → ran size statement None was (Ok (reply, now))
     → LineRan size (Read statement) was tables now (Ok reply)
 replied_line size statement was tables now reply done has_run =
     let is : (does_line (Read statement) tables).1 ≡ Ok reply = ap (λ (r : Result (Tables × Reply) Refusal). (outcome tables r).1) done.means in
@@ -90,7 +90,7 @@ module _ (size : ℕ) (statement : Statement) (was : Pages) (tables : Tables) (n
   not_meant why means = refused_by_meaning statement None tables why means
 
   -- a refusal that may be a reply is one by meaning
-  replies_so : (why : Refusal) → reply_or_end why ≡ Ok why → (why ≡ refusal.OutOfMemory) ⊎ IsRefused size statement None was tables why → LineRan size (Read statement) was tables now (Err why)
+  replies_so : (why : Refusal) → reply_or_end why ≡ Ok why → (why ≡ refusal.OutOfMemory) ⊎ IsRefusedOver size statement None was tables why → LineRan size (Read statement) was tables now (Err why)
   replies_so why may (inl memory) = absurd (not_so (sym may ∙ ap reply_or_end memory))
     where
       not_so : Ok why ≡ Err refusal.OutOfMemory → ⊥
@@ -101,7 +101,7 @@ module _ (size : ℕ) (statement : Statement) (was : Pages) (tables : Tables) (n
       not_so : Ok why ≡ Err (refusal.PagesFull size) → ⊥
       not_so e = cc
 
-  refusal_gives : (why : Refusal) → (why ≡ refusal.OutOfMemory) ⊎ IsRefused size statement None was tables why → LineGivesOver size (Read statement) was tables now (as_outcome (reply_or_end why))
+  refusal_gives : (why : Refusal) → (why ≡ refusal.OutOfMemory) ⊎ IsRefusedOver size statement None was tables why → LineGivesOver size (Read statement) was tables now (as_outcome (reply_or_end why))
   refusal_gives refusal.OutOfMemory is = (tt, marks_stay size (Read statement) was tables now same)
   refusal_gives (refusal.NotAStore device place) (inl memory) = cc
   refusal_gives (refusal.NotAStore device place) (inr (inl means)) = absurd (not_meant (refusal.NotAStore device place) means)
@@ -118,7 +118,7 @@ module _ (size : ℕ) (statement : Statement) (was : Pages) (tables : Tables) (n
   refusal_gives why is = replies_so why refl is
 
 -- where the pager failed, part of the edits are made
-fault_marks : (size : ℕ) (statement : Statement) (was : Pages) (tables : Tables) (now : Pages) → IsCutShort (IsRun size statement None was tables) was now → LineMarks size (Read statement) was tables now
+fault_marks : (size : ℕ) (statement : Statement) (was : Pages) (tables : Tables) (now : Pages) → IsCutShort (IsRunOver size statement None was tables) was now → LineMarks size (Read statement) was tables now
 fault_marks size statement was tables now (inl same) = marks_stay size (Read statement) was tables now same
 fault_marks size statement was tables now (inr (reply, whole, done, part)) = λ page is. done_marks size statement was tables reply whole done page (part.marks page is)
 

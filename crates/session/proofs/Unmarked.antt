@@ -2,7 +2,7 @@
 use Rattle.std.proofs.Common.{ℕ, Bool, List, [], ◌∷◌, Ok, refl}
 use Rattle.std.specs.List.{AllZip}
 use Rattle.pager.specs.Pages.{Pages}
-use Rattle.heap_file.specs.Chain.{Leads, scanned}
+use Rattle.heap_file.specs.Chain.{IsWay, scanned}
 use Rattle.heap_file.specs.Work.{next_of}
 use Rattle.heap_file.specs.declared.chain.Link.{Link}
 use Rattle.heap_file.specs.declared.chain.Placed.{Placed}
@@ -18,7 +18,7 @@ use Rattle.relation.specs.declared.row.CatalogRow.{CatalogRow}
 use Rattle.relation.specs.declared.row.CatalogRow.TheVariants.{Table as TableRow, Column as ColumnRow, Index as IndexRow}
 use Rattle.relation.specs.declared.row.IndexForm.{IndexForm}
 use Rattle.relation.specs.declared.row.IndexForm.TheVariants as form
-use Rattle.relation_laws.specs.Tables.{HoldsPages, IsKept, IsStore, PlainTable, Shows, names_of}
+use Rattle.relation_laws.specs.Tables.{HoldsPages, SpeaksOfTable, IsStore, PlainTable, ShowsTable, names_of}
 use Rattle.sql_exec.specs.Stored.{IsStored}
 use Rattle.tables.specs.Tables.{Tables}
 
@@ -33,7 +33,7 @@ module _ (size : ℕ) (pages : Pages) (edited : ℕ → Bool) where
   abbrev other : Pages
   other = record { at = pages.at; edited = edited }
 
-  there : (from : ℕ) (links : List Link) (to : ℕ) → Leads size pages from links to → Leads size other from links to
+  there : (from : ℕ) (links : List Link) (to : ℕ) → IsWay size pages from links to → IsWay size other from links to
   there from links to leads = leads-same size pages other from links to (λ p some. refl) leads
 
   scanned_there : (first : ℕ) (rows : List Placed) → scanned size pages first (Ok rows) → scanned size other first (Ok rows)
@@ -53,7 +53,7 @@ module _ (size : ℕ) (pages : Pages) (edited : ℕ → Bool) where
   holds_there form.Tree root held is = is
   holds_there form.Named root held is = is
 
-  kept_there : (names : List (List ℕ)) (row : CatalogRow) (held : List ℕ) → IsKept pages names row held → IsKept other names row held
+  kept_there : (names : List (List ℕ)) (row : CatalogRow) (held : List ℕ) → SpeaksOfTable pages names row held → SpeaksOfTable other names row held
   kept_there names (TableRow row) held is = is
   kept_there names (ColumnRow row) held is = is
   kept_there names (IndexRow row) held is = (is.0, holds_there row.form row.root held is.1)
@@ -61,7 +61,7 @@ module _ (size : ℕ) (pages : Pages) (edited : ℕ → Bool) where
   table_there : (first : ℕ) (table : Table) → IsTable size pages first table → IsTable size other first table
   table_there first table is = record { next_number = next_there first table.next_number is.next_number; rows = scanned_there first table.rows is.rows }
 
-  shows_there : (stored : StoredTable) (table : PlainTable) → Shows size pages stored table → Shows size other stored table
+  shows_there : (stored : StoredTable) (table : PlainTable) → ShowsTable size pages stored table → ShowsTable size other stored table
   shows_there stored table is = record {
     name = is.name;
     columns = is.columns;
@@ -96,13 +96,13 @@ module _ (size : ℕ) (pages : Pages) (edited : ℕ → Bool) where
     found = is.found;
     read = is.read;
     held = is.held;
-    kept = zip_map (λ (row : CatalogEntry) (some : List ℕ). IsKept pages (names_of is.found.tables) row.row some) (λ (row : CatalogEntry) (some : List ℕ). IsKept other (names_of is.found.tables) row.row some)
+    kept = zip_map (λ (row : CatalogEntry) (some : List ℕ). SpeaksOfTable pages (names_of is.found.tables) row.row some) (λ (row : CatalogEntry) (some : List ℕ). SpeaksOfTable other (names_of is.found.tables) row.row some)
         (λ row some. kept_there (names_of is.found.tables) row.row some) is.told is.held is.kept;
     heap = heap_there _ _ is.heap;
     names = is.names;
     columns = is.columns;
     tables = is.tables;
-    shown = zip_map (Shows size pages) (Shows size other) shows_there is.found.tables is.tables is.shown;
+    shown = zip_map (ShowsTable size pages) (ShowsTable size other) shows_there is.found.tables is.tables is.shown;
   }
 
   pub stored_there : (tables : Tables) → IsStored size pages tables → IsStored size other tables
@@ -113,7 +113,7 @@ module _ (size : ℕ) (pages : Pages) (edited : ℕ → Bool) where
       tables = record {
         found = is.store.tables.found;
         read = catalog_there is.store.tables.found is.store.tables.read;
-        shown = zip_map (Shows size pages) (Shows size other) shows_there is.store.tables.found.tables is.all.tables is.store.tables.shown;
+        shown = zip_map (ShowsTable size pages) (ShowsTable size other) shows_there is.store.tables.found.tables is.all.tables is.store.tables.shown;
         indexes = is.store.tables.indexes;
       };
     };
