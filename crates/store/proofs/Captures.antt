@@ -23,6 +23,7 @@ use Rattle.store.specs.declared.start.Start.{Start}
 use Rattle.store.specs.RoundCalls.{Offers}
 use Rattle.store.specs.Rounds.{CopiesRound}
 use Rattle.store.specs.Seats.{Sat, Visited, Visits, journal}
+use Rattle.store.specs.Sides.{DeskStands}
 use Rattle.store.specs.Start.{opened_base}
 use Rattle.store.specs.WorkerRounds.{IsHeld}
 
@@ -53,23 +54,29 @@ front_held s lines more = held_below (held s) lines more (opening s)
 
 -- ---- none is pending
 
+module _ {D : Type 0} (is_honest : D → Type 0) (state : D → State) (side : DeskSide D) (stands : DeskStands is_honest state side) where
+  -- the log says what it says behind the journal
+  base_is : side.core.desk.base ≡ base_of (opened_base side.start) (journal side)
+  base_is =
+      let origin = stands.origin in
+      let from_ = stands.stands origin stands.opened in
+      from_.is.is.base
+      ∙ (ap (λ (h : History). (now h).base) from_.is.journal
+      ∙ (base_after_journal origin.history (journal side) ∙ ap (λ (b : Base). base_of b (journal side)) stands.opened.base))
+
+  -- all that was captured is acknowledged or pending
+  pub all_counted : side.core.desk.queue.first + length side.core.desk.queue.images ≡ (base_of (opened_base side.start) (journal side)).captures
+  all_counted =
+      let from_ = stands.stands stands.origin stands.opened in
+      counted is_honest state side.core.desk from_.plain from_.is.is from_.is.fits ∙ ap (λ (b : Base). b.captures) base_is
+
 module _ {D : Type 0} (is_honest : D → Type 0) (state : D → State) (faults : D → ℕ) (z : TableId) where
   module _ (s0 s1 : Sat D) (d0 d1 : DeskSide D) (v : Visited is_honest state faults z s0 s1 d0 d1) (same : d1.core ≡ d0.core) (none : d0.core.desk.queue.images ≡ []) where
-    base_is : d0.core.desk.base ≡ base_of (opened_base d0.start) (journal d0)
-    base_is =
-        let origin = v.stands.origin in
-        let from_ = v.stands.stands origin v.stands.opened in
-        from_.is.is.base
-        ∙ (ap (λ (h : History). (now h).base) from_.is.journal
-        ∙ (base_after_journal origin.history (journal d0) ∙ ap (λ (b : Base). base_of b (journal d0)) v.stands.opened.base))
-
     counted_is : d0.core.desk.queue.first ≡ (base_of (opened_base d0.start) (journal d0)).captures
     counted_is =
-        let from_ = v.stands.stands v.stands.origin v.stands.opened in
-        let all = counted is_honest state d0.core.desk from_.plain from_.is.is from_.is.fits in
+        let all = all_counted is_honest state d0 v.stands in
         let few = ap length none in
-        let base = ap (λ (b : Base). b.captures) base_is in
-        omega (arith, all, few, base)
+        omega (arith, all, few)
 
     sees : seen s1 ≡ journal d0
     sees = v.seen ∙ ap (λ (c : Core D). c.ledger.book.lines) same

@@ -17,12 +17,13 @@ use Rattle.history.specs.declared.journal.What.{What}
 use Rattle.history.specs.declared.journal.What.TheVariants.{Fault}
 use Rattle.history.specs.declared.log.Log as declared
 use Rattle.history.specs.declared.log.Version.{Version}
-use Rattle.history.specs.History.{History, State as Place, run}
+use Rattle.history.specs.History.{History, State as Place, now, run}
 use Rattle.history.specs.Journal.{after_journal}
-use Rattle.history.specs.Lines.{doubt_in, same_device}
+use Rattle.history.specs.Lines.{base_of, doubt_in, same_device}
 use Rattle.journal_law.specs.Lawful.{CountedBy, IsCounted}
 use Rattle.opening.specs.Devices.{AreHonest, AreImages, of_each}
-use Rattle.opening.specs.Opening.{AreSized, page_at}
+use Rattle.opening.specs.Opening.{AreSized, Hold, page_at}
+use Rattle.opening.proofs.OneWay.{are_read_one_way}
 use Rattle.race_model.specs.Desk.{ArePagesOf, Desk, Doubt, IsInDoubt, NewBase, OneMore, Sure}
 use Rattle.race_model.specs.Fits.{DoubtFits, VaultFits}
 use Rattle.race_model.specs.Images.{IsSameWorld, OpenInDoubt}
@@ -39,16 +40,19 @@ use Rattle.skippy.specs.Mappings.{end_of}
 use Rattle.archive.specs.Archive.{Running}
 use Rattle.archive.specs.Side.{ListsMaplogOf}
 use Rattle.desk.specs.Desk.{log_of, other_log}
+use Rattle.desk.proofs.Steps.{counted}
 use Rattle.store_core.specs.declared.desk_core.Core.{Core}
 use Rattle.store_core.specs.Core.{IsToldDoubt}
 use Rattle.turn.specs.Faults.{count_of, fault_lines, line_fault, one_fault}
 use Rattle.store.specs.declared.desk_side.DeskSide.{DeskSide}
 use Rattle.store.specs.declared.start.Start.{Start}
 use Rattle.store.specs.Crashes.{CrashesOpen, HoldWorld, OpensTo}
+use Rattle.store.specs.Closing.{IsCopied}
 use Rattle.store.specs.Opening.{AreOpenedFrom, AreReadBy, IsHonestlyOpened, disks_of}
 use Rattle.store.specs.Seats.{journal}
 use Rattle.store.specs.Sides.{DeskStands, VaultStands}
-use Rattle.store.specs.Start.{AreOpenedTo, IsCoreFrom, IsDoubtIn, IsStartOf, IsVaultFrom, IsVaultIn, Origin, desk_counts, vault_counts}
+use Rattle.store.specs.Start.{AreOpenedTo, IsCoreFrom, IsDoubtIn, IsStartOf, IsVaultFrom, IsVaultIn, Origin, desk_counts, opened_base, vault_counts}
+use Rattle.store.proofs.Captures.{all_counted}
 use Rattle.store.proofs.Looked.{page_count_stays}
 
 -- ---- the opening
@@ -248,3 +252,30 @@ module _ {D : Type 0} (extent : D → ℕ) (is_honest : D → Type 0) (state : D
 
   pub crashes_open : CrashesOpen state origin.log origin.history (journal side) (disks_of side.core archive)
   crashes_open = holds_here
+
+  -- where all is copied, the Maplog of each image maps all
+  module _ (copied : IsCopied side archive) (devices : Four (List ℕ)) (contents : Contents) (images : AreImages state (disks_of side.core archive) devices) (hold : Hold origin.log devices contents) where
+    abbrev All : ℕ
+    All = (base_of (opened_base side.start) (journal side)).captures
+
+    captured_is : (now from_desk.plain.history).base.captures ≡ All
+    captured_is =
+        let base = ap (λ (b : Base). b.captures) from_desk.is.is.base in
+        let first = counted is_honest state side.core.desk from_desk.plain from_desk.is.is from_desk.is.fits in
+        let all = all_counted is_honest state side stands in
+        omega (arith, base, first, all)
+
+    end_here : IsMaplogOf from_vault.vault (maplog_here devices images).maplog → end_of (maplog_here devices images).maplog.mappings ≡ All
+    end_here (inl listed) =
+        let same = ap (λ (m : MaplogOf). end_of m.mappings) listed in let held = from_vault.is.mapped.shows.end in
+        omega (arith, same, held, copied)
+    end_here (inr among) =
+        let other = vault_fits.others (maplog_here devices images).maplog among in
+        let more = other.1 in let few = other.2 in let held = from_vault.is.mapped.shows.end in let laid = vault_fits.laid in let all = captured_is in
+        omega (arith, more, few, held, laid, all, copied)
+
+    pub maps_all : end_of contents.mappings ≡ All
+    unfolding holds_here
+    maps_all =
+        ap (λ (c : Contents). end_of c.mappings) (are_read_one_way.one_store origin.log devices contents (Found devices images) hold (holds_here devices images).hold)
+        ∙ end_here (maplog_here devices images).is

@@ -21,6 +21,7 @@ pub mod Gives
 pub mod Grounds
 pub mod Idle
 pub mod LeastPins
+pub mod LastCopied
 pub mod Leaving
 pub mod Limits
 pub mod Looked

@@ -1,6 +1,5 @@
 -- What a worker leaves at its seat, as sessions see it.
-use Rattle.std.proofs.Common.{◌≡◌, ◌<◌, ◌++◌, ◌∙◌, ℕ, Bool, cond, List, [], ◌∷◌, Option, None, Result, Ok, Err, append-nil, append_assoc, refl, sym, ap, subst}
-use Rattle.std.specs.Prelude.{is_some}
+use Rattle.std.proofs.Common.{◌≡◌, ◌<◌, ◌++◌, ◌∙◌, ℕ, List, [], None, Result, Ok, Err, append-nil, append_assoc, refl, sym, ap, subst}
 use Rattle.atomic_table.specs.Seated.{TableId}
 use Rattle.disk_model.specs.Disk.{State}
 use Rattle.retro_base.specs.declared.device.Device.{Device}
@@ -15,7 +14,7 @@ use Rattle.journal_law.specs.Seats as law
 use Rattle.journal_law.specs.Seats.{Adds, Idle, IsNew, View, one}
 use Rattle.txn_set.specs.Ledger.{faulted}
 use Rattle.txn_set.specs.declared.ledger.Ledger.{Ledger}
-use Rattle.turn.specs.Seats.{mine, opening, seen}
+use Rattle.turn.specs.Seats.{mine, seen}
 use Rattle.store.specs.declared.desk_side.DeskSide.{DeskSide}
 use Rattle.store.specs.Rounds.{Passes}
 use Rattle.store.specs.Seats.{Sat, Visited, journal}

@@ -1,23 +1,27 @@
 -- What a store that is closed leaves.
-use Rattle.std.specs.Prelude.{◌≡◌, ◌≤◌, ℕ, List, [], slice_get, Some}
+use Rattle.std.specs.Prelude.{◌≡◌, ◌≤◌, ◌⊎◌, ◌↔◌, ℕ, Bool, true, List, [], length, slice_get, None, Some}
 use Rattle.std.specs.List.{AllByRecursion}
 use mathlib.Core.List.{IsPrefix}
 use Rattle.atomic_table.specs.Seated.{TableId}
 use Rattle.disk_model.specs.Disk.{State}
-use Rattle.history.specs.Lines.{FaultsDiffer, lines_of}
+use Rattle.retro_base.specs.declared.limits.TheConstants.{SESSIONS}
+use Rattle.history.specs.Lines.{FaultsDiffer, base_of, lines_of}
 use Rattle.journal_book.specs.Works.{work_at}
 use Rattle.journal_law.specs.Lawful.{IsCounted}
+use Rattle.journal_law.specs.Seats.{View}
 use Rattle.archive.specs.Archive.{Running}
 use Rattle.opening.specs.Devices.{of_each}
-use Rattle.turn.specs.Seats.{mine, seen}
+use Rattle.turn.specs.Seats.{IsSame, mine, seen}
 use Rattle.store.specs.declared.closing.Closed.{Closed}
 use Rattle.store.specs.declared.desk_side.DeskSide.{DeskSide}
 use Rattle.store.specs.declared.start.Start.{Start}
-use Rattle.store.specs.Crashes.{CrashesOpen}
+use Rattle.store.specs.Crashes.{CrashesMap, CrashesOpen}
 use Rattle.store.specs.Opening.{IsHonestlyOpened, disks_of}
 use Rattle.store.specs.Seats.{IsReady, IsWhole, Sat, journal, slots_of}
+use Rattle.store.specs.Seen.{view_of}
 use Rattle.store.specs.Sides.{DeskStands, VaultStands}
-use Rattle.store.specs.Start.{Origin}
+use Rattle.store.specs.Start.{Origin, opened_base}
+use Rattle.store.specs.WorkerRounds.{IsFreshOrStopped, WorkerLeaves, worker}
 
 -- each of these seats may call
 abbrev pub AreReady : {D : Type 0} → TableId → List (Sat D) → Type 0
@@ -29,10 +33,14 @@ pub record IsSeenIn {D : Type 0} (side : DeskSide D) (s : Sat D) : Type 0 where
   pub lines : lines_of s.number (seen s) ≡ lines_of s.number (journal side)
   pub work : (mine s).work ≡ work_at (slots_of side) s.number
 
+-- the archive holds captures up to the journal's last
+abbrev pub IsCopied : {D : Type 0} → DeskSide D → Running D → Type 0
+IsCopied side archive = archive.side.held ≡ (base_of (opened_base side.start) (journal side)).captures
+
 -- The devices are those of a desk and a vault that stand for one opening and this journal. It has the lines of so
 -- many seats, which have seen them, and no others; no fault is told twice, and none above its device's count. Whatever
--- a
--- crash leaves of the devices opens to the history behind the journal, or to it with the one change in doubt.
+-- a crash leaves of the devices opens to the history behind the journal, or to it with the one change in doubt; and
+-- where all is copied, its Maplog ends with the journal's last capture.
 pub record Closes {D : Type 0} (is_honest : D → Type 0) (state : D → State) (faults : D → ℕ) (start : Start D)
     (limit : ℕ) (seats : List (Sat D)) (left : Closed D) : Type 0 where
   pub side : DeskSide D
@@ -47,5 +55,45 @@ pub record Closes {D : Type 0} (is_honest : D → Type 0) (state : D → State) 
   pub counted : AllByRecursion (IsCounted (of_each faults left.disks)) (journal side)
   pub disks : left.disks ≡ disks_of side.core archive
   pub lines : left.journal ≡ journal side
+  pub captures : left.captures ≡ (base_of (opened_base side.start) (journal side)).captures
   pub crashes : (origin : Origin) → IsHonestlyOpened is_honest state start origin →
       CrashesOpen state origin.log origin.history (journal side) left.disks
+  pub maps : (origin : Origin) → IsHonestlyOpened is_honest state start origin → IsCopied side archive →
+      CrashesMap state origin.log (base_of (opened_base side.start) (journal side)).captures left.disks
+
+-- it is told whether all is copied
+pub record ClosesTold {D : Type 0} (is_honest : D → Type 0) (state : D → State) (faults : D → ℕ) (start : Start D)
+    (limit : ℕ) (seats : List (Sat D)) (left : Closed D) (copied : Bool) : Type 0 where
+  pub closes : Closes is_honest state faults start limit seats left
+  pub told : (copied ≡ true) ↔ IsCopied closes.side closes.archive
+
+-- ---- a last copying
+
+module _ {D : Type 0} (state : D → State) (faults : D → ℕ) where
+  -- what a seat sees that has nothing open
+  abbrev pub resting : Sat D → View
+  resting s = view_of state faults None [] s
+
+  -- at the copier's seat, if it is among these, a worker may run
+  abbrev pub MayCopyLast : List (Sat D) → Type 0
+  MayCopyLast seats = (k : ℕ) (s : Sat D) → slice_get seats k ≡ Some s → s.number ≡ SESSIONS →
+      ((mine s).work ≡ None) × IsFreshOrStopped (resting s)
+
+  -- a worker has run at this seat in a phase, which is the copier's
+  pub record HasCopiedAt (phase : ℕ) (old new : Sat D) : Type 0 where
+    pub same : IsSame old new
+    pub number : old.number ≡ SESSIONS
+    pub leaves : WorkerLeaves (worker phase old.number) (resting old) (resting new)
+
+  -- these seats are as they were, but that the copier has run at its own
+  pub record HaveCopied (phase : ℕ) (old new : List (Sat D)) : Type 0 where
+    pub count : length new ≡ length old
+    pub each : (k : ℕ) (s : Sat D) → slice_get old k ≡ Some s →
+        (t : Sat D) × (slice_get new k ≡ Some t) × ((t ≡ s) ⊎ HasCopiedAt phase s t)
+
+-- The copier has run once more, in that phase, and then the store was closed.
+pub record ClosesCopied {D : Type 0} (is_honest : D → Type 0) (state : D → State) (faults : D → ℕ) (start : Start D)
+    (limit phase : ℕ) (seats : List (Sat D)) (left : Closed D) (copied : Bool) : Type 0 where
+  pub last : List (Sat D)
+  pub worked : HaveCopied state faults phase seats last
+  pub ends : ClosesTold is_honest state faults start limit last left copied

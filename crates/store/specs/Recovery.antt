@@ -63,8 +63,7 @@ pub record HoldShown (version : Version) (devices : Four (List ℕ)) (world : Wo
   pub shows : ShowsOneOf contents world doubt
 
 -- Whatever a crash leaves of the four devices, readers see the world behind the lines, or that behind the one change
--- that
--- they tell to be in doubt.
+-- that they tell to be in doubt.
 abbrev pub CrashesShow : {D : Type 0} → (D → State) → Version → World Pages → List Line → Four D → Type 0
 CrashesShow state version world lines disks = (devices : Four (List ℕ)) → AreImages state disks devices
     → HoldShown version devices world (doubt_in lines)

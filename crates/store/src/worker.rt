@@ -49,7 +49,7 @@ fn run<R: Wait, D: Disk + Drop>(
 }
 
 // Runs a worker, unless the store has stopped.
-fn run_unless_stopped<R: Wait, D: Disk + Drop>(
+pub(crate) fn run_unless_stopped<R: Wait, D: Disk + Drop>(
     alloc: Global,
     store: &Store<D>,
     rt: &R,

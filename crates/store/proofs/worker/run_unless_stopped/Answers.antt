@@ -1,8 +1,5 @@
-use Rattle.std.proofs.Common.{◌≡◌, ◌∙◌, ℕ, None, [], ap, inl, subst, sym}
+use Rattle.std.proofs.Common.{◌∙◌, ℕ, None, [], ap, inl, subst, sym}
 use Rattle.retro_base.specs.declared.who.Who.{Who}
-use Rattle.journal_law.specs.Seats as law
-use Rattle.journal_law.specs.Seats.{View}
-use Rattle.turn.specs.Tables.{table_of}
 use Rattle.store.specs.Seen.{view_of, work_in}
 use Rattle.store.specs.WorkerRounds.{WorkerGives, worker}
 use Rattle.store.specs.Workers.{IsWorker}
