@@ -1,17 +1,27 @@
--- The status of a run whose journal tells a fault.
-use Rattle.std.proofs.Common.{◌≡◌, ℕ, Bool, true, false, List, Result, Ok, Err, ap, if◌then◌else◌, sym}
-use Rattle.std.specs.Prelude.{IfErr, IfOk, Option}
-use Rattle.history.specs.declared.journal.Line.{Line}
-use Rattle.retro.specs.Keeping.{WritesText, faulty, has_fault, with_faults}
-use Rattle.retro.specs.Says.{LacksMemory, Writes}
+-- The status of a run whose journal tells a fault, or whose captures were not all copied.
+use Rattle.std.proofs.Common.{◌≡◌, ◌∙◌, ℕ, Bool, true, false, List, Option, Result, Ok, Err, ap, inl, inr, if◌then◌else◌, sym}
+use Rattle.std.specs.Prelude.{IfErr, IfOk}
+use Rattle.retro.specs.Keeping.{ending_status, has_fault, in_place}
+use Rattle.retro.specs.Says.{LacksMemory, Writes, WritesOne}
+use Rattle.retro.specs.declared.storing.Ended.{Ended}
 
-pub with_fault : (journal : List Line) (status : ℕ) → has_fault journal ≡ true → faulty status ≡ with_faults journal status
-with_fault journal status is = sym (ap (λ (b : Bool). if b then faulty status else status) is)
+module _ (ended : Ended) (status : ℕ) where
+  abbrev Quiet : ℕ
+  Quiet = if ended.copied then status else in_place 8 status
 
-pub with_none : (journal : List Line) (status : ℕ) → has_fault journal ≡ false → status ≡ with_faults journal status
-with_none journal status is = sym (ap (λ (b : Bool). if b then faulty status else status) is)
+  pub with_fault : has_fault ended.journal ≡ true → in_place 6 status ≡ ending_status ended status
+  with_fault is = sym (ap (λ (b : Bool). if b then in_place 6 status else Quiet) is)
 
-pub writes_text : {K V E : Type 0} (held : K → Option (List ℕ)) (faults : K → ℕ) (old new : K) (items : V → List ℕ) (text : Result V E) (status : ℕ) → IfOk text (λ made. Writes held faults old new (items made) status)
-    → IfErr text (λ why. LacksMemory held old new status) → WritesText held faults old new items text status
-writes_text held faults old new items (Ok made) status ok err = ok
-writes_text held faults old new items (Err why) status ok err = err
+  quiet : has_fault ended.journal ≡ false → Quiet ≡ ending_status ended status
+  quiet is = sym (ap (λ (b : Bool). if b then in_place 6 status else Quiet) is)
+
+  pub with_wanting : has_fault ended.journal ≡ false → ended.copied ≡ false → in_place 8 status ≡ ending_status ended status
+  with_wanting is lacks = sym (ap (λ (b : Bool). if b then status else in_place 8 status) lacks) ∙ quiet is
+
+  pub with_none : has_fault ended.journal ≡ false → ended.copied ≡ true → status ≡ ending_status ended status
+  with_none is all = sym (ap (λ (b : Bool). if b then status else in_place 8 status) all) ∙ quiet is
+
+pub writes_one : {K V E : Type 0} (held : K → Option (List ℕ)) (faults : K → ℕ) (old new : K) (items : V → List ℕ) (IsIt : List ℕ → Type 0) (text : Result V E) (status : ℕ) → IfOk text (λ made. IsIt (items made))
+    → IfOk text (λ made. Writes held faults old new (items made) status) → IfErr text (λ why. LacksMemory held old new status) → WritesOne held faults old new IsIt status
+writes_one held faults old new items IsIt (Ok made) status is ok err = inl (items made, is, ok)
+writes_one held faults old new items IsIt (Err why) status is ok err = inr err

@@ -8,6 +8,8 @@ use Rattle.disk_model.specs.Disk.{State}
 use Rattle.disk_model.specs.Moments.{Clock}
 use Rattle.disk_model.specs.declared.four.Four.{Four}
 use Rattle.disk_model.specs.declared.four.Sizes.{Sizes}
+use Rattle.std.specs.declared.alloc.AllocError.{AllocError}
+use Rattle.retro_base.specs.declared.limits.TheConstants.{MEMORY_PAGES}
 use Rattle.retro_base.specs.declared.device.Device.{Device}
 use Rattle.retro_base.specs.declared.device.Device.TheVariants.{Log, Pages, Pagelog, Maplog, Cabinet}
 use Rattle.retro_base.specs.declared.refusal.Refusal.{Refusal}
@@ -16,23 +18,30 @@ use Rattle.retro_base.specs.Cause.{IsFault, Rose}
 use Rattle.history.specs.declared.entry.Base.{Base}
 use Rattle.history.specs.declared.log.Version.TheVariants.{One}
 use Rattle.history.specs.History.{History, now}
+use Rattle.history.specs.Lines.{base_of}
 use Rattle.history.specs.Replayed.{page_in}
 use Rattle.opening.specs.Devices.{AreHonest, AreImages, IsUnopened, SameCounts, of_each, seen_of}
 use Rattle.opening.specs.Laws.{AreReadOneWay}
+use Rattle.opening.proofs.OneWay.{are_read_one_way}
 use Rattle.replay.specs.Opened.{Contents, opened}
 use Rattle.journal_law.specs.Lawful.{Ground}
 use Rattle.journal_law.specs.Pages.{Pages as PagesOf}
 use Rattle.journal_law.specs.Shows.{Shows}
-use Rattle.journal_law.specs.World.{Mark, World}
+use Rattle.journal_law.specs.World.{Mark, World, newest}
 use Rattle.relation_laws.specs.Laws.{StoreLaw}
+use Rattle.relation_laws.proofs.Beginning.{store_law}
+use Rattle.tables.specs.Tables.{no_tables}
 use Rattle.session.specs.Plan.{Plan}
+use Rattle.session.specs.Replies.{kept_by_place, printed}
 use Rattle.session.specs.Sql.{sql}
+use Rattle.session.specs.declared.kept.Kept.{Kept}
 use Rattle.store_format.specs.Empty.{AreInRange, AreSame, IsEmptyStore, empty_base, empty_contents, zero_pages}
 use Rattle.store.specs.Opening.{AreRefused}
 use Rattle.store.specs.Worlds.{AreMarksOf, IsWorldOf}
-use Rattle.retro.specs.Memory.{RanFromEmpty, empty_ground, empty_opening}
-use Rattle.retro.specs.Storing.{HasRunOver, Leaves, OpenAs, RunsOn}
+use Rattle.retro.specs.Memory.{LeftFromEmpty, LeftInMemory, RanInMemory, RepliedInMemory, empty_ground, empty_opening, memory_opening, memory_sizes}
+use Rattle.retro.specs.Storing.{HasRunOver, IsPrinted, Leaves, OpenAs, OpensShowing, RunsOn}
 use Rattle.retro.specs.declared.storing.Ended.{Ended}
+use Rattle.retro.proofs.Phased.{prints}
 
 -- ---- what an empty store is opened with
 
@@ -76,11 +85,16 @@ shows_none law sizes faults range =
       marks = tt;
     }
 
--- ---- the run
+-- so a store that is opened from a crash of it shows none
+pub empty_shows : {D : Type 0} (state : D → State) (sizes : Sizes) (disks : Four D) → AreInRange sizes → ((devices : Four (List ℕ)) → AreImages state disks devices → IsEmptyStore One sizes devices)
+    → OpensShowing state sizes.pages (record { current = no_tables; marks = [] }) disks
+empty_shows state sizes disks range empty devices ground images opens =
+    let is = ground_is are_read_one_way sizes devices ground ground.faults (empty devices images) opens (λ device. refl) in (
+      ap (λ (g : Ground). g.base.page_count) is,
+      subst (λ (g : Ground). Shows (sql sizes.pages) g.pages (empty_opening sizes ground.faults).tables) (sym is) (shows_none store_law sizes ground.faults range),
+    )
 
-if_ok : {V E : Type 0} {P Q : V → Type 0} (t : Result V E) → IfOk t P → ((v : V) → P v → Q v) → IfOk t Q
-if_ok (Ok v) p f = f v p
-if_ok (Err e) p f = tt
+-- ---- the run
 
 module _ {D : Type 0} (extent faults : D → ℕ) (is_honest : D → Type 0) (remembers : Type 0) (state : D → State) (clock : D → Clock) where
   -- a crash may leave what reads return
@@ -117,22 +131,25 @@ module _ {D : Type 0} (extent faults : D → ℕ) (is_honest : D → Type 0) (re
     )
     unopened why is = absurd is
 
-    ran : StoreLaw → AreInRange sizes → (plan : Plan) (ended : Ended) → Leaves faults is_honest state plan made last ended
-        → IfOk ended.text (λ text. RanFromEmpty sizes plan (of_each faults first) (of_each faults last) ended.journal text.items)
-    ran zeros range plan ended leaves =
+    left : StoreLaw → AreInRange sizes → (plan : Plan) (ended : Ended) → Leaves faults is_honest state plan made last ended
+        → LeftFromEmpty sizes plan (of_each faults first) (of_each faults last) ended
+    left zeros range plan ended leaves =
         let is = ground_is read sizes (seen_of state made) leaves.ground (of_each faults first) holds (leaves.opens honest) (λ device. leaves.counts device ∙ counts device) in
-        if_ok ended.text ((subst (λ (g : Ground). HasRunOver plan g (of_each faults last) ended) is (leaves.ran honest)).transcript (empty_opening sizes (of_each faults first)).tables (shows_none zeros sizes (of_each faults first) range))
-        (λ text over. record { ran = over })
+        record {
+          replied = (subst (λ (g : Ground). HasRunOver plan g (of_each faults last) ended) is (leaves.ran honest)).replied (empty_opening sizes (of_each faults first)).tables (shows_none zeros sizes (of_each faults first) range);
+          newest_is = leaves.newest_is ∙ ap (λ (g : Ground). newest g.pages) is;
+          captures_are = leaves.captures_are ∙ ap (λ (g : Ground). (base_of g.base ended.journal).captures) is;
+        }
 
     pub unopened_so : (plan : Plan) (result : Result Ended Refusal) → RunsOn extent faults is_honest remembers state clock plan made last result
         → IfErr result (IsUnopened (λ (device : Device) (broken : ℕ). ⊥) (of_each faults first) (of_each faults last))
     unopened_so plan (Ok ended) runs = tt
     unopened_so plan (Err why) runs = unopened why runs.unopened
 
-    pub ran_so : StoreLaw → AreInRange sizes → (plan : Plan) (result : Result Ended Refusal) → RunsOn extent faults is_honest remembers state clock plan made last result
-        → IfOk result (λ ended. IfOk ended.text (λ text. RanFromEmpty sizes plan (of_each faults first) (of_each faults last) ended.journal text.items))
-    ran_so zeros range plan (Ok ended) runs = ran zeros range plan ended runs.leaves
-    ran_so zeros range plan (Err why) runs = tt
+    pub left_so : StoreLaw → AreInRange sizes → (plan : Plan) (result : Result Ended Refusal) → RunsOn extent faults is_honest remembers state clock plan made last result
+        → IfOk result (LeftFromEmpty sizes plan (of_each faults first) (of_each faults last))
+    left_so zeros range plan (Ok ended) runs = left zeros range plan ended runs.leaves
+    left_so zeros range plan (Err why) runs = tt
 
 -- ---- in memory, where no call fails
 
@@ -146,6 +163,18 @@ no_faults disks = fun_ext at
     at Pagelog = refl
     at Maplog = refl
     at Cabinet = refl
+
+pub in_memory : {D : Type 0} (first last : Four D) (plan : Plan) (ended : Ended) → LeftFromEmpty memory_sizes plan (of_each (λ (disk : D). 0) first) (of_each (λ (disk : D). 0) last) ended → LeftInMemory plan ended
+in_memory {D} first last plan ended left =
+    subst (λ (f : Device → ℕ). LeftFromEmpty memory_sizes plan f (λ device. 0) ended) (no_faults first)
+    (subst (λ (f : Device → ℕ). LeftFromEmpty memory_sizes plan (of_each (λ (disk : D). 0) first) f ended) (no_faults last) left)
+
+-- what is printed is its transcript
+pub told_in_memory : (plan : Plan) (ended : Ended) (text : List ℕ) → LeftInMemory plan ended → IsPrinted plan ended text → RanInMemory plan ended.journal text
+told_in_memory plan ended text left print =
+    prints MEMORY_PAGES plan memory_opening (λ device. 0) ended.journal (kept_by_place print.kept) text
+    (subst (λ (k : Result (List (List (List Kept))) AllocError). IfOk k (λ kept. RepliedInMemory plan ended.journal (kept_by_place kept))) print.kept_is left.replied)
+    (print.text_is ∙ ap (λ (n : ℕ). printed plan (kept_by_place print.kept) n ended.journal) left.newest_is)
 
 -- what was refused was refused for want of memory
 pub wants_memory : (before after : Device → ℕ) (why : Refusal) → before ≡ (λ (device : Device). 0) → after ≡ (λ (device : Device). 0) → IsUnopened (λ (device : Device) (broken : ℕ). ⊥) before after why → why ≡ OutOfMemory

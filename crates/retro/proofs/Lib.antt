@@ -1,10 +1,14 @@
+pub mod Chained
+pub mod Copied
 pub mod Crossing
 pub mod Ends
 pub mod Faulted
 pub mod FromEmpty
 pub mod Front
+pub mod Loaded
 pub mod Numbers
 pub mod Phased
+pub mod Replied
 pub mod Seated
 pub mod Stepped
 pub mod Stored

@@ -1,5 +1,6 @@
 -- That phases of sessions at seats of their own make a run.
 use Rattle.std.proofs.Common.{◌≡◌, ◌≢◌, ◌⊎◌, ◌<◌, ◌≤◌, ◌+◌, ◌++◌, ◌==◌, ℕ, zero, suc, Bool, true, false, cond, List, [], ◌∷◌, length, Option, Some, None, Ok, inl, inr, refl, ap, sym, subst, ◌∙◌, append-nil, append_assoc, arith}
+use Rattle.std.proofs.Math.Path.{fun_ext}
 use Rattle.std.proofs.lemmas.Bool.Decides.{nat_tests}
 use Rattle.std.proofs.lemmas.List.{append_cancel_left}
 use Rattle.std.proofs.lemmas.List.Elements.{filter-append}
@@ -19,7 +20,7 @@ use Rattle.journal_law.specs.Pages.{Pages}
 use Rattle.journal_law.specs.Seats.{View, Waits}
 use Rattle.journal_law.specs.Shows.{MarksShow, Shows, ShowsAlong}
 use Rattle.journal_law.specs.World.{Mark, World, newest, newest_behind}
-use Rattle.journal_law.proofs.Journal.{law, lines_of_seen, own_lines}
+use Rattle.journal_law.proofs.Journal.{along_front, law, lines_of_seen, own_lines}
 use Rattle.journal_law.proofs.Seating.{waits}
 use Rattle.session.specs.Plan.{EndsAt, Plan, item_of, names_at, numbered, tasks_at}
 use Rattle.session.specs.Replies.{SaysWanting, kept_by, kept_by_place, kept_in, known_by, printed, starting, wanting_by, who_is}
@@ -30,7 +31,8 @@ use Rattle.session.specs.declared.plan.SessionPlan.{SessionPlan}
 use Rattle.session.specs.declared.plan.Task.{Task}
 use Rattle.session.proofs.Runs.{law_of_runs}
 use Rattle.store.proofs.WorkerEnds.{all_append}
-use Rattle.retro.specs.Phases.{AllMet, HasComeTo, HaveRun, HaveSeats, IsFresh, IsOfSeats, KeepsNoMore, KeptBefore, LeavesJournal, LeftLawful, PhasesMakeRuns, RanOver, StandTogether, StandsBefore, WereKept}
+use Rattle.retro.specs.Phases.{AllMet, HasComeTo, HaveRun, HaveSeats, IsFresh, IsOfSeats, KeepsNoMore, KeptBefore, LeavesJournal, LeftLawful, PhasesMakeRuns, RanOver, RepliedOver, StandTogether, StandsBefore, WereKept}
+use Rattle.retro.proofs.Replied.{journal_tells}
 
 -- ---- lists of lines
 
@@ -46,8 +48,8 @@ pub all_so : (P Q : Line → Type 0) → ((line : Line) → P line → Q line) �
 all_so P Q so [] all = tt
 all_so P Q so (line ∷ lines) all = (so line all.0, all_so P Q so lines all.1)
 
--- lines of this phase behind lines of earlier ones
-rise_append : (phase : ℕ) (xs ys : List Line) → PhasesRise xs → AllByRecursion (λ (line : Line). line.who.phase < phase) xs → AllByRecursion (λ (line : Line). line.who.phase ≡ phase) ys → PhasesRise (xs ++ ys)
+-- lines of this phase behind lines of this one and earlier ones
+rise_append : (phase : ℕ) (xs ys : List Line) → PhasesRise xs → AllByRecursion (λ (line : Line). line.who.phase < phase + 1) xs → AllByRecursion (λ (line : Line). line.who.phase ≡ phase) ys → PhasesRise (xs ++ ys)
 rise_append phase [] [] rise before at = tt
 rise_append phase [] (y ∷ ys) rise before at =
     (all_so (λ (line : Line). line.who.phase ≡ phase) (λ (later : Line). y.who.phase ≤ later.who.phase) (λ line is. omega (arith, is, at.0)) ys at.1, rise_append phase [] ys rise before at.1)
@@ -156,7 +158,7 @@ module _ (size : ℕ) (plan : Plan) where
       is_kept = λ tables along. is ∙ sym (ap (λ (tasks : List Task). kept_by size (λ (number : ℕ). known_by size plan wanting tables lines (who_is phase session number)) (names_at plan phase) starting 1 tasks) none);
     }
 
-    kept_on : (phase session : ℕ) (lines more : List Line) (kept : List Kept) → AllByRecursion (IsBehind phase session) more → WasKept size plan ground lines phase session kept
+    pub kept_on : (phase session : ℕ) (lines more : List Line) (kept : List Kept) → AllByRecursion (IsBehind phase session) more → WasKept size plan ground lines phase session kept
         → WasKept size plan ground (lines ++ more) phase session kept
     kept_on phase session lines more kept later was wanting says =
         let has : HasKept size plan wanting ground lines phase session kept = was wanting says in
@@ -168,7 +170,26 @@ module _ (size : ℕ) (plan : Plan) where
           is_kept = has.is_kept;
         }
 
-    others_behind : (phase session : ℕ) (lines : List Line) → AreOthers session lines → AllByRecursion (IsBehind phase session) lines
+    -- and of a session that is not there, whatever lines come
+    pub kept_idle : (phase session : ℕ) (lines more : List Line) (kept : List Kept) → tasks_at plan phase session ≡ [] → WasKept size plan ground lines phase session kept
+        → WasKept size plan ground (lines ++ more) phase session kept
+    kept_idle phase session lines more kept none was wanting says =
+        let has : HasKept size plan wanting ground lines phase session kept = was wanting says in
+        let whole : lines ++ more ≡ has.front ++ (has.rest ++ more) = ap (λ (ls : List Line). ls ++ more) has.whole ∙ append_assoc has.front has.rest more in
+        record {
+          front = lines ++ more;
+          rest = [];
+          whole = sym (append-nil (lines ++ more));
+          later = tt;
+          is_kept = λ tables along.
+              has.is_kept tables (along_front (sql size) (item_of plan) ground.pages tables has.front (has.rest ++ more) (subst (ShowsAlong (sql size) (item_of plan) ground.pages tables) whole along))
+              ∙ nothing tables has.front ∙ sym (nothing tables (lines ++ more));
+        }
+      where
+        nothing : (tables : World (sql size).Tables) (front : List Line) → kept_in size (known_by size plan wanting tables front) plan phase session ≡ []
+        nothing tables front = ap (λ (tasks : List Task). kept_by size (λ (number : ℕ). known_by size plan wanting tables front (who_is phase session number)) (names_at plan phase) starting 1 tasks) none
+
+    pub others_behind : (phase session : ℕ) (lines : List Line) → AreOthers session lines → AllByRecursion (IsBehind phase session) lines
     others_behind phase session lines others = all_so (λ (line : Line). line.who.session ≢ session) (IsBehind phase session) (λ line other mine. absurd (other mine)) lines others
 
     -- ---- a session at its seat
@@ -236,7 +257,26 @@ module _ (size : ℕ) (plan : Plan) where
 
     -- ---- a phase
 
-    module _ (seats phase : ℕ) (front next : List Line) (old new met : ℕ → View) (ran : HaveRun size plan seats phase old new) (all_met : AllMet seats new met next) (together : StandTogether size plan ground seats phase front old) where
+    -- who stands before a phase stands before later ones
+    pub later : (seats phase behind : ℕ) (front : List Line) (views : ℕ → View) → phase ≤ behind → StandTogether size plan ground seats phase front views → StandTogether size plan ground seats behind front views
+    later seats phase behind front views le together = record {
+      each = λ number less.
+          let was = together.each number less in
+          record {
+            number_is = was.number_is;
+            ground_is = was.ground_is;
+            front_is = was.front_is;
+            ready = record {
+              idle = was.ready.idle;
+              fits = was.ready.fits;
+              runs = was.ready.runs;
+              earlier = all_so (IsBefore phase (views number).session) (IsBefore behind (views number).session) (λ line before mine. let b = before mine in omega (arith, b, le)) (views number).front was.ready.earlier;
+            };
+          };
+      rise = together.rise;
+    }
+
+    module _ (seats phase : ℕ) (front next : List Line) (old new met : ℕ → View) (ran : HaveRun size plan seats phase old new) (all_met : AllMet seats new met next) (together : StandTogether size plan ground seats (phase + 1) front old) where
       left : (number : ℕ) → number < seats → SessionLeft size plan phase (old number) (met number)
       left number less = left_on phase (old number) (new number) (met number) (ran number less) (all_met number less).0
 
@@ -261,15 +301,15 @@ module _ (size : ℕ) (plan : Plan) where
               fits = here.fits;
               runs = here.runs;
               earlier = rw (here.session, here.front) (all_append (IsBefore (phase + 1) (old number).session) (old number).front here.more
-                  (all_so (IsBefore phase (old number).session) (IsBefore (phase + 1) (old number).session) (λ line before mine. omega (arith, before mine)) (old number).front was.ready.earlier)
+                  was.ready.earlier
                   (all_so (OfPhase phase (old number).session) (IsBefore (phase + 1) (old number).session) (λ line at mine. omega (arith, at mine)) here.more here.of_phase));
             };
           }
 
-      before_phase : AllByRecursion (IsOfSeats seats) front → AllByRecursion (λ (line : Line). line.who.phase < phase) front
-      before_phase of = of_seats seats (λ (line : Line). line.who.phase < phase) front of (λ number less.
+      before_phase : AllByRecursion (IsOfSeats seats) front → AllByRecursion (λ (line : Line). line.who.phase < phase + 1) front
+      before_phase of = of_seats seats (λ (line : Line). line.who.phase < phase + 1) front of (λ number less.
           let was = together.each number less in
-          subst (λ (s : ℕ). AllByRecursion (IsBefore phase s) front) was.number_is (subst (AllByRecursion (IsBefore phase (old number).session)) was.front_is was.ready.earlier))
+          subst (λ (s : ℕ). AllByRecursion (IsBefore (phase + 1) s) front) was.number_is (subst (AllByRecursion (IsBefore (phase + 1) (old number).session)) was.front_is was.ready.earlier))
 
       rise_by : (some : ℕ) → some < seats → AllByRecursion (IsOfSeats seats) next → PhasesRise next
       rise_by some less of =
@@ -287,8 +327,8 @@ module _ (size : ℕ) (plan : Plan) where
           by_line [] e all = rw e tt
           by_line (line ∷ lines) e all = rise_by line.who.session all.0 of
 
-      pub stand_behind : StandTogether size plan ground seats (phase + 1) next met
-      stand_behind = record { each = stands; rise = rise }
+      pub stand_after : StandTogether size plan ground seats (phase + 1) next met
+      stand_after = record { each = stands; rise = rise }
 
       kept_in_phase : (number : ℕ) (less : number < seats) (kept : List Kept) → WasKept size plan ground (new number).front phase number kept → WasKept size plan ground next phase number kept
       kept_in_phase number less kept was =
@@ -304,6 +344,10 @@ module _ (size : ℕ) (plan : Plan) where
           (kept_on earlier number front (left number less).more kept
           (all_so (OfPhase phase number) (IsBehind earlier number) (λ line at mine. omega (arith, at mine, before)) (left number less).more (of_phase number less)) was)
 
+    pub stand_behind : (seats phase : ℕ) (front next : List Line) (old new met : ℕ → View) → HaveRun size plan seats phase old new → AllMet seats new met next → StandTogether size plan ground seats phase front old
+        → StandTogether size plan ground seats (phase + 1) next met
+    stand_behind seats phase front next old new met ran all_met together = stand_after seats phase front next old new met ran all_met (later seats phase (phase + 1) front old (omega arith) together)
+
     pub on : (seats phase : ℕ) (next : List Line) (before after : ℕ → ℕ → List Kept) (old new met : ℕ → View) → HaveRun size plan seats phase old new → AllMet seats new met next →
         WereKept size plan ground seats phase new (after phase) → ((earlier : ℕ) → earlier < phase → after earlier ≡ before earlier) → KeepsNoMore seats (phase + 1) after →
         HasComeTo size plan ground seats phase before old → HasComeTo size plan ground seats (phase + 1) after met
@@ -314,13 +358,16 @@ module _ (size : ℕ) (plan : Plan) where
       no_more = no_more;
     }
       where
+        together_later : StandTogether size plan ground seats (phase + 1) come.front old
+        together_later = later seats phase (phase + 1) come.front old (omega arith) come.together
+
         by_phase : (earlier number : ℕ) → number < seats → earlier < phase + 1 → (earlier < phase) ⊎ (phase ≤ earlier) → WasKept size plan ground next earlier number (after earlier number)
         by_phase earlier number seated less (inl past) = subst (λ (of : ℕ → List Kept). WasKept size plan ground next earlier number (of number)) (sym (same earlier past))
-            (kept_before seats phase come.front next old new met ran all_met come.together earlier number (before earlier number) past seated (come.has_kept earlier number past seated))
+            (kept_before seats phase come.front next old new met ran all_met together_later earlier number (before earlier number) past seated (come.has_kept earlier number past seated))
         by_phase earlier number seated less (inr now) =
             let is : phase ≡ earlier = omega (arith, less, now) in
             subst (λ (p : ℕ). WasKept size plan ground next p number (after p number)) is
-            (kept_in_phase seats phase come.front next old new met ran all_met come.together number seated (after phase number) (were number seated))
+            (kept_in_phase seats phase come.front next old new met ran all_met together_later number seated (after phase number) (were number seated))
 
     -- ---- the end
 
@@ -375,9 +422,27 @@ module _ (size : ℕ) (plan : Plan) where
         counted = leaves.counted;
       }
 
-no_phase : (plan : Plan) (phase session : ℕ) → length plan < phase → tasks_at plan phase session ≡ []
+pub no_phase : (plan : Plan) (phase session : ℕ) → length plan < phase → tasks_at plan phase session ≡ []
 no_phase plan zero session past = absurd (omega (arith, past))
 no_phase plan (suc phase) session past = rw (slice_get_past plan phase (omega (arith, past))) refl
+
+-- where all phases have run, later ones have
+pub come_later : (size : ℕ) (plan : Plan) (ground : Ground) (seats phase behind : ℕ) (kept : ℕ → ℕ → List Kept) (views : ℕ → View) → length plan < phase → phase ≤ behind
+    → HasComeTo size plan ground seats phase kept views → HasComeTo size plan ground seats behind kept views
+come_later size plan ground seats phase behind kept views past le come = record {
+  front = come.front;
+  together = later size plan ground seats phase behind come.front views le come.together;
+  has_kept = λ earlier number less seated. by_phase earlier number seated (less_or_not earlier phase);
+  no_more = λ number session more. by_more number session more;
+}
+  where
+    by_phase : (earlier number : ℕ) → number < seats → (earlier < phase) ⊎ (phase ≤ earlier) → WasKept size plan ground come.front earlier number (kept earlier number)
+    by_phase earlier number seated (inl before) = come.has_kept earlier number before seated
+    by_phase earlier number seated (inr now) = kept_none size plan ground earlier number come.front (kept earlier number) (no_phase plan earlier number (omega (arith, past, now))) (come.no_more earlier number (inl now))
+
+    by_more : (number session : ℕ) → (behind ≤ number) ⊎ (seats ≤ session) → kept number session ≡ []
+    by_more number session (inl far) = come.no_more number session (inl (omega (arith, le, far)))
+    by_more number session (inr none) = come.no_more number session (inr none)
 
 pub no_session : (plan : Plan) (phase place session : ℕ) → EndsAt plan phase place → place ≤ session → tasks_at plan phase session ≡ []
 no_session plan phase place session ends behind = by_phase (numbered plan phase) refl
@@ -386,7 +451,7 @@ no_session plan phase place session ends behind = by_phase (numbered plan phase)
     by_phase None e = rw e refl
     by_phase (Some sessions) e = rw (e, slice_get_past sessions session (omega (arith, ends sessions e, behind))) refl
 
-ends_at : (plan : Plan) (seats phase : ℕ) → HaveSeats plan seats → EndsAt plan phase seats
+pub ends_at : (plan : Plan) (seats phase : ℕ) → HaveSeats plan seats → EndsAt plan phase seats
 ends_at plan seats zero seated sessions is = absurd (nothing is)
   where
     nothing : None ≡ Some sessions → ⊥
@@ -437,16 +502,29 @@ left_lawful size plan o ending seats phase front journal views shown leaves toge
       lawful = (law (sql size)).lawful (item_of plan) o ending journal shown fit (closes size plan o.opened ending seats phase front journal views leaves together);
     }
 
-pub prints : (size : ℕ) (plan : Plan) (o : Opening (sql size)) (ending : Device → ℕ) (seats phase : ℕ) (journal : List Line) (kept : List (List (List Kept))) (views : ℕ → View) (text : List ℕ) → Shows (sql size) o.opened.pages o.tables →
-    length plan < phase → HaveSeats plan seats → LeavesJournal ending seats views journal → HasComeTo size plan o.opened seats phase (kept_by_place kept) views →
-    text ≡ printed plan (kept_by_place kept) (newest o.opened.pages) journal → RanOver size plan o ending journal text
-prints size plan o ending seats phase journal kept views text shown past seated leaves come is = record {
-  wanting = wanting_by (kept_by_place kept);
-  shown = shown;
-  lawful = subst (λ (t : List ℕ). RunIsLawful size plan (wanting_by (kept_by_place kept)) o ending journal t)
-      (sym (is ∙ ap (λ (n : ℕ). printed plan (kept_by_place kept) n journal) (newest_same (sql size) o.opened.pages o.tables shown)))
-      (law_of_runs size plan (wanting_by (kept_by_place kept)) o ending journal (kept_by_place kept) shown
-      (ends size plan o.opened ending seats phase journal (kept_by_place kept) views past seated leaves come));
+pub replies : (size : ℕ) (plan : Plan) (o : Opening (sql size)) (ending : Device → ℕ) (seats phase : ℕ) (journal : List Line) (kept : ℕ → ℕ → List Kept) (views : ℕ → View) → Shows (sql size) o.opened.pages o.tables →
+    length plan < phase → HaveSeats plan seats → LeavesJournal ending seats views journal → HasComeTo size plan o.opened seats phase kept views → RepliedOver size plan o ending journal kept
+replies size plan o ending seats phase journal kept views shown past seated leaves come =
+    let run = ends size plan o.opened ending seats phase journal kept views past seated leaves come in
+    let is = law_of_runs size plan (wanting_by kept) o ending journal kept shown run in
+    record {
+      wanting = wanting_by kept;
+      shown = shown;
+      left = record { shows = is.shows; lawful = is.lawful };
+      told = journal_tells size plan (wanting_by kept) o ending journal kept shown run;
+    }
+
+pub prints : (size : ℕ) (plan : Plan) (o : Opening (sql size)) (ending : Device → ℕ) (journal : List Line) (kept : ℕ → ℕ → List Kept) (text : List ℕ) → RepliedOver size plan o ending journal kept
+    → text ≡ printed plan kept (newest o.opened.pages) journal → RanOver size plan o ending journal text
+prints size plan o ending journal kept text replied is = record {
+  wanting = replied.wanting;
+  shown = replied.shown;
+  lawful = record {
+    shows = replied.left.shows;
+    lawful = replied.left.lawful;
+    is_text = is ∙ ap (λ (n : ℕ). printed plan kept n journal) (newest_same (sql size) o.opened.pages o.tables replied.shown)
+        ∙ ap (λ (all : ℕ → ℕ → List Kept). printed plan all (newest o.tables) journal) (fun_ext (λ phase. fun_ext (replied.told phase)));
+  };
 }
 
 pub phases_make_runs : (size : ℕ) → PhasesMakeRuns size
@@ -463,5 +541,6 @@ phases_make_runs size = record {
       (all_fit size plan ground ending seats phase front journal views leaves together, closes size plan ground ending seats phase front journal views leaves together);
   ends = ends size;
   left = left_lawful size;
+  replies = replies size;
   prints = prints size;
 }

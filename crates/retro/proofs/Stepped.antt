@@ -90,7 +90,7 @@ not_failed E t failed = cc
 -- no session has run
 pub none_ran : {E : Type 0} (plan : Plan) (phase seats count : ℕ) (old : ℕ → View) (answered : Result (List (List Kept)) E) → IsErr answered → RanThrough plan phase seats count old old answered
 none_ran {E} plan phase seats count old (Ok kept) failed = absurd (not_failed E kept failed)
-none_ran {E} plan phase seats count old (Err why) failed = record { left = λ number less ready. left_none (size_of (old number)) plan phase (old number) ready; long = tt; kept = tt }
+none_ran {E} plan phase seats count old (Err why) failed = record { left = λ number less ready. left_none (size_of (old number)) plan phase phase (old number) ready; long = tt; kept = tt }
 
 session_of : (plan : Plan) (phase place : ℕ) (sessions : List SessionPlan) (session : SessionPlan) (names : List (List ℕ)) → IsPhaseOf plan phase sessions → slice_get sessions place ≡ Some session → names ≡ names_of sessions
     → IsSessionOf plan phase place names session.tasks
@@ -307,11 +307,11 @@ run_begins plan ground seats front views together = begins ground.base.page_coun
 
 -- a phase behind which memory was wanting
 pub phase_failed : {E F : Type 0} (plan : Plan) (ground : Ground) (seats phase : ℕ) (old new : ℕ → View) (kept : List (List (List Kept))) (answered : Result (List (List Kept)) E) (result : Result (List (List (List Kept))) F) → IsErr result →
-    length kept + 1 ≡ phase → HasComeTo ground.base.page_count plan ground seats phase (kept_by_place kept) old → PhaseRuns plan ground seats phase old new answered → RunsPhases plan ground seats new result
-phase_failed {E} {F} plan ground seats phase old new kept answered (Ok whole) failed long come ran = absurd (not_failed F whole failed)
-phase_failed {E} {F} plan ground seats phase old new kept (Ok one) (Err why) failed long come ran =
+    length kept + 1 ≡ phase → phase ≤ length plan → HasComeTo ground.base.page_count plan ground seats phase (kept_by_place kept) old → PhaseRuns plan ground seats phase old new answered → RunsPhases plan ground seats new result
+phase_failed {E} {F} plan ground seats phase old new kept answered (Ok whole) failed long few come ran = absurd (not_failed F whole failed)
+phase_failed {E} {F} plan ground seats phase old new kept (Ok one) (Err why) failed long few come ran =
     let behind = ran kept long come in
-    (phase + 1, behind.front, behind.together)
-phase_failed {E} {F} plan ground seats phase old new kept (Err other) (Err why) failed long come ran =
+    (phase + 1, behind.front, omega (arith, few), behind.together)
+phase_failed {E} {F} plan ground seats phase old new kept (Err other) (Err why) failed long few come ran =
     let behind = ran come.front come.together in
-    (phase + 1, behind.0, behind.1)
+    (phase + 1, behind.0, omega (arith, few), behind.1)

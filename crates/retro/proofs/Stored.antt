@@ -1,5 +1,5 @@
 -- Runs over the store on four devices.
-use Rattle.std.proofs.Common.{◌≡◌, ◌⊎◌, ◌<◌, ◌≤◌, ◌+◌, ◌++◌, ℕ, zero, suc, Bool, true, false, List, [], ◌∷◌, drop, take, length, length-append, append-nil, append_assoc, slice_get, map, Option, Some, None, Result, Ok, Err, inl, inr, refl, sym, ap, subst, ◌∙◌, arith, if◌then◌else◌}
+use Rattle.std.proofs.Common.{◌≡◌, ◌⊎◌, ◌<◌, ◌≤◌, ◌+◌, ◌++◌, ℕ, zero, suc, Bool, true, false, List, [], ◌∷◌, length, length-append, append-nil, append_assoc, slice_get, map, Option, Some, None, Result, Ok, Err, inl, inr, refl, sym, ap, subst, ◌∙◌, arith, if◌then◌else◌}
 use Rattle.std.specs.Prelude.{IfOk, IfSome, nat_lt}
 use Rattle.std.specs.List.{AllByRecursion}
 use Rattle.std.proofs.lemmas.Option.{slice_get_within}
@@ -9,53 +9,67 @@ use Rattle.disk_model.specs.Moments.{Clock}
 use Rattle.disk_model.specs.declared.four.Four.{Four}
 use Rattle.retro_base.specs.declared.device.Device.{Device}
 use Rattle.retro_base.specs.declared.device.Device.TheVariants.{Log, Pages, Pagelog, Maplog, Cabinet}
+use Rattle.retro_base.specs.declared.limits.TheConstants.{SESSIONS}
 use Rattle.history.specs.declared.entry.Mark.{Mark as MarkOf}
 use Rattle.history.specs.declared.journal.Line.{Line}
 use Rattle.history.specs.declared.log.Version.{Version}
 use Rattle.history.specs.declared.log.Version.TheVariants.{One}
 use Rattle.history.specs.History.{now}
-use Rattle.history.specs.Lines.{FaultsDiffer, lines_of}
+use Rattle.history.specs.Journal.{after_journal, changes_of}
+use Rattle.history.specs.Lines.{FaultsDiffer, base_of, doubt_in, lines_of}
+use Rattle.history.specs.declared.entry.Base.{Base}
+use Rattle.history.proofs.Lines.{base_after_journal}
+use Rattle.desk.proofs.Sent.{count_stays}
 use Rattle.history.specs.Marks.{newest}
-use Rattle.opening.specs.Devices.{AreHonest, SameCounts, of_each, seen_of}
+use Rattle.opening.specs.Devices.{AreHonest, AreImages, SameCounts, of_each, seen_of}
+use Rattle.opening.specs.Opening.{Hold}
+use Rattle.opening.proofs.OneWay.{are_read_one_way}
+use Rattle.replay.specs.Opened.{Contents, opened}
 use Rattle.archive.specs.Archive.{Running}
 use Rattle.journal_law.specs.Facts.{HasSeen}
 use Rattle.journal_law.specs.Lawful.{Ground, IsCounted}
 use Rattle.journal_law.specs.Pages.{Pages as PagesOf, page_world}
-use Rattle.journal_law.specs.Seats.{Idle, View}
-use Rattle.journal_law.specs.Shows.{Shows as ShowsTables}
+use Rattle.journal_law.specs.Seats.{Idle, View, Waits}
+use Rattle.journal_law.specs.Shows.{Shows as ShowsTables, world as tables_behind}
+use Rattle.journal_law.proofs.Journal.{along_end}
 use Rattle.journal_law.specs.World.{Mark, World, newest_behind}
 use Rattle.journal_law.specs.World as world
 use Rattle.tables.specs.Tables.{Tables}
-use Rattle.session.specs.Plan.{Plan, PlanFits, SessionsFit}
-use Rattle.session.specs.Replies.{kept_by_place, printed}
+use Rattle.session.specs.Plan.{Plan, PlanFits, SessionsFit, item_of, tasks_at}
+use Rattle.session.specs.Replies.{kept_by_place}
 use Rattle.session.specs.Sql.{sql}
 use Rattle.session.specs.declared.kept.Kept.{Kept}
 use Rattle.store_core.specs.declared.desk_core.Core.{Core}
 use Rattle.turn.specs.Faults.{count_of}
-use Rattle.turn.specs.Seats.{opening, seen}
+use Rattle.turn.specs.Seats.{mine, opening, seen}
 use Rattle.turn.specs.Views.{longer}
 use Rattle.store.specs.declared.closing.Closed.{Closed}
 use Rattle.store.specs.declared.start.Start.{Start}
-use Rattle.store.specs.Closing.{AreReady, Closes}
+use Rattle.store.specs.Closing.{AreReady, Closes, ClosesCopied, HasCopiedAt, resting}
+use Rattle.store.specs.Crashes.{CrashesMap}
 use Rattle.store.specs.Opening.{BeginsWith, disks_of}
 use Rattle.store.specs.Seats.{IsReady, IsWhole, Sat, journal}
-use Rattle.store.specs.Start.{AreJustOpened, AreOpenedTo, IsStartOf, Origin, desk_counts, vault_counts}
+use Rattle.store.specs.Start.{AreAsHonest, AreJustOpened, AreOpenedTo, IsAsHonest, IsStartOf, Origin, desk_counts, opened_base, vault_counts}
 use Rattle.store.specs.Recovery.{ClosedShows, CrashesShow, OpeningShows}
 use Rattle.store.specs.Frames.{GoesOn}
 use Rattle.store.specs.Ground.{ground_of, past_of, world_of}
-use Rattle.store.specs.Seen.{IsHonest, ground_in}
+use Rattle.store.specs.Seen.{IsHonest, ground_in, work_in}
 use Rattle.store.specs.Worlds.{IsWorldOf}
 use Rattle.store.specs.declared.held.Held.{Held}
-use Rattle.retro.specs.Phases.{HaveSeats, IsFresh, LeavesJournal, LeftLawful, RanOver, StandTogether}
+use Rattle.retro.specs.Phases.{AllMet, HasComeTo, HaveSeats, IsFresh, LeavesJournal, LeftLawful, RepliedOver, StandTogether}
 use Rattle.retro.specs.Slots.{AllCome, AreHonest as AllHonest, AreSeated, AreTogether, SitsAt, seat_in, view_at}
-use Rattle.store.specs.WorkerRounds.{IsFreshOrStopped}
+use Rattle.store.specs.WorkerRounds.{IsFreshOrStopped, TellsFirst, WorkerLeaves, worker}
+use Rattle.store.proofs.Coming.{idle_view}
+use Rattle.store.proofs.WorkerEnds.{waits_none}
 use Rattle.retro.specs.Working.{MayWorkOn}
 use Rattle.retro.specs.declared.working.TheConstants.{SEATS}
 use Rattle.retro.specs.Steps.{RunsPhases}
-use Rattle.retro.specs.Storing.{AreFresh, AreHeld, AreIn, ComeFrom, IsAmong, IsHeld, Leaves, OpenAs, opening_with, store_of, view_held}
+use Rattle.retro.specs.Storing.{AllRest, AreFresh, AreHeld, AreIn, ComeFrom, HasStood, IsAmong, IsHeld, Leaves, MayRest, OpenAs, OpensShowing, last_phase, opening_with, store_of, view_held}
 use Rattle.retro.specs.declared.slots.Slot.{Slot}
 use Rattle.retro.specs.declared.storing.Ended.{Ended}
-use Rattle.retro.proofs.Phased.{phases_make_runs}
+use Rattle.retro.proofs.Chained.{no_doubt_opens, no_doubt_shows, worlds_one}
+use Rattle.retro.proofs.Copied.{HaveWorked, come_copied, stand_copied}
+use Rattle.retro.proofs.Phased.{come_later, ends_at, later, less_or_not, no_session, phases_make_runs}
 use Rattle.retro.proofs.Seated.{one_seat, seat_within, sees}
 use Rattle.retro.proofs.Stepped.{there_is}
 
@@ -79,21 +93,6 @@ still_at (y ∷ xs) more (suc k) x there = still_at xs more k x there
 pub none_in : {A : Type 0} (xs : List A) → length xs ≡ 0 → xs ≡ []
 none_in [] e = refl
 none_in (x ∷ xs) e = absurd (omega (arith, e))
-
-gone_all : {A : Type 0} (ys : List A) (n : ℕ) → length ys ≤ n → drop n ys ≡ []
-gone_all [] zero le = refl
-gone_all [] (suc n) le = refl
-gone_all (y ∷ ys) zero le = absurd (omega (arith, le))
-gone_all (y ∷ ys) (suc n) le = gone_all ys n (omega (arith, le))
-
-take_all : {A : Type 0} (xs : List A) → take (length xs) xs ≡ xs
-take_all [] = refl
-take_all (x ∷ xs) = ap (λ zs. x ∷ zs) (take_all xs)
-
--- a list that was changed in place has what was put there
-pub back_again : {A : Type 0} (xs ys : List A) (n : ℕ) → n ≡ length ys → length xs ≡ length ys → take n (xs ++ drop (length xs) ys) ≡ xs
-back_again xs ys n long same =
-    ap (λ k. take k (xs ++ drop (length xs) ys)) (long ∙ sym same) ∙ ap (λ zs. take (length xs) (xs ++ zs)) (gone_all ys (length xs) (omega (arith, same))) ∙ ap (λ zs. take (length xs) zs) (append-nil xs) ∙ take_all xs
 
 if_ok : {V E : Type 0} {P Q : V → Type 0} (t : Result V E) → IfOk t P → ((v : V) → P v → Q v) → IfOk t Q
 if_ok (Ok v) p f = f v p
@@ -175,17 +174,27 @@ module _ {R D : Type 0} (state : D → State) (faults : D → ℕ) (z : TableId)
           idle = there.4.idle;
         }))
 
-    -- and come back in their slots
-    pub all_in : (new : List (Slot (Held R D))) → AllCome (view_held state faults) (λ (h k : Held R D). GoesOn (store_of h) (store_of k) h.seat k.seat) slots new → AreIn z new
-    all_in new come = all_at _ new (λ k slot there.
+    -- a seat in its slot rests
+    rests_in : (new : List (Slot (Held R D))) (k : ℕ) → k < length new → (held : Held R D) → SitsAt new k held → (view_held state faults held).session ≡ k → (view_held state faults held).work ≡ Idle → MayWorkOn (view_held state faults) new
+        → MayRest state faults held.seat
+    rests_in new k less held sits number idle may =
+        let quiet = idle_view state faults held.who held.asked held.told.items held.seat held.seated idle in (
+          quiet.0,
+          λ behind.
+              subst IsFreshOrStopped (sees (Held R D) (view_held state faults) new k held sits ∙ quiet.1) (may k (subst (λ (n : ℕ). SESSIONS ≤ n) number behind) less),
+        )
+
+    -- and they come back in their slots
+    pub all_in : (new : List (Slot (Held R D))) → AllCome (view_held state faults) (λ (h k : Held R D). GoesOn (store_of h) (store_of k) h.seat k.seat) slots new → MayWorkOn (view_held state faults) new → AreIn state faults z new
+    all_in new come may = all_at _ new (λ k slot there.
         let less = slice_get_within new k slot there in
         let is = come.seated k less in
         let was = in_slot k (subst (λ (n : ℕ). k < n) come.count less) in
-        (is.seat, sym (ap seat_in there) ∙ is.sits, (come.each k was.1 is.seat was.3 is.sits).store ∙ was.4.store_is))
+        (is.seat, sym (ap seat_in there) ∙ is.sits, (come.each k was.1 is.seat was.3 is.sits).store ∙ was.4.store_is, rests_in new k less is.seat is.sits is.number_is is.idle may))
 
     pub all_stood : {E : Type 0} (plan : Plan) (ground : Ground) (new : List (Slot (Held R D))) (left : List (Sat D)) (kept : Result (List (List (List Kept))) E)
         → AllCome (view_held state faults) (λ (h k : Held R D). GoesOn (store_of h) (store_of k) h.seat k.seat) slots new → ((number : ℕ) → IsAmong new left number)
-        → RunsPhases plan ground (length slots) (view_at (view_held state faults) new) kept → ComeFrom plan ground (length seats) left kept
+        → RunsPhases plan ground (length slots) (view_at (view_held state faults) new) kept → ComeFrom state faults plan ground (length seats) left kept
     all_stood plan ground new left kept come among runs = record {
       views = view_at (view_held state faults) new;
       each = λ number less.
@@ -196,7 +205,8 @@ module _ {R D : Type 0} (state : D → State) (faults : D → ℕ) (z : TableId)
             place = there.0;
             there = there.1;
             number_is = is.number_is;
-            front_is = ap (λ (v : View). v.front) (sees (Held R D) (view_held state faults) new number is.seat is.sits);
+            view_is = sees (Held R D) (view_held state faults) new number is.seat is.sits
+                ∙ (idle_view state faults is.seat.who is.seat.asked is.seat.told.items is.seat.seat is.seat.seated is.idle).1;
           };
       runs = subst (λ (n : ℕ). RunsPhases plan ground n (view_at (view_held state faults) new) kept) (held_long seats slots are) runs;
     }
@@ -205,42 +215,58 @@ module _ {R D : Type 0} (state : D → State) (faults : D → ℕ) (z : TableId)
 
 -- no seat has run: so they stand before the first phase
 pub none_stood : {D E : Type 0} (state : D → State) (faults : D → ℕ) (plan : Plan) (ground : Ground) (pages : ℕ) (seats : List (Sat D)) (why : E) → AreFresh pages seats → ((k : ℕ) (s : Sat D) → slice_get seats k ≡ Some s → ground_in state faults (opening s) ≡ ground)
-    → ComeFrom {E = E} plan ground (length seats) seats (Err why)
-none_stood state faults plan ground pages seats why fresh each = record {
+    → ComeFrom {E = E} state faults plan ground (length seats) seats (Err why)
+none_stood {D = D} state faults plan ground pages seats why fresh each = record {
   views = sight;
   each = λ number less.
       let one = there_is seats number less in
-      record { seat = one.0; place = number; there = one.1; number_is = (fresh number one.0 one.1).1; front_is = sym (fresh number one.0 one.1).3 };
-  runs = (1, [], (phases_make_runs ground.base.page_count).starts plan ground (length seats) sight (λ k less. record { number_is = refl; ground_is = refl; none = refl; idle = refl }));
+      record { seat = one.0; place = number; there = one.1; number_is = (fresh number one.0 one.1).1; view_is = rests number one.0 one.1 };
+  runs = (1, [], omega arith, (phases_make_runs ground.base.page_count).starts plan ground (length seats) sight (λ k less. record { number_is = refl; ground_is = refl; none = refl; idle = refl }));
 }
   where
     sight : ℕ → View
     sight number = record { session = number; opened = ground; front = []; work = Idle; told = [] }
 
+    rests : (number : ℕ) (s : Sat D) → slice_get seats number ≡ Some s → sight number ≡ resting state faults s
+    rests number s there =
+        let new = fresh number s there in
+        let opens = each number s there in
+        let work : Idle ≡ work_in None (seen s) (mine s).work = sym (ap (work_in None (seen s)) new.2) in
+        λ i. record { session = sym new.1 i; opened = sym opens i; front = sym new.3 i; work = work i; told = [] }
+
+-- such a seat rests
+pub fresh_rest : {D : Type 0} (state : D → State) (faults : D → ℕ) (pages : ℕ) (seats : List (Sat D)) → AreFresh pages seats → AllRest state faults seats
+fresh_rest state faults pages seats fresh k s there =
+    let new = fresh k s there in
+    (new.2, λ behind. inl (ap (λ (lines : List Line). lines_of s.number lines) new.3))
+
 -- ---- seats out of their slots
 
 -- So far these came out of the slots behind, the last first.
-pub record HaveRisen {R D : Type 0} (z : TableId) (slots left gone : List (Slot (Held R D))) (seats : List (Sat D)) : Type 0 where
+pub record HaveRisen {R D : Type 0} (state : D → State) (faults : D → ℕ) (z : TableId) (slots left gone : List (Slot (Held R D))) (seats : List (Sat D)) : Type 0 where
   pub split : slots ≡ left ++ gone
   pub ready : AreReady z seats
+  pub rest : AllRest state faults seats
   pub among : (number : ℕ) → IsAmong gone seats number
   pub count : length seats ≡ length gone
 
-module _ {R D : Type 0} (z : TableId) where
-  pub none_risen : (slots : List (Slot (Held R D))) (seats : List (Sat D)) → seats ≡ [] → HaveRisen z slots slots [] seats
-  none_risen slots seats none = subst (λ (ss : List (Sat D)). HaveRisen z slots slots [] ss) (sym none) (record {
+module _ {R D : Type 0} (state : D → State) (faults : D → ℕ) (z : TableId) where
+  pub none_risen : (slots : List (Slot (Held R D))) (seats : List (Sat D)) → seats ≡ [] → HaveRisen state faults z slots slots [] seats
+  none_risen slots seats none = subst (λ (ss : List (Sat D)). HaveRisen state faults z slots slots [] ss) (sym none) (record {
     split = sym (append-nil slots);
     ready = λ k s there. absurd (cc there);
+    rest = λ k s there. absurd (cc there);
     among = λ number held there. absurd (cc there);
     count = refl;
   })
 
   -- the last of those that are left comes out
-  pub one_risen : (slots left next gone : List (Slot (Held R D))) (slot : Slot (Held R D)) (held : Held R D) (seats : List (Sat D)) → HaveRisen z slots left gone seats → left ≡ next ++ slot ∷ [] → slot.seat ≡ Some held
-      → IsReady z held.seat × IsWhole held.seat → HaveRisen z slots next (slot ∷ gone) (seats ++ held.seat ∷ [])
-  one_risen slots left next gone slot held seats so_far last sat ready = record {
+  pub one_risen : (slots left next gone : List (Slot (Held R D))) (slot : Slot (Held R D)) (held : Held R D) (seats : List (Sat D)) → HaveRisen state faults z slots left gone seats → left ≡ next ++ slot ∷ [] → slot.seat ≡ Some held
+      → IsReady z held.seat × IsWhole held.seat → MayRest state faults held.seat → HaveRisen state faults z slots next (slot ∷ gone) (seats ++ held.seat ∷ [])
+  one_risen slots left next gone slot held seats so_far last sat ready rest = record {
     split = so_far.split ∙ ap (λ (xs : List (Slot (Held R D))). xs ++ gone) last ∙ append_assoc next (slot ∷ []) gone;
     ready = λ k s there. by_place k s there (last_or seats held.seat k s there);
+    rest = λ k s there. rest_by k s there (last_or seats held.seat k s there);
     among = among;
     count = length-append seats (held.seat ∷ []) ∙ ap (λ (n : ℕ). n + 1) so_far.count ∙ add_one (length gone);
   }
@@ -258,18 +284,22 @@ module _ {R D : Type 0} (z : TableId) where
       by_place k s there (inl before) = so_far.ready k s before
       by_place k s there (inr it) = subst (λ (t : Sat D). IsReady z t × IsWhole t) it ready
 
+      rest_by : (k : ℕ) (s : Sat D) → slice_get (seats ++ held.seat ∷ []) k ≡ Some s → (slice_get seats k ≡ Some s) ⊎ (held.seat ≡ s) → MayRest state faults s
+      rest_by k s there (inl before) = so_far.rest k s before
+      rest_by k s there (inr it) = subst (MayRest state faults) it rest
+
       among : (number : ℕ) → IsAmong (slot ∷ gone) (seats ++ held.seat ∷ []) number
       among zero other sits = (length seats, subst (λ (h : Held R D). slice_get (seats ++ held.seat ∷ []) (length seats) ≡ Some h.seat) (one_seat (Held R D) held other (sym sat ∙ sits)) (next_at seats held.seat []))
       among (suc number) other sits = let there = so_far.among number other sits in (there.0, still_at seats (held.seat ∷ []) there.0 other.seat there.1)
 
-  pub seat_risen : (slots left next gone : List (Slot (Held R D))) (slot : Slot (Held R D)) (held : Held R D) (seats : List (Sat D)) (seat : Sat D) → HaveRisen z slots left gone seats → left ≡ next ++ slot ∷ [] → slot.seat ≡ Some held
-      → store_of held ≡ z → IsReady (store_of held) seat × IsWhole seat → seat ≡ held.seat → HaveRisen z slots next (slot ∷ gone) (seats ++ seat ∷ [])
+  pub seat_risen : (slots left next gone : List (Slot (Held R D))) (slot : Slot (Held R D)) (held : Held R D) (seats : List (Sat D)) (seat : Sat D) → HaveRisen state faults z slots left gone seats → left ≡ next ++ slot ∷ [] → slot.seat ≡ Some held
+      → (store_of held ≡ z) × MayRest state faults held.seat → IsReady (store_of held) seat × IsWhole seat → seat ≡ held.seat → HaveRisen state faults z slots next (slot ∷ gone) (seats ++ seat ∷ [])
   seat_risen slots left next gone slot held seats seat so_far last sat store ready is =
-      subst (λ (s : Sat D). HaveRisen z slots next (slot ∷ gone) (seats ++ s ∷ [])) (sym is)
-      (one_risen slots left next gone slot held seats so_far last sat (subst (λ (s : Sat D). IsReady z s × IsWhole s) is (subst (λ (y : TableId). IsReady y seat) store ready.0, ready.1)))
+      subst (λ (s : Sat D). HaveRisen state faults z slots next (slot ∷ gone) (seats ++ s ∷ [])) (sym is)
+      (one_risen slots left next gone slot held seats so_far last sat (subst (λ (s : Sat D). IsReady z s × IsWhole s) is (subst (λ (y : TableId). IsReady y seat) store.0 ready.0, ready.1)) store.1)
 
   -- there is room for one that is left
-  pub room_left : (slots left next gone : List (Slot (Held R D))) (slot : Slot (Held R D)) (seats : List (Sat D)) → HaveRisen z slots left gone seats → left ≡ next ++ slot ∷ [] → length seats < length slots
+  pub room_left : (slots left next gone : List (Slot (Held R D))) (slot : Slot (Held R D)) (seats : List (Sat D)) → HaveRisen state faults z slots left gone seats → left ≡ next ++ slot ∷ [] → length seats < length slots
   room_left slots left next gone slot seats so_far last =
       let count = so_far.count in
       let whole = ap length so_far.split ∙ length-append left gone in
@@ -277,21 +307,22 @@ module _ {R D : Type 0} (z : TableId) where
       omega (arith, count, whole, one)
 
   -- none is left
-  pub all_risen : (slots left gone : List (Slot (Held R D))) (seats : List (Sat D)) → HaveRisen z slots left gone seats → length left ≡ 0 → (length seats ≡ length slots) × AreReady z seats × ((number : ℕ) → IsAmong slots seats number)
+  pub all_risen : (slots left gone : List (Slot (Held R D))) (seats : List (Sat D)) → HaveRisen state faults z slots left gone seats → length left ≡ 0 → (length seats ≡ length slots) × AreReady z seats × AllRest state faults seats × ((number : ℕ) → IsAmong slots seats number)
   all_risen slots [] gone seats so_far none = (
     so_far.count ∙ ap length (sym so_far.split),
     so_far.ready,
+    so_far.rest,
     λ number. subst (λ (xs : List (Slot (Held R D))). IsAmong xs seats number) (sym so_far.split) (so_far.among number),
   )
   all_risen slots (x ∷ left) gone seats so_far none = absurd (omega (arith, none))
 
   -- the last slot that is left has a seat of the store
-  pub last_in : (slots left next gone : List (Slot (Held R D))) (slot : Slot (Held R D)) (seats : List (Sat D)) → HaveRisen z slots left gone seats → left ≡ next ++ slot ∷ [] → AreIn z slots
-      → (held : Held R D) × (slot.seat ≡ Some held) × (store_of held ≡ z)
+  pub last_in : (slots left next gone : List (Slot (Held R D))) (slot : Slot (Held R D)) (seats : List (Sat D)) → HaveRisen state faults z slots left gone seats → left ≡ next ++ slot ∷ [] → AreIn state faults z slots
+      → (held : Held R D) × (slot.seat ≡ Some held) × (store_of held ≡ z) × MayRest state faults held.seat
   last_in slots left next gone slot seats so_far last are =
-      among_all next (subst (AreIn z) (so_far.split ∙ ap (λ (xs : List (Slot (Held R D))). xs ++ gone) last ∙ append_assoc next (slot ∷ []) gone) are)
+      among_all next (subst (AreIn state faults z) (so_far.split ∙ ap (λ (xs : List (Slot (Held R D))). xs ++ gone) last ∙ append_assoc next (slot ∷ []) gone) are)
     where
-      among_all : (xs : List (Slot (Held R D))) → AreIn z (xs ++ slot ∷ gone) → (held : Held R D) × (slot.seat ≡ Some held) × (store_of held ≡ z)
+      among_all : (xs : List (Slot (Held R D))) → AreIn state faults z (xs ++ slot ∷ gone) → (held : Held R D) × (slot.seat ≡ Some held) × (store_of held ≡ z) × MayRest state faults held.seat
       among_all [] all = all.0
       among_all (x ∷ xs) all = among_all xs all.1
 
@@ -312,9 +343,9 @@ newest_same state core archive = at core.desk.base.marks
     at [] = refl
     at (m ∷ ms) = behind m ms
 
-have_seats : (plan : Plan) → AllByRecursion SessionsFit plan → HaveSeats plan SEATS
-have_seats [] fit = tt
-have_seats (sessions ∷ plan) fit = (omega (arith, fit.0.0), have_seats plan fit.1)
+have_seats : (plan : Plan) → AllByRecursion SessionsFit plan → HaveSeats plan SEATS × HaveSeats plan SESSIONS
+have_seats [] fit = (tt, tt)
+have_seats (sessions ∷ plan) fit = let few = fit.0.0 in let rest = have_seats plan fit.1 in ((omega (arith, few), rest.0), (few, rest.1))
 
 module _ {D : Type 0} (extent faults : D → ℕ) (is_honest : D → Type 0) (remembers : Type 0) (state : D → State) (clock : D → Clock) (disks : Four D) (start : Start D) (seats : List (Sat D))
     (begun : BeginsWith extent faults is_honest remembers state clock One disks start seats) where
@@ -387,62 +418,222 @@ module _ {D : Type 0} (extent faults : D → ℕ) (is_honest : D → Type 0) (re
             (subst (λ (a : Running D). is_honest a.pagelog.disk) (sym begun.begins.1) (begun.read.pagelog.same.honest.0 honest.pagelog)));
       }
 
-  module _ (limit : ℕ) (limit_is : limit ≡ SEATS) (risen : List (Sat D)) (left : Closed D) (closes : Closes is_honest state faults start limit risen left) where
+  module _ (limit : ℕ) (limit_is : limit ≡ SEATS) (plan : Plan) (risen : List (Sat D)) (left : Closed D) (copied : Bool) (closes : ClosesCopied is_honest state faults start limit (last_phase plan) risen left copied) where
+    abbrev Last : Closes is_honest state faults start limit closes.last left
+    Last = closes.ends.closes
+
+    version_is : (honest : AreHonest is_honest disks) → begun.opened.opened.origin.log ≡ One
+    version_is honest = sym (begun.honestly honest).in_version ∙ ap (λ (x : Origin). x.maplog) begun.opened.origin
+
     pub crashes_so : ClosedShows is_honest state faults → AreHonest is_honest disks → CrashesShow state One (page_world Opened.pages left.journal) left.journal left.disks
     unfolding just_from
     crashes_so closed_shows honest =
-        let honestly = begun.honestly honest in
-        let version : begun.opened.opened.origin.log ≡ One = sym honestly.in_version ∙ ap (λ (x : Origin). x.maplog) begun.opened.origin in
-        subst (λ (v : Version). CrashesShow state v (page_world Opened.pages left.journal) left.journal left.disks) version
-        (closed_shows start limit risen left closes (just_from start begun.begins.0 begun.begins.1) honestly)
+        subst (λ (v : Version). CrashesShow state v (page_world Opened.pages left.journal) left.journal left.disks) (version_is honest)
+        (closed_shows start limit closes.last left Last (just_from start begun.begins.0 begun.begins.1) (begun.honestly honest))
 
-    module _ {E : Type 0} (plan : Plan) (kept : Result (List (List (List Kept))) E) (come : ComeFrom plan Opened SEATS risen kept) where
-      leaves : LeavesJournal (of_each faults left.disks) SEATS come.views left.journal
+    -- the devices that come back are as honest
+    pub honest_so : AreHonest is_honest disks → AreHonest is_honest left.disks
+    honest_so honest =
+        let first = (begun.honestly honest).honest in
+        let desk = subst (λ (s : Start D). AreAsHonest is_honest s.core.value Last.side.core) Last.begun Last.stands.honest in
+        let vault = subst (λ (s : Start D). IsAsHonest is_honest s.archive.value Last.archive) Last.begun Last.vault.honest in
+        subst (λ (d : Four D). AreHonest is_honest d) (sym Last.disks) (record {
+          log = desk.log.0 first.log;
+          pages = desk.pages.0 first.pages;
+          pagelog = vault.pagelog.0 first.pagelog;
+          maplog = vault.maplog.0 first.maplog;
+        })
+
+    pub maps_so : AreHonest is_honest disks → copied ≡ true → CrashesMap state One (base_of Opened.base left.journal).captures left.disks
+    maps_so honest all =
+        subst (λ (v : Version). CrashesMap state v (base_of Opened.base left.journal).captures left.disks) (version_is honest)
+        (subst (λ (j : List Line). CrashesMap state begun.opened.opened.origin.log (base_of Opened.base j).captures left.disks) (sym Last.lines)
+        (subst (λ (s : Start D). CrashesMap state begun.opened.opened.origin.log (base_of (opened_base s) (journal Last.side)).captures left.disks) Last.begun
+        (Last.maps begun.opened.opened.origin (begun.honestly honest) (closes.ends.told.0 all))))
+
+    -- ---- the next run
+
+    module _ (closed_shows : ClosedShows is_honest state faults) (honest : AreHonest is_honest disks) (none : doubt_in left.journal ≡ None) (devices : Four (List ℕ)) (ground : Ground) (images : AreImages state left.disks devices) (opens : OpenAs devices ground) where
+      count_so : ground.base.page_count ≡ Opened.base.page_count
+      count_so =
+          let origin = begun.opened.opened.origin in
+          let holds = Last.crashes origin (begun.honestly honest) devices images in
+          let one : holds.contents ≡ opens.contents = are_read_one_way.one_store One devices holds.contents opens.contents (subst (λ (v : Version). Hold v devices holds.contents) (version_is honest) holds.hold) opens.hold in
+          let same = no_doubt_opens holds.contents (after_journal origin.history (journal Last.side)) (doubt_in (journal Last.side)) (ap doubt_in (sym Last.lines) ∙ none) holds.opens in
+          let started : (now origin.history).base ≡ Opened.base = begun.opened.opened.opened.base ∙ ap (λ (c : Core D). c.desk.base) (sym begun.begins.0) in
+          ap (λ (b : Base). b.page_count)
+          (sym opens.base ∙ ap (λ (c : Contents). (now (opened c)).base) (sym one) ∙ same.base ∙ base_after_journal origin.history (journal Last.side) ∙ ap (λ (b : Base). base_of b (journal Last.side)) started)
+          ∙ count_stays (changes_of Opened.base (journal Last.side)) Opened.base
+
+      pages_so : ground.pages ≡ page_world Opened.pages left.journal
+      pages_so =
+          let holds = crashes_so closed_shows honest devices images in
+          let one : holds.contents ≡ opens.contents = are_read_one_way.one_store One devices holds.contents opens.contents holds.hold opens.hold in
+          worlds_one (opened opens.contents) ground.pages (page_world Opened.pages left.journal) opens.shown
+          (subst (λ (c : Contents). IsWorldOf (opened c) (page_world Opened.pages left.journal)) one
+          (no_doubt_shows holds.contents (page_world Opened.pages left.journal) (doubt_in left.journal) none holds.shows))
+
+    pub next_so : ClosedShows is_honest state faults → AreHonest is_honest disks → doubt_in left.journal ≡ None → (tables : World Tables) → ShowsTables (sql Opened.base.page_count) (page_world Opened.pages left.journal) tables
+        → OpensShowing state Opened.base.page_count tables left.disks
+    next_so closed_shows honest none tables shows devices ground images opens = (
+      count_so closed_shows honest none devices ground images opens,
+      subst (λ (w : World PagesOf). ShowsTables (sql Opened.base.page_count) w tables) (sym (pages_so closed_shows honest none devices ground images opens)) shows,
+    )
+
+    -- ---- the lines of the last copying
+
+    module _ {E : Type 0} (kept : Result (List (List (List Kept))) E) (come : ComeFrom state faults plan Opened SEATS risen kept) where
+      abbrev J : List Line
+      J = left.journal
+
+      -- the seat of a number in the end
+      last_of : (number : ℕ) (less : number < SEATS) → (t : Sat D) × (slice_get closes.last (come.each number less).place ≡ Some t) × ((t ≡ (come.each number less).seat) ⊎ HasCopiedAt state faults (last_phase plan) (come.each number less).seat t)
+      last_of number less = let one = come.each number less in closes.worked.each one.place one.seat one.there
+
+      abbrev after_at : (number : ℕ) → (number < SEATS) ⊎ (SEATS ≤ number) → View
+      after_at number (inl less) = resting state faults (last_of number less).0
+      after_at number (inr past) = come.views number
+
+      abbrev after : ℕ → View
+      after number = after_at number (less_or_not number SEATS)
+
+      -- and what it would see of the whole journal
+      abbrev met : ℕ → View
+      met number = record (after number) { front = J }
+
+      by_seat : (P : ℕ → View → Type 0) → ((number : ℕ) (less : number < SEATS) → P number (resting state faults (last_of number less).0)) → (number : ℕ) → number < SEATS → P number (after number)
+      by_seat P at number less = by_case (less_or_not number SEATS)
+        where
+          by_case : (test : (number < SEATS) ⊎ (SEATS ≤ number)) → P number (after_at number test)
+          by_case (inl within) = at number within
+          by_case (inr past) = absurd (omega (arith, less, past))
+
+      worked_at : (number : ℕ) (less : number < SEATS) → Waits (come.views number) (resting state faults (last_of number less).0) (come.views number).work
+          ⊎ ((SESSIONS ≤ number) × TellsFirst (worker (last_phase plan) number) (come.views number) (resting state faults (last_of number less).0))
+      worked_at number less = by_case (last_of number less).2
+        where
+          one : HasStood state faults risen number (come.views number)
+          one = come.each number less
+
+          t : Sat D
+          t = (last_of number less).0
+
+          by_leaves : one.seat.number ≡ SESSIONS → WorkerLeaves (worker (last_phase plan) one.seat.number) (resting state faults one.seat) (resting state faults t) → Waits (come.views number) (resting state faults t) (come.views number).work
+              ⊎ ((SESSIONS ≤ number) × TellsFirst (worker (last_phase plan) number) (come.views number) (resting state faults t))
+          by_leaves copier (inl waits) = inl (subst (λ (v : View). Waits v (resting state faults t) v.work) (sym one.view_is) waits)
+          by_leaves copier (inr first) =
+              let is : one.seat.number ≡ number = one.number_is in
+              inr (
+                omega (arith, copier, is),
+                subst (λ (n : ℕ). TellsFirst (worker (last_phase plan) n) (come.views number) (resting state faults t)) is
+                    (subst (λ (v : View). TellsFirst (worker (last_phase plan) one.seat.number) v (resting state faults t)) (sym one.view_is) first),
+              )
+
+          by_case : (t ≡ one.seat) ⊎ HasCopiedAt state faults (last_phase plan) one.seat t → Waits (come.views number) (resting state faults t) (come.views number).work
+              ⊎ ((SESSIONS ≤ number) × TellsFirst (worker (last_phase plan) number) (come.views number) (resting state faults t))
+          by_case (inl same) = inl (subst (λ (v : View). Waits v (resting state faults t) v.work) (sym (one.view_is ∙ ap (resting state faults) (sym same))) (waits_none (resting state faults t)))
+          by_case (inr copied_there) = by_leaves copied_there.number copied_there.leaves
+
+      worked : HaveWorked SEATS (last_phase plan) come.views after
+      worked = by_seat (λ number v. Waits (come.views number) v (come.views number).work ⊎ ((SESSIONS ≤ number) × TellsFirst (worker (last_phase plan) number) (come.views number) v)) worked_at
+
+      sees_all : (number : ℕ) (less : number < SEATS) → Waits (resting state faults (last_of number less).0) (record (resting state faults (last_of number less).0) { front = J }) (resting state faults (last_of number less).0).work
+      sees_all number less =
+          let last = last_of number less in
+          let r = Last.each (come.each number less).place last.0 last.1 in
+          let seen_in : HasSeen last.0.number (seen last.0) (journal Last.side) = (phases_make_runs 0).seen last.0.number (seen last.0) r.front.0 (journal Last.side) r.front.1 r.lines in
+          record {
+            moves = record {
+              session = refl;
+              opened = refl;
+              others = seen_in.rest;
+              apart = seen_in.others;
+              front = Last.lines ∙ seen_in.whole ∙ sym (append-nil (seen last.0 ++ seen_in.rest));
+            };
+            work_is = refl;
+            told_is = refl;
+          }
+
+      all_met : AllMet SEATS after met J
+      all_met number less = (by_seat (λ n v. Waits v (record v { front = J }) v.work) sees_all number less, refl)
+
+      leaves : LeavesJournal (of_each faults left.disks) SEATS met J
       leaves = record {
-        each = λ number less.
-            let one = come.each number less in
-            let r = closes.each one.place one.seat one.there in
-            subst (λ (f : List Line). HasSeen number f left.journal) (sym one.front_is)
-            (subst (λ (j : List Line). HasSeen number (seen one.seat) j) (sym closes.lines)
-            ((phases_make_runs 0).seen number (seen one.seat) r.front.0 (journal closes.side) r.front.1
-            (subst (λ (n : ℕ). lines_of n (seen one.seat) ≡ lines_of n (journal closes.side)) one.number_is r.lines)));
-        foreign = λ number le. subst (λ (j : List Line). lines_of number j ≡ []) (sym closes.lines) (closes.foreign number (subst (λ (n : ℕ). n ≤ number) (sym limit_is) le));
-        differ = subst FaultsDiffer (sym closes.lines) closes.differ;
-        counted = subst (λ (j : List Line). AllByRecursion (IsCounted (of_each faults left.disks)) j) (sym closes.lines) closes.counted;
+        each = λ number less. record { rest = []; whole = sym (append-nil J); others = tt };
+        foreign = λ number le. subst (λ (j : List Line). lines_of number j ≡ []) (sym Last.lines) (Last.foreign number (subst (λ (n : ℕ). n ≤ number) (sym limit_is) le));
+        differ = subst FaultsDiffer (sym Last.lines) Last.differ;
+        counted = subst (λ (j : List Line). AllByRecursion (IsCounted (of_each faults left.disks)) j) (sym Last.lines) Last.counted;
       }
 
-      module _ (seats_fit : HaveSeats plan SEATS) (tables : World Tables) (shows : ShowsTables (sql Opened.base.page_count) Opened.pages tables) where
-        lawful_by : (k : Result (List (List (List Kept))) E) → RunsPhases plan Opened SEATS come.views k → LeftLawful Opened.base.page_count plan (opening_with Opened tables) (of_each faults left.disks) left.journal
-        lawful_by (Ok all) runs = (phases_make_runs Opened.base.page_count).left plan (opening_with Opened tables) (of_each faults left.disks) SEATS (length plan + 1) runs.front left.journal come.views shows leaves runs.together
-        lawful_by (Err why) runs = (phases_make_runs Opened.base.page_count).left plan (opening_with Opened tables) (of_each faults left.disks) SEATS runs.0 runs.1 left.journal come.views shows leaves runs.2
+      long : length plan ≤ last_phase plan
+      long = omega arith
 
-        pub lawful_so : LeftLawful Opened.base.page_count plan (opening_with Opened tables) (of_each faults left.disks) left.journal
+      some : 1 ≤ last_phase plan
+      some = omega arith
+
+      module _ (seats_fit : HaveSeats plan SEATS × HaveSeats plan SESSIONS) (tables : World Tables) (shows : ShowsTables (sql Opened.base.page_count) Opened.pages tables) where
+        no_worker : (earlier number : ℕ) → SESSIONS ≤ number → tasks_at plan earlier number ≡ []
+        no_worker earlier number behind = no_session plan earlier SESSIONS number (ends_at plan SESSIONS earlier seats_fit.1) behind
+
+        -- the phases, and behind them the last copying
+        comes : (all : List (List (List Kept))) → RunsPhases {E = E} plan Opened SEATS come.views (Ok all) → HasComeTo Opened.base.page_count plan Opened SEATS (last_phase plan + 1) (kept_by_place all) met
+        comes all runs =
+            let behind = come_later Opened.base.page_count plan Opened SEATS (length plan + 1) (last_phase plan + 1) (kept_by_place all) come.views (omega arith) (omega (arith, long)) runs in
+            come_copied Opened.base.page_count plan Opened SEATS (last_phase plan) J come.views after met worked all_met no_worker (kept_by_place all) behind
+
+        lawful_by : (k : Result (List (List (List Kept))) E) → RunsPhases plan Opened SEATS come.views k → LeftLawful Opened.base.page_count plan (opening_with Opened tables) (of_each faults left.disks) J
+        lawful_by (Ok all) runs =
+            let here = comes all runs in
+            (phases_make_runs Opened.base.page_count).left plan (opening_with Opened tables) (of_each faults left.disks) SEATS (last_phase plan + 1) here.front J met shows leaves here.together
+        lawful_by (Err why) runs =
+            let few = runs.2 in
+            let behind = later Opened.base.page_count plan Opened SEATS runs.0 (last_phase plan + 1) runs.1 come.views (omega (arith, few, long)) runs.3 in
+            (phases_make_runs Opened.base.page_count).left plan (opening_with Opened tables) (of_each faults left.disks) SEATS (last_phase plan + 1) J J met shows leaves
+            (stand_copied Opened.base.page_count plan Opened SEATS (last_phase plan) runs.1 J come.views after met worked all_met behind)
+
+        pub lawful_so : LeftLawful Opened.base.page_count plan (opening_with Opened tables) (of_each faults left.disks) J
         lawful_so = lawful_by kept come.runs
 
-        pub printed_so : (newest_then : ℕ) → newest_then ≡ newest start.core.value.desk.base.marks → (text : List ℕ) (all : List (List (List Kept))) → kept ≡ Ok all → text ≡ printed plan (kept_by_place all) newest_then left.journal
-            → RanOver Opened.base.page_count plan (opening_with Opened tables) (of_each faults left.disks) left.journal text
-        printed_so newest_then newest_is text all is text_is =
-            (phases_make_runs Opened.base.page_count).prints plan (opening_with Opened tables) (of_each faults left.disks) SEATS (length plan + 1) left.journal all come.views text shows (omega arith) seats_fit leaves
-            (subst (λ (k : Result (List (List (List Kept))) E). RunsPhases plan Opened SEATS come.views k) is come.runs)
-            (text_is ∙ ap (λ (n : ℕ). printed plan (kept_by_place all) n left.journal) (newest_is ∙ newest_same state start.core.value start.archive.value))
+        pub replied_so : (all : List (List (List Kept))) → kept ≡ Ok all → RepliedOver Opened.base.page_count plan (opening_with Opened tables) (of_each faults left.disks) J (kept_by_place all)
+        replied_so all is =
+            (phases_make_runs Opened.base.page_count).replies plan (opening_with Opened tables) (of_each faults left.disks) SEATS (last_phase plan + 1) J (kept_by_place all) met shows (omega (arith, long)) seats_fit.0 leaves
+            (comes all (subst (λ (k : Result (List (List (List Kept))) E). RunsPhases plan Opened SEATS come.views k) is come.runs))
+
+        pub replied_all : (k : Result (List (List (List Kept))) E) → kept ≡ k → IfOk k (λ all. RepliedOver Opened.base.page_count plan (opening_with Opened tables) (of_each faults left.disks) J (kept_by_place all))
+        replied_all (Ok all) is = replied_so all is
+        replied_all (Err why) is = tt
+
+    captures_so : left.captures ≡ (base_of Opened.base left.journal).captures
+    captures_so =
+        Last.captures ∙ ap (λ (s : Start D). (base_of (opened_base s) (journal Last.side)).captures) Last.begun
+        ∙ ap (λ (j : List Line). (base_of Opened.base j).captures) (sym Last.lines)
 
     -- what a run leaves
-    pub leaves_so : {E : Type 0} → OpeningShows is_honest state → ClosedShows is_honest state faults → (plan : Plan) → PlanFits plan → length seats ≡ SEATS → (kept : Result (List (List (List Kept))) E)
-        → ((ground : Ground) → ((k : ℕ) (s : Sat D) → slice_get seats k ≡ Some s → IsHonest is_honest state s × (ground_in state faults (opening s) ≡ ground)) → ComeFrom plan ground (length seats) risen kept)
-        → (newest_then : ℕ) → newest_then ≡ newest start.core.value.desk.base.marks → (ended : Ended) → ended.journal ≡ left.journal
-        → IfOk ended.text (λ text. (all : List (List (List Kept))) × (kept ≡ Ok all) × (text.items ≡ printed plan (kept_by_place all) newest_then left.journal)) → Leaves faults is_honest state plan disks left.disks ended
-    leaves_so opening_shows closed_shows plan fits long kept ran newest_then newest_is ended journal_is text_is = record {
+    pub leaves_so : OpeningShows is_honest state → ClosedShows is_honest state faults → PlanFits plan → length seats ≡ SEATS → (ended : Ended)
+        → ((ground : Ground) → ((k : ℕ) (s : Sat D) → slice_get seats k ≡ Some s → IsHonest is_honest state s × (ground_in state faults (opening s) ≡ ground)) → ComeFrom state faults plan ground (length seats) risen ended.kept)
+        → ended.newest ≡ newest start.core.value.desk.base.marks → ended.journal ≡ left.journal → ended.captures ≡ left.captures → ended.copied ≡ copied → Leaves faults is_honest state plan disks left.disks ended
+    leaves_so opening_shows closed_shows fits long ended ran newest_is journal_is captures_is copied_is = record {
       ground = Opened;
       counts = counts_so;
       opens = opens_so opening_shows;
       ran = λ honest.
-          let come = subst (λ (n : ℕ). ComeFrom plan Opened n risen kept) long (ran Opened (each_opened honest)) in
+          let come = subst (λ (n : ℕ). ComeFrom state faults plan Opened n risen ended.kept) long (ran Opened (each_opened honest)) in
           let seats_fit = have_seats plan fits.1 in
           record {
-            lawful = λ tables shows. subst (λ (j : List Line). LeftLawful Opened.base.page_count plan (opening_with Opened tables) (of_each faults left.disks) j) (sym journal_is) (lawful_so plan kept come seats_fit tables shows);
-            transcript = λ tables shows. if_ok ended.text text_is (λ text is.
-                subst (λ (j : List Line). RanOver Opened.base.page_count plan (opening_with Opened tables) (of_each faults left.disks) j text.items) (sym journal_is)
-                (printed_so plan kept come seats_fit tables shows newest_then newest_is text.items is.0 is.1 is.2));
+            lawful = λ tables shows. subst (λ (j : List Line). LeftLawful Opened.base.page_count plan (opening_with Opened tables) (of_each faults left.disks) j) (sym journal_is) (lawful_so ended.kept come seats_fit tables shows);
+            replied = λ tables shows.
+                subst (λ (j : List Line). IfOk ended.kept (λ all. RepliedOver Opened.base.page_count plan (opening_with Opened tables) (of_each faults left.disks) j (kept_by_place all))) (sym journal_is)
+                (replied_all ended.kept come seats_fit tables shows ended.kept refl);
           };
+      honest = honest_so;
+      newest_is = newest_is ∙ newest_same state start.core.value start.archive.value;
+      captures_are = captures_is ∙ captures_so ∙ ap (λ (j : List Line). (base_of Opened.base j).captures) (sym journal_is);
       crashes = λ honest. subst (λ (j : List Line). CrashesShow state One (page_world Opened.pages j) j left.disks) (sym journal_is) (crashes_so closed_shows honest);
+      next = λ honest tables shows none.
+          let come = subst (λ (n : ℕ). ComeFrom state faults plan Opened n risen ended.kept) long (ran Opened (each_opened honest)) in
+          let lawful = lawful_so ended.kept come (have_seats plan fits.1) tables shows in
+          subst (λ (j : List Line). OpensShowing state Opened.base.page_count (tables_behind (sql Opened.base.page_count) (item_of plan) tables j) left.disks) (sym journal_is)
+          (next_so closed_shows honest (ap doubt_in (sym journal_is) ∙ none) (tables_behind (sql Opened.base.page_count) (item_of plan) tables left.journal)
+          (along_end (sql Opened.base.page_count) (item_of plan) Opened.pages tables left.journal lawful.shows));
+      maps = λ honest all. subst (λ (j : List Line). CrashesMap state One (base_of Opened.base j).captures left.disks) (sym journal_is) (maps_so honest (sym copied_is ∙ all));
     }

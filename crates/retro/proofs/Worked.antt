@@ -1,10 +1,8 @@
 -- That what workers leave fits a run.
-use Rattle.std.proofs.Common.{◌≡◌, ◌≢◌, ◌⊎◌, ◌<◌, ◌≤◌, ◌+◌, ◌++◌, ◌∙◌, ◌==◌, ◌^◌, ◌-◌, ℕ, zero, Bool, true, false, cond, List, [], ◌∷◌, length, Option, Some, None, Result, Ok, Err, map, slice_get, inl, inr, refl, ap, sym, subst, arith, append-nil, append_assoc}
-use Rattle.std.specs.Prelude.{filter, is_some}
-use Rattle.std.specs.List.{AllByRecursion}
+use Rattle.std.proofs.Common.{◌≡◌, ◌≢◌, ◌<◌, ◌≤◌, ◌+◌, ◌++◌, ◌∙◌, ◌==◌, ◌^◌, ◌-◌, ℕ, Bool, true, false, cond, List, [], ◌∷◌, length, Option, Some, None, slice_get, inl, inr, refl, ap, sym, subst, arith, append_assoc}
+use Rattle.std.specs.Prelude.{is_some}
 use Rattle.std.proofs.lemmas.Bool.{eq-eqb}
 use Rattle.std.proofs.lemmas.List.Elements.{filter-append}
-use Rattle.retro_base.specs.declared.device.Device.{Device}
 use Rattle.retro_base.specs.declared.limits.TheConstants.{SESSIONS}
 use Rattle.retro_base.specs.declared.who.Who.{Who}
 use Rattle.history.specs.declared.journal.FailedCall.TheVariants.{Write}
@@ -15,11 +13,11 @@ use Rattle.std.specs.Option.{option_or}
 use Rattle.history.specs.declared.stop.Stop.{Stop}
 use Rattle.history.specs.Lines.{first_stop, lines_of, stop_of}
 use Rattle.history.specs.Sound.{same_item}
-use Rattle.journal_law.specs.Facts.{AreOthers, HasSeen}
-use Rattle.journal_law.specs.Lawful.{HasRuns, IsCut, IsRun, ItemsRise}
+use Rattle.journal_law.specs.Facts.{AreOthers}
+use Rattle.journal_law.specs.Lawful.{HasRuns, IsRun, ItemsRise}
 use Rattle.journal_law.specs.Own.{is_looked, last_behind, line, own}
 use Rattle.journal_law.specs.Seating.{Sane}
-use Rattle.journal_law.specs.Seats.{Idle, View, Waits, lines_before}
+use Rattle.journal_law.specs.Seats.{Idle, View, lines_before}
 use Rattle.journal_law.proofs.Journal.{lines_of_seen, own_append, own_others}
 use Rattle.journal_law.proofs.LineFacts.{lines_fit}
 use Rattle.journal_law.proofs.Seating.{adds}
@@ -28,7 +26,7 @@ use Rattle.session.specs.Run.{IsReady, OfPhase, SessionLeft}
 use Rattle.session.specs.Sql.{sql}
 use Rattle.session.specs.declared.plan.SessionPlan.{SessionPlan}
 use Rattle.store.specs.WorkerRounds.{IsFreshOrStopped, TellsFirst, WorkerLeaves, worker}
-use Rattle.store.proofs.WorkerEnds.{all_append, rests_on, stopped_on}
+use Rattle.store.proofs.WorkerEnds.{all_append, rests_on}
 use Rattle.retro.specs.Slots.{IsSeated, seat_at, view_in}
 use Rattle.retro.specs.Working.{AllWorked, AreWorkers, WorkedAt}
 use Rattle.retro.specs.declared.slots.Slot.{Slot}
@@ -169,8 +167,8 @@ rests_worked a b phase (inr first) rests = inr (fault_stops a b phase first)
 -- ---- a seat in its slot
 
 -- nobody has run at a seat
-pub left_none : (size : ℕ) (plan : Plan) (phase : ℕ) (view : View) → IsReady size plan phase view → SessionLeft size plan phase view view
-left_none size plan phase view ready = record {
+pub left_none : (size : ℕ) (plan : Plan) (phase behind : ℕ) (view : View) → IsReady size plan behind view → SessionLeft size plan phase view view
+left_none size plan phase behind view ready = record {
   session = refl;
   opened = refl;
   more = [];
@@ -208,7 +206,7 @@ module _ {S : Type 0} (view : S → View) (goes : S → S → Type 0) (phase num
     number_is = seated.number_is;
     idle = seated.idle;
     stays = stays seated.seat;
-    left = λ size plan ready. left_none size plan phase (view seated.seat) ready;
+    left = λ size plan ready. left_none size plan phase phase (view seated.seat) ready;
     rests = λ rests. rests;
   }
 
@@ -235,7 +233,7 @@ module _ {S : Type 0} (view : S → View) (goes : S → S → Type 0) (phase num
         left = λ size plan ready.
             left_worked size plan phase (view one.before) (view two.before) (view two.behind) (subst (λ (n : ℕ). SESSIONS ≤ n) (sym number_mid) above)
             (left_worked size plan phase (view one.before) (view one.before) (view two.before) (subst (λ (n : ℕ). SESSIONS ≤ n) (sym number_before) above)
-            (left_none size plan phase (view one.before) ready) first) last;
+            (left_none size plan phase phase (view one.before) ready) first) last;
         rests = λ rests. rests_worked (view two.before) (view two.behind) phase last (rests_worked (view one.before) (view two.before) phase first rests);
       }
 

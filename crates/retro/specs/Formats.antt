@@ -1,5 +1,5 @@
 -- The making of a store.
-use Rattle.std.specs.Prelude.{◌⊎◌, ◌++◌, ◌∷◌, ℕ, List, Option, Result, MatchResult, OnOk, codes}
+use Rattle.std.specs.Prelude.{◌⊎◌, ◌++◌, ◌∷◌, [], ℕ, List, Option, Result, MatchResult, OnOk, codes}
 use Rattle.std.specs.Fmt.{decimal}
 use Rattle.std.specs.Result.{IsErrAnd}
 use Rattle.disk_model.specs.Cabinet.{AreSized}
@@ -12,6 +12,8 @@ use Rattle.opening.specs.Devices.{AreImages, IsUnopened, of_each, SameCounts}
 use Rattle.session.specs.Line.{line}
 use Rattle.store_format.specs.Empty.{IsEmptyStore}
 use Rattle.retro.specs.Says.{Ends}
+use Rattle.tables.specs.Tables.{no_tables}
+use Rattle.retro.specs.Storing.{OpensShowing}
 use Rattle.retro.specs.Stores.{HandsOutNone, TakesBack}
 
 -- what is written of a new store
@@ -20,7 +22,7 @@ formatted_line sizes = line (codes "formatted" ++ 32 ∷ (decimal sizes.pages ++
 
 -- Devices of these sizes, so as they were handed out and so as they came back, and whether a store was made on them: it
 -- was not exactly where a call of a device failed, and for want of memory. Where they tell their bytes, every crash
--- leaves the empty store.
+-- leaves the empty store, which shows no tables.
 pub record Makes {D : Type 0} (extent faults : D → ℕ) (state : D → State) (told : Type 0) (sizes : Sizes)
     (first last : Four D) (result : Result (Unit {0}) Refusal) : Type 0 where
   pub sized : AreSized extent sizes first
@@ -28,6 +30,7 @@ pub record Makes {D : Type 0} (extent faults : D → ℕ) (state : D → State) 
       (IsUnopened (λ _ _. ⊥) (of_each faults first) (of_each faults last))
   pub empty : told → OnOk result ((devices : Four (List ℕ)) → AreImages state last devices
       → IsEmptyStore One sizes devices)
+  pub shows : told → OnOk result (OpensShowing state sizes.pages (record { current = no_tables; marks = [] }) last)
 
 -- the cabinet handed out no devices, or a store was made on those that it handed out, or was not
 abbrev pub MakesIn : {C D : Type 0} → (C → ℕ) → (C → List ℕ → Type 0) → (C → Type 0) → (C → List ℕ → Option (Four D))

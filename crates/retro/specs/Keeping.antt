@@ -13,9 +13,9 @@ use Rattle.history.specs.declared.journal.What.{What}
 use Rattle.history.specs.declared.journal.What.TheVariants.{Fault}
 use Rattle.session.specs.Plan.{Plan}
 use Rattle.retro.specs.Program.{AsksFor, IsTheBadLine, ReadToEnd}
-use Rattle.retro.specs.Says.{LacksMemory, Refuses, Says, Tells, Writes, bad_script_line, source_fault_line}
+use Rattle.retro.specs.Says.{LacksMemory, Refuses, Says, Tells, WritesOne, bad_script_line, source_fault_line}
 use Rattle.retro.specs.Stores.{HandsOutNone, TakesBack}
-use Rattle.retro.specs.Storing.{RunsOn}
+use Rattle.retro.specs.Storing.{IsPrinted, RunsOn}
 use Rattle.retro.specs.declared.storing.Ended.{Ended}
 
 -- what the script in a source asks for, or why it asks for nothing
@@ -46,25 +46,23 @@ is_fault what = false
 abbrev pub has_fault : List Line → Bool
 has_fault journal = list_any (λ (line : Line). is_fault line.what) journal
 
--- 6 in place of 0
-abbrev pub faulty : ℕ → ℕ
-faulty zero = 6
-faulty (suc status) = suc status
+-- a status in place of 0
+abbrev pub in_place : ℕ → ℕ → ℕ
+in_place other zero = other
+in_place other (suc status) = suc status
 
--- the status of a run that ends so: 6 in place of 0 where its journal tells a fault
-abbrev pub with_faults : List Line → ℕ → ℕ
-with_faults journal status = if has_fault journal then faulty status else status
+-- The status of a run that ends so: in place of 0, it is 6 where its journal tells a fault, and else 8 where memory was
+-- wanting to copy all that it captured.
+abbrev pub ending_status : Ended → ℕ → ℕ
+ending_status ended status =
+    if has_fault ended.journal then in_place 6 status else if ended.copied then status else in_place 8 status
 
--- the transcript was written, as far as the sink took it; or there was none for want of memory
-abbrev pub WritesText : {K V E : Type 0} → (K → Option (List ℕ)) → (K → ℕ) → K → K → (V → List ℕ) → Result V E → ℕ → Type 0
-WritesText held faults old new items (Ok text) status = Writes held faults old new (items text) status
-WritesText held faults old new items (Err why) status = LacksMemory held old new status
-
--- how a run over a store ends
-abbrev pub EndsRun : {K : Type 0} → (K → Option (List ℕ)) → (K → ℕ) → K → K → Result Ended Refusal → ℕ → Type 0
-EndsRun held faults old new (Ok ended) status =
-    (written : ℕ) × WritesText held faults old new (λ text. text.items) ended.text written × (status ≡ with_faults ended.journal written)
-EndsRun held faults old new (Err why) status = Refuses held faults old new why status
+-- how a run of a plan over a store ends: its transcript is written
+abbrev pub EndsRun : {K : Type 0} → (K → Option (List ℕ)) → (K → ℕ) → K → K → Plan → Result Ended Refusal → ℕ → Type 0
+EndsRun held faults old new plan (Ok ended) status =
+    (written : ℕ) × WritesOne held faults old new (IsPrinted plan ended) written
+    × (status ≡ ending_status ended written)
+EndsRun held faults old new plan (Err why) status = Refuses held faults old new why status
 
 -- A script was not run: its source failed, which is told with status 4, or it has a bad line, which is told with status 3.
 abbrev pub RefusesScript : {K : Type 0} → (K → Option (List ℕ)) → (K → ℕ) → K → K → Refusal → ℕ → Type 0
@@ -83,5 +81,5 @@ pub record RunsIn {K C D : Type 0} (left_old left_new : Option (List ℕ)) (sour
   pub runs : MatchResult asked
       (λ plan. (ended : Result Ended Refusal)
       × RunsOnStore faults is_out tells store extent device_faults is_honest remembers state clock dir plan old new ended
-      × EndsRun held sink_faults sink_old sink_new ended status)
+      × EndsRun held sink_faults sink_old sink_new plan ended status)
       (λ why. (new ≡ old) × RefusesScript held sink_faults sink_old sink_new why status)

@@ -1,5 +1,6 @@
 pub mod Formats
 pub mod Keeping
+pub mod Loads
 pub mod Meeting
 pub mod Memory
 pub mod Phases

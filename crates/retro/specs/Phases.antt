@@ -12,7 +12,7 @@ use Rattle.journal_law.specs.Seats.{Idle, View, Waits}
 use Rattle.journal_law.specs.Shows.{Shows, ShowsAlong}
 use Rattle.journal_law.specs.World.{newest}
 use Rattle.session.specs.Plan.{Plan, item_of, tasks_at}
-use Rattle.session.specs.Replies.{kept_by_place, printed, wanting_by}
+use Rattle.session.specs.Replies.{kept_in, known_by, printed, wanting_by}
 use Rattle.session.specs.Run.{AreKept, HasRun, IsReady, RunIsLawful, SessionLeft, WasKept}
 use Rattle.session.specs.Sql.{sql}
 use Rattle.session.specs.declared.kept.Kept.{Kept}
@@ -89,6 +89,13 @@ pub record LeftLawful (size : ℕ) (plan : Plan) (o : Opening (sql size)) (endin
   pub shows : ShowsAlong (sql size) (item_of plan) o.opened.pages o.tables journal
   pub lawful : Lawful (sql size) (item_of plan) o ending journal
 
+-- So has one that replied this to each item, which its journal tells.
+pub record RepliedOver (size : ℕ) (plan : Plan) (o : Opening (sql size)) (ending : Device → ℕ) (journal : List Line) (kept : ℕ → ℕ → List Kept) : Type 0 where
+  pub wanting : Who → Bool
+  pub shown : Shows (sql size) o.opened.pages o.tables
+  pub left : LeftLawful size plan o ending journal
+  pub told : (phase session : ℕ) → kept phase session ≡ kept_in size (known_by size plan wanting o.tables journal) plan phase session
+
 -- ---- the law
 
 -- no line has been seen, and nothing is open
@@ -126,6 +133,7 @@ pub record PhasesMakeRuns (size : ℕ) : Type 0 where
   -- from pages that hold tables
   pub left : (plan : Plan) (o : Opening (sql size)) (ending : Device → ℕ) (seats phase : ℕ) (front journal : List Line) (views : ℕ → View) → Shows (sql size) o.opened.pages o.tables →
       LeavesJournal ending seats views journal → StandTogether size plan o.opened seats phase front views → LeftLawful size plan o ending journal
-  pub prints : (plan : Plan) (o : Opening (sql size)) (ending : Device → ℕ) (seats phase : ℕ) (journal : List Line) (kept : List (List (List Kept))) (views : ℕ → View) (text : List ℕ) → Shows (sql size) o.opened.pages o.tables →
-      length plan < phase → HaveSeats plan seats → LeavesJournal ending seats views journal → HasComeTo size plan o.opened seats phase (kept_by_place kept) views →
-      text ≡ printed plan (kept_by_place kept) (newest o.opened.pages) journal → RanOver size plan o ending journal text
+  pub replies : (plan : Plan) (o : Opening (sql size)) (ending : Device → ℕ) (seats phase : ℕ) (journal : List Line) (kept : ℕ → ℕ → List Kept) (views : ℕ → View) → Shows (sql size) o.opened.pages o.tables →
+      length plan < phase → HaveSeats plan seats → LeavesJournal ending seats views journal → HasComeTo size plan o.opened seats phase kept views → RepliedOver size plan o ending journal kept
+  pub prints : (plan : Plan) (o : Opening (sql size)) (ending : Device → ℕ) (journal : List Line) (kept : ℕ → ℕ → List Kept) (text : List ℕ) → RepliedOver size plan o ending journal kept →
+      text ≡ printed plan kept (newest o.opened.pages) journal → RanOver size plan o ending journal text

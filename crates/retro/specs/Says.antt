@@ -100,6 +100,11 @@ Writes held faults old new text status =
     ⊎ (((status ≡ 5) × HoldsFront held old new text × Rose (faults old) (faults new))
     ⊎ LacksMemory held old new status)
 
+-- a text of this kind was written, or there was none for want of memory
+abbrev pub WritesOne : {K : Type 0} → (K → Option (List ℕ)) → (K → ℕ) → K → K → (List ℕ → Type 0) → ℕ → Type 0
+WritesOne held faults old new IsIt status =
+    ((text : List ℕ) × IsIt text × Writes held faults old new text status) ⊎ LacksMemory held old new status
+
 -- A command found nothing to write: a fault of a device is told with status 6, and bytes that are no store's with status 7.
 abbrev pub Refuses : {K : Type 0} → (K → Option (List ℕ)) → (K → ℕ) → K → K → Refusal → ℕ → Type 0
 Refuses held faults old new (DiskFault device count) status =

@@ -1,5 +1,5 @@
 -- What the driver does with the seats: a session runs at its seat; a phase runs; two seats meet; all meet.
-use Rattle.std.specs.Prelude.{◌≡◌, ◌≢◌, ◌<◌, ◌+◌, ◌++◌, ℕ, List, [], ◌∷◌, length, Option, Some, Result, Ok, Err, IfOk, slice_get}
+use Rattle.std.specs.Prelude.{◌≡◌, ◌≢◌, ◌<◌, ◌≤◌, ◌+◌, ◌++◌, ℕ, List, [], ◌∷◌, length, Option, Some, Result, Ok, Err, IfOk, slice_get}
 use Rattle.history.specs.declared.journal.Line.{Line}
 use Rattle.journal_law.specs.Lawful.{Ground}
 use Rattle.journal_law.specs.Seats.{Idle, View, Waits}
@@ -69,7 +69,9 @@ PhaseRuns plan ground seats phase old new (Ok kept) = (done : List (List (List K
 PhaseRuns plan ground seats phase old new (Err why) = (front : List Line) → StandTogether ground.base.page_count plan ground seats phase front old →
     (next : List Line) × StandTogether ground.base.page_count plan ground seats (phase + 1) next new
 
--- All phases have run from seats that stood together, and this was kept of them; or memory was wanting for a reply behind some.
+-- All phases have run from seats that stood together, and this was kept of them; or memory was wanting for a reply behind
+-- one of them.
 abbrev pub RunsPhases : {E : Type 0} → Plan → Ground → ℕ → (ℕ → View) → Result (List (List (List Kept))) E → Type 0
 RunsPhases plan ground seats views (Ok kept) = HasComeTo ground.base.page_count plan ground seats (length plan + 1) (kept_by_place kept) views
-RunsPhases plan ground seats views (Err why) = (phase : ℕ) × (front : List Line) × StandTogether ground.base.page_count plan ground seats phase front views
+RunsPhases plan ground seats views (Err why) = (phase : ℕ) × (front : List Line) × (phase ≤ length plan + 1)
+    × StandTogether ground.base.page_count plan ground seats phase front views

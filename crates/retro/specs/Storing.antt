@@ -1,36 +1,42 @@
 -- The run of a plan over the four devices of a store, at which each session has a seat of its own.
-use Rattle.std.specs.Prelude.{◌≡◌, ◌<◌, ℕ, List, [], ◌∷◌, slice_get, Some, None, Result, IfErr, IfOk}
+use Rattle.std.specs.Prelude.{◌≡◌, ◌<◌, ◌≤◌, ℕ, true, List, [], ◌∷◌, length, max, slice_get, Some, None, Result, Ok, IfErr, IfOk}
 use Rattle.std.specs.List.{AllByRecursion}
 use Rattle.atomic_table.specs.Seated.{TableId}
 use Rattle.disk_model.specs.Disk.{State}
 use Rattle.disk_model.specs.Moments.{Clock}
 use Rattle.disk_model.specs.declared.four.Four.{Four}
 use Rattle.retro_base.specs.declared.device.Device.{Device}
+use Rattle.retro_base.specs.declared.limits.TheConstants.{SESSIONS}
 use Rattle.retro_base.specs.declared.refusal.Refusal.{Refusal}
 use Rattle.history.specs.declared.log.Version.TheVariants.{One}
 use Rattle.history.specs.History.{now}
-use Rattle.opening.specs.Devices.{AreHonest, AreUnwritten, IsUnopened, of_each, SameCounts, seen_of}
+use Rattle.history.specs.Lines.{base_of, doubt_in}
+use Rattle.opening.specs.Devices.{AreHonest, AreImages, AreUnwritten, IsUnopened, of_each, SameCounts, seen_of}
 use Rattle.opening.specs.Opening.{Hold}
 use Rattle.replay.specs.Joined.{AreJoined}
 use Rattle.replay.specs.Opened.{Contents, opened}
 use Rattle.journal_law.specs.Lawful.{Ground, Opening}
 use Rattle.journal_law.specs.Pages.{page_world}
 use Rattle.journal_law.specs.Seats.{Idle, View}
-use Rattle.journal_law.specs.Shows.{Shows}
-use Rattle.journal_law.specs.World.{World}
+use Rattle.journal_law.specs.Shows.{Shows, world}
+use Rattle.journal_law.specs.World.{World, newest}
 use Rattle.tables.specs.Tables.{Tables}
-use Rattle.session.specs.Plan.{Plan}
+use Rattle.session.specs.Plan.{Plan, item_of}
+use Rattle.session.specs.Replies.{kept_by_place, printed}
 use Rattle.session.specs.Sql.{sql}
 use Rattle.session.specs.declared.kept.Kept.{Kept}
 use Rattle.turn.specs.Seats.{mine, seen}
 use Rattle.turn.specs.Tables.{table_of}
+use Rattle.store.specs.Closing.{resting}
+use Rattle.store.specs.Crashes.{CrashesMap}
 use Rattle.store.specs.Opening.{AreRefused}
 use Rattle.store.specs.Seats.{IsSized, Sat}
 use Rattle.store.specs.Recovery.{CrashesShow}
 use Rattle.store.specs.Seen.{view_of}
+use Rattle.store.specs.WorkerRounds.{IsFreshOrStopped}
 use Rattle.store.specs.Worlds.{IsWorldOf}
 use Rattle.store.specs.declared.held.Held.{Held}
-use Rattle.retro.specs.Phases.{LeftLawful, RanOver}
+use Rattle.retro.specs.Phases.{LeftLawful, RepliedOver}
 use Rattle.retro.specs.Slots.{SitsAt}
 use Rattle.retro.specs.Steps.{RunsPhases}
 use Rattle.retro.specs.declared.slots.Slot.{Slot}
@@ -46,25 +52,48 @@ pub record OpenAs (devices : Four (List ℕ)) (ground : Ground) : Type 0 where
   pub base : (now (opened contents)).base ≡ ground.base
   pub shown : IsWorldOf (opened contents) ground.pages
 
+-- A store that is opened from whatever a crash leaves of the devices has so many pages, which show these tables.
+abbrev pub OpensShowing : {D : Type 0} → (D → State) → ℕ → World Tables → Four D → Type 0
+OpensShowing state size tables disks =
+    (devices : Four (List ℕ)) (ground : Ground) → AreImages state disks devices → OpenAs devices ground →
+    (ground.base.page_count ≡ size) × Shows (sql size) ground.pages tables
+
 -- with these tables on the pages
 abbrev pub opening_with : (ground : Ground) → World Tables → Opening (sql ground.base.page_count)
 opening_with ground tables = record { opened = ground; tables = tables }
 
--- From whatever tables its pages held, the run left this journal, which is lawful, and the text is its transcript.
+-- the transcript of a run of a plan, by what it replied
+pub record IsPrinted (plan : Plan) (ended : Ended) (text : List ℕ) : Type 0 where
+  pub kept : List (List (List Kept))
+  pub kept_is : ended.kept ≡ Ok kept
+  pub text_is : text ≡ printed plan (kept_by_place kept) ended.newest ended.journal
+
+-- From whatever tables its pages held, the run left this journal, which is lawful, and tells what was replied to each item.
 pub record HasRunOver (plan : Plan) (ground : Ground) (ending : Device → ℕ) (ended : Ended) : Type 0 where
   pub lawful : (tables : World Tables) → Shows (sql ground.base.page_count) ground.pages tables →
       LeftLawful ground.base.page_count plan (opening_with ground tables) ending ended.journal
-  pub transcript : (tables : World Tables) → Shows (sql ground.base.page_count) ground.pages tables →
-      IfOk ended.text (λ text. RanOver ground.base.page_count plan (opening_with ground tables) ending ended.journal text.items)
+  pub replied : (tables : World Tables) → Shows (sql ground.base.page_count) ground.pages tables →
+      IfOk ended.kept (λ kept. RepliedOver ground.base.page_count plan (opening_with ground tables) ending ended.journal (kept_by_place kept))
 
 -- What a run over a store leaves, from the devices so as they were to those that came back. Where they tell what they hold, the store
--- was opened with what they held, and whatever a crash leaves of them shows the pages behind the journal, or behind the one change in doubt.
+-- was opened with what they held, and whatever a crash leaves of them shows the pages behind the journal, or behind the
+-- one change in doubt; where all is copied, its Maplog ends with the last capture; and where no change is in doubt, the
+-- next run begins with the tables behind this one.
 pub record Leaves {D : Type 0} (faults : D → ℕ) (is_honest : D → Type 0) (state : D → State) (plan : Plan) (first last : Four D) (ended : Ended) : Type 0 where
   pub ground : Ground
   pub counts : SameCounts (of_each faults first) ground.faults
   pub opens : AreHonest is_honest first → OpenAs (seen_of state first) ground
   pub ran : AreHonest is_honest first → HasRunOver plan ground (of_each faults last) ended
+  pub honest : AreHonest is_honest first → AreHonest is_honest last
+  pub newest_is : ended.newest ≡ newest ground.pages
+  pub captures_are : ended.captures ≡ (base_of ground.base ended.journal).captures
   pub crashes : AreHonest is_honest first → CrashesShow state One (page_world ground.pages ended.journal) ended.journal last
+  pub next : AreHonest is_honest first → (tables : World Tables) →
+      Shows (sql ground.base.page_count) ground.pages tables → doubt_in ended.journal ≡ None →
+      OpensShowing state ground.base.page_count
+      (world (sql ground.base.page_count) (item_of plan) tables ended.journal) last
+  pub maps : AreHonest is_honest first → ended.copied ≡ true →
+      CrashesMap state One (base_of ground.base ended.journal).captures last
 
 -- The devices did not open, and nothing was written on them; or a plan was run over their store.
 pub record RunsOn {D : Type 0} (extent faults : D → ℕ) (is_honest : D → Type 0) (remembers : Type 0) (state : D → State)
@@ -72,6 +101,10 @@ pub record RunsOn {D : Type 0} (extent faults : D → ℕ) (is_honest : D → Ty
   pub unwritten : IfErr result (λ why. AreUnwritten extent is_honest remembers state clock first last)
   pub unopened : IfErr result (λ why. IsUnopened (AreRefused extent is_honest state One first) (of_each faults first) (of_each faults last) why)
   pub leaves : IfOk result (Leaves faults is_honest state plan first last)
+
+-- the phase of a run's last copying: the last of its plan, or 1 where it has none
+abbrev pub last_phase : Plan → ℕ
+last_phase plan = max 1 (length plan)
 
 -- ---- seats in their slots
 
@@ -99,24 +132,36 @@ AreHeld state faults z [] [] = Unit {0}
 AreHeld {R} {D} state faults z (seat ∷ seats) (slot ∷ slots) = ((held : Held R D) × (slot.seat ≡ Some held) × IsHeld state faults z seat held) × AreHeld state faults z seats slots
 AreHeld state faults z seats slots = ⊥
 
--- No slot is free, and each seat is one of this store's.
-abbrev pub AreIn : {R D : Type 0} → TableId → List (Slot (Held R D)) → Type 0
-AreIn {R} {D} z slots = AllByRecursion (λ slot. (held : Held R D) × (slot.seat ≡ Some held) × (store_of held ≡ z)) slots
+-- Nothing is open at the seat; and where it is one behind those of the sessions, a worker may run at it.
+abbrev pub MayRest : {D : Type 0} → (D → State) → (D → ℕ) → Sat D → Type 0
+MayRest state faults s =
+    ((mine s).work ≡ None) × (SESSIONS ≤ s.number → IsFreshOrStopped (resting state faults s))
+
+abbrev pub AllRest : {D : Type 0} → (D → State) → (D → ℕ) → List (Sat D) → Type 0
+AllRest {D} state faults seats = (k : ℕ) (s : Sat D) → slice_get seats k ≡ Some s → MayRest state faults s
+
+-- No slot is free, and each seat is one of this store's, and rests.
+abbrev pub AreIn : {R D : Type 0} → (D → State) → (D → ℕ) → TableId → List (Slot (Held R D)) → Type 0
+AreIn {R} {D} state faults z slots =
+    AllByRecursion (λ slot. (held : Held R D) × (slot.seat ≡ Some held) × (store_of held ≡ z)
+    × MayRest state faults held.seat) slots
 
 -- the seat in the slot of this number is among these
 abbrev pub IsAmong : {R D : Type 0} → List (Slot (Held R D)) → List (Sat D) → ℕ → Type 0
 IsAmong {R} {D} slots seats number = (held : Held R D) → SitsAt slots number held → (k : ℕ) × (slice_get seats k ≡ Some held.seat)
 
--- the seat of this number is among these, and has seen these lines
-pub record HasStood {D : Type 0} (seats : List (Sat D)) (number : ℕ) (view : View) : Type 0 where
+-- the seat of this number is among these, rests, and sees so
+pub record HasStood {D : Type 0} (state : D → State) (faults : D → ℕ) (seats : List (Sat D)) (number : ℕ)
+    (view : View) : Type 0 where
   pub seat : Sat D
   pub place : ℕ
   pub there : slice_get seats place ≡ Some seat
   pub number_is : seat.number ≡ number
-  pub front_is : view.front ≡ seen seat
+  pub view_is : view ≡ resting state faults seat
 
 -- The seats of a store come from a run over this ground, of which this was kept.
-pub record ComeFrom {D E : Type 0} (plan : Plan) (ground : Ground) (count : ℕ) (seats : List (Sat D)) (kept : Result (List (List (List Kept))) E) : Type 0 where
+pub record ComeFrom {D E : Type 0} (state : D → State) (faults : D → ℕ) (plan : Plan) (ground : Ground) (count : ℕ)
+    (seats : List (Sat D)) (kept : Result (List (List (List Kept))) E) : Type 0 where
   pub views : ℕ → View
-  pub each : (number : ℕ) → number < count → HasStood seats number (views number)
+  pub each : (number : ℕ) → number < count → HasStood state faults seats number (views number)
   pub runs : RunsPhases plan ground count views kept

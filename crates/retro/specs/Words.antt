@@ -1,5 +1,5 @@
 -- The words of the program, and what they ask for.
-use Rattle.std.specs.Prelude.{◌≡◌, ◌==◌, ◌&&◌, ℕ, Bool, true, not, List, [], ◌∷◌, length, nat_le, codes, if◌then◌else◌, Option, Some, None, Result, Ok, Err, String, map, string_bytes}
+use Rattle.std.specs.Prelude.{◌≡◌, ◌≤◌, ◌==◌, ◌&&◌, ℕ, Bool, true, not, List, [], ◌∷◌, length, nat_le, codes, if◌then◌else◌, Option, Some, None, Result, Ok, Err, String, map, string_bytes}
 use Rattle.std.specs.List.{list_all}
 use Rattle.std.specs.Option.{option_map}
 use Rattle.std.specs.Char.{is_ascii_digit}
@@ -8,8 +8,9 @@ use Rattle.std.specs.Str.Parse.{digits_value}
 use Rattle.retro_base.specs.declared.limits.TheConstants.{MAX_CAPACITY, MAX_PAGES, MIN_CAPACITY, MIN_PAGES}
 use Rattle.store_format.specs.Empty.{AreInRange}
 use Rattle.retro.specs.declared.words.Command.{Command}
-use Rattle.retro.specs.declared.words.Command.TheVariants.{Format, Run, Show}
+use Rattle.retro.specs.declared.words.Command.TheVariants.{Format, Load, Run, Show}
 use Rattle.retro.specs.declared.words.Mistake.{Mistake}
+use Rattle.retro.specs.declared.words.TheConstants.{LAST_SEED, MOST_ROUNDS}
 use Rattle.retro.specs.declared.words.Mistake.TheVariants.{BadSizes, BadWords}
 
 -- a command, with its folder seen by `f`
@@ -17,6 +18,7 @@ abbrev pub on_folder : {A B : Type 0} → (A → B) → Command A → Command B
 on_folder f (Run dir) = Run (option_map f dir)
 on_folder f (Format dir sizes) = Format (f dir) sizes
 on_folder f (Show dir) = Show (f dir)
+on_folder f (Load seed rounds) = Load seed rounds
 
 -- an answer, with its folder seen by `view`, is what the table says
 abbrev pub Answers : {A : Type 0} → (A → List ℕ) → Result (Command A) Mistake → Result (Command (List ℕ)) Mistake
@@ -50,6 +52,13 @@ format dir (Some pages) (Some capacity) =
     else Err BadSizes
 format dir pages capacity = Err BadWords
 
+-- the load of a seed and so many rounds, where these are in their ranges
+abbrev pub load : Option ℕ → Option ℕ → Result (Command (List ℕ)) Mistake
+load (Some seed) (Some rounds) =
+    if nat_le seed LAST_SEED && (nat_le 1 rounds && nat_le rounds MOST_ROUNDS) then Ok (Load seed rounds)
+    else Err BadSizes
+load seed rounds = Err BadWords
+
 -- what a word asks for of the store in a folder
 abbrev pub of_folder : List ℕ → List ℕ → Result (Command (List ℕ)) Mistake
 of_folder verb dir =
@@ -57,15 +66,18 @@ of_folder verb dir =
     else if bytes_eq verb (codes "run") then Ok (Run (Some dir))
     else Err BadWords
 
--- a store is made of sizes in their ranges alone
+-- a store is made of sizes in their ranges alone, and a load of such a seed
 abbrev pub IsReady : {A : Type 0} → Command A → Type 0
 IsReady (Format dir sizes) = AreInRange sizes
+IsReady (Load seed rounds) = seed ≤ LAST_SEED
 IsReady command = Unit {0}
 
 -- the table of good words
 abbrev pub asked : List (List ℕ) → Result (Command (List ℕ)) Mistake
 asked (verb ∷ []) = if bytes_eq verb (codes "run") then Ok (Run None) else Err BadWords
 asked (verb ∷ dir ∷ []) = if is_folder dir then of_folder verb dir else Err BadWords
+asked (verb ∷ seed ∷ rounds ∷ []) =
+    if bytes_eq verb (codes "load") then load (number_of seed) (number_of rounds) else Err BadWords
 asked (verb ∷ dir ∷ pages ∷ capacity ∷ []) =
     if bytes_eq verb (codes "format") && is_folder dir then format dir (number_of pages) (number_of capacity)
     else Err BadWords

@@ -3,7 +3,7 @@ use Rattle.std.specs.Prelude.{◌≡◌, ◌<◌, ◌≤◌, ◌+◌, ℕ, List,
 use Rattle.retro_base.specs.declared.limits.TheConstants.{SESSIONS}
 use Rattle.journal_law.specs.Seats.{Idle, View}
 use Rattle.store.specs.WorkerRounds.{IsFreshOrStopped, WorkerLeaves, worker}
-use Rattle.retro.specs.Slots.{IsSeated, seat_at, view_at, view_in}
+use Rattle.retro.specs.Slots.{IsSeated, seat_at, view_at}
 use Rattle.retro.specs.declared.slots.Slot.{Slot}
 
 -- Each of these slots, of which the first is the copier's, has a seat at which a worker may run.

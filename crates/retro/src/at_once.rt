@@ -6,55 +6,86 @@ use std::sync::Wait;
 use std::test::Fail;
 use std::thread::Threads;
 
-// Eight tables of a row each, from 1 to 8. A session of its own adds 10 to each row, and then doubles it.
-const APART: &[u8] =
-    b"SESSION a\nCREATE TABLE ta(v INT)\nINSERT INTO ta VALUES (1)\nCREATE TABLE tb(v INT)\n\
-      INSERT INTO tb VALUES (2)\nCREATE TABLE tc(v INT)\nINSERT INTO tc VALUES (3)\nCREATE TABLE td(v INT)\n\
-      INSERT INTO td VALUES (4)\nCREATE TABLE te(v INT)\nINSERT INTO te VALUES (5)\nCREATE TABLE tf(v INT)\n\
-      INSERT INTO tf VALUES (6)\nCREATE TABLE tg(v INT)\nINSERT INTO tg VALUES (7)\nCREATE TABLE th(v INT)\n\
-      INSERT INTO th VALUES (8)\nCOMMIT\nPHASE\nSESSION a\nUPDATE ta SET v = v + 10\nCOMMIT\n\
-      UPDATE ta SET v = v * 2\nCOMMIT\nSESSION b\nUPDATE tb SET v = v + 10\nCOMMIT\nUPDATE tb SET v = v * 2\n\
-      COMMIT\nSESSION c\nUPDATE tc SET v = v + 10\nCOMMIT\nUPDATE tc SET v = v * 2\nCOMMIT\nSESSION d\n\
-      UPDATE td SET v = v + 10\nCOMMIT\nUPDATE td SET v = v * 2\nCOMMIT\nSESSION e\nUPDATE te SET v = v + 10\n\
-      COMMIT\nUPDATE te SET v = v * 2\nCOMMIT\nSESSION f\nUPDATE tf SET v = v + 10\nCOMMIT\n\
-      UPDATE tf SET v = v * 2\nCOMMIT\nSESSION g\nUPDATE tg SET v = v + 10\nCOMMIT\nUPDATE tg SET v = v * 2\n\
-      COMMIT\nSESSION h\nUPDATE th SET v = v + 10\nCOMMIT\nUPDATE th SET v = v * 2\nCOMMIT\nPHASE\nSESSION a\n\
-      SELECT * FROM ta\nSELECT * FROM tb\nSELECT * FROM tc\nSELECT * FROM td\nSELECT * FROM te\n\
-      SELECT * FROM tf\nSELECT * FROM tg\nSELECT * FROM th\nROLLBACK\n";
+// Sixteen tables of one row. A session of its own adds 10 to each row, and then doubles it.
+fn apart_script(alloc: Global) -> Result<Vec<u8>, AllocError> {
+    let mut script = b"SESSION m".to_vec(alloc)?;
+    for name in NAMES {
+        let name = char::from(*name);
+        let table = format!(in alloc;
+            "\nCREATE TABLE t{name}(v INT)\nINSERT INTO t{name} VALUES (1)"
+        )?;
+        script.extend_from_slice(table.as_bytes())?;
+    }
+    script.extend_from_slice(b"\nCOMMIT\nPHASE\n")?;
+    for name in NAMES {
+        let name = char::from(*name);
+        let session = format!(in alloc;
+            "SESSION {name}\nUPDATE t{name} SET v = v + 10\nCOMMIT\nUPDATE t{name} SET v = v * 2\nCOMMIT\n"
+        )?;
+        script.extend_from_slice(session.as_bytes())?;
+    }
+    script.extend_from_slice(b"PHASE\nSESSION m\n")?;
+    for name in NAMES {
+        let query = format!(in alloc; "SELECT * FROM t{}\n", char::from(*name))?;
+        script.extend_from_slice(query.as_bytes())?;
+    }
+    script.extend_from_slice(b"ROLLBACK\n")?;
+    Ok(script)
+}
 
 // The replies stand in the script's order, whatever the order of the sessions was.
-const APART_FRONT: &[u8] =
-    b"phase 1\nsession a\nitem 1\nok\nok 1\nok\nok 1\nok\nok 1\nok\nok 1\nok\nok 1\nok\nok 1\nok\nok 1\nok\n\
-      ok 1\ncommitted\nphase 2\nsession a\nitem 1\nok 1\ncommitted\nitem 2\nok 1\ncommitted\nsession b\n\
-      item 1\nok 1\ncommitted\nitem 2\nok 1\ncommitted\nsession c\nitem 1\nok 1\ncommitted\nitem 2\nok 1\n\
-      committed\nsession d\nitem 1\nok 1\ncommitted\nitem 2\nok 1\ncommitted\nsession e\nitem 1\nok 1\n\
-      committed\nitem 2\nok 1\ncommitted\nsession f\nitem 1\nok 1\ncommitted\nitem 2\nok 1\ncommitted\n\
-      session g\nitem 1\nok 1\ncommitted\nitem 2\nok 1\ncommitted\nsession h\nitem 1\nok 1\ncommitted\n\
-      item 2\nok 1\ncommitted\nphase 3\nsession a\nitem 1\nrows 1\n22\nrows 1\n24\nrows 1\n26\nrows 1\n28\n\
-      rows 1\n30\nrows 1\n32\nrows 1\n34\nrows 1\n36\nrolled back\njournal\n";
+fn apart_replies(alloc: Global) -> Result<Vec<u8>, AllocError> {
+    let mut text = b"phase 1\nsession m\nitem 1\n".to_vec(alloc)?;
+    for _ in NAMES {
+        text.extend_from_slice(b"ok\nok 1\n")?;
+    }
+    text.extend_from_slice(b"committed\nphase 2\n")?;
+    for name in NAMES {
+        let session = format!(in alloc;
+            "session {}\nitem 1\nok 1\ncommitted\nitem 2\nok 1\ncommitted\n",
+            char::from(*name)
+        )?;
+        text.extend_from_slice(session.as_bytes())?;
+    }
+    text.extend_from_slice(b"phase 3\nsession m\nitem 1\n")?;
+    for _ in NAMES {
+        text.extend_from_slice(b"rows 1\n22\n")?;
+    }
+    text.extend_from_slice(b"rolled back\njournal\n")?;
+    Ok(text)
+}
 
-// Of each of these the journal has a line of 11 bytes: the table maker, and two updates of eight sessions. The last is
-// `3 a 1 rolled back`.
-const APART_JOURNAL: usize = 17 * 11 + 18;
+const NAMES: &[u8] = b"abcdefghijklmnop";
+
+// Of each of these the journal has a line of 11 bytes: the tables' maker, and two updates of sixteen sessions. The last
+// is `3 m 1 rolled back`.
+const APART_JOURNAL: usize = 33 * 11 + 18;
+
+fn are_apart<R: AllocGlobal + Threads + Wait + Sync>(rt: &R) -> Result<bool, Fail> {
+    let script = apart_script(rt.alloc())?;
+    let replies = apart_replies(rt.alloc())?;
+    let outcome = run_at_once(rt, script.as_slice())?;
+    let text = outcome.text.as_slice();
+    let is_long = text.len() == replies.len() + APART_JOURNAL;
+    Ok(outcome.status == 0 && text.starts_with(replies.as_slice()) && is_long)
+}
 
 #[test]
-fn eight_sessions_change_tables_of_their_own(rt: HostRuntime) -> Result<(), Fail> {
-    let outcome = run_at_once(&rt, APART)?;
-    assert!(rt; outcome.status == 0 && outcome.text.as_slice().starts_with(APART_FRONT));
-    assert_eq!(rt; outcome.text.len(), APART_FRONT.len() + APART_JOURNAL);
+fn sixteen_sessions_change_tables_of_their_own(rt: HostRuntime) -> Result<(), Fail> {
+    assert!(rt; are_apart(&rt)?);
     Ok(())
 }
 
-// Eight sessions that raise the one row of a table by 1, five times each.
+// Two sessions that raise the one row of a table by 1, fifty times each.
 fn raising_script(alloc: Global) -> Result<Vec<u8>, AllocError> {
     let mut script =
         b"SESSION maker\nCREATE TABLE t(v INT)\nINSERT INTO t VALUES (0)\nCOMMIT WITH SNAPSHOT\nPHASE\n".to_vec(
             alloc,
         )?;
-    for name in b"abcdefgh" {
+    for name in b"ab" {
         script.extend_from_slice(b"SESSION ")?;
         script.push(*name)?;
-        for _ in 0..5 {
+        for _ in 0..50 {
             script.extend_from_slice(b"\nUPDATE t SET v = v + 1\nCOMMIT")?;
         }
         script.push(b'\n')?;
@@ -63,30 +94,50 @@ fn raising_script(alloc: Global) -> Result<Vec<u8>, AllocError> {
     Ok(script)
 }
 
-// How many transactions a transcript tells as committed without a snapshot, and the value of its last row.
-fn told(text: &[u8]) -> (u64, &[u8]) {
-    let mut committed = 0_u64;
-    let mut value: &[u8] = b"";
-    let mut is_row = false;
-    for line in text.split(|byte| *byte == b'\n') {
-        if is_row {
-            value = line;
-        }
-        is_row = line == b"rows 1".as_slice();
-        if line == b"committed".as_slice() {
-            committed = committed.saturating_add(1);
-        }
-    }
-    (committed, value)
+// What a transcript tells of the two: how many transactions were committed without a snapshot, how many were refused
+// for the other session's sake, and the value of the last row.
+#[derive(Drop)]
+struct Tally<'a> {
+    committed: u64,
+    refused: u64,
+    value: &'a [u8],
 }
 
-// Whether the row was raised once for each transaction that was told as committed, of which there was one.
+fn tally_of(text: &[u8]) -> Tally<'_> {
+    let mut tally = Tally {
+        committed: 0,
+        refused: 0,
+        value: b"",
+    };
+    let mut is_row = false;
+    let mut refusal: &[u8] = b"";
+    for line in text.split(|byte| *byte == b'\n') {
+        if is_row {
+            tally.value = line;
+        }
+        is_row = line == b"rows 1".as_slice();
+        if line == b"session a".as_slice() {
+            refusal = b"refused 8 Overlap b";
+        } else if line == b"session b".as_slice() {
+            refusal = b"refused 8 Overlap a";
+        } else if line == b"committed".as_slice() {
+            tally.committed = tally.committed.saturating_add(1);
+        } else if line == refusal {
+            tally.refused = tally.refused.saturating_add(1);
+        }
+    }
+    tally
+}
+
+// Whether each of the hundred was committed or refused so, and the row was raised once for each that was committed.
 fn is_sum_told<R: AllocGlobal + Threads + Wait + Sync>(rt: &R) -> Result<bool, Fail> {
     let script = raising_script(rt.alloc())?;
     let outcome = run_at_once(rt, script.as_slice())?;
-    let (committed, value) = told(outcome.text.as_slice());
-    let sum = format!(in rt.alloc(); "{committed}")?;
-    Ok(outcome.status == 0 && 0 < committed && value == sum.as_bytes())
+    let tally = tally_of(outcome.text.as_slice());
+    let sum = format!(in rt.alloc(); "{}", tally.committed)?;
+    let all = tally.committed.saturating_add(tally.refused);
+    let is_all = 0 < tally.committed && all == 100;
+    Ok(outcome.status == 0 && is_all && tally.value == sum.as_bytes())
 }
 
 #[test]

@@ -2,12 +2,12 @@
 
 ghost use Rattle.std.specs.Prelude.{◌≡◌, ◌≢◌, ◌<◌, Ok};
 ghost use Rattle.session.specs.Plan.{PlanFits};
-ghost use Rattle.retro.specs.Keeping.{EndsRun, faulty, has_fault, is_fault, RunsIn, RunsOnStore};
+ghost use Rattle.retro.specs.Keeping.{EndsRun, has_fault, in_place, is_fault, RunsIn, RunsOnStore};
 ghost use Rattle.retro.specs.Says.{IsOfKept, IsOfStores, IsStatus, number_of};
 
 use crate::running::{plan_from, refuse as refuse_script};
 use crate::saying::{Status, cabinet_fault, refuse, write_made};
-use crate::storing::{Ended, run_on};
+use crate::storing::{Ended, run_on, transcript_of};
 use disk_model::Cabinet;
 use feeds::{Sink, Source};
 use fold_kit::Folds;
@@ -55,26 +55,30 @@ fn has_fault(journal: &[Line]) -> bool
     journal.iter().any(|line| is_fault(line))
 }
 
-// The status of a run in which a device failed.
-fn faulty(status: Status) -> Status
-    ensures number { number_of result ≡ faulty (number_of status) }
-    ensures status { IsOfStores status → IsOfStores result }
+// A status in place of a good one.
+fn in_place(other: Status, status: Status) -> Status
+    requires of_stores { IsOfStores status × IsOfStores other }
+    ensures number { number_of result ≡ in_place (number_of other) (number_of status) }
+    ensures status { IsOfStores result }
 {
     match status {
-        Status::Done => Status::DiskFault,
+        Status::Done => other,
         _ => status,
     }
 }
 
-// Writes the transcript of a run, if there was memory for it.
-fn tell<K: Sink>(sink: &mut K, ended: Ended) -> Status
-    ensures ends { EndsRun K.held K.faults sink.old sink.new (Ok ended) (number_of result) }
+// Writes the transcript of a run, if there was memory for it; want of memory is told too where the archive lacks
+// captures.
+fn tell<K: Sink>(alloc: Global, sink: &mut K, plan: &Plan, ended: &Ended) -> Status
+    ensures ends { EndsRun K.held K.faults sink.old sink.new plan.now (Ok ended.now) (number_of result) }
     ensures status { IsOfStores result }
 {
-    let Ended { journal, text } = ended;
-    let status = write_made(sink, text);
-    if has_fault(journal.as_slice()) {
-        return faulty(status);
+    let status = write_made(sink, transcript_of(alloc, plan, ended));
+    if has_fault(ended.journal.as_slice()) {
+        return in_place(Status::DiskFault, status);
+    }
+    if !ended.copied {
+        return in_place(Status::OutOfMemory, status);
     }
     status
 }
@@ -102,7 +106,7 @@ fn kept<R: Threads + Wait + Sync, S: Source, K: Sink, C: Cabinet, F: Folds + Syn
         Err(refusal) => return refuse_script(alloc, sink, refusal),
     };
     match run_in(alloc, rt, threads, cabinet, dir, folds, gate, &plan) {
-        Ok(ended) => tell(sink, ended),
+        Ok(ended) => tell(alloc, sink, &plan, &ended),
         Err(refusal) => refuse(alloc, sink, refusal),
     }
 }

@@ -1,5 +1,5 @@
 //! The program `retro`: runs a script over tables that keep declared past states, and writes a transcript of every
-//! reply; makes stores in folders, and shows what they hold.
+//! reply; makes stores in folders, and shows what they hold; and runs loads, of which it writes a summary.
 #![tactic(auto)]
 
 #[cfg(test)]
@@ -11,8 +11,13 @@ mod calls;
 #[cfg(test)]
 mod drops;
 mod formatting;
+#[cfg(test)]
+mod held_up;
 mod keeping;
 mod laws;
+mod loading;
+#[cfg(test)]
+mod loads;
 mod memory;
 mod phases;
 mod program;
@@ -30,6 +35,7 @@ mod store_runs;
 #[cfg(test)]
 mod stores;
 mod storing;
+mod summary;
 #[cfg(test)]
 mod tests;
 mod words;

@@ -1,12 +1,11 @@
 //! Runs a plan over an empty store that is made for it, in memory.
 
-ghost use Rattle.std.specs.Prelude.{◌≡◌, ◌<◌, List, IfErr, IfOk};
+ghost use Rattle.std.specs.Prelude.{◌≡◌, ◌<◌, IfErr, IfOk};
 ghost use Rattle.disk_model.specs.Cabinet.{AreSized, Each, IsBlank};
-ghost use Rattle.history.specs.declared.journal.Line.{Line};
 ghost use Rattle.opening.specs.Devices.{IsUnopened, of_each};
 ghost use Rattle.session.specs.Plan.{PlanFits};
 ghost use Rattle.store_format.specs.Empty.{AreInRange};
-ghost use Rattle.retro.specs.Memory.{RanFromEmpty, RanInMemory};
+ghost use Rattle.retro.specs.Memory.{LeftFromEmpty, LeftInMemory};
 
 use crate::storing::{Ended, run_on};
 use disk_mem::RamDisk;
@@ -38,8 +37,7 @@ fn run_from_empty<R: Threads + Wait + Sync, D: Disk + Drop + Send, I: RunItems +
     requires sized { AreSized D.extent sizes disks }
     requires blank { Each (IsBlank D.extent D.is_honest D.state) disks }
     ensures cause { IfErr result.1 (IsUnopened (λ _ _. ⊥) (of_each D.faults disks) (of_each D.faults result.0)) }
-    ensures ran { IfOk result.1 (λ ended. IfOk ended.text (λ text. RanFromEmpty sizes plan.now (of_each D.faults disks)
-        (of_each D.faults result.0) ended.journal text.items)) }
+    ensures left { IfOk result.1 (LeftFromEmpty sizes plan.now (of_each D.faults disks) (of_each D.faults result.0)) }
 {
     // Laws for the proof: pages of zeros hold no tables, and bytes that hold a store are not refused as those of none.
     store_law();
@@ -75,18 +73,17 @@ fn zero_disks(alloc: Global, sizes: Sizes) -> Result<Four<RamDisk>, Refusal>
     })
 }
 
-/// Runs a plan over an empty store in memory, which is gone behind the run, and gives the transcript. It is refused for want
-/// of memory alone.
+/// Runs a plan over an empty store in memory, which is gone behind the run. It is refused for want of memory alone.
 pub fn run_in_memory<R: Threads + Wait + Sync, I: RunItems + Sync>(
     alloc: Global,
     rt: &R,
     threads: usize,
     runner: &I,
     plan: &Plan,
-) -> Result<Vec<u8>, Refusal>
+) -> Result<Ended, Refusal>
     requires threads { 0 < threads }
     requires fits { PlanFits plan.now }
-    ensures ran { IfOk result (λ text. (journal : List Line) × RanInMemory plan.now journal text.items) }
+    ensures left { IfOk result (LeftInMemory plan.now) }
     ensures wanting { IfErr result (λ why. why ≡ Refusal.OutOfMemory) }
 {
     let sizes = Sizes {
@@ -95,5 +92,5 @@ pub fn run_in_memory<R: Threads + Wait + Sync, I: RunItems + Sync>(
     };
     let disks = zero_disks(alloc, sizes)?;
     let (_, ended) = run_from_empty(alloc, rt, threads, disks, sizes, runner, plan);
-    Ok(ended?.text?)
+    ended
 }

@@ -312,6 +312,7 @@ pub fn run_phases<H: Threads + Sync, S: Works + Send, R: RunItems + Sync>(
     requires may { MayWorkOn S.view slots.old }
     requires together { AreTogether S.together slots.old }
     ensures come { AllCome S.view S.goes slots.old slots.new }
+    ensures may { MayWorkOn S.view slots.new }
     ensures ran { AreHonest S.is_honest slots.old → (opened : Ground) (front : List Line)
         → StandTogether opened.base.page_count plan.now opened (length slots.old) 1 front (view_at S.view slots.old)
         → RunsPhases plan.now opened (length slots.old) (view_at S.view slots.new) result }

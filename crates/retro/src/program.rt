@@ -4,6 +4,7 @@ ghost use Rattle.std.specs.Prelude.{◌≡◌, ◌≢◌, ◌⊎◌, ◌↔◌, 
 ghost use Rattle.disk_model.specs.declared.four.Sizes.{Sizes as SizesOf};
 ghost use Rattle.retro.specs.Formats.{Formats};
 ghost use Rattle.retro.specs.Keeping.{RunsIn};
+ghost use Rattle.retro.specs.Loads.{Loads};
 ghost use Rattle.retro.specs.Program.{RunsPlainly};
 ghost use Rattle.retro.specs.Says.{IsStatus, Says, bad_sizes_line, bad_words_line};
 ghost use Rattle.retro.specs.Shows.{Shows};
@@ -11,6 +12,7 @@ ghost use Rattle.retro.specs.Words.{asked_by, AskToRun};
 
 use crate::formatting::format;
 use crate::keeping::keep;
+use crate::loading::load;
 use crate::running::run;
 use crate::saying::{Status, say};
 use crate::showing::show;
@@ -38,7 +40,7 @@ fn refuse<K: Sink>(sink: &mut K, mistake: Mistake) -> u8
 }
 
 /// Runs the program, and answers the exit status. Status 2 is exactly where the words are none of the good ones, and 9
-/// where a size is out of its range. The other words are:
+/// where a number is out of its range. The other words are:
 ///
 /// - `run`: reads a script from the source, runs it over an empty store in memory, which holds no tables, and writes the
 ///   transcript of every reply to the sink, or one line that says why there is none. The status is 4 where the source
@@ -49,11 +51,12 @@ fn refuse<K: Sink>(sink: &mut K, mistake: Mistake) -> u8
 /// - `run DIR`: reads a script first, as `run` does, and runs it over the store in the cabinet, at which each session has
 ///   a seat of its own. The transcript is written whole also where its journal tells a fault of a device; the status is
 ///   then 6 in place of 0.
+/// - `load SEED N`: makes the script of a load of N rounds, runs it as `run` does, and writes a summary of it to the sink.
 ///
 /// The sessions of a phase run at once, in at most so many threads: with one they run in turn. The copier and the
 /// flusher run beside them, in threads of their own. The gate is called at each point of an item.
 ///
-/// The last three end with 6 where a call of the cabinet or of a device failed; `show` and `run` with 7 where the bytes
+/// `format`, `show` and `run DIR` end with 6 where a call of the cabinet or of a device failed; `show` and `run` with 7 where the bytes
 /// are no store's; with 5 where the sink failed; with 8 where memory ran out; else with 0. The devices are back in the
 /// cabinet.
 pub fn retro<
@@ -97,6 +100,8 @@ pub fn retro<
         → RunsIn (S.left source.old) (S.left source.new) (S.faults source.old) (S.faults source.new) K.held K.faults
         C.faults C.is_out C.tells C.store C.Device.extent C.Device.faults C.Device.is_honest C.Device.remembers
         C.Device.state C.Device.clock dir sink.old sink.new cabinet.old cabinet.new result }
+    ensures loads { (seed rounds : ℕ) → asked_by words.now ≡ Ok (Command.Load seed rounds)
+        → (cabinet.new ≡ cabinet.old) × Loads K.held K.faults seed rounds sink.old sink.new result }
     ensures runs { AskToRun words.now → RunsPlainly S.left S.faults K.held K.faults source.old source.new
         sink.old sink.new result }
 {
@@ -107,6 +112,9 @@ pub fn retro<
         ),
         Ok(Command::Format { dir, sizes }) => format(alloc, sink, cabinet, dir, sizes),
         Ok(Command::Show { dir }) => show(alloc, sink, cabinet, dir),
+        Ok(Command::Load { seed, rounds }) => load(
+            alloc, rt, threads, sink, seed, rounds, folds, gate,
+        ),
         Err(mistake) => refuse(sink, mistake),
     }
 }

@@ -13,6 +13,7 @@ ghost use Rattle.retro.specs.Says.{HoldsFront, IsOfRuns, IsStatus, number_of, Sa
 
 use crate::memory::run_in_memory;
 use crate::saying::{Status, say, write};
+use crate::storing::transcript_of;
 use feeds::{Sink, Source, read_front};
 use fold_kit::Folds;
 use retro_base::Refusal;
@@ -56,7 +57,8 @@ fn transcript<R: Threads + Wait + Sync, S: Source, F: Folds + Sync, G: Gate + Sy
     ensures bad_script { (n : ℕ) → result ≡ Err (Refusal.BadScript n) → IfSome (S.left source.old) (IsTheBadLine n) }
 {
     let plan = plan_from(alloc, source)?;
-    let text = run_in_memory(alloc, rt, threads, &Items { gate, folds }, &plan)?;
+    let ended = run_in_memory(alloc, rt, threads, &Items { gate, folds }, &plan)?;
+    let text = transcript_of(alloc, &plan, &ended)?;
     Ok(text)
 }
 

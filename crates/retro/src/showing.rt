@@ -32,8 +32,13 @@ fn look<C: Cabinet>(alloc: Global, cabinet: &mut C, dir: &str) -> Result<Shown, 
     }
 }
 
-// Adds a line of a word and a number.
-fn push_line(alloc: Global, text: &mut Vec<u8>, word: &str, number: u64) -> Result<(), AllocError>
+/// Adds a line of a word and a number.
+pub fn push_line(
+    alloc: Global,
+    text: &mut Vec<u8>,
+    word: &str,
+    number: u64,
+) -> Result<(), AllocError>
     ensures { OnOk result (text.new.items ≡ text.old.items ++ number_line word.now number) }
 {
     text.extend_from_slice(word.as_bytes())?;

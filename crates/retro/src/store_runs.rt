@@ -265,3 +265,104 @@ fn a_failing_sink_takes_nothing_from_the_store(rt: HostRuntime) -> Result<(), Fa
     assert!(rt; is_committed_without_a_text(&rt, rt.alloc())?);
     Ok(())
 }
+
+// The page of a table as one item leaves it, and as a second one does.
+const FIRST_ITEM: &[u8] =
+    b"PHASE\nSESSION a\nCREATE TABLE t(a INT, b TEXT);\nINSERT INTO t VALUES (1,'x');\nCOMMIT WITH SNAPSHOT 'one';\n";
+
+const SECOND_ITEM: &[u8] = b"PHASE\nSESSION a\nINSERT INTO t VALUES (2,'y');\nCOMMIT;\n";
+
+// Behind the start of a Maplog stands the run of its mappings: from number 0 on, one, of page 2.
+const ONE_MAPPING: &[u8] = b"\x02\0\0\0\0\0\0\0\0\0\0\0\x01\0\x02";
+
+const ONE_CAPTURE: &[u8] = b"version 1\npages 16\ncapacity 64\noldest 1\nnewest 1\ncaptures 1\n";
+
+/// Page 2, slot 0, and whether the Maplog has the mapping.
+#[derive(Drop)]
+pub struct OnDevices {
+    page: Vec<u8>,
+    slot: Vec<u8>,
+    is_mapped: bool,
+}
+
+impl OnDevices {
+    /// Whether nothing is copied.
+    pub fn is_bare(&self) -> bool {
+        self.slot.as_slice() == [0; 1024].as_slice() && !self.is_mapped
+    }
+
+    /// Whether the page as it was is copied.
+    pub fn has_copied(&self, before: &OnDevices) -> bool {
+        self.slot == before.page && self.is_mapped
+    }
+}
+
+fn on_devices(alloc: Global, disks: &Four<MemDisk>) -> Option<OnDevices> {
+    let page = disks.pages.bytes().get(2048..3072)?.to_vec(alloc).ok()?;
+    let slot = disks.pagelog.bytes().get(0..1024)?.to_vec(alloc).ok()?;
+    let mut mappings = disks.maplog.bytes().windows(ONE_MAPPING.len());
+    let is_mapped = mappings.any(|body| body == ONE_MAPPING);
+    Some(OnDevices {
+        page,
+        slot,
+        is_mapped,
+    })
+}
+
+/// What the devices of the store hold.
+pub fn held_on(alloc: Global, cabinet: &mut MemCabinet) -> Option<OnDevices> {
+    let Ok(disks) = cabinet.fetch("d") else {
+        return None;
+    };
+    let found = on_devices(alloc, &disks);
+    cabinet.put_back("d", disks);
+    found
+}
+
+/// What they hold behind a run, with its status.
+pub fn held_behind<R: Threads + Wait + Sync>(
+    rt: &R,
+    alloc: Global,
+    cabinet: &mut MemCabinet,
+    script: &[u8],
+) -> Option<(u8, OnDevices)> {
+    let Ok((status, _)) = told(rt, alloc, cabinet, &["run", "d"], script, &[]) else {
+        return None;
+    };
+    let found = held_on(alloc, cabinet)?;
+    Some((status, found))
+}
+
+// Whether a page was written back behind each of two runs, in which the workers ran too, and what the first left of it
+// was copied behind the second.
+fn are_copied<R: Threads + Wait + Sync>(
+    rt: &R,
+    alloc: Global,
+    cabinet: &mut MemCabinet,
+) -> Option<bool> {
+    let (status, first) = held_behind(rt, alloc, cabinet, FIRST_ITEM)?;
+    let (other, second) = held_behind(rt, alloc, cabinet, SECOND_ITEM)?;
+    let is_written = first.page.as_slice() != [0; 1024].as_slice() && second.page != first.page;
+    Some(status == 0 && other == 0 && is_written && first.is_bare() && second.has_copied(&first))
+}
+
+fn is_shown<R: Threads + Wait + Sync>(rt: &R, alloc: Global, cabinet: &mut MemCabinet) -> bool {
+    match told(rt, alloc, cabinet, &["show", "d"], b"", &[]) {
+        Ok((status, text)) => status == 0 && text.as_slice() == ONE_CAPTURE,
+        Err(AllocError) => false,
+    }
+}
+
+fn is_copied<R: Threads + Wait + Sync>(rt: &R, alloc: Global) -> bool {
+    let mut cabinet = MemCabinet::new(alloc, Vec::new(alloc));
+    let formats: &[&str] = &["format", "d", "16", "64"];
+    let is_made = told(rt, alloc, &mut cabinet, formats, b"", &[]).is_ok();
+    let are_copied = are_copied(rt, alloc, &mut cabinet) == Some(true);
+    is_made && are_copied && is_shown(rt, alloc, &mut cabinet)
+}
+
+#[test]
+fn what_a_run_captured_is_in_the_archive_behind_it(rt: HostRuntime) -> Result<(), Fail> {
+    assert!(rt; is_copied(&rt, rt.alloc()));
+    Ok(())
+}

@@ -1,11 +1,13 @@
 //! The words that make a store and show it, over cabinets in memory: texts worked out by hand.
 
+ghost use Rattle.std.specs.Prelude.{◌<◌};
+
 use crate::program::retro;
 use disk_model::{Cabinet, Disk, Four};
 use feeds::{MemSink, MemSource};
 use fold_kit::{Combiner, FoldSet, How};
 use mem_cabinet::MemCabinet;
-use session::NoGate;
+use session::{Gate, NoGate};
 use std::alloc::{AllocError, Global};
 use std::sync::Wait;
 use std::test::Fail;
@@ -90,6 +92,31 @@ pub fn told<R: Threads + Wait + Sync>(
     script: &[u8],
     failing_writes: &[u64],
 ) -> Result<(u8, Vec<u8>), AllocError> {
+    told_at(
+        rt,
+        alloc,
+        1,
+        cabinet,
+        words,
+        script,
+        failing_writes,
+        &NoGate,
+    )
+}
+
+/// That, in so many threads, with a gate.
+pub fn told_at<R: Threads + Wait + Sync, G: Gate + Sync>(
+    rt: &R,
+    alloc: Global,
+    threads: usize,
+    cabinet: &mut MemCabinet,
+    words: &[&str],
+    script: &[u8],
+    failing_writes: &[u64],
+    gate: &G,
+) -> Result<(u8, Vec<u8>), AllocError>
+    requires { 0 < threads }
+{
     let mut all = Vec::new(alloc);
     for word in words {
         all.push(String::from_str(alloc, word)?)?;
@@ -104,13 +131,13 @@ pub fn told<R: Threads + Wait + Sync>(
     let status = retro(
         rt,
         alloc,
-        1,
+        threads,
         all.as_slice(),
         &mut source,
         &mut sink,
         cabinet,
         &folds,
-        &NoGate,
+        gate,
     );
     Ok((status, sink.bytes().to_vec(alloc)?))
 }

@@ -5,13 +5,11 @@ ghost use Rattle.std.proofs.Common.{◌∙◌, sym};
 ghost use Rattle.journal_law.specs.Lawful.{Ground};
 ghost use Rattle.store.specs.Seen.{IsHonest, ground_in};
 ghost use Rattle.session.specs.Plan.{PlanFits};
-ghost use Rattle.session.specs.Replies.{kept_by_place, printed};
-ghost use Rattle.session.specs.declared.kept.Kept.{Kept as KeptOf};
 ghost use Rattle.store.specs.Closing.{AreReady};
 ghost use Rattle.store.specs.Seats.{Sat};
 ghost use Rattle.turn.specs.Seats.{opening};
 ghost use Rattle.turn.specs.Tables.{table_of};
-ghost use Rattle.retro.specs.Storing.{AreFresh, AreHeld, AreIn, ComeFrom, IsAmong, RunsOn};
+ghost use Rattle.retro.specs.Storing.{AllRest, AreFresh, AreHeld, AreIn, ComeFrom, IsAmong, IsPrinted, RunsOn, last_phase};
 
 use crate::phases::run_phases;
 use crate::seats::{Meets, Works};
@@ -27,11 +25,16 @@ use std::thread::Threads;
 use store::{Closed, Done, Held, Seat, Store, Worker, laws_of_crashes};
 use values::Seq;
 
-/// What a run over a store leaves beside its devices: the journal, and its transcript unless memory was wanting for it.
+/// What a run over a store leaves beside its devices: the journal, what it replied to each item, unless memory was wanting
+/// to keep it, the newest snapshot before it, how many captures were made, over all runs, and whether the archive holds
+/// captures up to the last.
 #[derive(Drop)]
 pub struct Ended {
     pub journal: Journal,
-    pub text: Result<Vec<u8>, AllocError>,
+    pub kept: Result<Seq<Seq<Seq<Kept>>>, AllocError>,
+    pub newest: u32,
+    pub captures: u64,
+    pub copied: bool,
 }
 
 impl<'a, R: Wait, D: Disk + Drop> Meets for Held<'a, R, D> {
@@ -82,11 +85,12 @@ fn stand_up<'a, R: Wait, D: Disk + Drop>(
     slots: Vec<Slot<Held<'a, R, D>>>,
     seats: Vec<Seat<D>>,
 ) -> Vec<Seat<D>>
-    requires held { AreIn (table_of store.now.turn) slots.items }
+    requires held { AreIn D.state D.faults (table_of store.now.turn) slots.items }
     requires none { seats.items ≡ [] }
     requires room { length slots.items ≤ vec_capacity seats }
     ensures count { length result.items ≡ length slots.entry.items }
     ensures ready { AreReady (table_of store.now.turn) result.items }
+    ensures rest { AllRest D.state D.faults result.items }
     ensures among { (number : ℕ) → IsAmong slots.entry.items result.items number }
 {
     let mut slots = slots;
@@ -116,10 +120,11 @@ fn run_seated<R: Threads + Wait + Sync, D: Disk + Drop + Send, I: RunItems + Syn
     requires enough { length seats.items ≡ SEATS }
     ensures count { length result.0.items ≡ length seats.items }
     ensures ready { AreReady (table_of store.now.turn) result.0.items }
+    ensures rest { AllRest D.state D.faults result.0.items }
     ensures ran { (opened : Ground)
         → ((k : ℕ) (s : Sat D) → slice_get seats.items k ≡ Some s
         → IsHonest D.is_honest D.state s × (ground_in D.state D.faults (opening s) ≡ opened))
-        → ComeFrom plan.now opened (length seats.items) result.0.items result.1 }
+        → ComeFrom D.state D.faults plan.now opened (length seats.items) result.0.items result.1 }
 {
     let Ok(back) = Vec::with_capacity(alloc, seats.len()) else {
         return (seats, Err(AllocError));
@@ -132,23 +137,34 @@ fn run_seated<R: Threads + Wait + Sync, D: Disk + Drop + Send, I: RunItems + Syn
     (stand_up(store, slots, back), kept)
 }
 
-// The transcript of a journal by what is kept of the run.
-fn text_of(
-    alloc: Global,
-    plan: &Plan,
-    kept: Result<Seq<Seq<Seq<Kept>>>, AllocError>,
-    newest: u32,
-    journal: &Journal,
-) -> Result<Vec<u8>, AllocError>
-    ensures { IfOk result (λ text. (all : List (List (List KeptOf))) × (kept ≡ Ok all)
-        × (text.items ≡ printed plan.now (kept_by_place all) newest journal.now)) }
+/// The transcript of a run, if what it replied was kept.
+pub fn transcript_of(alloc: Global, plan: &Plan, ended: &Ended) -> Result<Vec<u8>, AllocError>
+    ensures { IfOk result (λ text. IsPrinted plan.now ended.now text.items) }
 {
-    let kept = kept?;
-    print(alloc, plan, kept.as_slice(), newest, journal.as_slice())
+    match &ended.kept {
+        Ok(kept) => print(
+            alloc,
+            plan,
+            kept.as_slice(),
+            ended.newest,
+            ended.journal.as_slice(),
+        ),
+        Err(AllocError) => Err(AllocError),
+    }
+}
+
+// The phase of the last copying.
+fn last_phase(plan: &Plan) -> u16
+    requires fits { PlanFits plan.now }
+    ensures { result ≡ last_phase plan.now }
+{
+    let phases = plan.as_slice().len();
+    if phases == 0 { 1 } else { phases as u16 }
 }
 
 /// Runs a plan over the store on four devices, which are opened as `Store::fetch` opens them, and refused so. They come
-/// back: each session and each worker has had a seat of its own, and the store is closed behind the run.
+/// back: each session and each worker has had a seat of its own, and the store is closed behind the run, with what it
+/// captured copied to the archive.
 pub fn run_on<R: Threads + Wait + Sync, D: Disk + Drop + Send, I: RunItems + Sync>(
     alloc: Global,
     rt: &R,
@@ -168,9 +184,20 @@ pub fn run_on<R: Threads + Wait + Sync, D: Disk + Drop + Send, I: RunItems + Syn
         Ok((store, seats)) => {
             let newest = store.newest();
             let (seats, kept) = run_seated(alloc, rt, threads, &store, seats, runner, plan);
-            let Closed { disks, journal } = store.close(seats);
-            let text = text_of(alloc, plan, kept, newest, &journal);
-            (disks, Ok(Ended { journal, text }))
+            let (closed, copied) = store.close_copied(rt, seats, last_phase(plan));
+            let Closed {
+                disks,
+                journal,
+                captures,
+            } = closed;
+            let ended = Ended {
+                journal,
+                kept,
+                newest,
+                captures,
+                copied,
+            };
+            (disks, Ok(ended))
         }
     }
 }

@@ -7,7 +7,7 @@ use feeds::{MemSink, MemSource};
 use fold_kit::{Combiner, FoldSet, How};
 use mem_cabinet::MemCabinet;
 use retro_base::SESSIONS;
-use session::NoGate;
+use session::{Gate, NoGate};
 use std::alloc::{AllocError, Global};
 use std::sync::Wait;
 use std::test::Fail;
@@ -19,13 +19,14 @@ pub struct Outcome {
     pub text: Vec<u8>,
 }
 
-fn run_in(
-    rt: &(impl AllocGlobal + Threads + Wait + Sync),
+fn run_in<R: AllocGlobal + Threads + Wait + Sync, G: Gate + Sync>(
+    rt: &R,
     threads: usize,
     words: &[&str],
     script: &[u8],
     failing_reads: &[u64],
     failing_writes: &[u64],
+    gate: &G,
 ) -> Result<Outcome, Fail>
     requires { 0 < threads }
 {
@@ -51,7 +52,7 @@ fn run_in(
         &mut sink,
         &mut cabinet,
         &folds,
-        &NoGate,
+        gate,
     );
     let text = sink.bytes().to_vec(alloc)?;
     Ok(Outcome { status, text })
@@ -64,7 +65,7 @@ fn run_with(
     failing_reads: &[u64],
     failing_writes: &[u64],
 ) -> Result<Outcome, Fail> {
-    run_in(rt, 1, words, script, failing_reads, failing_writes)
+    run_in(rt, 1, words, script, failing_reads, failing_writes, &NoGate)
 }
 
 /// Runs a script whose sessions of a phase run in turn.
@@ -80,7 +81,16 @@ pub fn run_at_once(
     rt: &(impl AllocGlobal + Threads + Wait + Sync),
     script: &[u8],
 ) -> Result<Outcome, Fail> {
-    run_in(rt, SESSIONS, &["run"], script, &[], &[])
+    run_gated(rt, script, &NoGate)
+}
+
+/// That, with a gate.
+pub fn run_gated<R: AllocGlobal + Threads + Wait + Sync, G: Gate + Sync>(
+    rt: &R,
+    script: &[u8],
+    gate: &G,
+) -> Result<Outcome, Fail> {
+    run_in(rt, SESSIONS, &["run"], script, &[], &[], gate)
 }
 
 #[test]

@@ -3,10 +3,15 @@
 ghost use Rattle.std.specs.Prelude.{◌≡◌, ◌∷◌, [], Some, IfOk, string_bytes};
 ghost use Rattle.std.specs.Char.{is_ascii_digit};
 ghost use Rattle.std.specs.List.{list_all};
-ghost use Rattle.retro.specs.Words.{Answers, asked, asked_by, format, is_folder, is_number, is_plain, IsReady, number_of};
+ghost use Rattle.retro.specs.Words.{Answers, asked, asked_by, format, is_folder, is_number, is_plain, IsReady, load, number_of};
 
 use disk_model::Sizes;
 use retro_base::{MAX_CAPACITY, MAX_PAGES, MIN_CAPACITY, MIN_PAGES};
+
+/// The last seed of a load.
+pub const LAST_SEED: u32 = 65536;
+/// The most rounds of a load.
+pub const MOST_ROUNDS: u32 = 2000;
 
 /// What the words ask for.
 pub enum Command<Dir> {
@@ -16,6 +21,8 @@ pub enum Command<Dir> {
     Format { dir: Dir, sizes: Sizes },
     /// To tell what the store in a folder shows of itself.
     Show { dir: Dir },
+    /// To run the script of a load, over an empty store in memory.
+    Load { seed: u32, rounds: u32 },
 }
 
 /// What is wrong with the words.
@@ -23,7 +30,7 @@ pub enum Command<Dir> {
 pub enum Mistake {
     /// They are none of the good ones.
     BadWords,
-    /// A size is out of its range.
+    /// A size, a seed or a number of rounds is out of its range.
     BadSizes,
 }
 
@@ -118,6 +125,38 @@ fn asked_of_folder<'a>(verb: &'a str, dir: &'a str) -> Result<Command<&'a str>, 
     Err(Mistake::BadWords)
 }
 
+// The load of a seed and so many rounds.
+fn loading<'a>(seed: u64, rounds: u64) -> Result<Command<&'a str>, Mistake>
+    ensures given { Answers (λ d. d.now) result (load (Some seed) (Some rounds)) }
+    ensures ready { IfOk result IsReady }
+{
+    if let (Ok(seed), Ok(rounds)) = (u32::try_from(seed), u32::try_from(rounds))
+        && seed <= LAST_SEED
+        && rounds >= 1
+        && rounds <= MOST_ROUNDS
+    {
+        return Ok(Command::Load { seed, rounds });
+    }
+    Err(Mistake::BadSizes)
+}
+
+fn asked_with_numbers<'a>(
+    verb: &'a str,
+    seed: &'a str,
+    rounds: &'a str,
+) -> Result<Command<&'a str>, Mistake>
+    ensures given { Answers (λ d. d.now) result (asked (verb.now ∷ seed.now ∷ rounds.now ∷ [])) }
+    ensures ready { IfOk result IsReady }
+{
+    if verb != "load" {
+        return Err(Mistake::BadWords);
+    }
+    match (number_of(seed), number_of(rounds)) {
+        (Some(seed), Some(rounds)) => loading(seed, rounds),
+        _ => Err(Mistake::BadWords),
+    }
+}
+
 fn asked_with_sizes<'a>(
     verb: &'a str,
     dir: &'a str,
@@ -147,6 +186,7 @@ pub fn command_of<'a>(words: &'a [String]) -> Result<Command<&'a str>, Mistake>
     match words {
         [verb] => asked_alone(verb.as_str()),
         [verb, dir] => asked_of_folder(verb.as_str(), dir.as_str()),
+        [verb, seed, rounds] => asked_with_numbers(verb.as_str(), seed.as_str(), rounds.as_str()),
         [verb, dir, pages, capacity] => {
             asked_with_sizes(
                 verb.as_str(),

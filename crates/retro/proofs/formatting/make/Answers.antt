@@ -1,4 +1,5 @@
 use Rattle.std.proofs.Common.{inr}
+use Rattle.retro.proofs.FromEmpty.{empty_shows}
 use Rattle.retro.proofs.TakenBack.{took_back}
 use Rattle.retro.proofs.formatting.make.Goals as goal
 
@@ -16,6 +17,7 @@ returns-in-Ok-format g c =
         sized = made.sized;
         cause = c.in-Ok-format.ensures.cause;
         empty = λ t. c.in-Ok-format.ensures.empty (made.blank t);
+        shows = λ t. empty_shows g.C.Device.Disk.state c.args.sizes c.in-Ok-format.disks c.requires (c.in-Ok-format.ensures.empty (made.blank t));
       },
     )
 
@@ -33,5 +35,6 @@ returns-in-Err g c =
         sized = made.sized;
         cause = c.in-Err.ensures.cause;
         empty = λ t. tt;
+        shows = λ t. tt;
       },
     )

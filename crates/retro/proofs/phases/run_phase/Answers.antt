@@ -1,4 +1,4 @@
-use Rattle.std.proofs.Common.{◌≤◌, ℕ, arith, length, refl, sym, subst}
+use Rattle.std.proofs.Common.{ℕ, arith, length, subst}
 use Rattle.retro.specs.Slots.{view_at}
 use Rattle.retro.specs.Steps.{MetAll}
 use Rattle.retro.proofs.Seated.{come_on, together_on}

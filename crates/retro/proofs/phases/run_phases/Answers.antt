@@ -1,4 +1,4 @@
-use Rattle.std.proofs.Common.{◌≡◌, ◌+◌, ◌∷◌, [], ℕ, List, Ok, Some, ap, arith, length, length-append, refl, slice_get, sym, subst, ◌∙◌}
+use Rattle.std.proofs.Common.{◌≡◌, ◌+◌, ◌≤◌, ◌∷◌, [], ℕ, List, Ok, Some, ap, arith, length, length-append, refl, slice_get, sym, subst, ◌∙◌}
 use Rattle.std.specs.declared.alloc.AllocError.{AllocError}
 use Rattle.std.proofs.lemmas.Option.{slice_get_read}
 use Rattle.session.specs.Plan.{IsPhaseOf, Plan}
@@ -36,12 +36,16 @@ returns-in_err-one g c =
     slice_get_read c.as_slice-sessions-items.result.now (length c.as_slice-sessions-items.result.now) c.loop-index.index c.sessions-item.result refl c.loop-index-test.true c.sessions-item.is in
     let is : IsPhaseOf c.args.plan.now (c.loop-index.index + 1) c.as_slice.result.now =
     phase_at c.args.plan.now c.loop-index.index c.as_slice.result.now (subst (λ (p : Plan). slice_get p c.loop-index.index ≡ Some c.sessions-item.result) plan read ∙ ap (λ (s : List SessionPlan). Some s) (sym c.as_slice.ensures)) in
+    let test = c.loop-index-test.true in
+    let count = ap length plan in
+    let few : c.loop-index.index + 1 ≤ length c.args.plan.now = omega (arith, test, count) in
     record {
       come = come_on g.row.S.Denot g.S.Seat.view g.S.Seat.goes g.S.Seat.stays g.S.Seat.goes_on c.args.slots.now c.loop-index.slots c.run_phase.new.slots before.come c.run_phase.ensures.come;
+      may = c.run_phase.ensures.may;
       ran = λ honest opened front together.
           let there = honest_on g.row.S.Denot g.S.Seat.view g.S.Seat.goes g.S.Seat.stays g.S.Seat.goes_on g.S.Seat.is_honest g.S.Seat.honest_stays c.args.slots.now c.loop-index.slots c.requires.seated before.come honest in
           phase_failed c.args.plan.now opened (length c.args.slots.now) (c.loop-index.index + 1) (view_at g.S.Seat.view c.loop-index.slots) (view_at g.S.Seat.view c.run_phase.new.slots) c.loop-index.kept c.run_phase.result
-          c.from_residual.result c.from_residual.ensures.0 (ap (λ (n : ℕ). n + 1) before.long) (before.ran honest opened front together)
+          c.from_residual.result c.from_residual.ensures.0 (ap (λ (n : ℕ). n + 1) before.long) few (before.ran honest opened front together)
           (subst (λ (n : ℕ). PhaseRuns c.args.plan.now opened n (c.loop-index.index + 1) (view_at g.S.Seat.view c.loop-index.slots) (view_at g.S.Seat.view c.run_phase.new.slots) c.run_phase.result) before.come.count
           (c.run_phase.ensures.ran there c.args.plan.now is opened));
     }
@@ -54,12 +58,16 @@ returns-in_err-push g c =
     slice_get_read c.as_slice-sessions-items.result.now (length c.as_slice-sessions-items.result.now) c.loop-index.index c.sessions-item.result refl c.loop-index-test.true c.sessions-item.is in
     let is : IsPhaseOf c.args.plan.now (c.loop-index.index + 1) c.as_slice.result.now =
     phase_at c.args.plan.now c.loop-index.index c.as_slice.result.now (subst (λ (p : Plan). slice_get p c.loop-index.index ≡ Some c.sessions-item.result) plan read ∙ ap (λ (s : List SessionPlan). Some s) (sym c.as_slice.ensures)) in
+    let test = c.loop-index-test.true in
+    let count = ap length plan in
+    let few : c.loop-index.index + 1 ≤ length c.args.plan.now = omega (arith, test, count) in
     record {
       come = come_on g.row.S.Denot g.S.Seat.view g.S.Seat.goes g.S.Seat.stays g.S.Seat.goes_on c.args.slots.now c.loop-index.slots c.run_phase.new.slots before.come c.run_phase.ensures.come;
+      may = c.run_phase.ensures.may;
       ran = λ honest opened front together.
           let there = honest_on g.row.S.Denot g.S.Seat.view g.S.Seat.goes g.S.Seat.stays g.S.Seat.goes_on g.S.Seat.is_honest g.S.Seat.honest_stays c.args.slots.now c.loop-index.slots c.requires.seated before.come honest in
           phase_failed c.args.plan.now opened (length c.args.slots.now) (c.loop-index.index + 1) (view_at g.S.Seat.view c.loop-index.slots) (view_at g.S.Seat.view c.run_phase.new.slots) c.loop-index.kept c.run_phase.result
-          c.from_residual-in_err-push.result c.from_residual-in_err-push.ensures.0 (ap (λ (n : ℕ). n + 1) before.long) (before.ran honest opened front together)
+          c.from_residual-in_err-push.result c.from_residual-in_err-push.ensures.0 (ap (λ (n : ℕ). n + 1) before.long) few (before.ran honest opened front together)
           (subst (λ (n : ℕ). PhaseRuns c.args.plan.now opened n (c.loop-index.index + 1) (view_at g.S.Seat.view c.loop-index.slots) (view_at g.S.Seat.view c.run_phase.new.slots) c.run_phase.result) before.come.count
           (c.run_phase.ensures.ran there c.args.plan.now is opened));
     }
@@ -91,6 +99,7 @@ returns g c =
     let all : c.loop-index.index ≡ length c.args.plan.now = omega (arith, plan, c.loop-index-test.false, c.loop-index.auto.index-end) in
     record {
       come = before.come;
+      may = before.may;
       ran = λ honest opened front together.
           subst (λ (n : ℕ). HasComeTo opened.base.page_count c.args.plan.now opened (length c.args.slots.now) (n + 1) (kept_by_place c.loop-index.kept) (view_at g.S.Seat.view c.loop-index.slots)) all (before.ran honest opened front together);
     }

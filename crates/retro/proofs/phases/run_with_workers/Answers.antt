@@ -1,4 +1,3 @@
-use Rattle.std.proofs.Common.{◌∙◌}
 use Rattle.retro.proofs.Worked.{still_workers}
 use Rattle.retro.proofs.phases.run_with_workers.Goals as goal
 

@@ -1,3 +1,4 @@
+use Rattle.retro.proofs.FromEmpty.{told_in_memory}
 use Rattle.retro.proofs.running.transcript.Goals as goal
 
 pub returns-clause-written : goal.returns-clause-written
@@ -6,8 +7,8 @@ returns-clause-written g c =
     record {
       script = asked.script;
       plan = c.in_ok-plan.plan;
-      journal = c.in_ok-text.ensures.ran.0;
+      journal = c.in_ok-ended.ended.journal;
       read = asked.read;
       asks = asked.asks;
-      ran = c.in_ok-text.ensures.ran.1;
+      ran = told_in_memory c.in_ok-plan.plan c.in_ok-ended.ended c.in_ok-text.text.items c.in_ok-ended.ensures.left c.in_ok-text.ensures;
     }

@@ -1,6 +1,6 @@
 use denote.Param.{param}
 use denote.Param.Send.{sendable}
-use Rattle.std.proofs.Common.{◌≡◌, ◌∙◌, ◌≤◌, ℕ, List, [], ap, arith, length, sym, subst}
+use Rattle.std.proofs.Common.{◌≡◌, ◌∙◌, ◌≤◌, List, [], ap, arith, length, sym, subst}
 use Rattle.std.specs.Prelude.{vec_capacity, vec_len}
 use Rattle.turn.specs.Tables.{table_of}
 use Rattle.store.specs.Frames.{GoesOn}
@@ -13,7 +13,8 @@ use Rattle.retro.specs.Working.{MayWorkOn}
 use Rattle.retro.specs.declared.slots.Slot.{Slot}
 use Rattle.retro.specs.Storing.{AreIn, IsAmong, store_of, view_held}
 use Rattle.retro.proofs.Crossing.{held_send}
-use Rattle.retro.proofs.Stored.{all_begin, all_fresh, all_honest, all_in, all_seated, all_stood, all_together, back_again, held_long, none_stood}
+use Rattle.retro.proofs.Stored.{all_begin, all_fresh, all_honest, all_in, all_seated, all_stood, all_together, fresh_rest, held_long, none_stood}
+use Rattle.store.proofs.LastCopied.{back_again}
 use Rattle.retro.proofs.storing.run_seated.Goals as goal
 
 pub returns-in_default-clause-ran : goal.returns-in_default-clause-ran
@@ -21,6 +22,12 @@ returns-in_default-clause-ran g c = λ opened each. none_stood g.D.Disk.state g.
 
 pub returns-in_default-with_capacity-clause-ran : goal.returns-in_default-with_capacity-clause-ran
 returns-in_default-with_capacity-clause-ran g c = λ opened each. none_stood g.D.Disk.state g.D.Disk.faults c.args.plan.now opened c.args.store.now.pages c.args.seats.items _ c.requires.fresh (λ k s there. (each k s there).1)
+
+pub returns-in_default-clause-rest : goal.returns-in_default-clause-rest
+returns-in_default-clause-rest g c = fresh_rest g.D.Disk.state g.D.Disk.faults c.args.store.now.pages c.args.seats.items c.requires.fresh
+
+pub returns-in_default-with_capacity-clause-rest : goal.returns-in_default-with_capacity-clause-rest
+returns-in_default-with_capacity-clause-rest g c = fresh_rest g.D.Disk.state g.D.Disk.faults c.args.store.now.pages c.args.seats.items c.requires.fresh
 
 pub run_phases-kept-requires-send-S : goal.run_phases-kept-requires-send-S
 run_phases-kept-requires-send-S g c κs within = let runs = c.type_bounds.sync-R in search (held_send (param 1 g.row.D) g.D.Disk c.type_bounds.send-D, sendable) depth 8
@@ -52,8 +59,8 @@ pub stand_up-requires-clause-held : goal.stand_up-requires-clause-held
 stand_up-requires-clause-held g c =
     let value : c.as_mut_slice.result.now ≡ c.sit_down-slots.result.items = c.as_mut_slice.ensures.value in
     let come = subst (λ (xs : List (Slot (Held g.row.R.Denot g.row.D.Denot))). AllCome (view_held g.D.Disk.state g.D.Disk.faults) (λ (h k : Held g.row.R.Denot g.row.D.Denot). GoesOn (store_of h) (store_of k) h.seat k.seat) xs c.run_phases-kept.new.slots) value c.run_phases-kept.ensures.come in
-    subst (λ (xs : List (Slot (Held g.row.R.Denot g.row.D.Denot))). AreIn (table_of c.args.store.now.turn) xs) (sym (back_again c.run_phases-kept.new.slots c.sit_down-slots.result.items c.sit_down-slots.result.len c.sit_down-slots.result.ok.0 come.count))
-    (all_in g.D.Disk.state g.D.Disk.faults (table_of c.args.store.now.turn) c.args.store.now.pages c.args.seats.items c.sit_down-slots.result.items c.sit_down-slots.ensures c.requires.fresh c.run_phases-kept.new.slots come)
+    subst (λ (xs : List (Slot (Held g.row.R.Denot g.row.D.Denot))). AreIn g.D.Disk.state g.D.Disk.faults (table_of c.args.store.now.turn) xs) (sym (back_again c.run_phases-kept.new.slots c.sit_down-slots.result.items c.sit_down-slots.result.len c.sit_down-slots.result.ok.0 come.count))
+    (all_in g.D.Disk.state g.D.Disk.faults (table_of c.args.store.now.turn) c.args.store.now.pages c.args.seats.items c.sit_down-slots.result.items c.sit_down-slots.ensures c.requires.fresh c.run_phases-kept.new.slots come c.run_phases-kept.ensures.may)
 
 pub stand_up-requires-clause-room : goal.stand_up-requires-clause-room
 stand_up-requires-clause-room g c =

@@ -8,7 +8,7 @@ use Rattle.retro.proofs.storing.stand_up.Given as goal
 
 abbrev pub invariant-loop-slots : goal.invariant-loop-slots
 invariant-loop-slots g l = record {
-  risen : (gone : List (Slot (Held g.row.R.Denot g.row.D.Denot))) × HaveRisen (table_of l.fn.store.turn) l.fn.slots.items l.slots.items gone l.seats.items;
+  risen : (gone : List (Slot (Held g.row.R.Denot g.row.D.Denot))) × HaveRisen g.D.Disk.state g.D.Disk.faults (table_of l.fn.store.turn) l.fn.slots.items l.slots.items gone l.seats.items;
   room : length l.fn.slots.items ≤ vec_capacity l.seats;
 }
 

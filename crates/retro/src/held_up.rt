@@ -1,0 +1,271 @@
+//! Sessions that are inside their items at once: a gate holds each until another is where it should be.
+
+use crate::store_runs::{held_behind, held_on};
+use crate::stores::{told, told_at};
+use crate::tests::{Outcome, run_gated};
+use disk_mem::{Call, MemDisk};
+use disk_model::{Cabinet, Four};
+use mem_cabinet::MemCabinet;
+use retro_base::SESSIONS;
+use session::{Gate, Point};
+use std::alloc::Global;
+use std::sync::Wait;
+use std::sync::atomic::{AtomicBool, Ordering};
+use std::test::Fail;
+use std::thread::{Parker, Threads};
+use std::time::Duration;
+
+// The most turns of a wait, of a millisecond each. The tests fail where one ran out.
+const TURNS: u32 = 100_000;
+
+fn turn<R: Wait>(rt: &R) {
+    Parker::new().park_timeout(rt, Duration::from_millis(1));
+}
+
+// Places that a session has come to, and whether a wait for one ran out.
+#[derive(Drop)]
+struct Places {
+    first: AtomicBool,
+    second: AtomicBool,
+    ran_out: AtomicBool,
+}
+
+impl Places {
+    fn new() -> Places {
+        Places {
+            first: AtomicBool::new(false),
+            second: AtomicBool::new(false),
+            ran_out: AtomicBool::new(false),
+        }
+    }
+
+    // Waits until a session has come to the place.
+    fn wait<R: Wait>(&self, rt: &R, place: &AtomicBool) {
+        for _ in 0..TURNS {
+            if place.load(Ordering::SeqCst) {
+                return;
+            }
+            turn(rt);
+        }
+        self.ran_out.store(true, Ordering::SeqCst);
+    }
+
+    fn all_came(&self) -> bool {
+        self.first.load(Ordering::SeqCst)
+            && self.second.load(Ordering::SeqCst)
+            && !self.ran_out.load(Ordering::SeqCst)
+    }
+}
+
+fn come(place: &AtomicBool) {
+    place.store(true, Ordering::SeqCst);
+}
+
+// A look of the first session is held open until the second one is at the end of its third item, which begins its first
+// behind the look.
+#[derive(Drop)]
+struct LookHeld<'a, R: Wait> {
+    rt: &'a R,
+    places: Places,
+}
+
+impl<'a, R: Wait> Gate for LookHeld<'a, R> {
+    fn at(&self, point: Point, session: u16, item: u32) {
+        match (point, session, item) {
+            (Point::BeforeCommit, 1, 1) => self.places.wait(self.rt, &self.places.first),
+            (Point::BeforeCommit, 1, 3) => come(&self.places.second),
+            (Point::AfterLook, 0, 1) => {
+                come(&self.places.first);
+                self.places.wait(self.rt, &self.places.second);
+            }
+            _ => {}
+        }
+    }
+}
+
+// A script of two sessions in its second phase, and its transcript in front of the end of the look and the last commit,
+// which come in either order, and behind them.
+type Row = (&'static [u8], &'static [u8], &'static [u8]);
+
+const ROWS: [Row; 2] = [
+    // The second session commits while the look is open, which pins what a drop asks for.
+    (
+        b"SESSION m\nCREATE TABLE t(a INT)\nINSERT INTO t VALUES (1)\nCOMMIT WITH SNAPSHOT\nPHASE\nSESSION a\n\
+          SELECT AS OF 1 * FROM t\nSESSION b\nUPDATE t SET a = 2\nCOMMIT WITH SNAPSHOT\nDROP SNAPSHOTS BELOW 2\n\
+          INSERT INTO t VALUES (3)\nCOMMIT\nPHASE\nSESSION a\nDROP SNAPSHOTS BELOW 2\nSELECT AS OF 1 * FROM t\n",
+        b"phase 1\nsession m\nitem 1\nok\nok 1\ncommitted as 1\nphase 2\nsession a\nitem 1\nrows 1\n1\nsession b\n\
+          item 1\nok 1\ncommitted as 2\nitem 2\nrefused 11 Pinned 1 a\nitem 3\nok 1\ncommitted\nphase 3\nsession a\n\
+          item 1\ndropped below 2\nitem 2\nrefused 10 Dropped 1 2\njournal\n1 m 1 done as 1\n2 a 1 looked 1\n\
+          2 b 1 done as 2\n2 b 2 refused 11\n",
+        b"3 a 1 dropped below 2\n3 a 2 refused 10\n",
+    ),
+    // A call looks at all snapshots, and pins them all.
+    (
+        b"SESSION m\nCREATE TABLE t(a INT)\nINSERT INTO t VALUES (1)\nCOMMIT WITH SNAPSHOT\nCOMMIT WITH SNAPSHOT\n\
+          PHASE\nSESSION a\nCollateData('SELECT snap_id FROM SnapIds','SELECT a FROM t','rql_c')\nSESSION b\nCOMMIT\n\
+          DROP SNAPSHOTS BELOW 2\nCOMMIT\nPHASE\nSESSION a\nDROP SNAPSHOTS BELOW 2\n",
+        b"phase 1\nsession m\nitem 1\nok\nok 1\ncommitted as 1\nitem 2\ncommitted as 2\nphase 2\nsession a\nitem 1\n\
+          ok 2\nsession b\nitem 1\ncommitted\nitem 2\nrefused 11 Pinned 1 a\nitem 3\ncommitted\nphase 3\nsession a\n\
+          item 1\ndropped below 2\njournal\n1 m 1 done as 1\n1 m 2 done as 2\n2 a 1 looked all\n2 b 1 done\n\
+          2 b 2 refused 11\n",
+        b"3 a 1 dropped below 2\n",
+    ),
+];
+
+fn is_told(outcome: &Outcome, row: Row) -> bool {
+    let (_, front, end) = row;
+    let Some(rest) = outcome.text.as_slice().strip_prefix(front) else {
+        return false;
+    };
+    let Some(between) = rest.strip_suffix(end) else {
+        return false;
+    };
+    outcome.status == 0
+        && (between == b"2 b 3 done\n2 a 1 unlooked\n".as_slice()
+            || between == b"2 a 1 unlooked\n2 b 3 done\n".as_slice())
+}
+
+// Whether a run is told so while the look is held.
+fn is_held<R: AllocGlobal + Threads + Wait + Sync>(rt: &R, row: Row) -> Result<bool, Fail> {
+    let gate = LookHeld {
+        rt,
+        places: Places::new(),
+    };
+    let outcome = run_gated(rt, row.0, &gate)?;
+    Ok(is_told(&outcome, row) && gate.places.all_came())
+}
+
+#[test]
+fn a_look_stays_open_while_another_session_commits(rt: HostRuntime) -> Result<(), Fail> {
+    for row in ROWS {
+        assert!(rt; is_held(&rt, row)?);
+    }
+    Ok(())
+}
+
+// The second session's first commit is held until that of the first is done, and then for some turns more; the first
+// session is held behind it until the second is at its second commit. So both are inside their items while what the
+// first one captured is copied.
+#[derive(Drop)]
+struct CopyHeld<'a, R: Wait> {
+    rt: &'a R,
+    places: Places,
+}
+
+// Turns in which the copier makes a round.
+const MORE_TURNS: u32 = 5_000;
+
+impl<'a, R: Wait> Gate for CopyHeld<'a, R> {
+    fn at(&self, point: Point, session: u16, item: u32) {
+        match (point, session, item) {
+            (Point::BeforeCommit, 1, 1) => {
+                self.places.wait(self.rt, &self.places.first);
+                for _ in 0..MORE_TURNS {
+                    turn(self.rt);
+                }
+            }
+            (Point::BeforeCommit, 1, 2) => come(&self.places.second),
+            (Point::AfterCommit, 0, 1) => {
+                come(&self.places.first);
+                self.places.wait(self.rt, &self.places.second);
+            }
+            _ => {}
+        }
+    }
+}
+
+const TWO_TABLES: &[u8] =
+    b"SESSION m\nCREATE TABLE t(a INT)\nCREATE TABLE u(a INT)\nCOMMIT WITH SNAPSHOT\n";
+
+const TWO_INSERTS: &[u8] =
+    b"SESSION a\nINSERT INTO t VALUES (1)\nCOMMIT\nSESSION b\nINSERT INTO u VALUES (1)\nCOMMIT\nCOMMIT\n";
+
+const COPY_FAILS: &[u8] =
+    b"phase 1\nsession a\nitem 1\nok 1\ncommitted\nsession b\nitem 1\nrefused 16 Stopped maplog 1\n\
+      item 2\ncommitted\njournal\n1 a 1 done\n1 copier 0 fault maplog 1\n1 b 1 refused 16\n1 b 2 done\n";
+
+// The devices of a store, the first write on whose Maplog fails.
+fn with_failing_maplog(alloc: Global, disks: Four<MemDisk>) -> Option<Four<MemDisk>> {
+    let Four {
+        log,
+        pages,
+        pagelog,
+        maplog,
+    } = disks;
+    let failing = vec![in alloc; (Call::Write, 1)].ok()?;
+    let maplog = maplog.again(alloc, failing, None).ok()?;
+    Some(Four {
+        log,
+        pages,
+        pagelog,
+        maplog,
+    })
+}
+
+// What the run of the two inserts answers, where the first write of the Maplog fails.
+fn insert_both<R: AllocGlobal + Threads + Wait + Sync>(
+    rt: &R,
+    gate: &CopyHeld<'_, R>,
+    cabinet: &mut MemCabinet,
+) -> Option<(u8, Vec<u8>)> {
+    let alloc = rt.alloc();
+    let Ok(disks) = cabinet.fetch("d") else {
+        return None;
+    };
+    cabinet.put_back("d", with_failing_maplog(alloc, disks)?);
+    told_at(
+        rt,
+        alloc,
+        SESSIONS,
+        cabinet,
+        &["run", "d"],
+        TWO_INSERTS,
+        &[],
+        gate,
+    )
+    .ok()
+}
+
+// Whether the copy failed while both sessions were inside.
+fn is_copied_beside<R: AllocGlobal + Threads + Wait + Sync>(
+    rt: &R,
+    cabinet: &mut MemCabinet,
+) -> bool {
+    let gate = CopyHeld {
+        rt,
+        places: Places::new(),
+    };
+    match insert_both(rt, &gate, cabinet) {
+        Some((status, text)) => {
+            status == 6 && text.as_slice() == COPY_FAILS && gate.places.all_came()
+        }
+        None => false,
+    }
+}
+
+// Whether it failed so, and a script without a phase copied what it left.
+fn is_copied_at_last<R: AllocGlobal + Threads + Wait + Sync>(
+    rt: &R,
+    cabinet: &mut MemCabinet,
+) -> Option<bool> {
+    let (_, made) = held_behind(rt, rt.alloc(), cabinet, TWO_TABLES)?;
+    let is_beside = is_copied_beside(rt, cabinet);
+    let failed = held_on(rt.alloc(), cabinet)?;
+    let (status, last) = held_behind(rt, rt.alloc(), cabinet, b"")?;
+    Some(is_beside && !failed.has_copied(&made) && status == 0 && last.has_copied(&made))
+}
+
+fn is_all_copied<R: AllocGlobal + Threads + Wait + Sync>(rt: &R) -> bool {
+    let mut cabinet = MemCabinet::new(rt.alloc(), Vec::new(rt.alloc()));
+    let formats: &[&str] = &["format", "d", "16", "64"];
+    let is_made = told(rt, rt.alloc(), &mut cabinet, formats, b"", &[]).is_ok();
+    is_made && is_copied_at_last(rt, &mut cabinet) == Some(true)
+}
+
+#[test]
+fn what_a_commit_captured_is_copied_beside_it_or_by_the_next_run(
+    rt: HostRuntime,
+) -> Result<(), Fail> {
+    assert!(rt; is_all_copied(&rt));
+    Ok(())
+}
