@@ -15,6 +15,9 @@ import time
 
 ROWS, FIRST, SESSIONS, MOVES = 64, 1000, "abcdefgh", 60
 
+# The longest that a run may take, in seconds, which is not killed.
+LONGEST = 110
+
 
 def moving():
     lines = ["PHASE"]
@@ -29,14 +32,16 @@ def moving():
     return lines
 
 
-def run(program, lines, seconds=None):
-    """What the program wrote, or None where it was killed after so long."""
+def run(program, lines, seconds):
+    """What the program wrote, which ended well, or None where it was killed after so long."""
     with tempfile.TemporaryFile() as given:
         given.write(("\n".join(lines) + "\n").encode())
         given.seek(0)
         began = subprocess.Popen([program, "run", "books"], stdin=given, stdout=subprocess.PIPE)
         try:
-            return began.communicate(timeout=seconds)[0].decode()
+            text = began.communicate(timeout=seconds)[0].decode()
+            assert began.returncode == 0, (began.returncode, text[-300:])
+            return text
         except subprocess.TimeoutExpired:
             began.send_signal(signal.SIGKILL)
             began.communicate()
@@ -45,11 +50,13 @@ def run(program, lines, seconds=None):
 
 def check(program, seen):
     """The newest snapshot, behind a look at the table now and as of some snapshots."""
-    shown = subprocess.run([program, "show", "books"], capture_output=True, text=True, check=True).stdout
+    shown = subprocess.run([program, "show", "books"], capture_output=True, text=True, check=True, timeout=LONGEST).stdout
     newest = next(int(line.split()[1]) for line in shown.splitlines() if line.startswith("newest"))
     assert newest >= seen, (newest, seen)
     some = sorted({1, newest, *random.sample(range(1, newest + 1), min(6, newest))})
-    text = run(program, ["PHASE", "SESSION a", "SELECT SUM(v) FROM t", "COMMIT", *(f"SELECT AS OF {n} SUM(v) FROM t" for n in some)])
+    asked = [f"SELECT AS OF {n} SUM(v) FROM t" for n in some]
+    text = run(program, ["PHASE", "SESSION a", "SELECT SUM(v) FROM t", "COMMIT", *asked], LONGEST)
+    assert text is not None, "a look did not end"
     lines = text.splitlines()
     sums = [lines[at + 1] for at, line in enumerate(lines) if line == "rows 1"]
     assert sums == [str(ROWS * FIRST)] * (1 + len(some)), (some, sums)
@@ -63,11 +70,13 @@ def main():
         os.chdir(folder)
         subprocess.run([program, "format", "books", "256", "65536"], check=True, capture_output=True)
         made = ",".join(f"({k},{FIRST})" for k in range(ROWS))
-        run(program, ["PHASE", "SESSION a", "CREATE TABLE t(k INT, v INT)", f"INSERT INTO t VALUES {made}", "COMMIT WITH SNAPSHOT"])
+        making = ["PHASE", "SESSION a", "CREATE TABLE t(k INT, v INT)", f"INSERT INTO t VALUES {made}", "COMMIT WITH SNAPSHOT"]
+        assert run(program, making, LONGEST) is not None, "the table was not made"
         for _ in range(cycles):
             killed += run(program, moving(), random.uniform(0.05, 1.2)) is None
             seen = check(program, seen)
         os.chdir("..")
+    assert killed > 0 and seen > 1, (killed, seen)
     print(f"{cycles} runs of eight sessions, {killed} of them killed before their end; {seen} snapshots, each sum that was asked the same")
 
 

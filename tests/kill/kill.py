@@ -3,8 +3,11 @@
 
 Item k of all items inserts the row (k, k * k) and declares a snapshot. So however a run ended, a store that shows N as
 its newest snapshot has to hold the rows up to N - 1 now (snapshot 1 is of the empty table), and as of each snapshot S
-the rows up to S - 1: counts and sums are worked out here. What an earlier look has shown may not be lost. It works in
-a folder of its own under the current one, and ends with status 1 at the first difference.
+the rows up to S - 1: counts and sums are worked out here. What an earlier look has shown may not be lost. A killed program
+loses nothing that the system has taken from it, so this shows openings and what is written when, and not that it syncs. In a third of
+the cycles a run that only looks is killed too, while it opens or goes on to copy; and behind half of them nothing runs to
+its end before the next kill. At last every snapshot is asked by one call. It works in a folder of its own under the
+current one, and ends with status 1 at the first difference.
 """
 import os
 import random
@@ -15,46 +18,80 @@ import sys
 import tempfile
 import time
 
-LONG = 400
+FIRST, LONG = 100, 40
+
+# A slow device ends the cycles early, in seconds, though not below so many.
+LATEST, FEWEST = 75, 10
 
 
-def commits(first, last):
-    items = [f"INSERT INTO t VALUES ({k},{k * k});\nCOMMIT WITH SNAPSHOT '{k}';" for k in range(first, last + 1)]
+def script(items):
     return ("PHASE\nSESSION a\n" + "\n".join(items) + "\n").encode()
 
 
+def commits(first, count):
+    return script(f"INSERT INTO t VALUES ({k},{k * k});\nCOMMIT WITH SNAPSHOT '{k}';" for k in range(first, first + count))
+
+
 def looks(newest):
-    some = sorted({1, newest, *random.sample(range(1, newest + 1), min(5, newest))})
-    items = [f"SELECT AS OF {s} COUNT(*), SUM(k), SUM(v) FROM t;" for s in some if s > 1]
-    now = ["SELECT COUNT(*), SUM(k), SUM(v) FROM t;\nCOMMIT;"] if newest > 1 else []
-    return [s for s in some if s > 1], ("PHASE\nSESSION a\n" + "\n".join([*items, *now]) + "\n").encode()
+    some = sorted({newest, *random.sample(range(2, newest + 1), min(5, newest - 1))})
+    items = [f"SELECT AS OF {s} COUNT(*), SUM(k), SUM(v) FROM t;" for s in some]
+    return some, script([*items, "SELECT COUNT(*), SUM(k), SUM(v) FROM t;\nCOMMIT;"])
 
 
 def row(count):
-    sums = sum(range(1, count + 1)), sum(k * k for k in range(1, count + 1))
-    return f"{count},{sums[0]},{sums[1]}"
+    return f"{count},{sum(range(1, count + 1))},{sum(k * k for k in range(1, count + 1))}"
 
 
-def run(program, words, script=b""):
-    ran = subprocess.run([program, *words], input=script, stdout=subprocess.PIPE, timeout=110)
-    return ran.returncode, ran.stdout.decode()
+def run(program, words, given=b""):
+    """The lines that the program writes; it has to end well."""
+    ran = subprocess.run([program, *words], input=given, stdout=subprocess.PIPE, timeout=110)
+    if ran.returncode != 0:
+        sys.exit(f"{words} ended with {ran.returncode}: {ran.stdout.decode()[-300:]}")
+    return ran.stdout.decode().splitlines()
 
 
-def newest_of(program, dir):
-    status, text = run(program, ["show", dir])
-    shown = dict(line.split() for line in text.splitlines())
-    if status != 0:
-        sys.exit(f"show ended with {status}: {text}")
-    return int(shown["newest"])
+def span_of(program, dir, given):
+    begun = time.monotonic()
+    run(program, ["run", dir], given)
+    return time.monotonic() - begun
+
+
+def is_cut_off(program, dir, given, span):
+    """Runs the script and kills the program within so many seconds; whether it was still at work."""
+    ran = subprocess.Popen([program, "run", dir], stdin=subprocess.PIPE, stdout=subprocess.DEVNULL)
+    ran.stdin.write(given)
+    ran.stdin.close()
+    time.sleep(random.uniform(0, span))
+    was_at_work = ran.poll() is None
+    ran.send_signal(signal.SIGKILL)
+    ran.wait()
+    return was_at_work
+
+
+def newest_of(program, dir, known):
+    shown = dict(line.split() for line in run(program, ["show", dir]))
+    newest = int(shown["newest"])
+    if newest < known:
+        sys.exit(f"snapshot {known} was there, and now the newest is {newest}")
+    return newest
 
 
 def held(program, dir, newest):
-    asked, script = looks(newest)
-    status, text = run(program, ["run", dir], script)
-    found = [line for line, before in zip(text.splitlines()[1:], text.splitlines()) if before == "rows 1"]
-    wanted = [row(s - 1) for s in asked] + ([row(newest - 1)] if newest > 1 else [])
-    if status != 0 or found != wanted:
-        sys.exit(f"newest {newest}, snapshots {asked}: status {status}, found {found}, wanted {wanted}")
+    asked, given = looks(newest)
+    lines = run(program, ["run", dir], given)
+    found = [line for line, before in zip(lines[1:], lines) if before == "rows 1"]
+    wanted = [row(s - 1) for s in [*asked, newest]]
+    if found != wanted:
+        sys.exit(f"newest {newest}, snapshots {asked}: found {found}, wanted {wanted}")
+
+
+def all_held(program, dir, newest):
+    ask = "SELECT current_snapshot() AS n, COUNT(*) AS c, SUM(k) AS s FROM t"
+    call = f"CollateData('SELECT snap_id FROM SnapIds','{ask}','rql_all');"
+    lines = run(program, ["run", dir], script([call, "SELECT * FROM rql_all;"]))
+    at = lines.index(f"rows {newest}") + 1
+    if lines[at : at + newest] != [f"{n},{n - 1},{n * (n - 1) // 2}" for n in range(1, newest + 1)]:
+        sys.exit(f"as of all {newest} snapshots: {lines[at : at + newest]}")
 
 
 def main():
@@ -63,29 +100,32 @@ def main():
     room = tempfile.mkdtemp(prefix="kill-", dir=".")
     dir = f"{room}/store"
     try:
-        if run(program, ["format", dir, "256", "65536"])[0] != 0:
-            sys.exit("no store was made")
-        first = b"PHASE\nSESSION a\nCREATE TABLE t(k INT, v INT);\nCOMMIT WITH SNAPSHOT;\n"
-        if run(program, ["run", dir], first)[0] != 0:
-            sys.exit("no table was made")
-        begun, killed = time.monotonic(), 0
-        run(program, ["run", dir], commits(1, LONG))
-        span, known = time.monotonic() - begun, newest_of(program, dir)
+        run(program, ["format", dir, "256", "65536"])
+        run(program, ["run", dir], script(["CREATE TABLE t(k INT, v INT);\nCOMMIT WITH SNAPSHOT;"]))
+        run(program, ["run", dir], commits(1, FIRST))
+        span = min(span_of(program, dir, commits(FIRST + 1 + at, LONG)) for at in (0, LONG))
+        known = newest_of(program, dir, FIRST + 1 + 2 * LONG)
+        opening, killed, looked, parted = span_of(program, dir, looks(known)[1]), 0, 0, 0
+        began, done = time.monotonic(), 0
+        while done < cycles and (done < FEWEST or time.monotonic() - began < LATEST):
+            done += 1
+            was_cut, before = is_cut_off(program, dir, commits(known, LONG), span), known
+            known = newest_of(program, dir, known)
+            killed += was_cut
+            parted += was_cut and before < known < before + LONG
+            if random.random() < 1 / 3:
+                looked += is_cut_off(program, dir, looks(known)[1], opening)
+                known = newest_of(program, dir, known)
+            if random.random() < 1 / 2:
+                held(program, dir, known)
         held(program, dir, known)
-        for _ in range(cycles):
-            ran = subprocess.Popen([program, "run", dir], stdin=subprocess.PIPE, stdout=subprocess.DEVNULL)
-            ran.stdin.write(commits(known, known + LONG - 1))
-            ran.stdin.close()
-            time.sleep(random.uniform(0, span))
-            killed += ran.poll() is None
-            ran.send_signal(signal.SIGKILL)
-            ran.wait()
-            newest = newest_of(program, dir)
-            if newest < known:
-                sys.exit(f"snapshot {known} was there, and now the newest is {newest}")
-            held(program, dir, newest)
-            known = newest
-        print(f"{cycles} runs, {killed} of them killed before their end; {known} snapshots, each store opened to a beginning of the commits")
+        all_held(program, dir, known)
+        if parted == 0:
+            sys.exit(f"of {killed} killed runs none left some of its commits and lacked others, so nothing was shown")
+        print(
+            f"{done} runs, {killed} of them killed before their end, and {looked} that only looked; "
+            f"{known} snapshots, each as it was declared, and each store opened to a beginning of the commits"
+        )
     finally:
         shutil.rmtree(room, ignore_errors=True)
 

@@ -1,0 +1,79 @@
+#!/usr/bin/env bash
+# run.sh PROGRAM: the program over every case, and what a shell, the bytes of its files and a kill show of it. It works in a
+# folder of its own, and ends with status 1 where anything is other than it should be.
+#
+# A case is a script NAME with NAME.args, the program's words, one a line, and NAME.stdout, what it has to write. With the
+# word `run` alone it is run twice, in memory and over a new store; with a second word over a store of that name alone.
+# NAME.store has pages and capacity of the store where they are not those of its folder, NAME.shown what `show` tells then.
+tests=$(cd "$(dirname "$0")" && pwd)
+program=$(realpath "$1")
+room=$(mktemp -d)
+trap 'rm -rf "$room"' EXIT
+cd "$room" || exit 1
+cases=0 runs=0 lost=0
+
+# writes SCRIPT TEXT WORD..: for the case at hand, the program ends well with these words on the script, and writes the text.
+writes() {
+    local script=$1 text=$2 status
+    shift 2
+    runs=$((runs + 1))
+    "$program" "$@" <"$script" >written
+    status=$?
+    if [ "$status" -ne 0 ] || ! cmp -s "$text" written; then
+        lost=$((lost + 1))
+        printf '%s: retro %s: status %d; what it should write <, what it writes >\n' "$case" "$*" "$status"
+        diff "$text" written | head -n 9
+    fi
+}
+
+# runs_well CASE PAGES CAPACITY: the case, over new stores of these sizes where it does not say others.
+runs_well() {
+    local case=$1 words sizes=("$2" "$3")
+    cases=$((cases + 1))
+    mapfile -t words <"$case.args"
+    if [ -e "$case.store" ]; then read -ra sizes <"$case.store"; fi
+    if [ "${words[*]}" = run ]; then
+        writes "$case" "$case.stdout" run
+        words+=(store)
+    fi
+    rm -rf store
+    writes /dev/null <(printf 'formatted %d %d\n' "${sizes[@]}") format "${words[1]}" "${sizes[@]}"
+    writes "$case" "$case.stdout" "${words[@]}"
+    if [ -e "$case.shown" ]; then writes /dev/null "$case.shown" show "${words[1]}"; fi
+}
+
+# all_of FOLDER PAGES CAPACITY: every script of the folder.
+all_of() {
+    local case before=$cases
+    for case in "$1"/*; do
+        if [[ ${case##*/} != *.* ]]; then runs_well "$case" "$2" "$3"; fi
+    done
+    if [ "$cases" -eq "$before" ]; then
+        lost=$((lost + 1))
+        printf '%s has no case\n' "$1"
+    fi
+}
+
+# beside NAME WORD..: the command ends well; it tells what it saw.
+beside() {
+    local name=$1
+    shift
+    if ! "$@"; then
+        lost=$((lost + 1))
+        printf '%s: it did not end well\n' "$name"
+    fi
+}
+
+mkdir made
+beside made.py python3 "$tests/rows/made.py" made
+all_of "$tests/../examples" 64 4096
+all_of "$tests/statements" 64 4096
+all_of "$tests/rows" 16 64
+all_of made 16 64
+printf '%d cases, %d runs\n' "$cases" "$runs"
+beside words.sh "$tests/words/words.sh" "$program"
+beside files.py python3 "$tests/files/files.py" "$program"
+beside kill.py python3 "$tests/kill/kill.py" "$program" 50
+beside at_once.py python3 "$tests/kill/at_once.py" "$program" 10
+printf '%d of them other than they should be\n' "$lost"
+[ "$lost" -eq 0 ]

@@ -1,0 +1,141 @@
+#!/usr/bin/env bash
+# words.sh PROGRAM: words, lines and exit statuses of the program as a shell sees them. It works in a folder of its own under
+# the current one, and ends with status 1 where one is other than it should be.
+program=$(realpath "$1")
+example=$(cd "$(dirname "$0")/../../examples" && pwd)/first_snapshot
+room=$(mktemp -d -p .) && cd "$room" || exit 1
+trap 'cd .. && rm -rf "$room"' EXIT
+rows=0 lost=0
+
+# ends STATUS TEXT WORD..: the program ends with the status and writes the text, on whatever is standard input.
+ends() {
+    local status=$1 text=$2 ended
+    shift 2
+    rows=$((rows + 1))
+    "$program" "$@" >said
+    ended=$?
+    if [ "$ended" -ne "$status" ] || ! cmp -s said <(printf '%b' "$text"); then
+        lost=1
+        printf 'retro %s: status %d and not %d, and it said:\n' "$*" "$ended" "$status"
+        head -n 9 said
+    fi
+}
+
+# ends_unheard STATUS WORD..: the same, where nobody takes what the program writes.
+ends_unheard() {
+    local status=$1 ended
+    shift
+    rows=$((rows + 1))
+    "$program" "$@" >/dev/full
+    ended=$?
+    if [ "$ended" -ne "$status" ]; then
+        lost=1
+        printf 'retro %s into a full device: status %d and not %d\n' "$*" "$ended" "$status"
+    fi
+}
+
+new='version 1\npages 16\ncapacity 64\noldest 1\nnewest 0\ncaptures 0\n'
+exec </dev/null
+
+# words that are none of the good ones, and numbers outside their ranges
+words='retro: bad words\n'
+ends 2 "$words"
+ends 2 "$words" walk
+ends 2 "$words" RUN
+ends 2 "$words" run ''
+ends 2 "$words" run d d
+ends 2 "$words" run -d
+ends 2 "$words" --help
+ends 2 "$words" -- run
+ends 2 "$words" $'\xff'
+ends 2 "$words" show
+ends 2 "$words" format d 16
+ends 2 "$words" format d +16 64
+ends 2 "$words" format d 00000000016 64
+sizes='retro: bad sizes\n'
+ends 9 "$sizes" format d 15 64
+ends 9 "$sizes" format d 65537 64
+ends 9 "$sizes" format d 16 63
+ends 9 "$sizes" format d 16 1048577
+ends 9 "$sizes" format d 9999999999 64
+
+# a store that is not there, made, shown, run, and run again; a store in memory is another
+ends 6 'retro: disk fault on cabinet 1\n' show d
+ends 6 'retro: disk fault on cabinet 1\n' run d
+ends 0 'formatted 16 64\n' format d 0000000016 64
+ends 0 "$new" show d
+ends 0 'journal\n' run d
+ends 0 "$(cat "$example.stdout")\n" run d <"$example"
+again='phase 1\nsession a\nitem 1\nrows 1\n1,x\njournal\n1 a 1 looked 1\n1 a 1 unlooked\n'
+ends 0 "$again" run d <<<$'SESSION a\nSELECT AS OF 1 * FROM t'
+shown='version 1\npages 16\ncapacity 64\noldest 1\nnewest 1\ncaptures 1\n'
+ends 0 "$shown" show d
+apart='phase 1\nsession a\nitem 1\nrefused 20 UnknownName\ncommitted\njournal\n1 a 1 done\n'
+ends 0 "$apart" run <<<$'SESSION a\nSELECT * FROM t\nCOMMIT'
+
+# what a run left is there for the next, its numbers and drops too
+ends 0 'formatted 16 64\n' format e 16 64
+ends 0 "$(cat "$example.stdout")\n" run e <"$example"
+next='phase 1\nsession a\nitem 1\nrows 2\n1,x\n2,y\nok 1\ncommitted as 2\nitem 2\nrows 1\n1,x\nitem 3\nrows 1\n3\n'
+next+='item 4\ndropped below 2\njournal\n1 a 1 done as 2\n1 a 2 looked 1\n1 a 2 unlooked\n1 a 3 looked 2\n1 a 3 unlooked\n'
+ends 0 "$next"'1 a 4 dropped below 2\n' run e <<'END'
+SESSION a
+SELECT * FROM t
+INSERT INTO t VALUES (3,'z')
+COMMIT WITH SNAPSHOT
+SELECT AS OF 1 * FROM t
+SELECT AS OF 2 COUNT(*) FROM t
+DROP SNAPSHOTS BELOW 2
+END
+last='phase 1\nsession b\nitem 1\nrefused 10 Dropped 1 2\nitem 2\nrows 1\n6\njournal\n1 b 1 refused 10\n1 b 2 looked 2\n1 b 2 unlooked\n'
+ends 0 "$last" run e <<<$'SESSION b\nSELECT AS OF 1 * FROM t\nSELECT AS OF 2 SUM(a) FROM t'
+ends 0 'version 1\npages 16\ncapacity 64\noldest 2\nnewest 2\ncaptures 1\n' show e
+
+# a bad script comes before a store that is not there, and changes none that is
+ends 3 'retro: bad script at line 1\n' run <<<'INSERT INTO t VALUES (1)'
+ends 3 'retro: bad script at line 1\n' run nosuch <<<'INSERT INTO t VALUES (1)'
+ends 3 'retro: bad script at line 4\n' run d <<<$'SESSION a\nDROP SNAPSHOTS BELOW 1\nDELETE FROM t'
+ends 0 "$shown" show d
+
+# a script that cannot be read; texts that nobody takes, of which one was committed; and a store made anew
+ends 4 'retro: source fault\n' run <.
+ends 4 'retro: source fault\n' run d <.
+ends_unheard 5 run
+ends_unheard 5 show d
+ends_unheard 2 walk
+ends 0 "$shown" show d
+ends_unheard 5 run d <<<$'SESSION a\nDELETE FROM t\nCOMMIT WITH SNAPSHOT'
+unheard='phase 1\nsession a\nitem 1\nrows 0\njournal\n1 a 1 looked 2\n1 a 1 unlooked\n'
+ends 0 "$unheard" run d <<<$'SESSION a\nSELECT AS OF 2 * FROM t'
+ends 0 "$again" run d <<<$'SESSION a\nSELECT AS OF 1 * FROM t'
+ends 0 'version 1\npages 16\ncapacity 64\noldest 1\nnewest 2\ncaptures 1\n' show d
+ends 0 'formatted 16 64\n' format d 16 64
+ends 0 "$new" show d
+
+# loads, by their numbers
+ends 2 "$words" load
+ends 2 "$words" load 1
+ends 2 "$words" load 1 1 1
+ends 2 "$words" load -1 1
+ends 2 "$words" load +1 1
+ends 2 "$words" load 12345678901 1
+ends 9 "$sizes" load 65537 1
+ends 9 "$sizes" load 1 2001
+ends 9 "$sizes" load 1 0
+one='load 1 1\ncommitted 7\nsnapshots 2\ncaptures 4\nsums 63 29 70 78\npast 63\n'
+ends 0 "$one" load 1 1
+ends 0 "$one" load 0001 01
+ends 0 'load 0 1\ncommitted 7\nsnapshots 2\ncaptures 4\nsums 81 14 35 39\npast 81\n' load 0 1
+ends 0 'load 65536 1\ncommitted 7\nsnapshots 2\ncaptures 4\nsums 98 98 98 98\npast 98\n' load 65536 1
+many='load 1 200\ncommitted 1002\nsnapshots 201\ncaptures 800\nsums 10548 10484 9607 9734\npast 1085687\n'
+ends 0 "$many" load 1 200
+ends_unheard 5 load 1 1
+
+# a memory that has no room for a log
+printf '#!/bin/sh\nulimit -v 30000\nexec "%s" run\n' "$program" >cramped
+chmod 755 cramped
+program=./cramped
+ends 8 'retro: out of memory\n'
+
+printf '%d words and statuses\n' "$rows"
+exit "$lost"
