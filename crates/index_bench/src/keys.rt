@@ -198,3 +198,44 @@ pub fn failing_calls<I: Index>(alloc: Global) -> Result<u64, Stop<Failed>> {
     }
     Err(Stop::Refused(Refusal::OutOfMemory))
 }
+
+// How many pages one look-up reads: as many as there are calls that end it by a fault.
+fn reads_once<I: Index>(
+    alloc: Global,
+    index: &I,
+    pages: &[Page],
+    value: i64,
+) -> Result<u64, Stop<Failed>> {
+    for call in 1..1000 {
+        if pages.len() > PAGES {
+            break;
+        }
+        let mut pager = MemPager::new(alloc, pages.to_vec(alloc)?, vec![in alloc; call; 1]?);
+        if index
+            .range(alloc, &mut pager, &Value::Int(value), &Value::Int(value))
+            .is_ok()
+        {
+            return Ok(call - 1);
+        }
+    }
+    Err(Stop::Refused(Refusal::OutOfMemory))
+}
+
+/// How many pages a look-up of the first, a middle and the last of so many values reads.
+pub fn reads_of<I: Index>(alloc: Global, rows: u32) -> Result<Vec<u64>, Stop<Failed>> {
+    let mut pager = store_of(alloc, &[])?;
+    let index = I::make(alloc, &mut pager)?;
+    for number in 0..rows {
+        let row = Found {
+            value: Value::Int(i64::from(number)),
+            number: u64::from(number),
+            page: 7,
+        };
+        index.add(alloc, &mut pager, &row)?;
+    }
+    let mut reads = Vec::new(alloc);
+    for value in [0, i64::from(rows / 2), i64::from(rows) - 1] {
+        reads.push(reads_once(alloc, &index, pager.pages(), value)?)?;
+    }
+    Ok(reads)
+}

@@ -6,12 +6,15 @@ mod damage;
 mod keys;
 
 use damage::damaged_places;
-use keys::{Kept, failing_calls, kept_of, numbers_of, texts_kept};
+use keys::{Kept, failing_calls, kept_of, numbers_of, reads_of, texts_kept};
 use pager::{Index, Stop};
 use retro_base::Failed;
 use run_index::RunIndex;
 use std::alloc::Global;
 use std::process::ExitCode;
+use tree_index::TreeIndex;
+
+const ROWS: u32 = 10_000;
 
 // What an index of each kind gives.
 #[derive(Drop)]
@@ -59,6 +62,18 @@ fn main(rt: HostRuntime) -> ExitCode {
         return ExitCode::FAILURE;
     };
     if tell(&rt, "chain", &told).is_err() {
+        return ExitCode::FAILURE;
+    }
+    let Ok(told) = told_of::<TreeIndex>(rt.alloc()) else {
+        return ExitCode::FAILURE;
+    };
+    if tell(&rt, "tree", &told).is_err() {
+        return ExitCode::FAILURE;
+    }
+    let Ok(reads) = reads_of::<TreeIndex>(rt.alloc(), ROWS) else {
+        return ExitCode::FAILURE;
+    };
+    if println!(rt; "tree: look-ups over {ROWS} rows read {reads:?} pages").is_err() {
         return ExitCode::FAILURE;
     }
     ExitCode::SUCCESS

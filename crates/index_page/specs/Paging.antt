@@ -13,7 +13,12 @@ pub record IsIndexAt (size : ℕ) (pages : Pages) (page : ℕ) (held : IndexPage
   pub there : page < size
   pub holds : HoldsIndex (pages.at page) held
 
--- the same with values of one kind
+-- what a page holds; one that is not there, or whose bytes are no index's page, is broken
+abbrev pub any_page : ℕ → Pages → ℕ → Result IndexPage Refusal → Type 0
+any_page size pages page (Ok held) = IsIndexAt size pages page held
+any_page size pages page (Err why) = (why ≡ broken page) × ((held : IndexPage) → IsIndexAt size pages page held → ⊥)
+
+-- the page of that number holds this, with values of one kind
 abbrev pub IsOfKind : Kind → ℕ → Pages → ℕ → IndexPage → Type 0
 IsOfKind kind size pages page held = IsIndexAt size pages page held × AreOfKind kind held.entries
 

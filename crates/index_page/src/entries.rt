@@ -32,8 +32,8 @@ fn compare_found(a: &Found, b: &Found) -> Ordering
     }
 }
 
-// Whether an entry is below another.
-fn is_below(a: &Found, b: &Found) -> bool
+/// Whether an entry is below another.
+pub fn is_below(a: &Found, b: &Found) -> bool
     ensures { result ≡ is_lt (found_cmp a.now b.now) }
 {
     compare_found(a, b) == Ordering::Less

@@ -7,7 +7,7 @@ ghost use Rattle.pager.specs.Draft.{drafted, Reads};
 ghost use Rattle.pager.specs.Pages.{Pages, with_bytes};
 ghost use Rattle.pager.specs.Stop.{OnlyReads};
 ghost use Rattle.index_page.specs.IndexPage.{AreWritable, page_bytes};
-ghost use Rattle.index_page.specs.Paging.{index_page};
+ghost use Rattle.index_page.specs.Paging.{any_page, index_page};
 
 use crate::page::{IndexPage, held, page_of};
 use pager::{Draft, Found, Pager, Stop, broken};
@@ -17,6 +17,30 @@ use values::Kind;
 
 /// The first page that an index may stand on.
 const FIRST_PAGE: u32 = 2;
+
+/// What the index page of that number holds, whatever its values are.
+pub fn load_any<P: Pager>(
+    alloc: Global,
+    pager: &mut P,
+    draft: &Draft,
+    page: u32,
+) -> Result<IndexPage, Stop<P::Fault>>
+    requires { draft.now.size ≡ P.size pager.old }
+    ensures read { Reads (λ held. held) (P.tells pager.new) draft.now.list
+        (λ pages. any_page draft.now.size pages page) result }
+    ensures only_reads { OnlyReads P.tells P.goes P.size P.faults pager.old pager.new result }
+    ensures there { OnOk result (page < draft.now.size) }
+    ensures writable { IfOk result (λ held. AreWritable held.entries) }
+{
+    if page < FIRST_PAGE {
+        return Err(Stop::Refused(broken(page)));
+    }
+    let bytes = draft.read(pager, page)?;
+    let Some(found) = held(alloc, &bytes)? else {
+        return Err(Stop::Refused(broken(page)));
+    };
+    Ok(found)
+}
 
 /// What the index page of that number holds, whose values are of that kind.
 pub fn load<P: Pager>(
@@ -33,21 +57,15 @@ pub fn load<P: Pager>(
     ensures there { OnOk result (page < draft.now.size) }
     ensures writable { IfOk result (λ held. AreWritable held.entries) }
 {
-    if page < FIRST_PAGE {
-        return Err(Stop::Refused(broken(page)));
-    }
-    let bytes = draft.read(pager, page)?;
-    let Some(found) = held(alloc, &bytes)? else {
-        return Err(Stop::Refused(broken(page)));
-    };
+    let found = load_any(alloc, pager, draft, page)?;
     if !are_of_kind(found.entries.as_slice(), kind) {
         return Err(Stop::Refused(broken(page)));
     }
     Ok(found)
 }
 
-// Whether the values of entries are of a kind.
-fn are_of_kind(entries: &[Found], kind: Kind) -> bool
+/// Whether the values of entries are of a kind.
+pub fn are_of_kind(entries: &[Found], kind: Kind) -> bool
     ensures { MatchBool result (AreOfKind kind entries.now) (AreOfKind kind entries.now → ⊥) }
 {
     for found in entries {

@@ -1,0 +1,2 @@
+pub mod Climbed
+pub mod Walking

@@ -1,0 +1,10 @@
+//! An index as a B+ tree of pages.
+#![tactic(auto)]
+
+mod climb;
+mod index;
+mod laws;
+mod walk;
+
+pub use index::TreeIndex;
+pub use laws::opens_few;
