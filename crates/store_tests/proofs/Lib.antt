@@ -1,2 +1,3 @@
-pub mod Seated
+pub mod LastSeats
+pub mod Stepping
 pub mod WorkerSeats

@@ -1,12 +1,19 @@
-//! Tests of the store over devices in memory.
+//! Tests of the store over devices in memory and in files.
 #![tactic(auto)]
 
-mod made;
 #[cfg(test)]
-mod tests;
-mod visits;
+mod copied;
 #[cfg(test)]
-mod workers;
-
-pub use made::make;
-pub use visits::{recalls, writes};
+mod files;
+#[cfg(test)]
+mod full;
+#[cfg(test)]
+mod left;
+#[cfg(test)]
+mod plays;
+#[cfg(test)]
+mod rows;
+#[cfg(test)]
+mod steps;
+#[cfg(test)]
+mod stops;
