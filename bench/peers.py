@@ -1,11 +1,17 @@
 #!/usr/bin/env python3
-"""peers.py PROGRAM [--rows R] [--rounds N] [--touch K]: the program beside SQLite on one piece of work, in one run.
+"""peers.py PROGRAM [--rows R] [--rounds N] [--touch K] [--store STORE_BENCH] [--commits C]: the program beside SQLite
+on one piece of work, in one run.
 
 The work: a table of R rows of two integers; N rounds, each of which adds a number to K neighbouring rows by one UPDATE
 and declares a snapshot as it commits; then the sum of a column as of every snapshot; all on files. SQLite does it in
 two ways: history by triggers (rows with the snapshots between which they held), and a copy of the table at each
-snapshot, in WAL mode with a sync at each commit. Sums that differ end it with status 1. Seconds are of the wall; a
-commit has two syncs here and one there. It works in a folder of its own under the current one.
+snapshot, in WAL mode with a sync at each commit. It declares the snapshot in the commit of the UPDATE, one sync a
+round, and in a commit of its own, two syncs, as many as the program has. Sums that differ end it with status 1. Seconds
+are of the wall.
+
+With the program of crates/store_bench it also tells how many of C small rounds are made a second: there a page is
+written and a snapshot declared by one commit of two syncs, and in SQLite a row is changed and another inserted, by two
+commits of a sync each, or by one. It works in a folder of its own under the current one.
 """
 import argparse
 import os
@@ -61,22 +67,31 @@ def reedsickle(program, rows, rounds, touch):
     return written - opening, asked - opening, [int(line) for line in lines[at : at + rounds]], captures * 1024
 
 
-def sqlite(path, rows, rounds, touch, has_triggers):
+def opened(path, table):
     db = sqlite3.connect(path, isolation_level=None)
-    db.executescript("PRAGMA journal_mode=WAL; PRAGMA synchronous=FULL; CREATE TABLE t(a INTEGER PRIMARY KEY, b INT);")
+    db.executescript(f"PRAGMA journal_mode=WAL; PRAGMA synchronous=FULL; {table}")
+    return db
+
+
+def sqlite(path, rows, rounds, touch, has_triggers, syncs):
+    db = opened(path, "CREATE TABLE t(a INTEGER PRIMARY KEY, b INT);")
     db.execute("BEGIN")
     db.executemany("INSERT INTO t VALUES(?, 0)", ((i,) for i in range(rows)))
     db.execute("COMMIT")
     if has_triggers:
         db.executescript(HISTORY)
         db.executemany("INSERT INTO born VALUES(?, 1)", ((i,) for i in range(rows)))
-    declare = "INSERT INTO snap SELECT coalesce(max(n), 0) + 1 FROM snap" if has_triggers else "CREATE TABLE t{} AS SELECT * FROM t"
+    number_next = "INSERT INTO snap SELECT coalesce(max(n), 0) + 1 FROM snap"
+    declare = number_next if has_triggers else "CREATE TABLE t{} AS SELECT * FROM t"
     ask = SUM_OF_HISTORY if has_triggers else "SELECT sum(b) FROM t{}"
 
     def write():
         for number, (at, value) in enumerate(changes(rows, rounds, touch), 1):
             db.execute("BEGIN")
             db.execute("UPDATE t SET b = b + ? WHERE a >= ? AND a < ?", (value, at, at + touch))
+            if syncs == 2:
+                db.execute("COMMIT")
+                db.execute("BEGIN")
             db.execute(declare.format(number))
             db.execute("COMMIT")
 
@@ -91,28 +106,80 @@ def sqlite(path, rows, rounds, touch, has_triggers):
     return written, asked, told, pages * db.execute("PRAGMA page_size").fetchone()[0]
 
 
+def store_rounds(program, rounds):
+    """Seconds of a commit that writes a page and declares a snapshot, the making of the store taken off."""
+
+    def run(count):
+        words = [program, "commits", str(count), "4096", "10", "pages"]
+        return timed(lambda: subprocess.run(words, check=True, capture_output=True))[0]
+
+    return (run(rounds + 1) - run(1)) / rounds
+
+
+def sqlite_rounds(path, rounds, syncs):
+    """Seconds of the change of a row and the insertion of another, by as many commits as syncs."""
+    tables = "CREATE TABLE t(a INTEGER PRIMARY KEY, b INT); CREATE TABLE snap(n INTEGER PRIMARY KEY);"
+    db = opened(path, tables + "INSERT INTO t VALUES(1, 0);")
+
+    def write():
+        for _ in range(rounds):
+            db.execute("BEGIN")
+            db.execute("UPDATE t SET b = b + 1 WHERE a = 1")
+            if syncs == 2:
+                db.execute("COMMIT")
+                db.execute("BEGIN")
+            db.execute("INSERT INTO snap VALUES(NULL)")
+            db.execute("COMMIT")
+
+    return timed(write)[0] / rounds
+
+
+def compare(program, sizes):
+    """Tells what the work took; whether all sums agree."""
+    ran = {
+        "reedsickle": reedsickle(program, *sizes),
+        "sqlite, history by triggers, one sync": sqlite("history1.db", *sizes, True, 1),
+        "sqlite, history by triggers, two syncs": sqlite("history2.db", *sizes, True, 2),
+        "sqlite, a copy a snapshot, one sync": sqlite("copies1.db", *sizes, False, 1),
+        "sqlite, a copy a snapshot, two syncs": sqlite("copies2.db", *sizes, False, 2),
+    }
+    print("{} rows, {} snapshots, {} rows changed between two".format(*sizes))
+    per = 1e3 / sizes[1]
+    for name, (written, asked, _, kept) in ran.items():
+        times = f"{written * per:7.2f} ms a commit, {asked * per:7.2f} ms a sum"
+        print(f"{name:38} {times}, {kept / 2**20:7.2f} MiB of history")
+    return len({tuple(told) for _, _, told, _ in ran.values()}) == 1
+
+
+def compare_rounds(program, rounds):
+    ran = {
+        "store_bench, two syncs": store_rounds(program, rounds),
+        "sqlite, two commits, two syncs": sqlite_rounds("rounds2.db", rounds, 2),
+        "sqlite, one commit, one sync": sqlite_rounds("rounds1.db", rounds, 1),
+    }
+    print(f"{rounds} rounds of a small change and a snapshot")
+    for name, seconds in ran.items():
+        print(f"{name:38} {1 / seconds:7.0f} a second")
+
+
 def main():
     words = argparse.ArgumentParser()
     words.add_argument("program")
     words.add_argument("--rows", type=int, default=10_000)
     words.add_argument("--rounds", type=int, default=200)
     words.add_argument("--touch", type=int, default=100)
+    words.add_argument("--store")
+    words.add_argument("--commits", type=int, default=2_000)
     words = words.parse_args()
-    sizes = (words.rows, words.rounds, words.touch)
     program = os.path.abspath(words.program)
+    store = words.store and os.path.abspath(words.store)
     with tempfile.TemporaryDirectory(dir=".") as folder:
         os.chdir(folder)
-        ran = {
-            "reedsickle": reedsickle(program, *sizes),
-            "sqlite, history by triggers": sqlite("history.db", *sizes, True),
-            "sqlite, a copy a snapshot": sqlite("copies.db", *sizes, False),
-        }
+        agree = compare(program, (words.rows, words.rounds, words.touch))
+        if store:
+            compare_rounds(store, words.commits)
         os.chdir("..")
-    print("{} rows, {} snapshots, {} rows changed between two".format(*sizes))
-    for name, (written, asked, _, kept) in ran.items():
-        per = 1e3 / words.rounds
-        print(f"{name:28} {written * per:7.2f} ms a commit, {asked * per:7.2f} ms a sum, {kept / 2**20:7.2f} MiB of history")
-    sys.exit(len({tuple(told) for _, _, told, _ in ran.values()}) > 1)
+    sys.exit(not agree)
 
 
 main()
