@@ -8,11 +8,11 @@ ghost use Rattle.pager.specs.Pages.{Pages, with_bytes};
 ghost use Rattle.pager.specs.Stop.{OnlyReads};
 ghost use Rattle.heap_file.specs.Chain.{IsWritable, chain, heap_page, rows_of, rows_on};
 
-use crate::page::{HeapPage, held, page_of};
+use crate::page::{Entry, HeapPage, held, page_of};
 use pager::{Draft, Pager, Stop, broken};
 use retro_base::Refusal;
 use std::alloc::Global;
-use values::{Duplicate, Row};
+use values::Row;
 
 /// A page of a chain, and what it holds.
 #[derive(Debug, Drop)]
@@ -96,27 +96,26 @@ pub fn chain<P: Pager>(
     Err(Stop::Refused(broken(page)))
 }
 
-/// The rows of a chain, page by page.
-pub fn rows_of(alloc: Global, links: &[Link]) -> Result<Vec<Placed>, Refusal>
-    ensures rows { IfOk result (λ rows. rows.items ≡ rows_of links.now) }
+/// The rows of a chain, page by page; none is copied.
+pub fn rows_of(alloc: Global, links: Vec<Link>) -> Result<Vec<Placed>, Refusal>
+    ensures rows { IfOk result (λ rows. rows.items ≡ rows_of links.items) }
     ensures memory { IfErr result (λ why. why ≡ OutOfMemory) }
 {
     let mut rows = Vec::new(alloc);
     for link in links {
-        push_rows(alloc, link, &mut rows)?;
+        push_rows(link, &mut rows)?;
     }
     Ok(rows)
 }
 
 // Appends the rows of a page.
-fn push_rows(alloc: Global, link: &Link, rows: &mut Vec<Placed>) -> Result<(), Refusal>
-    ensures rows { OnOk result (rows.new.items ≡ rows.old.items ++ rows_on link.now) }
+fn push_rows(link: Link, rows: &mut Vec<Placed>) -> Result<(), Refusal>
+    ensures rows { OnOk result (rows.new.items ≡ rows.old.items ++ rows_on link) }
     ensures memory { IfErr result (λ why. why ≡ OutOfMemory) }
 {
-    let page = link.page;
-    for entry in link.held.entries.as_slice() {
-        let number = entry.number;
-        let row = entry.row.copy(alloc)?;
+    let Link { page, held } = link;
+    for entry in Vec::from(held.entries) {
+        let Entry { number, row } = entry;
         rows.push(Placed { number, page, row })?;
     }
     Ok(())

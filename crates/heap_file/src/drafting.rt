@@ -3,7 +3,7 @@
 ghost use Rattle.std.specs.Prelude.{◌≡◌, ◌≤◌, ◌<◌, ◌==◌, ◌++◌, ◌∷◌, [], not, IsTrue, IfOk, IfSome, length};
 ghost use Rattle.pager.specs.Draft.{Drafts, Reads};
 ghost use Rattle.pager.specs.Stop.{OnlyDrafts, OnlyReads};
-ghost use Rattle.heap_file.specs.Chain.{HoldsStill, IsWritable, linked, scanned};
+ghost use Rattle.heap_file.specs.Chain.{HoldsStill, InOrder, IsWritable, linked, scanned};
 ghost use Rattle.heap_file.specs.HeapPage.{IsEntry, IsHeapPage, IsShort, have_room};
 ghost use Rattle.std.specs.List.{insert};
 ghost use Rattle.heap_file.specs.Work.{added, changed, got, made, next_of, on_link, without, place_of};
@@ -14,7 +14,7 @@ use crate::page::{Entry, HeapPage, has_room};
 pub use crate::removing::{Cursor, remove, remove_at};
 use pager::{Draft, Pager, Stop, broken, take};
 use retro_base::Refusal;
-use std::alloc::{AllocFailed, Global};
+use std::alloc::{AllocError, AllocFailed, Global};
 use values::{Duplicate, Row, Seq};
 
 /// Drafts a table without rows: takes its first page.
@@ -126,8 +126,17 @@ pub fn scan<P: Pager>(
     ensures only_reads { OnlyReads P.tells P.goes P.size P.faults pager.old pager.new result }
 {
     let links = chain(alloc, pager, draft, first)?;
-    let mut rows = rows_of(alloc, &links)?;
-    rows.sort_by_key(|placed| placed.number)?;
+    Ok(in_order(rows_of(alloc, links)?)?)
+}
+
+// These rows in rising number: as they stand, where no row that grew went to a later page.
+fn in_order(rows: Vec<Placed>) -> Result<Vec<Placed>, AllocError>
+    ensures { IfOk result (λ sorted. InOrder rows.items sorted.items) }
+{
+    let mut rows = rows;
+    if !rows.is_sorted_by_key(|placed| placed.number) {
+        rows.sort_by_key(|placed| placed.number)?;
+    }
     Ok(rows)
 }
 

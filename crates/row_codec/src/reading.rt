@@ -31,7 +31,7 @@ fn first_values(alloc: Global, bytes: &[u8], count: usize) -> Result<Option<(Row
     ensures found { IfOk result (AreFirstValues bytes.now count) }
     ensures memory { IfErr result (λ why. why ≡ OutOfMemory) }
 {
-    let mut row = Seq::new(alloc);
+    let mut row = Vec::with_capacity(alloc, count)?;
     let mut end = 0;
     'values: for _ in 0..count {
         match first_value(alloc, &bytes[end..])? {
@@ -42,5 +42,5 @@ fn first_values(alloc: Global, bytes: &[u8], count: usize) -> Result<Option<(Row
             None => return Ok(None),
         }
     }
-    Ok(Some((row, end)))
+    Ok(Some((Seq::from(row), end)))
 }
