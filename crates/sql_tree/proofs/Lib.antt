@@ -1,6 +1,4 @@
 mod Conditions
 mod Expressions
-mod Narrow
 mod Places
-mod Running
 pub mod Fitting

@@ -5,5 +5,6 @@ pub mod Expression
 pub mod ExpressionCode
 pub mod Rows
 pub mod Scope
+pub mod Select
 pub mod Statement
 pub mod Steps

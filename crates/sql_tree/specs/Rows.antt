@@ -1,5 +1,6 @@
 -- Rows that fit columns.
-use Rattle.std.specs.Prelude.{◌&&◌, Bool, true, false, List, [], ◌∷◌}
+use Rattle.std.specs.Prelude.{◌&&◌, Bool, IsTrue, true, false, List, [], ◌∷◌}
+use Rattle.std.specs.List.{AllByRecursion}
 use Rattle.values.specs.declared.value.Kind.{Kind}
 use Rattle.values.specs.declared.value.Kind.TheVariants as kind
 use Rattle.values.specs.declared.value.Value.{Value}
@@ -19,3 +20,7 @@ fits [] [] = true
 fits [] (value ∷ values) = false
 fits (column ∷ columns) [] = false
 fits (column ∷ columns) (value ∷ values) = same_kind column.kind (kind_of value) && fits columns values
+
+-- each row has one value of each column's kind
+abbrev pub AllFit : List Column → List (List Value) → Type 0
+AllFit columns rows = AllByRecursion (λ (row : List Value). IsTrue (fits columns row)) rows

@@ -1,15 +1,10 @@
 //! Conditions.
 
 ghost use Rattle.std.specs.Prelude.{◌≡◌, ◌<◌, ◌^◌, ◌+◌, ◌++◌, ◌≤◌, ◌↔◌, IfSome, IsTrue, Some};
-ghost use Rattle.retro_base.specs.Gives.{Gives};
 ghost use Rattle.sql_tree.specs.Condition.{postfix, tree_of};
-ghost use Rattle.sql_tree.specs.Evaluation.{is_true};
 ghost use Rattle.sql_tree.specs.Steps.{conditions_behind, conditions_of};
 
-use crate::evaluation::decide;
 use crate::name::ColumnName;
-use crate::scope::Scope;
-use retro_base::Refusal;
 use std::alloc::{AllocError, Global};
 use std::marker::Model;
 use values::{Duplicate, Seq, Value};
@@ -112,23 +107,6 @@ impl Condition {
         ensures { result.now ≡ postfix self.now }
     {
         self.steps.as_slice()
-    }
-
-    /// Whether the condition is true at a row, seen as `Expression::value` sees it. All parts are worked out. Refused for
-    /// want of memory, or for the first of these, left before right: UnknownName at a column that is not there, or a
-    /// snapshot's number where there is none; WrongType where a number is compared with a text.
-    #[tactic(auto, using(crate::proofs::Running::truth_is))]
-    pub fn holds(
-        &self,
-        alloc: Global,
-        scope: &Scope<'_>,
-        snapshot: Option<u32>,
-        first: &[Value],
-        second: &[Value],
-    ) -> Result<bool, Refusal>
-        ensures { Gives (λ b. b) result (is_true scope.now snapshot (first.now ++ second.now) self.now) }
-    {
-        decide(alloc, self.steps(), scope, snapshot, first, second)
     }
 }
 

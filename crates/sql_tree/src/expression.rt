@@ -2,15 +2,10 @@
 
 ghost use Rattle.std.specs.Option.{option_copied};
 ghost use Rattle.std.specs.Prelude.{◌≡◌, ◌<◌, ◌^◌, ◌+◌, ◌++◌, ◌≤◌, ◌↔◌, IfSome, IsTrue, Some};
-ghost use Rattle.retro_base.specs.Gives.{Gives};
-ghost use Rattle.sql_tree.specs.Evaluation.{value_of};
 ghost use Rattle.sql_tree.specs.Expression.{column_of, is_constant, postfix, tree_of};
 ghost use Rattle.sql_tree.specs.Steps.{trees_behind, trees_of};
 
-use crate::evaluation::evaluate;
 use crate::name::ColumnName;
-use crate::scope::Scope;
-use retro_base::Refusal;
 use std::alloc::{AllocError, Global};
 use std::marker::Model;
 use values::{Duplicate, Seq, Value};
@@ -100,24 +95,6 @@ impl Expression {
             [ExpressionStep::Literal(_) | ExpressionStep::CurrentSnapshot] => true,
             _ => false,
         }
-    }
-
-    /// The value at a row, whose values are those of the first table and then those of the second; `snapshot` is the number of
-    /// `current_snapshot()`. Refused for want of memory, or for the first of these, left before right: UnknownName at a
-    /// column that is not there, or a snapshot's number where there is none; WrongType at an operator over a text; Overflow
-    /// at a result outside i64.
-    #[tactic(auto, using(crate::proofs::Running::value_is))]
-    pub fn value(
-        &self,
-        alloc: Global,
-        scope: &Scope<'_>,
-        snapshot: Option<u32>,
-        first: &[Value],
-        second: &[Value],
-    ) -> Result<Value, Refusal>
-        ensures { Gives (λ v. v) result (value_of scope.now snapshot (first.now ++ second.now) self.now) }
-    {
-        evaluate(alloc, self.steps(), scope, snapshot, first, second)
     }
 }
 

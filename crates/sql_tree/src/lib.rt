@@ -2,7 +2,6 @@
 #![tactic(auto)]
 
 mod condition;
-mod evaluation;
 mod expression;
 mod name;
 mod rows;
@@ -16,7 +15,7 @@ pub use expression::{Expression, ExpressionStep, Operator};
 pub use name::ColumnName;
 pub use rows::fits;
 pub use schema::{IndexSchema, Schema, TableSchema};
-pub use scope::{Scope, column_place};
+pub use scope::{Scope, column_place, side_by_side};
 pub use select::{Aggregate, Direction, OrderKey, Output, OutputValue, Select, SelectList};
 pub use statement::{
     Assignment, Column, CreateIndex, CreateTable, Delete, Insert, Statement, Update,

@@ -109,7 +109,7 @@ fn kind_side_by_side(place: usize, first: &[Column], second: &[Column]) -> Optio
 }
 
 /// The item at that place of two lists, one behind the other.
-pub(crate) fn side_by_side<'a, T>(place: usize, first: &'a [T], second: &'a [T]) -> Option<&'a T>
+pub fn side_by_side<'a, T>(place: usize, first: &'a [T], second: &'a [T]) -> Option<&'a T>
     ensures { option_copied result ≡ slice_get (first.now ++ second.now) place }
 {
     if place < first.len() {

@@ -1,5 +1,8 @@
 //! Selects.
 
+ghost use Rattle.std.specs.Prelude.{◌≡◌};
+ghost use Rattle.sql_tree.specs.Select.{has_aggregate, is_aggregate, is_grouped, outputs_of};
+
 use crate::condition::Condition;
 use crate::expression::Expression;
 use crate::name::{ColumnName, copy_optional};
@@ -36,6 +39,18 @@ pub enum OutputValue {
     Aggregate(Aggregate),
 }
 
+impl OutputValue {
+    /// Whether the output is a value over all rows of a group.
+    fn is_aggregate(&self) -> bool
+        ensures { result ≡ is_aggregate self.now }
+    {
+        match self {
+            OutputValue::Expression(_) => false,
+            OutputValue::Aggregate(_) => true,
+        }
+    }
+}
+
 impl Duplicate for OutputValue {
     fn copy(&self, alloc: Global) -> Result<OutputValue, AllocError> {
         match self {
@@ -68,6 +83,26 @@ pub enum SelectList {
     All,
     /// At least one output.
     Outputs(Seq<Output>),
+}
+
+impl SelectList {
+    /// The outputs that the list writes out; `*` writes out none.
+    pub fn outputs(&self) -> &[Output]
+        ensures { result.now ≡ outputs_of self.now }
+    {
+        match self {
+            SelectList::All => &[],
+            SelectList::Outputs(outputs) => outputs.as_slice(),
+        }
+    }
+
+    fn has_aggregate(&self) -> bool
+        ensures { result ≡ has_aggregate self.now }
+    {
+        self.outputs()
+            .iter()
+            .any(|output| output.value.is_aggregate())
+    }
 }
 
 impl Duplicate for SelectList {
@@ -114,6 +149,15 @@ pub struct Select {
     pub group_by: Seq<ColumnName>,
     pub order_by: Seq<OrderKey>,
     pub limit: Option<u64>,
+}
+
+impl Select {
+    /// Whether the select gives a row for each group, or one for all rows.
+    pub fn is_grouped(&self) -> bool
+        ensures { result ≡ is_grouped self.now }
+    {
+        self.list.has_aggregate() || !self.group_by.is_empty()
+    }
 }
 
 impl Duplicate for Select {
