@@ -1,0 +1,3 @@
+mod Running
+pub mod Binding
+pub mod Narrow
