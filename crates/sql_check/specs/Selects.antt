@@ -15,6 +15,7 @@ use Rattle.sql_tree.specs.declared.statement.Column.{Column}
 use Rattle.sql_tree.specs.Condition.{ConditionTree}
 use Rattle.sql_tree.specs.Expression.{ExpressionTree, column_of, is_constant}
 use Rattle.sql_tree.specs.Scope.{place_of}
+use Rattle.sql_tree.specs.Select.{is_grouped, outputs_of}
 use Rattle.sql_check.specs.Expressions.{compares_apart, has_unknown_operand, is_unknown, output_has_unknown, output_kind}
 use Rattle.sql_check.specs.Names.{has_name}
 use Rattle.sql_check.specs.Outputs.{answer_columns}
@@ -26,22 +27,6 @@ where_has_unknown scope snapshot condition = option_map_or (has_unknown_operand 
 -- whether a WHERE compares INT with TEXT
 abbrev pub where_compares_apart : List TableSchema → Option ConditionTree → Bool
 where_compares_apart scope condition = option_map_or (compares_apart scope) condition false
-
-abbrev pub is_aggregate : OutputValue → Bool
-is_aggregate (output.Expression of) = false
-is_aggregate (output.Aggregate of) = true
-
--- the outputs that a list writes out; `*` writes out none
-abbrev pub outputs_of : SelectList → List Output
-outputs_of All = []
-outputs_of (Outputs outputs) = outputs
-
-abbrev pub has_aggregate : SelectList → Bool
-has_aggregate list = list_any (λ (output : Output). is_aggregate output.value) (outputs_of list)
-
--- whether a select gives a row for each group, or one for all rows
-abbrev pub is_grouped : Select → Bool
-is_grouped select = has_aggregate select.list || not (length select.group_by == 0)
 
 -- whether an output has an unknown name
 abbrev pub list_has_unknown : List TableSchema → Option ℕ → SelectList → Bool

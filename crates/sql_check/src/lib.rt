@@ -13,4 +13,3 @@ pub use checking::{check, check_beside, check_select, select_scope};
 pub use laws::{conditions_are_decided, expressions_keep_their_kind};
 pub use names::is_reserved;
 pub use outputs::answer_columns;
-pub use selects::is_grouped;

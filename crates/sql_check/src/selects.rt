@@ -5,7 +5,8 @@ ghost use Rattle.std.specs.List.{list_any};
 ghost use Rattle.sql_tree.specs.declared.select.OrderKey.{OrderKey};
 ghost use Rattle.sql_tree.specs.declared.select.Output.{Output};
 ghost use Rattle.sql_check.specs.Expressions.{is_unknown, output_has_unknown, output_kind};
-ghost use Rattle.sql_check.specs.Selects.{breaks_groups, has_aggregate, is_aggregate, is_grouped, is_grouped_by, is_key, is_of_group, keys_have_unknown, lacks_kind, list_has_unknown, names_output, output_is_of_group, outputs_of, same_place, select_has_unknown, select_is_mistyped, where_compares_apart, where_has_unknown};
+ghost use Rattle.sql_check.specs.Outputs.{answer_columns};
+ghost use Rattle.sql_check.specs.Selects.{breaks_groups, is_grouped_by, is_key, is_of_group, keys_have_unknown, lacks_kind, list_has_unknown, names_output, output_is_of_group, same_place, select_has_unknown, select_is_mistyped, where_compares_apart, where_has_unknown};
 
 use crate::expressions::{
     compares_apart, has_unknown_operand, is_unknown, output_has_unknown, output_kind,
@@ -42,44 +43,10 @@ pub(crate) fn where_compares_apart(scope: &Scope<'_>, condition: &Option<Conditi
     }
 }
 
-fn is_aggregate(value: &OutputValue) -> bool
-    ensures { result ≡ is_aggregate value.now }
-{
-    match value {
-        OutputValue::Expression(_) => false,
-        OutputValue::Aggregate(_) => true,
-    }
-}
-
-// The outputs that the list writes out; `*` writes out none.
-fn outputs_of(list: &SelectList) -> &[Output]
-    ensures { result.now ≡ outputs_of list.now }
-{
-    match list {
-        SelectList::All => &[],
-        SelectList::Outputs(outputs) => outputs.as_slice(),
-    }
-}
-
-fn has_aggregate(list: &SelectList) -> bool
-    ensures { result ≡ has_aggregate list.now }
-{
-    outputs_of(list)
-        .iter()
-        .any(|output| is_aggregate(&output.value))
-}
-
-/// Whether the select gives a row for each group, or one for all rows.
-pub fn is_grouped(select: &Select) -> bool
-    ensures { result ≡ is_grouped select.now }
-{
-    has_aggregate(&select.list) || !select.group_by.is_empty()
-}
-
 fn list_has_unknown(scope: &Scope<'_>, snapshot: Option<u32>, list: &SelectList) -> bool
     ensures { result ≡ list_has_unknown scope.now snapshot list.now }
 {
-    outputs_of(list).iter().any(|output| output_has_unknown(scope, snapshot, &output.value))
+    list.outputs().iter().any(|output| output_has_unknown(scope, snapshot, &output.value))
 }
 
 fn names_output(columns: &[Column], name: &ColumnName) -> bool
@@ -92,16 +59,23 @@ fn names_output(columns: &[Column], name: &ColumnName) -> bool
 fn is_key(scope: &Scope<'_>, select: &Select, columns: &[Column], name: &ColumnName) -> bool
     ensures { result ≡ is_key scope.now select.now columns.now name.now }
 {
-    let from_one_row = !(is_grouped(select) || select.distinct);
+    let from_one_row = !(select.is_grouped() || select.distinct);
     names_output(columns, name) || (from_one_row && !is_unknown(scope, name))
 }
 
-fn keys_have_unknown(
-    scope: &Scope<'_>,
-    select: &Select,
-    columns: &[Column],
-    keys: &[OrderKey],
-) -> bool
+fn keys_have_unknown(alloc: Global, scope: &Scope<'_>, select: &Select) -> Result<bool, AllocError>
+    ensures { IfOk result (λ found. found ≡ keys_have_unknown scope.now select.now (answer_columns scope.now select.now.list)) }
+{
+    match select.order_by.as_slice() {
+        [] => Ok(false),
+        keys => {
+            let columns = answer_columns(alloc, scope, &select.list)?;
+            Ok(any_is_no_key(scope, select, columns.as_slice(), keys))
+        }
+    }
+}
+
+fn any_is_no_key(scope: &Scope<'_>, select: &Select, columns: &[Column], keys: &[OrderKey]) -> bool
     ensures { result ≡ list_any (λ (key : OrderKey). not (is_key scope.now select.now columns.now key.column)) keys.now }
 {
     keys.iter()
@@ -123,16 +97,10 @@ pub(crate) fn select_has_unknown(
 ) -> Result<bool, AllocError>
     ensures { IfOk result (λ found. found ≡ select_has_unknown snapshot select.now scope.now) }
 {
-    let columns = answer_columns(alloc, scope, &select.list)?;
     let in_list = list_has_unknown(scope, snapshot, &select.list);
     let in_where = where_has_unknown(scope, snapshot, &select.condition);
     let in_groups = any_is_unknown(scope, select.group_by.as_slice());
-    let in_keys = keys_have_unknown(
-        scope,
-        select,
-        columns.as_slice(),
-        select.order_by.as_slice(),
-    );
+    let in_keys = keys_have_unknown(alloc, scope, select)?;
     Ok(in_list || in_where || in_groups || in_keys)
 }
 
@@ -189,7 +157,7 @@ fn breaks_groups(scope: &Scope<'_>, columns: &[ColumnName], list: &SelectList) -
 fn lacks_kind(scope: &Scope<'_>, list: &SelectList) -> bool
     ensures { result ≡ lacks_kind scope.now list.now }
 {
-    outputs_of(list)
+    list.outputs()
         .iter()
         .any(|output| output_kind(scope, &output.value).is_none())
 }
@@ -200,7 +168,7 @@ pub(crate) fn select_is_mistyped(select: &Select, scope: &Scope<'_>) -> bool
 {
     let in_list = lacks_kind(scope, &select.list);
     let in_where = where_compares_apart(scope, &select.condition);
-    let in_groups = is_grouped(select)
+    let in_groups = select.is_grouped()
         && breaks_groups(scope, select.group_by.as_slice(), &select.list);
     in_list || in_where || in_groups
 }
