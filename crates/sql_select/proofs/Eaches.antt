@@ -6,8 +6,9 @@ use Rattle.std.proofs.Math.IntN.{+ℤ_assoc}
 use Rattle.retro_base.specs.Gives.{◌>>=◌}
 use Rattle.retro_base.specs.declared.refusal.Refusal.{Refusal}
 use Rattle.values.specs.declared.value.Value.{Value}
-use Rattle.values.specs.declared.value.Value.TheVariants.{Int}
+use Rattle.values.specs.declared.value.Value.TheVariants.{Int, Text}
 use Rattle.sql_select.specs.Aggregates.{number_of, total, whole}
+use Rattle.sql_select.specs.Bound.{sum_from}
 use Rattle.sql_select.specs.Each.{each, onto}
 use Rattle.sql_select.specs.Rows.{beside, kept}
 
@@ -26,6 +27,35 @@ sum_step values i x sum n after end lt is number e h =
     ap (λ z. each number_of (drop (i + 1) values) >>= (λ ns. whole (z +ℤ total ns))) e
     ∙ sym (ap (λ l. each number_of l >>= (λ ns. whole (sum +ℤ total ns))) at ∙ sum_more sum n (drop (i + 1) values))
     ∙ h
+
+-- one item more of a list of answers that goes on to an end
+one_more : {X Y Z : Type 0} (f : X → Result Y Refusal) (g h : List Y → Result Z Refusal) (x : X) (y : Y) (rest : List X) → f x ≡ Ok y → ((ys : List Y) → h ys ≡ g (y ∷ ys)) → (r : Result (List Y) Refusal) → each f rest ≡ r → each f rest >>= h ≡ each f (x ∷ rest) >>= g
+one_more f g h x y rest e same (Ok ys) is = rw (e, is) (same ys)
+one_more f g h x y rest e same (Err why) is = rw (e, is) refl
+
+pub item_at : {X : Type 0} (xs : List X) (i : ℕ) (x : X) → i < length xs → x ≡ get_or xs i x → drop i xs ≡ x ∷ drop (i + 1) xs
+item_at xs i x lt is = drop_more xs i x lt ∙ ap (λ v. v ∷ drop (i + 1) xs) (sym is)
+
+each_more : {X Y Z : Type 0} (f : X → Result Y Refusal) (g h : List Y → Result Z Refusal) (xs : List X) (i : ℕ) (x : X) (y : Y) (end : Result Z Refusal) → i < length xs → x ≡ get_or xs i x → f x ≡ Ok y → ((ys : List Y) → h ys ≡ g (y ∷ ys))
+    → each f (drop i xs) >>= g ≡ end → each f (drop (i + 1) xs) >>= h ≡ end
+each_more f g h xs i x y end lt is e same so_far =
+    one_more f g h x y (drop (i + 1) xs) e same (each f (drop (i + 1) xs)) refl ∙ sym (ap (λ l. each f l >>= g) (item_at xs i x lt is)) ∙ so_far
+
+sum_next : (has_text : Bool) (sum n : ℤ) (values : List Value) → sum_from has_text (sum +ℤ n) values ≡ sum_from has_text sum (Int n ∷ values)
+sum_next true sum n values = refl
+sum_next false sum n values = sym (sum_more sum n values)
+
+sum_text : (has_text : Bool) (sum after : ℤ) (t : List ℕ) (values : List Value) → sum_from true after values ≡ sum_from has_text sum (Text t ∷ values)
+sum_text true sum after t values = refl
+sum_text false sum after t values = refl
+
+-- a value more of a sum: a number, or a text
+module _ {X : Type 0} (f : X → Result Value Refusal) (xs : List X) (i : ℕ) (x : X) (value : Value) (had_text has_text : Bool) (sum after : ℤ) (end : Result Value Refusal) (lt : i < length xs) (is : x ≡ get_or xs i x) (gives : f x ≡ Ok value) (so_far : each f (drop i xs) >>= sum_from had_text sum ≡ end) where
+  pub number_more : (n : ℤ) → value ≡ Int n → has_text ≡ had_text → after ≡ sum +ℤ n → each f (drop (i + 1) xs) >>= sum_from has_text after ≡ end
+  number_more n number same added = each_more f (sum_from had_text sum) (sum_from has_text after) xs i x value end lt is gives (λ values. rw (same, added, number) (sum_next had_text sum n values)) so_far
+
+  pub text_more : (t : List ℕ) → value ≡ Text t → has_text ≡ true → each f (drop (i + 1) xs) >>= sum_from has_text after ≡ end
+  text_more t text met = each_more f (sum_from had_text sum) (sum_from has_text after) xs i x value end lt is gives (λ values. rw (met, text) (sum_text had_text sum after t values)) so_far
 
 module _ (holds : List Value → Result Bool Refusal) where
   onto_nothing : (r : Result (List (List Value)) Refusal) → onto [] r ≡ r

@@ -18,12 +18,13 @@ use Rattle.sql_select.specs.Laws.{DistinctLeavesOne, GroupsAreNotEmpty, IsLeast,
 use Rattle.sql_select.specs.Order.{keys_cmp, ordered, placed}
 use Rattle.sql_select.specs.Rows.{holds_at, joined_rows, kept}
 use Rattle.sql_select.specs.Same.{same_row, same_value}
+use Rattle.sql_select.specs.SameOutputs.{same_outputs_equiv}
 use Rattle.sql_select.specs.Sameness.{same_row_equiv, same_value_equiv}
 use Rattle.sql_select.specs.Select.{outputs_of, row_of_row}
 use Rattle.sql_select.specs.declared.grouping.KeyedRow.{KeyedRow}
 use Rattle.sql_select.specs.declared.output_row.OutputRow.{OutputRow}
 use Rattle.sql_select.proofs.Firsts.{all_filter, any_firsts, filter_no, filter_yes}
-use Rattle.sql_select.proofs.InGroups.{has_key, key_of, row_of, same_outputs_equiv}
+use Rattle.sql_select.proofs.InGroups.{has_key, key_of, row_of}
 use Rattle.sql_select.proofs.SortKeys.{weak}
 use Rattle.sql_select.proofs.Sorting.{ordered_rises, ordered_stable, rises_sorted}
 

@@ -1,53 +1,21 @@
 -- Rows in groups, one row more at a time.
-use Rattle.std.proofs.Common.{◌≡◌, ◌∙◌, ℕ, zero, suc, ◌<◌, ◌≤◌, length, get_or, set, Bool, true, false, not, ◌||◌, List, [], ◌∷◌, ◌++◌, map, refl, sym, ap, arith, append-nil}
-use Rattle.std.specs.Cmp.{IsEquivalence}
+use Rattle.std.proofs.Common.{◌≡◌, ◌∙◌, ℕ, zero, suc, ◌<◌, ◌≤◌, length, get_or, set, Bool, true, false, ◌||◌, List, [], ◌∷◌, ◌++◌, map, refl, sym, ap, arith, append-nil}
 use Rattle.std.specs.List.{filter, list_any, position_or_len, IsDistinct, AllByRecursion}
 use Rattle.indexmap.specs.IndexSet.{insert_key}
 use Rattle.std.proofs.lemmas.List.{map-append}
 use Rattle.std.proofs.lemmas.List.Elements.{filter-append}
 use Rattle.values.specs.declared.value.Value.{Value}
 use Rattle.sql_select.specs.Same.{same_row}
+use Rattle.sql_select.specs.SameOutputs.{same_outputs_equiv}
 use Rattle.sql_select.specs.Sameness.{same_row_equiv}
 use Rattle.sql_select.specs.declared.grouping.KeyedRow.{KeyedRow}
 use Rattle.sql_select.specs.declared.output_row.OutputRow.{OutputRow}
 use Rattle.sql_select.specs.Groups.{firsts, same_outputs, distinct, keys_of, rows_of_key, groups, with_member}
 use Rattle.sql_select.proofs.Firsts.{filter_yes, filter_no, insert_there, insert_new, any_firsts, firsts_more}
 
--- ---- the first of the rows with the same outputs
-
-pub same_outputs_equiv : IsEquivalence same_outputs
-same_outputs_equiv = record {
-  refl = λ x. same_row_equiv.refl x.outputs;
-  symm = λ x y. same_row_equiv.symm x.outputs y.outputs;
-  congr = λ x y z. same_row_equiv.congr x.outputs y.outputs z.outputs;
-}
-
-abbrev pub outputs_of : OutputRow → List Value
-outputs_of row = row.outputs
-
-any_outputs : (row : OutputRow) (rows : List OutputRow) → list_any (same_outputs row) rows ≡ list_any (same_row row.outputs) (map outputs_of rows)
-any_outputs row [] = refl
-any_outputs row (r ∷ rows) = ap (λ b. same_row row.outputs r.outputs || b) (any_outputs row rows)
-
--- whether the row's outputs are among the keys that were met, and among the rows that were kept
-any_met : (row : OutputRow) (rows : List OutputRow) → list_any (same_row row.outputs) (firsts same_row (map outputs_of rows)) ≡ list_any (same_outputs row) (distinct rows)
-any_met row rows =
-    any_firsts same_row same_row_equiv row.outputs (map outputs_of rows) ∙ sym (any_outputs row rows) ∙ sym (any_firsts same_outputs same_outputs_equiv row rows)
-
--- the keys that were met, with a row more
-pub keys_more : (rows : List OutputRow) (row : OutputRow) → insert_key same_row (firsts same_row (map outputs_of rows)) row.outputs ≡ firsts same_row (map outputs_of (rows ++ row ∷ []))
-keys_more rows row =
-    sym (ap (firsts same_row) (map-append outputs_of rows (row ∷ [])) ∙ firsts_more same_row same_row_equiv (map outputs_of rows) row.outputs)
-
--- a row that is new is kept
-pub distinct_new : (rows : List OutputRow) (row : OutputRow) → list_any (same_row row.outputs) (firsts same_row (map outputs_of rows)) ≡ false → distinct rows ++ row ∷ [] ≡ distinct (rows ++ row ∷ [])
-distinct_new rows row e =
-    sym (firsts_more same_outputs same_outputs_equiv rows row ∙ insert_new same_outputs (distinct rows) row (sym (any_met row rows) ∙ e))
-
--- a row whose outputs were met is not
-pub distinct_there : (rows : List OutputRow) (row : OutputRow) → list_any (same_row row.outputs) (firsts same_row (map outputs_of rows)) ≡ true → distinct rows ≡ distinct (rows ++ row ∷ [])
-distinct_there rows row e =
-    sym (firsts_more same_outputs same_outputs_equiv rows row ∙ insert_there same_outputs (distinct rows) row (sym (any_met row rows) ∙ e))
+-- the first of the rows with the same outputs, with a row more
+pub distinct_more : (rows : List OutputRow) (row : OutputRow) → insert_key same_outputs (distinct rows) row ≡ distinct (rows ++ row ∷ [])
+distinct_more rows row = sym (firsts_more same_outputs same_outputs_equiv rows row)
 
 -- ---- rows of keys
 
@@ -153,12 +121,3 @@ pub begins : {X : Type 0} (groups : List (List X)) (place : ℕ) (x : X) → len
 begins [] place x le = refl
 begins (g ∷ groups) zero x le = absurd (omega arith)
 begins (g ∷ groups) (suc place) x le = ap (λ l. g ∷ l) (begins groups place x (omega arith))
-
--- what the answer of an insertion says
-pub was_new : (added met : Bool) → added ≡ true → added ≡ not met → met ≡ false
-was_new added true h e = let bad : true ≡ false = sym h ∙ e in cc
-was_new added false h e = refl
-
-pub was_there : (added met : Bool) → added ≡ false → added ≡ not met → met ≡ true
-was_there added true h e = refl
-was_there added false h e = let bad : true ≡ false = sym e ∙ h in cc

@@ -1,4 +1,4 @@
-pub mod CheckedSelects
+pub mod BoundOutputs
 pub mod Eaches
 pub mod Firsts
 pub mod Following

@@ -1,5 +1,5 @@
 pub mod Aggregates
-pub mod Checked
+pub mod Bound
 pub mod Each
 pub mod Groups
 pub mod Laws
@@ -7,5 +7,6 @@ pub mod Order
 pub mod Outputs
 pub mod Rows
 pub mod Same
+pub mod SameOutputs
 pub mod Sameness
 pub mod Select

@@ -16,7 +16,7 @@ use Rattle.sql_tree.specs.declared.select.Select.{Select}
 use Rattle.sql_tree.specs.declared.select.SelectList.{SelectList}
 use Rattle.sql_tree.specs.declared.select.SelectList.TheVariants.{All, Outputs}
 use Rattle.sql_tree.specs.declared.statement.Column.{Column}
-use Rattle.sql_check.specs.Selects.{is_grouped}
+use Rattle.sql_tree.specs.Select.{is_grouped}
 use Rattle.sql_select.specs.Each.{each}
 use Rattle.sql_select.specs.Groups.{distinct, groups}
 use Rattle.sql_select.specs.Order.{sorted_by}

@@ -1,13 +1,17 @@
-//! COUNT, SUM, MIN and MAX over the values of a group.
+//! COUNT, SUM, MIN and MAX over the rows of a group.
 
-ghost use Rattle.std.specs.Prelude.{◌≡◌, length, pos};
+ghost use Rattle.std.specs.Option.{option_map};
+ghost use Rattle.std.specs.Prelude.{◌≡◌, if◌then◌else◌, pos};
 ghost use Rattle.retro_base.specs.Gives.{Gives};
-ghost use Rattle.sql_select.specs.Aggregates.{greatest_of, least_of, sum_of, whole};
+ghost use Rattle.evaluation.specs.Bound.{seen, value_at};
+ghost use Rattle.sql_select.specs.Aggregates.{whole};
+ghost use Rattle.sql_select.specs.Bound.{best_over, better, choice, counted_over, summed_over};
 
 use crate::ordering::compare_any;
+use evaluation::{BoundExpression, JoinedRow, Stack, Worked};
 use retro_base::Refusal;
 use std::alloc::Global;
-use values::{Duplicate, Value};
+use values::Value;
 
 fn whole(number: i128) -> Result<Value, Refusal>
     ensures { result ≡ whole number }
@@ -25,48 +29,95 @@ pub(crate) fn count(rows: usize) -> Result<Value, Refusal>
     whole(rows as i128)
 }
 
-/// The sum of the numbers. In 128 bits it does not overflow on the way, whatever a list may hold.
-pub(crate) fn sum(values: &[Value]) -> Result<Value, Refusal>
-    ensures { result ≡ sum_of values.now }
+/// COUNT: how many values the expression has at the rows; all are worked out.
+pub(crate) fn count_over(
+    alloc: Global,
+    expression: &BoundExpression,
+    rows: &[JoinedRow<'_>],
+    stack: &mut Stack<Value>,
+) -> Result<Value, Refusal>
+    ensures { Gives (λ value. value) result (counted_over (value_at expression.now) rows.now) }
+{
+    for row in rows {
+        let _value = expression.worked(alloc, row, stack)?;
+    }
+    count(rows.len())
+}
+
+/// SUM: the sum of the expression's numbers at the rows. In 128 bits it does not overflow on the way, whatever the rows hold.
+pub(crate) fn sum_over(
+    alloc: Global,
+    expression: &BoundExpression,
+    rows: &[JoinedRow<'_>],
+    stack: &mut Stack<Value>,
+) -> Result<Value, Refusal>
+    ensures { Gives (λ value. value) result (summed_over (value_at expression.now) rows.now) }
 {
     let mut sum = 0i128;
-    'add: for i in 0..values.len() {
-        match &values[i] {
+    let mut has_text = false;
+    'add: for i in 0..rows.len() {
+        let value = expression.worked(alloc, &rows[i], stack)?;
+        match value.get() {
             Value::Int(number) => sum += i128::from(*number),
-            Value::Text(_) => return Err(Refusal::WrongType),
+            Value::Text(_) => has_text = true,
         }
     }
-    whole(sum)
+    if has_text {
+        Err(Refusal::WrongType)
+    } else {
+        whole(sum)
+    }
 }
 
-/// The least value: integers by number, texts by bytes.
-pub(crate) fn least(alloc: Global, values: &[Value]) -> Result<Value, Refusal>
-    ensures { Gives (λ value. value) result (least_of values.now) }
-{
-    let Some((first, others)) = values.split_first() else {
-        return Err(Refusal::WrongType);
-    };
-    let mut least = first;
-    for value in others {
-        if compare_any(value, least).is_lt() {
-            least = value;
-        }
-    }
-    Ok(least.copy(alloc)?)
+/// Which of the values of a group.
+#[derive(Clone, Copy, Debug)]
+pub(crate) enum Best {
+    Least,
+    Greatest,
 }
 
-/// The greatest value.
-pub(crate) fn greatest(alloc: Global, values: &[Value]) -> Result<Value, Refusal>
-    ensures { Gives (λ value. value) result (greatest_of values.now) }
+/// MIN or MAX: the least or the greatest value of the expression at the rows, integers by number, texts by bytes.
+pub(crate) fn best_over<'a>(
+    alloc: Global,
+    which: Best,
+    expression: &'a BoundExpression,
+    rows: &[JoinedRow<'a>],
+    stack: &mut Stack<Value>,
+) -> Result<Value, Refusal>
+    ensures { Gives (λ value. value) result (best_over (choice which) (value_at expression.now) rows.now) }
 {
-    let Some((first, others)) = values.split_first() else {
-        return Err(Refusal::WrongType);
-    };
-    let mut greatest = first;
-    for value in others {
-        if !compare_any(value, greatest).is_lt() {
-            greatest = value;
+    let mut best: Option<Worked<'a>> = None;
+    for row in rows {
+        let value = expression.worked(alloc, row, stack)?;
+        best = Some(better(which, best, value));
+    }
+    match best {
+        Some(value) => Ok(value.into_value(alloc)?),
+        None => Err(Refusal::WrongType),
+    }
+}
+
+fn better<'a>(which: Best, best: Option<Worked<'a>>, value: Worked<'a>) -> Worked<'a>
+    ensures { seen result ≡ better (choice which) (option_map seen best.entry) (seen value.entry) }
+{
+    match best {
+        None => value,
+        Some(best) => {
+            if takes_over(which, value.get(), best.get()) {
+                value
+            } else {
+                best
+            }
         }
     }
-    Ok(greatest.copy(alloc)?)
+}
+
+fn takes_over(which: Best, value: &Value, best: &Value) -> bool
+    ensures { (if result then value.now else best.now) ≡ choice which best.now value.now }
+{
+    let is_less = compare_any(value, best).is_lt();
+    match which {
+        Best::Least => is_less,
+        Best::Greatest => !is_less,
+    }
 }

@@ -1,15 +1,17 @@
 //! The joined rows of one or two tables, and those that WHERE keeps.
 
-ghost use Rattle.std.specs.Prelude.{◌≡◌, ◌++◌, ◌∷◌, [], IfOk, OnOk, map};
+ghost use Rattle.std.specs.Prelude.{◌≡◌, ◌∷◌, [], map};
 ghost use Rattle.std.specs.List.{flat_map};
 ghost use Rattle.retro_base.specs.Gives.{Gives};
+ghost use Rattle.sql_select.specs.Bound.{keeps};
 ghost use Rattle.sql_select.specs.Each.{onto};
-ghost use Rattle.sql_select.specs.Rows.{beside, holds_at, kept};
+ghost use Rattle.sql_select.specs.Rows.{beside, kept};
 
+use crate::filter::Filter;
+use evaluation::{JoinedRow, Stack};
 use retro_base::Refusal;
-use sql_tree::{Condition, Scope};
-use std::alloc::{AllocError, Global};
-use values::{Duplicate, Row, Seq, Value};
+use std::alloc::Global;
+use values::{Row, Value};
 
 /// What has a row: a row itself, or a row beside its number.
 pub trait HasRow {
@@ -31,106 +33,68 @@ impl HasRow for Row {
 }
 
 /// The rows of a table that are kept.
-pub(crate) fn keep_of_one<R: HasRow>(
+pub(crate) fn keep_of_one<'a, R: HasRow>(
     alloc: Global,
-    condition: &Option<Condition>,
-    scope: &Scope<'_>,
-    snapshot: Option<u32>,
-    rows: &[R],
-) -> Result<Vec<Row>, Refusal>
-    ensures { Gives (λ found. found.items) result (kept (holds_at scope.now snapshot condition.now) (map R.row_of rows.now)) }
+    filter: &Filter,
+    rows: &'a [R],
+) -> Result<Vec<JoinedRow<'a>>, Refusal>
+    ensures { Gives (λ found. found.items) result (kept (keeps filter.now) (map R.row_of rows.now)) }
 {
     let mut found = Vec::new(alloc);
+    let mut stack = Stack::new(alloc);
     for row in rows {
-        keep_row(
-            alloc,
-            condition,
-            scope,
-            snapshot,
-            row.row(),
-            &[],
-            &mut found,
-        )?;
+        let row = JoinedRow::of_one(row.row());
+        keep_row(filter, row, &mut stack, &mut found)?;
     }
     Ok(found)
 }
 
 /// The pairs of rows of two tables that are kept.
-pub(crate) fn keep_of_two<R: HasRow>(
+pub(crate) fn keep_of_two<'a, R: HasRow>(
     alloc: Global,
-    condition: &Option<Condition>,
-    scope: &Scope<'_>,
-    snapshot: Option<u32>,
-    firsts: &[R],
-    seconds: &[R],
-) -> Result<Vec<Row>, Refusal>
-    ensures { Gives (λ found. found.items) result (kept (holds_at scope.now snapshot condition.now) (flat_map (beside (map R.row_of seconds.now)) (map R.row_of firsts.now))) }
+    filter: &Filter,
+    firsts: &'a [R],
+    seconds: &'a [R],
+) -> Result<Vec<JoinedRow<'a>>, Refusal>
+    ensures { Gives (λ found. found.items) result (kept (keeps filter.now) (flat_map (beside (map R.row_of seconds.now)) (map R.row_of firsts.now))) }
 {
     let mut found = Vec::new(alloc);
+    let mut stack = Stack::new(alloc);
     for first in firsts {
         let first = first.row();
-        keep_pairs(
-            alloc, condition, scope, snapshot, first, seconds, &mut found,
-        )?;
+        keep_pairs(filter, first, seconds, &mut stack, &mut found)?;
     }
     Ok(found)
 }
 
 // Adds the pairs of a row with each row of the second table that are kept.
-fn keep_pairs<R: HasRow>(
-    alloc: Global,
-    condition: &Option<Condition>,
-    scope: &Scope<'_>,
-    snapshot: Option<u32>,
-    first: &[Value],
-    seconds: &[R],
-    found: &mut Vec<Row>,
+fn keep_pairs<'a, R: HasRow>(
+    filter: &Filter,
+    first: &'a [Value],
+    seconds: &'a [R],
+    stack: &mut Stack<bool>,
+    found: &mut Vec<JoinedRow<'a>>,
 ) -> Result<(), Refusal>
-    ensures { Gives (λ _. found.new.items) result (onto found.old.items (kept (holds_at scope.now snapshot condition.now) (beside (map R.row_of seconds.now) first.now))) }
+    ensures { Gives (λ _. found.new.items) result (onto found.old.items (kept (keeps filter.now) (beside (map R.row_of seconds.now) first.now))) }
 {
     for second in seconds {
-        let second = second.row();
-        keep_row(alloc, condition, scope, snapshot, first, second, found)?;
+        let row = JoinedRow::of_two(first, second.row());
+        keep_row(filter, row, stack, found)?;
     }
     Ok(())
 }
 
-// Adds the joined row of two, if it is kept.
-fn keep_row(
-    alloc: Global,
-    condition: &Option<Condition>,
-    scope: &Scope<'_>,
-    snapshot: Option<u32>,
-    first: &[Value],
-    second: &[Value],
-    found: &mut Vec<Row>,
+// Adds a row, if it is kept.
+fn keep_row<'a>(
+    filter: &Filter,
+    row: JoinedRow<'a>,
+    stack: &mut Stack<bool>,
+    found: &mut Vec<JoinedRow<'a>>,
 ) -> Result<(), Refusal>
-    ensures { Gives (λ _. found.new.items) result (onto found.old.items (kept (holds_at scope.now snapshot condition.now) ((first.now ++ second.now) ∷ []))) }
+    ensures { Gives (λ _. found.new.items) result (onto found.old.items (kept (keeps filter.now) (row.entry ∷ []))) }
 {
-    let keeps = match condition {
-        Some(condition) => condition.holds(alloc, scope, snapshot, first, second)?,
-        None => true,
-    };
-    if keeps {
-        found.push(joined(alloc, first, second)?)?;
-    }
-    Ok(())
-}
-
-fn joined(alloc: Global, first: &[Value], second: &[Value]) -> Result<Row, AllocError>
-    ensures { IfOk result (λ row. row ≡ first.now ++ second.now) }
-{
-    let mut row = Vec::with_capacity(alloc, first.len().saturating_add(second.len()))?;
-    append_copies(alloc, first, &mut row)?;
-    append_copies(alloc, second, &mut row)?;
-    Ok(Seq::from(row))
-}
-
-fn append_copies(alloc: Global, values: &[Value], row: &mut Vec<Value>) -> Result<(), AllocError>
-    ensures { OnOk result (row.new.items ≡ row.old.items ++ values.now) }
-{
-    for value in values {
-        row.push(value.copy(alloc)?)?;
+    if filter.keeps(&row, stack)? {
+        found.push(row)?;
     }
     Ok(())
 }

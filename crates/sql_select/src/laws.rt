@@ -1,6 +1,5 @@
 //! What follows from the meaning of a select.
 
-ghost use Rattle.sql_select.specs.Checked.{CheckedSelectsAnswer};
 ghost use Rattle.sql_select.specs.Laws.{DistinctLeavesOne, GroupsAreNotEmpty, LimitGivesAFront, MinIsLeast, OrderKeepsRows, StarGivesRows};
 
 /// ORDER BY leaves the same rows, none behind one that goes after it, and those that tie as they stood.
@@ -31,10 +30,4 @@ pub fn min_is_least()
 /// `SELECT *` without WHERE, DISTINCT, ORDER BY and LIMIT gives the rows of its table, or all pairs of rows of its two.
 pub fn star_gives_rows()
     ensures { StarGivesRows }
-{}
-
-/// Where its names are known and its types are right, a select has an answer whose rows fit its columns, unless a number leaves
-/// i64.
-pub fn checked_selects_answer()
-    ensures { CheckedSelectsAnswer }
 {}

@@ -3,6 +3,7 @@
 
 mod aggregates;
 mod answer;
+mod filter;
 mod grouping;
 mod joining;
 mod laws;
@@ -14,11 +15,12 @@ mod row_key;
 mod selecting;
 
 pub use answer::Answer;
+pub use filter::Filter;
 pub use grouping::{KeyedRow, groups};
 pub use joining::HasRow;
 pub use laws::{
-    checked_selects_answer, distinct_leaves_one, groups_are_not_empty, limit_gives_a_front,
-    min_is_least, order_keeps_rows, star_gives_rows,
+    distinct_leaves_one, groups_are_not_empty, limit_gives_a_front, min_is_least, order_keeps_rows,
+    star_gives_rows,
 };
 pub use row_key::RowKey;
 pub use selecting::select;

@@ -26,12 +26,12 @@ pub struct SortKey {
     pub direction: Direction,
 }
 
-fn value_at(place: KeyPlace, row: &OutputRow) -> Option<&Value>
+fn value_at<'a>(place: KeyPlace, row: &'a OutputRow<'_>) -> Option<&'a Value>
     ensures { option_copied result ≡ value_at place row.now }
 {
     match place {
         KeyPlace::Output(place) => row.outputs.as_slice().get(place),
-        KeyPlace::Column(place) => row.origin.as_slice().get(place),
+        KeyPlace::Column(place) => row.origin.get(place),
     }
 }
 
@@ -48,7 +48,7 @@ pub(crate) fn compare_any(a: &Value, b: &Value) -> Ordering
 }
 
 // A value that is not there goes first.
-fn compare_at(place: KeyPlace, a: &OutputRow, b: &OutputRow) -> Ordering
+fn compare_at(place: KeyPlace, a: &OutputRow<'_>, b: &OutputRow<'_>) -> Ordering
     ensures { result ≡ place_cmp place a.now b.now }
 {
     match (value_at(place, a), value_at(place, b)) {
@@ -59,7 +59,7 @@ fn compare_at(place: KeyPlace, a: &OutputRow, b: &OutputRow) -> Ordering
     }
 }
 
-fn compare_by(key: SortKey, a: &OutputRow, b: &OutputRow) -> Ordering
+fn compare_by(key: SortKey, a: &OutputRow<'_>, b: &OutputRow<'_>) -> Ordering
     ensures { result ≡ key_cmp key a.now b.now }
 {
     match key.direction {
@@ -68,7 +68,7 @@ fn compare_by(key: SortKey, a: &OutputRow, b: &OutputRow) -> Ordering
     }
 }
 
-fn compare_by_all(keys: &[SortKey], a: &OutputRow, b: &OutputRow) -> Ordering
+fn compare_by_all(keys: &[SortKey], a: &OutputRow<'_>, b: &OutputRow<'_>) -> Ordering
     ensures { result ≡ keys_cmp keys.now a.now b.now }
 {
     for key in keys {
@@ -81,7 +81,7 @@ fn compare_by_all(keys: &[SortKey], a: &OutputRow, b: &OutputRow) -> Ordering
 }
 
 /// Puts the rows in the order of the keys; ties stay as they were.
-pub(crate) fn sort(rows: &mut Vec<OutputRow>, keys: &[SortKey]) -> Result<(), Refusal>
+pub(crate) fn sort(rows: &mut Vec<OutputRow<'_>>, keys: &[SortKey]) -> Result<(), Refusal>
     ensures sorted { OnOk result (rows.new.items ≡ sorted_by keys.now rows.old.items) }
     ensures memory { IfErr result (λ why. why ≡ OutOfMemory) }
 {

@@ -1,125 +1,183 @@
 //! The outputs of a select over the rows of a group.
 
-ghost use Rattle.std.specs.Prelude.{◌≡◌, IfOk};
+ghost use Rattle.std.specs.Prelude.{◌≡◌, IfOk, map};
 ghost use Rattle.retro_base.specs.Gives.{Gives};
-ghost use Rattle.sql_select.specs.Outputs.{aggregate_over, first_row, is_there_over_none, output_over, outputs_over, values_over};
+ghost use Rattle.sql_tree.specs.declared.select.Output.{Output as OutputRecord};
+ghost use Rattle.evaluation.specs.Bound.{value_at};
+ghost use Rattle.sql_select.specs.Bound.{list_over, over};
+ghost use Rattle.sql_select.specs.Each.{each};
+ghost use Rattle.sql_select.specs.Outputs.{aggregate_over, first_row, is_there_over_none, output_over, outputs_over};
 
-use crate::aggregates::{count, greatest, least, sum};
+use crate::aggregates::{Best, best_over, count, count_over, sum_over};
+use evaluation::{BoundExpression, JoinedRow, Stack};
 use retro_base::Refusal;
-use sql_tree::{Aggregate, Expression, Output, OutputValue, Scope, SelectList};
-use std::alloc::Global;
-use values::{Duplicate, Row, Seq, Value};
+use sql_tree::{Aggregate, Output, OutputValue, Scope, SelectList};
+use std::alloc::{AllocError, Global};
+use values::{Row, Seq, Value};
 
-/// The outputs over the rows of a group.
-pub(crate) fn outputs_over(
-    alloc: Global,
-    scope: &Scope<'_>,
-    snapshot: Option<u32>,
-    list: &SelectList,
-    rows: &[Row],
-) -> Result<Row, Refusal>
-    ensures { Gives (λ row. row) result (outputs_over scope.now snapshot list.now rows.now) }
-{
-    match list {
-        SelectList::All => match rows.first() {
-            Some(row) => Ok(row.copy(alloc)?),
-            None => Ok(Seq::new(alloc)),
-        },
-        SelectList::Outputs(outputs) => {
-            named_outputs(alloc, scope, snapshot, outputs.as_slice(), rows)
+/// An output whose names are bound.
+#[derive(Debug, Drop)]
+pub(crate) enum BoundOutput {
+    /// The value at the group's first row.
+    Value(BoundExpression),
+    CountRows,
+    Count(BoundExpression),
+    Sum(BoundExpression),
+    Extreme(Best, BoundExpression),
+}
+
+impl BoundOutput {
+    fn bind(
+        alloc: Global,
+        scope: &Scope<'_>,
+        snapshot: Option<u32>,
+        output: &OutputValue,
+    ) -> Result<BoundOutput, AllocError>
+        ensures { IfOk result (λ bound. over bound ≡ (λ rows. output_over scope.now snapshot rows output.now)) }
+    {
+        match output {
+            OutputValue::Expression(of) => {
+                let of = BoundExpression::bind(alloc, scope, snapshot, of)?;
+                Ok(BoundOutput::Value(of))
+            }
+            OutputValue::Aggregate(of) => bind_aggregate(alloc, scope, snapshot, of),
         }
     }
 }
 
-fn named_outputs(
+fn bind_aggregate(
+    alloc: Global,
+    scope: &Scope<'_>,
+    snapshot: Option<u32>,
+    aggregate: &Aggregate,
+) -> Result<BoundOutput, AllocError>
+    ensures { IfOk result (λ bound. over bound ≡ (λ rows. aggregate_over scope.now snapshot rows aggregate.now)) }
+{
+    match aggregate {
+        Aggregate::CountRows => Ok(BoundOutput::CountRows),
+        Aggregate::Count(of) => {
+            let of = BoundExpression::bind(alloc, scope, snapshot, of)?;
+            Ok(BoundOutput::Count(of))
+        }
+        Aggregate::Sum(of) => {
+            let of = BoundExpression::bind(alloc, scope, snapshot, of)?;
+            Ok(BoundOutput::Sum(of))
+        }
+        Aggregate::Min(of) => {
+            let of = BoundExpression::bind(alloc, scope, snapshot, of)?;
+            Ok(BoundOutput::Extreme(Best::Least, of))
+        }
+        Aggregate::Max(of) => {
+            let of = BoundExpression::bind(alloc, scope, snapshot, of)?;
+            Ok(BoundOutput::Extreme(Best::Greatest, of))
+        }
+    }
+}
+
+/// What a select gives for each group of rows, with its names bound.
+#[derive(Debug, Drop)]
+pub(crate) enum BoundList {
+    All,
+    Outputs(Seq<BoundOutput>),
+}
+
+impl BoundList {
+    /// The list over the columns of a scope; `snapshot` is the number of `current_snapshot()`.
+    pub(crate) fn bind(
+        alloc: Global,
+        scope: &Scope<'_>,
+        snapshot: Option<u32>,
+        list: &SelectList,
+    ) -> Result<BoundList, AllocError>
+        ensures { IfOk result (λ bound. list_over bound ≡ (λ rows. outputs_over scope.now snapshot list.now rows)) }
+    {
+        match list {
+            SelectList::All => Ok(BoundList::All),
+            SelectList::Outputs(outputs) => {
+                let bound = bind_outputs(alloc, scope, snapshot, outputs.as_slice())?;
+                Ok(BoundList::Outputs(bound))
+            }
+        }
+    }
+
+    /// The outputs over the rows of a group.
+    pub(crate) fn over(
+        &self,
+        alloc: Global,
+        rows: &[JoinedRow<'_>],
+        stack: &mut Stack<Value>,
+    ) -> Result<Row, Refusal>
+        ensures { Gives (λ row. row) result (list_over self.now rows.now) }
+    {
+        match self {
+            BoundList::All => match rows.first() {
+                Some(row) => Ok(row.to_row(alloc)?),
+                None => Ok(Seq::new(alloc)),
+            },
+            BoundList::Outputs(outputs) => outputs_over(alloc, outputs.as_slice(), rows, stack),
+        }
+    }
+}
+
+fn bind_outputs(
     alloc: Global,
     scope: &Scope<'_>,
     snapshot: Option<u32>,
     outputs: &[Output],
-    rows: &[Row],
+) -> Result<Seq<BoundOutput>, AllocError>
+    ensures { IfOk result (λ bound. map over bound ≡ map (λ (output : OutputRecord) rows. output_over scope.now snapshot rows output.value) outputs.now) }
+{
+    let mut bound = Vec::with_capacity(alloc, outputs.len())?;
+    for output in outputs {
+        bound.push(BoundOutput::bind(alloc, scope, snapshot, &output.value)?)?;
+    }
+    Ok(Seq::from(bound))
+}
+
+fn outputs_over(
+    alloc: Global,
+    outputs: &[BoundOutput],
+    rows: &[JoinedRow<'_>],
+    stack: &mut Stack<Value>,
 ) -> Result<Row, Refusal>
-    ensures { Gives (λ row. row) result (outputs_over scope.now snapshot (SelectList.Outputs outputs.now) rows.now) }
+    ensures { Gives (λ row. row) result (each (λ output. over output rows.now) outputs.now) }
 {
     let mut values = Vec::with_capacity(alloc, outputs.len())?;
     for output in outputs {
-        values.push(output_over(alloc, scope, snapshot, &output.value, rows)?)?;
+        values.push(output_over(alloc, output, rows, stack)?)?;
     }
     Ok(Seq::from(values))
 }
 
 fn output_over(
     alloc: Global,
-    scope: &Scope<'_>,
-    snapshot: Option<u32>,
-    output: &OutputValue,
-    rows: &[Row],
+    output: &BoundOutput,
+    rows: &[JoinedRow<'_>],
+    stack: &mut Stack<Value>,
 ) -> Result<Value, Refusal>
-    ensures { Gives (λ value. value) result (output_over scope.now snapshot rows.now output.now) }
+    ensures { Gives (λ value. value) result (over output.now rows.now) }
 {
     match output {
-        OutputValue::Expression(expression) => {
-            expression.value(alloc, scope, snapshot, first_values(rows), &[])
-        }
-        OutputValue::Aggregate(aggregate) => {
-            aggregate_over(alloc, scope, snapshot, aggregate, rows)
-        }
+        BoundOutput::Value(of) => value_at_first(alloc, of, rows, stack),
+        BoundOutput::CountRows => count(rows.len()),
+        BoundOutput::Count(of) => count_over(alloc, of, rows, stack),
+        BoundOutput::Sum(of) => sum_over(alloc, of, rows, stack),
+        BoundOutput::Extreme(best, of) => best_over(alloc, *best, of, rows, stack),
     }
 }
 
-fn first_values(rows: &[Row]) -> &[Value]
-    ensures { result.now ≡ first_row rows.now }
+fn value_at_first(
+    alloc: Global,
+    expression: &BoundExpression,
+    rows: &[JoinedRow<'_>],
+    stack: &mut Stack<Value>,
+) -> Result<Value, Refusal>
+    ensures { Gives (λ value. value) result (value_at expression.now (first_row rows.now)) }
 {
     match rows.first() {
-        Some(row) => row.as_slice(),
-        None => &[],
+        Some(row) => expression.value(alloc, row, stack),
+        None => expression.value(alloc, &JoinedRow::empty(), stack),
     }
-}
-
-fn aggregate_over(
-    alloc: Global,
-    scope: &Scope<'_>,
-    snapshot: Option<u32>,
-    aggregate: &Aggregate,
-    rows: &[Row],
-) -> Result<Value, Refusal>
-    ensures { Gives (λ value. value) result (aggregate_over scope.now snapshot rows.now aggregate.now) }
-{
-    match aggregate {
-        Aggregate::CountRows => count(rows.len()),
-        Aggregate::Count(expression) => {
-            let values = values_over(alloc, scope, snapshot, expression, rows)?;
-            count(values.len())
-        }
-        Aggregate::Sum(expression) => {
-            let values = values_over(alloc, scope, snapshot, expression, rows)?;
-            sum(&values)
-        }
-        Aggregate::Min(expression) => {
-            let values = values_over(alloc, scope, snapshot, expression, rows)?;
-            least(alloc, &values)
-        }
-        Aggregate::Max(expression) => {
-            let values = values_over(alloc, scope, snapshot, expression, rows)?;
-            greatest(alloc, &values)
-        }
-    }
-}
-
-// The values of an expression at the rows of a group.
-fn values_over(
-    alloc: Global,
-    scope: &Scope<'_>,
-    snapshot: Option<u32>,
-    expression: &Expression,
-    rows: &[Row],
-) -> Result<Vec<Value>, Refusal>
-    ensures { Gives (λ values. values.items) result (values_over scope.now snapshot rows.now expression.now) }
-{
-    let mut values = Vec::with_capacity(alloc, rows.len())?;
-    for row in rows {
-        values.push(expression.value(alloc, scope, snapshot, row.as_slice(), &[])?)?;
-    }
-    Ok(values)
 }
 
 /// Whether the output has a value over no rows: COUNT, SUM, a literal and `current_snapshot()` have one.

@@ -1,7 +1,7 @@
 //! Rows as keys of sets.
 
 ghost use Rattle.std.specs.Prelude.{◌≡◌, fold};
-ghost use Rattle.sql_select.specs.Same.{same_row, same_value, value_writes};
+ghost use Rattle.sql_select.specs.Same.{row_writes, same_row, same_value, value_writes};
 
 use std::hash::{Hash, Hasher};
 use std::marker::Model;
@@ -49,7 +49,8 @@ fn same_value(a: &Value, b: &Value) -> bool
     }
 }
 
-fn same_row(a: &[Value], b: &[Value]) -> bool
+/// Whether two rows have the same values.
+pub(crate) fn same_row(a: &[Value], b: &[Value]) -> bool
     ensures { result ≡ same_row a.now b.now }
 {
     let mut left = a;
@@ -93,9 +94,16 @@ impl Hash for RowKey {
     ghost respects_eq = { same_rows_feed_alike };
 
     fn hash<H: Hasher>(&self, state: &mut H) {
-        for value in self.values() {
-            feed(value, state);
-        }
+        feed_row(self.values(), state);
+    }
+}
+
+/// Feeds a row to a hasher: its values in order.
+pub(crate) fn feed_row<H: Hasher>(row: &[Value], state: &mut H)
+    ensures { state.new ≡ fold H.write state.old (row_writes row.now) }
+{
+    for value in row {
+        feed(value, state);
     }
 }
 

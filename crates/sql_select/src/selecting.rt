@@ -9,14 +9,15 @@ ghost use Rattle.sql_select.specs.Rows.{holds_at, joined_rows, kept};
 ghost use Rattle.sql_select.specs.Select.{answer, finished, key_place, limited, output_place, outputs_of, sort_key};
 
 use crate::answer::Answer;
+use crate::filter::Filter;
 use crate::grouping::distinct;
 use crate::joining::{HasRow, keep_of_one, keep_of_two};
 use crate::ordering::{KeyPlace, SortKey, sort};
 use crate::output_row::OutputRow;
 use crate::output_rows::output_rows;
+use evaluation::JoinedRow;
 use retro_base::Refusal;
-use sql_check::is_grouped;
-use sql_tree::{Column, ColumnName, OrderKey, Scope, Select, column_place};
+use sql_tree::{Column, ColumnName, Condition, OrderKey, Scope, Select, column_place};
 use std::alloc::Global;
 use values::{Row, Seq};
 
@@ -35,16 +36,29 @@ pub fn select<R: HasRow>(
 ) -> Result<Answer, Refusal>
     ensures { Gives (λ answer. answer) result (answer select.now scope.now columns snapshot (map R.row_of firsts.now) (option_map (map R.row_of) (option_copied seconds.entry))) }
 {
-    let rows = match seconds {
-        None => keep_of_one(alloc, &select.condition, scope, snapshot, firsts)?,
-        Some(seconds) => {
-            keep_of_two(alloc, &select.condition, scope, snapshot, firsts, seconds)?
-        }
-    };
+    let rows = kept_rows(alloc, &select.condition, scope, snapshot, firsts, seconds)?;
     let found = output_rows(alloc, scope, snapshot, select, rows)?;
     let keys = sort_keys(alloc, select, scope, columns.as_slice())?;
     let rows = finish(alloc, select, &keys, found)?;
     Ok(Answer { columns, rows })
+}
+
+// The joined rows that WHERE keeps.
+fn kept_rows<'a, R: HasRow>(
+    alloc: Global,
+    condition: &Option<Condition>,
+    scope: &Scope<'_>,
+    snapshot: Option<u32>,
+    firsts: &'a [R],
+    seconds: Option<&'a [R]>,
+) -> Result<Vec<JoinedRow<'a>>, Refusal>
+    ensures { Gives (λ found. found.items) result (kept (holds_at scope.now snapshot condition.now) (joined_rows (map R.row_of firsts.now) (option_map (map R.row_of) (option_copied seconds.entry)))) }
+{
+    let filter = Filter::bind(alloc, scope, snapshot, condition)?;
+    match seconds {
+        None => keep_of_one(alloc, &filter, firsts),
+        Some(seconds) => keep_of_two(alloc, &filter, firsts, seconds),
+    }
 }
 
 fn sort_keys(
@@ -70,7 +84,7 @@ fn sort_key(
 ) -> Result<SortKey, Refusal>
     ensures { result ≡ sort_key select.now scope.now columns.now key.now }
 {
-    let of_rows = !(is_grouped(select) || select.distinct);
+    let of_rows = !(select.is_grouped() || select.distinct);
     let output = output_place(columns, &key.column);
     let place = key_place(of_rows, output, scope.place(&key.column))?;
     let direction = key.direction;
@@ -105,9 +119,9 @@ fn finish(
     alloc: Global,
     select: &Select,
     keys: &[SortKey],
-    rows: Vec<OutputRow>,
+    rows: Vec<OutputRow<'_>>,
 ) -> Result<Seq<Row>, Refusal>
-    ensures rows { IfOk result (λ found. found ≡ finished select.now keys.now rows.items) }
+    ensures rows { IfOk result (λ found. found ≡ finished select.now keys.now rows.entry.items) }
     ensures memory { IfErr result (λ why. why ≡ OutOfMemory) }
 {
     let mut rows = if select.distinct {
@@ -122,8 +136,8 @@ fn finish(
     outputs_of(alloc, rows)
 }
 
-fn outputs_of(alloc: Global, rows: Vec<OutputRow>) -> Result<Seq<Row>, Refusal>
-    ensures rows { IfOk result (λ found. found ≡ map outputs_of rows.items) }
+fn outputs_of(alloc: Global, rows: Vec<OutputRow<'_>>) -> Result<Seq<Row>, Refusal>
+    ensures rows { IfOk result (λ found. found ≡ map outputs_of rows.entry.items) }
     ensures memory { IfErr result (λ why. why ≡ OutOfMemory) }
 {
     let mut found = Vec::with_capacity(alloc, rows.len())?;
