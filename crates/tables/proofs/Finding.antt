@@ -12,8 +12,10 @@ use Rattle.retro_base.specs.declared.refusal.Refusal.{Refusal}
 use Rattle.retro_base.specs.declared.refusal.Refusal.TheVariants.{UnknownName}
 use Rattle.sql_tree.specs.declared.schema.TableSchema.{TableSchema}
 use Rattle.tables.specs.declared.contents.Contents.{Contents}
+use Rattle.tables.specs.declared.fates.Fate.{Fate}
 use Rattle.tables.specs.declared.reply.Reply.{Reply}
 use Rattle.tables.specs.declared.reply.Reply.TheVariants.{Count}
+use Rattle.tables.specs.Fates.{contents_after}
 use Rattle.tables.specs.Meaning.{changed, known}
 use Rattle.tables.specs.Tables.{Found, IsPlace, IsTable, IsTables, Tables, place_named, table_named, with_contents, with_table}
 
@@ -109,3 +111,21 @@ reads_found name tables place table contents is r =
 pub there_any : (tables : Tables) (place : ℕ) (table : TableSchema) (contents after : Contents) → place < length tables.schema.tables → ReadsAt tables place table contents → IsTable table after
     → (s : TableSchema) → IsTable (slice_index_or tables.schema.tables place s) after
 there_any tables place table contents after lt r is s = subst (λ (t : TableSchema). IsTable t after) (sym (at_any tables.schema.tables place table s lt r.table_is)) is
+
+-- the contents at a place, whose rows are done to what becomes of each
+module _ (tables : Tables) (place : ℕ) (table : TableSchema) (contents : Contents) (fates : List Fate) (lt : place < length tables.contents) (r : ReadsAt tables place table contents) where
+  contents_any : (c : Contents) → contents ≡ slice_index_or tables.contents place c
+  contents_any c = sym (at_any tables.contents place contents c lt r.contents_is)
+
+  pub there_each : length fates ≡ length contents.rows → (c : Contents) → length fates ≡ length (slice_index_or tables.contents place c).rows
+  there_each e c = e ∙ ap (λ (x : Contents). length x.rows) (contents_any c)
+
+  pub there_after : place < length tables.schema.tables → IsTable table (contents_after fates contents) → (s : TableSchema) (c : Contents) → IsTable (slice_index_or tables.schema.tables place s) (contents_after fates (slice_index_or tables.contents place c))
+  there_after inside is s c =
+      subst (λ (x : Contents). IsTable (slice_index_or tables.schema.tables place s) (contents_after fates x)) (contents_any c) (there_any tables place table contents (contents_after fates contents) inside r is s)
+
+  pub changed_there : (name : List ℕ) (now : Tables) (change : TableSchema → Contents → Result (Contents × ℕ) Refusal) (count : ℕ) → IsPlace name tables place → change table contents ≡ Ok (contents_after fates contents, count)
+      → ((c : Contents) → now ≡ with_contents place (contents_after fates (slice_index_or tables.contents place c)) tables) → (known (table_named name tables) >>= (λ (f : Found). changed f tables (change f.schema f.contents))) ≡ Ok (now, Count count)
+  changed_there name now change count is made gives =
+      changed_ok name tables change (record { place = place; schema = table; contents = contents }) (contents_after fates contents) count (reads_found name tables place table contents is r) made
+      ∙ ap (λ (t : Tables). Ok (t, Count count)) (ap (λ (x : Contents). with_contents place (contents_after fates x) tables) (contents_any contents) ∙ sym (gives contents))

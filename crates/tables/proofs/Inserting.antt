@@ -14,7 +14,8 @@ use Rattle.sql_tree.specs.declared.statement.Statement.TheVariants.{Insert}
 use Rattle.tables.specs.declared.contents.Contents.{Contents}
 use Rattle.tables.specs.declared.reply.Reply.TheVariants.{Count}
 use Rattle.tables.specs.Meaning.{inserted, performed}
-use Rattle.tables.specs.Tables.{AllFit, Found, IsPlace, IsTable, IsTables, Tables, with_contents}
+use Rattle.sql_tree.specs.Rows.{AllFit}
+use Rattle.tables.specs.Tables.{Found, IsPlace, IsTable, IsTables, Tables, with_contents}
 use Rattle.tables.proofs.Facts.{insert_checked}
 use Rattle.tables.proofs.Finding.{changed_err, changed_ok, put_sound, table_there}
 use Rattle.tables.proofs.Sound.{inserted_sound, short_rows}

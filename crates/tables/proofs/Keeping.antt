@@ -19,7 +19,7 @@ use Rattle.sql_tree.specs.declared.statement.Update.{Update as UpdateRecord}
 use Rattle.sql_check.specs.Check.{checked}
 use Rattle.sql_check.proofs.Truths.{or_none}
 use Rattle.sql_select.specs.declared.answer.Answer.{Answer}
-use Rattle.sql_select.proofs.CheckedSelects.{answers_fit}
+use Rattle.tables.proofs.CheckedSelects.{answers_fit}
 use Rattle.tables.specs.declared.contents.Contents.{Contents}
 use Rattle.tables.specs.declared.contents.NumberedRow.{NumberedRow}
 use Rattle.tables.specs.declared.reply.Reply.{Reply}
@@ -27,7 +27,8 @@ use Rattle.tables.specs.declared.reply.Reply.TheVariants.{Plain, Count, Rows}
 use Rattle.tables.specs.Laws.{GoneStaysGone, IsReply, TablesStaySound, UpdatedKeepPlaces, has_number, numbers_of, table_of}
 use Rattle.tables.specs.Meaning.{answer_of, answer_over, changed, check, check_lengths, inserted, known, performed, remaining, remaining_row, reworked, second_named, updated, updated_row}
 use Rattle.tables.specs.Rows.{numbered, rows_of}
-use Rattle.tables.specs.Tables.{AllFit, Found, IsTable, IsTables, Tables, table_named, with_contents, with_index, with_table}
+use Rattle.sql_tree.specs.Rows.{AllFit}
+use Rattle.tables.specs.Tables.{Found, IsTable, IsTables, Tables, table_named, with_contents, with_index, with_table}
 use Rattle.tables.proofs.Facts.{insert_checked, is_found, join_checked, select_checked, update_checked}
 use Rattle.tables.proofs.Following.{IsChange, changed_found, is_change, kept_found, known_some, other_stays, was_performed}
 use Rattle.tables.proofs.Places.{zip_append, zip_at, zip_set}

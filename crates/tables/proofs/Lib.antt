@@ -1,4 +1,6 @@
 pub mod Answering
+pub mod BoundAssigning
+pub mod CheckedSelects
 pub mod Facts
 pub mod Finding
 pub mod Following
@@ -7,4 +9,5 @@ pub mod Keeping
 pub mod Numbering
 pub mod Places
 pub mod Reworking
+pub mod Rewriting
 pub mod Sound

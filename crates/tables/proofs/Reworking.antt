@@ -6,10 +6,10 @@ use Rattle.tables.specs.Meaning.{reworked}
 use Rattle.tables.specs.Reworked.{behind}
 use Rattle.tables.proofs.Sound.{ok_same}
 
-abbrev Made : Type 0
+abbrev pub Made : Type 0
 Made = List NumberedRow × ℕ
 
-joined_pair : (rows others : List NumberedRow) (m n : ℕ) → rows ≡ others → m ≡ n → ◌≡◌ {A = Made} (rows, m) (others, n)
+pub joined_pair : (rows others : List NumberedRow) (m n : ℕ) → rows ≡ others → m ≡ n → ◌≡◌ {A = Made} (rows, m) (others, n)
 joined_pair rows others m n e f = rw (e, f) refl
 
 module _ (step : NumberedRow → Result Made Refusal) where

@@ -35,7 +35,8 @@ use Rattle.tables.specs.declared.contents.NumberedRow.{NumberedRow}
 use Rattle.tables.specs.Meaning.{assigned, check, check_lengths, inserted, known, remaining, remaining_row, reworked, set_row, updated, updated_row}
 use Rattle.tables.specs.Rows.{numbered, rows_of}
 use Rattle.values.specs.Row.{row_bytes}
-use Rattle.tables.specs.Tables.{AllFit, AllShort, IsTable, NumbersRise}
+use Rattle.sql_tree.specs.Rows.{AllFit}
+use Rattle.tables.specs.Tables.{AllShort, IsTable, NumbersRise}
 
 -- what a step that goes on went on with
 pub bound : {X Y : Type 0} (a : Result X Refusal) (f : X → Result Y Refusal) (b : Y) → a >>= f ≡ Ok b → (x : X) × (a ≡ Ok x) × (f x ≡ Ok b)

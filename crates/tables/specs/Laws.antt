@@ -13,7 +13,8 @@ use Rattle.tables.specs.declared.contents.NumberedRow.{NumberedRow}
 use Rattle.tables.specs.declared.reply.Reply.{Reply}
 use Rattle.tables.specs.declared.reply.Reply.TheVariants.{Plain, Count, Rows}
 use Rattle.tables.specs.Meaning.{does}
-use Rattle.tables.specs.Tables.{AllFit, Found, IsTables, Tables, table_named}
+use Rattle.sql_tree.specs.Rows.{AllFit}
+use Rattle.tables.specs.Tables.{Found, IsTables, Tables, table_named}
 
 -- the name of the table that a statement is about, or of the first one of a select
 abbrev pub table_of : Statement → List ℕ

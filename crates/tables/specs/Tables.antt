@@ -9,7 +9,7 @@ use Rattle.sql_tree.specs.declared.schema.IndexSchema.{IndexSchema}
 use Rattle.sql_tree.specs.declared.schema.Schema.{Schema}
 use Rattle.sql_tree.specs.declared.schema.TableSchema.{TableSchema}
 use Rattle.sql_tree.specs.declared.statement.Column.{Column}
-use Rattle.sql_tree.specs.Rows.{fits}
+use Rattle.sql_tree.specs.Rows.{AllFit}
 use Rattle.tables.specs.declared.contents.Contents.{Contents}
 use Rattle.tables.specs.declared.contents.NumberedRow.{NumberedRow}
 use Rattle.tables.specs.Rows.{rows_of}
@@ -61,10 +61,6 @@ with_contents place contents tables = record tables { contents = slice_set table
 abbrev pub NumbersRise : ℕ → List NumberedRow → ℕ → Type 0
 NumbersRise low [] high = low ≤ high
 NumbersRise low (row ∷ rows) high = (low ≤ row.number) × NumbersRise (row.number + 1) rows high
-
--- each row has one value of each column's kind
-abbrev pub AllFit : List Column → List (List Value) → Type 0
-AllFit columns rows = AllByRecursion (λ (row : List Value). IsTrue (fits columns row)) rows
 
 -- each encoded row takes at most 900 bytes
 abbrev pub AllShort : List (List Value) → Type 0

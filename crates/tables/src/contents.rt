@@ -4,13 +4,16 @@ ghost use Rattle.std.specs.Prelude.{◌≡◌, ◌≤◌, ◌+◌, ◌++◌, ◌
 ghost use Rattle.std.specs.List.{AllByRecursion};
 ghost use Rattle.retro_base.specs.Gives.{Gives};
 ghost use Rattle.values.specs.declared.value.Value.{Value as ValueOf};
+ghost use Rattle.tables.specs.Fates.{contents_after};
 ghost use Rattle.tables.specs.Meaning.{inserted};
 ghost use Rattle.tables.specs.Rows.{numbered};
 
+use crate::fates::{Fate, rewrite};
 use crate::lengths::check_tuples;
 use retro_base::Refusal;
 use sql_select::HasRow;
 use std::alloc::{AllocError, Global};
+use std::mem;
 use values::{Duplicate, Row, Seq, Value};
 
 /// A row of a table and its number.
@@ -76,6 +79,16 @@ impl Contents {
         check_tuples(tuples)?;
         self.add(alloc, tuples)?;
         Ok(())
+    }
+
+    /// Does to each row what becomes of it.
+    pub(crate) fn rewrite(&mut self, alloc: Global, fates: Seq<Fate>)
+        requires { length fates ≡ length self.old.rows }
+        ensures { self.new ≡ contents_after fates self.old }
+    {
+        let mut rows = Vec::from(mem::replace(&mut self.rows, Seq::new(alloc)));
+        rewrite(&mut rows, fates);
+        self.rows = Seq::from(rows);
     }
 
     fn add(&mut self, alloc: Global, tuples: &[Row]) -> Result<(), AllocError>

@@ -1,5 +1,6 @@
 //! What follows from the meaning of statements.
 
+ghost use Rattle.tables.specs.Checked.{CheckedSelectsAnswer};
 ghost use Rattle.tables.specs.Laws.{CreatedIsEmpty, GoneStaysGone, InsertedAreLast, OthersStay, TablesStaySound, UpdatedKeepPlaces};
 
 /// After `CREATE TABLE`, `SELECT *` gives the new table's columns, and no rows.
@@ -30,4 +31,10 @@ pub fn updated_keep_places()
 /// A row number that was given and that no row has any more is never given again.
 pub fn gone_stays_gone()
     ensures { GoneStaysGone }
+{}
+
+/// Where its names are known and its types are right, a select has an answer whose rows fit its columns, unless a number
+/// leaves i64.
+pub fn checked_selects_answer()
+    ensures { CheckedSelectsAnswer }
 {}

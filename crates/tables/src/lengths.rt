@@ -3,11 +3,11 @@
 ghost use Rattle.std.specs.Prelude.{◌≡◌, ◌≤◌, ◌∷◌, [], List, length};
 ghost use Rattle.std.specs.List.{AllByRecursion};
 ghost use Rattle.values.specs.declared.value.Value.{Value as ValueOf};
+ghost use Rattle.tables.specs.Fates.{becoming};
 ghost use Rattle.tables.specs.Meaning.{check_lengths};
-ghost use Rattle.tables.specs.Rows.{rows_of};
 ghost use Rattle.values.specs.Row.{value_bytes, row_bytes};
 
-use crate::contents::NumberedRow;
+use crate::fates::Fate;
 use retro_base::{ROW_BYTES, Refusal};
 use values::{Row, Value, row_bytes};
 
@@ -34,13 +34,15 @@ pub fn check_tuples(rows: &[Row]) -> Result<(), Refusal>
     Ok(())
 }
 
-/// The same of numbered rows.
-pub fn check_rows(rows: &[NumberedRow]) -> Result<(), Refusal>
-    requires { AllByRecursion (λ (row : List ValueOf). length row ≤ 16) (rows_of rows.now) }
-    ensures { result ≡ check_lengths (rows_of rows.now) }
+/// The same of what rows become.
+pub(crate) fn check_becoming(fates: &[Fate]) -> Result<(), Refusal>
+    requires { AllByRecursion (λ (row : List ValueOf). length row ≤ 16) (becoming fates.now) }
+    ensures { result ≡ check_lengths (becoming fates.now) }
 {
-    for row in rows {
-        check_length(row.row.as_slice())?;
+    for fate in fates {
+        if let Fate::Becomes(row) = fate {
+            check_length(row.as_slice())?;
+        }
     }
     Ok(())
 }

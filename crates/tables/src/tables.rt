@@ -11,11 +11,13 @@ ghost use Rattle.tables.specs.declared.contents.Contents.{Contents as ContentsOf
 ghost use Rattle.sql_check.specs.Outputs.{answer_columns};
 ghost use Rattle.sql_select.specs.Select.{answer};
 ghost use Rattle.tables.specs.Rows.{rows_of};
+ghost use Rattle.tables.specs.Fates.{contents_after};
 ghost use Rattle.tables.specs.Meaning.{answer_of, inserted, performed};
 ghost use Rattle.tables.specs.Tables.{IsPlace, IsTable, IsTables, no_tables, place_named, table_named, with_contents};
 
 use crate::changes::{remaining, updated};
 use crate::contents::Contents;
+use crate::fates::Fate;
 use crate::reply::Reply;
 use retro_base::Refusal;
 use sql_check::answer_columns;
@@ -153,9 +155,9 @@ impl Tables {
     {
         let place = self.place(&update.table)?;
         let table = &self.schema.tables.as_slice()[place];
-        let (contents, count) = updated(alloc, table, snapshot, update, &self.contents[place])?;
-        self.put(place, contents);
-        Ok(Reply::Count(count))
+        let fates = updated(alloc, table, snapshot, update, &self.contents[place])?;
+        self.rewrite(alloc, place, fates.each);
+        Ok(Reply::Count(fates.count))
     }
 
     pub(crate) fn delete(
@@ -169,18 +171,22 @@ impl Tables {
     {
         let place = self.place(&delete.table)?;
         let table = &self.schema.tables.as_slice()[place];
-        let (contents, count) = remaining(alloc, table, snapshot, delete, &self.contents[place])?;
-        self.put(place, contents);
-        Ok(Reply::Count(count))
+        let fates = remaining(alloc, table, snapshot, delete, &self.contents[place])?;
+        self.rewrite(alloc, place, fates.each);
+        Ok(Reply::Count(fates.count))
     }
 
-    // The table at that place now holds this.
-    fn put(&mut self, place: usize, contents: Contents)
+    // Does to each row of the table at that place what becomes of it.
+    fn rewrite(&mut self, alloc: Global, place: usize, fates: Seq<Fate>)
         requires within { (place < length self.old.schema.tables) × (place < length self.old.contents) }
-        requires table { (s : TableSchemaOf) → IsTable (slice_index_or self.old.schema.tables place s) contents }
-        ensures { self.new ≡ with_contents place contents self.old }
+        requires each { (c : ContentsOf) → length fates ≡ length (slice_index_or self.old.contents place c).rows }
+        requires table { (s : TableSchemaOf) (c : ContentsOf) →
+            IsTable (slice_index_or self.old.schema.tables place s)
+            (contents_after fates (slice_index_or self.old.contents place c)) }
+        ensures { (c : ContentsOf) →
+            self.new ≡ with_contents place (contents_after fates (slice_index_or self.old.contents place c)) self.old }
     {
-        self.contents[place] = contents;
+        rewrite_at(alloc, &mut self.contents, place, fates);
     }
 
     pub(crate) fn answer(
@@ -252,6 +258,17 @@ fn insert_at(
     ensures err { OnErr result (contents.new.items ≡ contents.old.items) }
 {
     contents[place].insert(alloc, tuples)
+}
+
+// Does to each row of the contents at that place what becomes of it.
+fn rewrite_at(alloc: Global, contents: &mut Vec<Contents>, place: usize, fates: Seq<Fate>)
+    requires within { place < length contents.old.items }
+    requires each { (c : ContentsOf) → length fates ≡ length (slice_index_or contents.old.items place c).rows }
+    ensures { (c : ContentsOf) →
+        contents.new.items ≡ slice_set contents.old.items place
+        (contents_after fates (slice_index_or contents.old.items place c)) }
+{
+    contents[place].rewrite(alloc, fates);
 }
 
 // The answer over the rows of one table.

@@ -1,9 +1,16 @@
-use Rattle.std.proofs.Common.{◌≡◌, ◌≤◌, drop}
-use Rattle.tables.specs.Meaning.{remaining_row, reworked}
+use Rattle.std.proofs.Common.{◌≡◌, ◌≤◌, drop, length, take}
+use Rattle.sql_select.specs.Bound.{keeps}
+use Rattle.tables.specs.Bound.{remaining_by}
+use Rattle.tables.specs.Fates.{rewritten}
+use Rattle.tables.specs.Meaning.{reworked}
 use Rattle.tables.specs.Reworked.{behind}
 use Rattle.tables.proofs.changes.remaining_rows.Given as goal
 
 abbrev pub invariant-loop-row : goal.invariant-loop-row
 invariant-loop-row l =
-    (behind (l.after.rows, l.after.count) (reworked (remaining_row l.table l.snapshot l.delete) (drop l.row-index l.rows)) ≡ reworked (remaining_row l.table l.snapshot l.delete) l.rows)
-    × (l.after.count ≤ l.row-index)
+    let step = remaining_by (keeps l.filter) in
+    record {
+      made : behind (rewritten l.fates.each (take l.row-index l.rows), l.fates.count) (reworked step (drop l.row-index l.rows)) ≡ reworked step l.rows;
+      each : length l.fates.each ≡ l.row-index;
+      count : l.fates.count ≤ l.row-index;
+    }

@@ -1,9 +1,12 @@
 use Rattle.std.proofs.Common.{◌≡◌, ◌∙◌, ap, subst, List}
 use Rattle.std.specs.Prelude.{slice_index_or}
 use Rattle.sql_tree.specs.declared.schema.TableSchema.{TableSchema}
+use Rattle.tables.specs.declared.contents.Contents.{Contents}
+use Rattle.tables.specs.Fates.{contents_after}
+use Rattle.tables.specs.Meaning.{updated}
 use Rattle.tables.specs.Tables.{IsTable, IsTables, Tables}
 use Rattle.tables.proofs.Facts.{update_checked}
-use Rattle.tables.proofs.Finding.{ReadsAt, reads_found, reads_table, there_any}
+use Rattle.tables.proofs.Finding.{ReadsAt, changed_there, reads_found, reads_table, there_after, there_each}
 use Rattle.tables.proofs.Sound.{updated_sound}
 use Rattle.tables.proofs.tables.Tables.update.Goals as goal
 
@@ -45,8 +48,20 @@ updated-requires-clause-typed c =
     (update_checked c.args.update.now c.args.snapshot tables (record { place = place; schema = table; contents = contents }) c.requires
     (reads_found c.args.update.now.table tables place table contents c.in_ok-place.ensures read)).1
 
-pub put-requires-clause-table : goal.put-requires-clause-table
-put-requires-clause-table c =
+pub rewrite-requires-clause-each : goal.rewrite-requires-clause-each
+rewrite-requires-clause-each c =
+    let tables = c.args.self.now in
+    let place = c.in_ok-place.place in
+    let table = c.index-as_slice-place.result in
+    let contents = c.index.result.now in
+    let read : ReadsAt tables place table contents = record {
+      table_is = c.index-as_slice-place.is ∙ ap (λ (ts : List TableSchema). slice_index_or ts place table) (c.as_slice.ensures ∙ ap (λ (t : Tables). t.schema.tables) c.self.view_is);
+      contents_is = c.index.ensures ∙ ap (λ (t : Tables). slice_index_or t.contents place contents) c.self.view_is;
+    } in
+    there_each tables place table contents c.in_ok-fates.fates.each c.in_ok-place.ensures.in_contents read c.in_ok-fates.ensures.each
+
+pub rewrite-requires-clause-table : goal.rewrite-requires-clause-table
+rewrite-requires-clause-table c =
     let tables = c.args.self.now in
     let place = c.in_ok-place.place in
     let table = c.index-as_slice-place.result in
@@ -57,5 +72,18 @@ put-requires-clause-table c =
     } in
     let facts = update_checked c.args.update.now c.args.snapshot tables (record { place = place; schema = table; contents = contents }) c.requires (reads_found c.args.update.now.table tables place table contents c.in_ok-place.ensures read) in
     let is = reads_table tables place table contents (subst IsTables c.self.view_is c.self.invariant) c.in_ok-place.ensures.in_schema read in
-    there_any tables place table contents c.in_ok-contents.contents c.in_ok-place.ensures.in_schema read
-    (updated_sound table c.args.snapshot c.args.update.now contents c.in_ok-contents.contents c.in_ok-contents.count is facts.0 facts.1 c.in_ok-contents.ensures)
+    let after = contents_after c.in_ok-fates.fates.each contents in
+    there_after tables place table contents c.in_ok-fates.fates.each c.in_ok-place.ensures.in_contents read c.in_ok-place.ensures.in_schema
+    (updated_sound table c.args.snapshot c.args.update.now contents after c.in_ok-fates.fates.count is facts.0 facts.1 c.in_ok-fates.ensures.made)
+
+pub returns-clause-means : goal.returns-clause-means
+returns-clause-means c =
+    let tables = c.args.self.now in
+    let place = c.in_ok-place.place in
+    let table = c.index-as_slice-place.result in
+    let contents = c.index.result.now in
+    let read : ReadsAt tables place table contents = record {
+      table_is = c.index-as_slice-place.is ∙ ap (λ (ts : List TableSchema). slice_index_or ts place table) (c.as_slice.ensures ∙ ap (λ (t : Tables). t.schema.tables) c.self.view_is);
+      contents_is = c.index.ensures ∙ ap (λ (t : Tables). slice_index_or t.contents place contents) c.self.view_is;
+    } in
+    changed_there tables place table contents c.in_ok-fates.fates.each c.in_ok-place.ensures.in_contents read c.args.update.now.table c.rewrite.new.self (λ (s : TableSchema) (x : Contents). updated c.args.snapshot c.args.update.now s x) c.in_ok-fates.fates.count c.in_ok-place.ensures c.in_ok-fates.ensures.made c.rewrite.ensures
