@@ -17,7 +17,7 @@ use Rattle.sql_check.proofs.Truths.{and_both, or_none}
 use Rattle.sql_tree.specs.Evaluation.{in_range, narrow}
 use Rattle.sql_tree.specs.declared.statement.Column.{Column}
 use Rattle.sql_select.specs.Aggregates.{number_of, sum_of, total, whole}
-use Rattle.sql_select.specs.Checked.{AllFit}
+use Rattle.sql_tree.specs.Rows.{AllFit}
 use Rattle.sql_select.specs.Each.{each}
 use Rattle.sql_select.specs.Groups.{groups, keys_of, rows_of_key}
 use Rattle.sql_select.specs.declared.answer.Answer.{Answer}

@@ -2,7 +2,7 @@
 use Rattle.std.specs.Prelude.{ℕ, IfOk, List, Result}
 use Rattle.std.specs.List.{AllByRecursion}
 use Rattle.retro_base.specs.declared.refusal.Refusal.{Refusal}
-use Rattle.sql_select.specs.Checked.{AllFit}
+use Rattle.sql_tree.specs.Rows.{AllFit}
 use Rattle.sql_select.specs.declared.answer.Answer.{Answer}
 use Rattle.rql.specs.Table.{in_table}
 use Rattle.rql.specs.declared.pair.Pair.{Pair}

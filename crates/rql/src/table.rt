@@ -4,7 +4,6 @@ ghost use Rattle.std.specs.Prelude.{◌≡◌, IfErr, IfOk, IsTrue, map, slice_g
 ghost use Rattle.std.specs.List.{AllByRecursion};
 ghost use Rattle.retro_base.specs.Gives.{Gives};
 ghost use Rattle.sql_select.specs.Each.{each};
-ghost use Rattle.sql_select.specs.Outputs.{first_row};
 ghost use Rattle.sql_tree.specs.Statement.{IsSelect};
 ghost use Rattle.rql.specs.AsOf.{IsOfCall, IsOfQuery, OnlyAsks, Tells};
 ghost use Rattle.rql.specs.Pairs.{function_of};
@@ -18,6 +17,7 @@ use crate::columns::has_twins;
 use crate::function::Function;
 use crate::gathering::{Takes, gather};
 use crate::pair::{Pair, any_sums_texts, function_of, has_twin_pairs, names_unknown};
+use evaluation::JoinedRow;
 use fold_kit::Folds;
 use pager::Stop;
 use retro_base::Refusal;
@@ -84,22 +84,23 @@ fn key_of(alloc: Global, functions: &[Option<Function>], row: &[Value]) -> Resul
     Ok(Seq::from(key))
 }
 
-fn keyed_rows(
+fn keyed_rows<'a>(
     alloc: Global,
     functions: &[Option<Function>],
-    rows: Seq<Row>,
-) -> Result<Vec<KeyedRow>, AllocError>
-    ensures { IfOk result (λ keyed. keyed.items ≡ map (keyed_row functions.now) rows) }
+    rows: &'a [Row],
+) -> Result<Vec<KeyedRow<'a>>, AllocError>
+    ensures { IfOk result (λ keyed. keyed.items ≡ map (keyed_row functions.now) rows.now) }
 {
     let mut keyed = Vec::with_capacity(alloc, rows.len())?;
-    for row in Vec::from(rows) {
+    for row in rows {
         let key = key_of(alloc, functions, row.as_slice())?;
+        let row = JoinedRow::of_one(row.as_slice());
         keyed.push(KeyedRow { key, row })?;
     }
     Ok(keyed)
 }
 
-fn value_at(alloc: Global, place: usize, row: &[Value]) -> Result<Option<Value>, AllocError>
+fn value_at(alloc: Global, place: usize, row: &JoinedRow<'_>) -> Result<Option<Value>, AllocError>
     ensures { IfOk result (λ value. value ≡ slice_get row.now place) }
 {
     match row.get(place) {
@@ -108,32 +109,23 @@ fn value_at(alloc: Global, place: usize, row: &[Value]) -> Result<Option<Value>,
     }
 }
 
-fn values_at(alloc: Global, place: usize, rows: &[Row]) -> Result<Vec<Value>, AllocError>
+fn values_at(alloc: Global, place: usize, rows: &[JoinedRow<'_>]) -> Result<Vec<Value>, AllocError>
     ensures { IfOk result (λ values. values.items ≡ values_at place rows.now) }
 {
     let mut values = Vec::with_capacity(alloc, rows.len())?;
     for row in rows {
-        if let Some(value) = value_at(alloc, place, row.as_slice())? {
+        if let Some(value) = value_at(alloc, place, row)? {
             values.push(value)?;
         }
     }
     Ok(values)
 }
 
-fn first_row(rows: &[Row]) -> &[Value]
-    ensures { result.now ≡ first_row rows.now }
-{
-    match rows.first() {
-        Some(row) => row.as_slice(),
-        None => &[],
-    }
-}
-
 // The value of a group in the column at a place.
 fn value_in<F: Folds>(
     alloc: Global,
     folds: &F,
-    rows: &[Row],
+    rows: &[JoinedRow<'_>],
     place: usize,
     function: Option<Function>,
 ) -> Result<Option<Value>, Refusal>
@@ -141,7 +133,10 @@ fn value_in<F: Folds>(
     ensures named { IfErr result IsOfQuery }
 {
     match function {
-        None => Ok(value_at(alloc, place, first_row(rows))?),
+        None => match rows.first() {
+            Some(row) => Ok(value_at(alloc, place, row)?),
+            None => Ok(None),
+        },
         Some(function) => aggregate(folds, function, values_at(alloc, place, rows)?),
     }
 }
@@ -150,7 +145,7 @@ fn row_of_group<F: Folds>(
     alloc: Global,
     folds: &F,
     functions: &[Option<Function>],
-    rows: &[Row],
+    rows: &[JoinedRow<'_>],
 ) -> Result<Row, Refusal>
     ensures exact { Gives (λ row. row) result (row_of_group functions.now rows.now) }
     ensures named { IfErr result IsOfQuery }
@@ -168,7 +163,7 @@ fn rows_of_groups<F: Folds>(
     alloc: Global,
     folds: &F,
     functions: &[Option<Function>],
-    groups: &[Seq<Row>],
+    groups: &[Seq<JoinedRow<'_>>],
 ) -> Result<Seq<Row>, Refusal>
     ensures exact { Gives (λ rows. rows) result (each (row_of_group functions.now) groups.now) }
     ensures named { IfErr result IsOfQuery }
@@ -189,7 +184,7 @@ fn table_rows<F: Folds>(
     ensures exact { Gives (λ rows. rows) result (table_rows functions.now rows) }
     ensures named { IfErr result IsOfQuery }
 {
-    let keyed = keyed_rows(alloc, functions, rows)?;
+    let keyed = keyed_rows(alloc, functions, rows.as_slice())?;
     let groups = groups(alloc, keyed)?;
     rows_of_groups(alloc, folds, functions, &groups)
 }
