@@ -17,7 +17,7 @@ use Rattle.tables.specs.declared.contents.NumberedRow.{NumberedRow}
 use Rattle.tables.specs.Meaning.{assigned, check_lengths, remaining_row, reworked, set_row, updated_row}
 use Rattle.tables.specs.Rows.{rows_of}
 use Rattle.values.specs.Row.{row_bytes}
-use Rattle.tables.specs.Tables.{AllFit}
+use Rattle.sql_tree.specs.Rows.{AllFit}
 use Rattle.heap_file.specs.declared.chain.Placed.{Placed}
 use Rattle.sql_exec.specs.Planning.{counted, picked, row_changes, row_numbers, under_numbers}
 use Rattle.sql_exec.specs.Running.{numbered_at, placed_changes, placed_gone, placed_on, values_of}

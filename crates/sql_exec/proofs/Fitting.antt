@@ -16,7 +16,7 @@ use Rattle.sql_check.specs.Check.{checked, finds, first_refusal, has_unknown_nam
 use Rattle.sql_check.specs.Names.{is_reserved, stored_table, table_named as named_in}
 use Rattle.sql_tree.specs.Rows.{same_kind, fits}
 use Rattle.tables.specs.Rows.{rows_of}
-use Rattle.tables.specs.Tables.{AllFit}
+use Rattle.sql_tree.specs.Rows.{AllFit}
 use Rattle.heap_file.specs.declared.chain.Placed.{Placed}
 use Rattle.relation.specs.declared.catalog.Catalog.{Catalog}
 use Rattle.relation.specs.declared.catalog.StoredTable.{StoredTable}

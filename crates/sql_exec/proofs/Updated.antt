@@ -16,7 +16,8 @@ use Rattle.tables.specs.declared.reply.Reply.{Reply}
 use Rattle.tables.specs.declared.reply.Reply.TheVariants.{Count}
 use Rattle.tables.specs.Meaning.{check_lengths, does, known, reworked, updated, updated_row}
 use Rattle.tables.specs.Rows.{rows_of}
-use Rattle.tables.specs.Tables.{AllFit, Tables}
+use Rattle.sql_tree.specs.Rows.{AllFit}
+use Rattle.tables.specs.Tables.{Tables}
 use Rattle.tables.proofs.Finding.{changed_err, changed_ok}
 use Rattle.tables.proofs.Sound.{reworked_fit}
 use Rattle.pager.specs.Allows.{◌>>=◌, only}

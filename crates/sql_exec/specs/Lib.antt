@@ -1,4 +1,5 @@
 pub mod Asking
+pub mod Bound
 pub mod Planning
 pub mod Promises
 pub mod Running

@@ -6,18 +6,23 @@ ghost use Rattle.sql_tree.specs.declared.statement.Statement.TheVariants as stat
 ghost use Rattle.sql_check.specs.Check.{checked};
 ghost use Rattle.relation.specs.Catalog.{HaveFewColumns, schema_of};
 ghost use Rattle.pager.specs.Stop.{Makes};
+ghost use Rattle.sql_select.specs.Bound.{keeps};
+ghost use Rattle.tables.specs.Bound.{assigns};
+ghost use Rattle.sql_exec.specs.Bound.{placed_changes_by, placed_gone_by};
 ghost use Rattle.sql_exec.specs.Planning.{picked};
 ghost use Rattle.sql_exec.specs.Promises.{Keeps};
 ghost use Rattle.sql_exec.specs.Running.{at_table, deleted_from, placed_changes, placed_gone, updated_in};
 
 use crate::lengths::check_changes;
 use crate::source::schema_of;
+use evaluation::{JoinedRow, Stack};
 use pager::{EditPager, Stop};
 use relation::{Catalog, Placed, delete, rows, update};
 use retro_base::Refusal;
-use sql_tree::{Delete, TableSchema, Update};
+use sql_select::Filter;
+use sql_tree::{Delete, Scope, TableSchema, Update};
 use std::alloc::Global;
-use tables::{Reply, assigned, holds};
+use tables::{BoundAssignments, Reply};
 
 /// Takes the rows of a table out for which the condition holds.
 pub fn delete_rows<P: EditPager>(
@@ -52,15 +57,17 @@ fn gone_of(
 ) -> Result<Vec<Placed>, Refusal>
     ensures { Gives (λ gone. gone.items) result (picked (placed_gone table.now snapshot query.now) rows.items) }
 {
+    let filter = Filter::bind(alloc, &Scope::of_one(table), snapshot, &query.condition)?;
+    gone_by(alloc, &filter, rows)
+}
+
+fn gone_by(alloc: Global, filter: &Filter, rows: Vec<Placed>) -> Result<Vec<Placed>, Refusal>
+    ensures { Gives (λ gone. gone.items) result (picked (placed_gone_by (keeps filter.now)) rows.items) }
+{
+    let mut stack = Stack::new(alloc);
     let mut gone = Vec::new(alloc);
     for placed in rows {
-        if holds(
-            alloc,
-            table,
-            snapshot,
-            &query.condition,
-            placed.row.as_slice(),
-        )? {
+        if filter.keeps(&JoinedRow::of_one(placed.row.as_slice()), &mut stack)? {
             gone.push(placed)?;
         }
     }
@@ -104,17 +111,27 @@ fn changes_of(
     ensures { Gives (λ changes. changes.items) result
         (picked (placed_changes table.now snapshot query.now) rows.now) }
 {
+    let filter = Filter::bind(alloc, &Scope::of_one(table), snapshot, &query.condition)?;
+    let assignments = query.assignments.as_slice();
+    let assignments = BoundAssignments::bind(alloc, table, snapshot, assignments)?;
+    changes_by(alloc, &filter, &assignments, rows)
+}
+
+fn changes_by(
+    alloc: Global,
+    filter: &Filter,
+    assignments: &BoundAssignments,
+    rows: &[Placed],
+) -> Result<Vec<Placed>, Refusal>
+    ensures { Gives (λ changes. changes.items) result
+        (picked (placed_changes_by (keeps filter.now) (assigns assignments.now)) rows.now) }
+{
+    let mut truths = Stack::new(alloc);
+    let mut values = Stack::new(alloc);
     let mut changes = Vec::new(alloc);
     for placed in rows {
-        if holds(
-            alloc,
-            table,
-            snapshot,
-            &query.condition,
-            placed.row.as_slice(),
-        )? {
-            let assignments = query.assignments.as_slice();
-            let row = assigned(alloc, table, snapshot, assignments, &placed.row)?;
+        if filter.keeps(&JoinedRow::of_one(placed.row.as_slice()), &mut truths)? {
+            let row = assignments.assigned(alloc, &placed.row, &mut values)?;
             let number = placed.number;
             let page = placed.page;
             changes.push(Placed { number, page, row })?;
