@@ -28,7 +28,7 @@ use Rattle.sql_tree.specs.declared.select.Select.{Select}
 use Rattle.sql_tree.specs.declared.select.SelectList.{SelectList}
 use Rattle.sql_tree.specs.declared.select.SelectList.TheVariants.{All, Outputs}
 use Rattle.sql_tree.specs.declared.statement.Column.{Column as TableColumn}
-use Rattle.sql_check.specs.Selects.{is_grouped}
+use Rattle.sql_tree.specs.Select.{is_grouped}
 use Rattle.sql_select.specs.Aggregates.{best_of, count_of, number_of, sum_of, total, whole}
 use Rattle.sql_select.specs.Each.{each}
 use Rattle.sql_select.specs.Groups.{groups}

@@ -3,6 +3,7 @@
 ghost use Rattle.values.specs.Name.{IsName, begins_word, continues_word};
 ghost use Rattle.values.specs.Text.{IsText};
 
+use evaluation::{BoundCondition, BoundExpression, JoinedRow, Stack};
 use retro_base::Refusal;
 use sql_tree::{
     Column, ColumnName, Comparison, Condition, ConditionStep, Expression, ExpressionStep, Operand,
@@ -80,7 +81,10 @@ fn worked_out(alloc: Global, steps: &[Step]) -> Result<Outcome, AllocError> {
         return Ok(Outcome::NoExpression);
     };
     let copy = of.copy(alloc)?;
-    match copy.value(alloc, &scope, Some(3), &[Value::Int(40)], &[]) {
+    let bound = BoundExpression::bind(alloc, &scope, Some(3), &copy)?;
+    let values = [Value::Int(40)];
+    let mut stack = Stack::new(alloc);
+    match bound.value(alloc, &JoinedRow::of_one(&values), &mut stack) {
         Ok(Value::Int(number)) => Ok(Outcome::Number(number)),
         Ok(Value::Text(_)) => Ok(Outcome::Text),
         Err(refusal) => Ok(Outcome::Refused(refusal.number())),
@@ -128,7 +132,10 @@ fn not_so(alloc: Global, comparison: Comparison) -> Result<bool, Refusal> {
     })?;
     steps.push(ConditionStep::Not)?;
     match Condition::new(steps) {
-        Some(condition) => condition.holds(alloc, &Scope::of_one(&source), None, &[], &[]),
+        Some(condition) => {
+            let bound = BoundCondition::bind(alloc, &Scope::of_one(&source), None, &condition)?;
+            bound.holds(&JoinedRow::empty(), &mut Stack::new(alloc))
+        }
         None => Err(Refusal::OutOfMemory),
     }
 }
