@@ -67,11 +67,12 @@ beside() {
 mkdir made
 beside made.py python3 "$tests/rows/made.py" made
 all_of "$tests/../examples" 64 4096
-all_of "$tests/statements" 64 4096
+for folder in statements scripts calls refused_calls result_tables snapshots; do all_of "$tests/$folder" 64 4096; done
 all_of "$tests/rows" 16 64
 all_of made 16 64
 printf '%d cases, %d runs\n' "$cases" "$runs"
 beside words.sh "$tests/words/words.sh" "$program"
+beside sums.py python3 "$tests/at_once/sums.py" "$program" 10
 beside files.py python3 "$tests/files/files.py" "$program"
 beside kill.py python3 "$tests/kill/kill.py" "$program" 50
 beside at_once.py python3 "$tests/kill/at_once.py" "$program" 10

@@ -1,5 +1,5 @@
 #!/usr/bin/env python3
-"""files.py PROGRAM: the bytes of a store's files, new and behind a run, and ten damages, each refused at its place.
+"""files.py PROGRAM: a store's files byte for byte, new, behind a run and behind two, and ten damages, each refused.
 
 The bytes are worked out from the formats; a store that was refused is left as it was. It works in a folder of its own
 under the current one, and ends with status 1 at the first difference."""
@@ -27,6 +27,11 @@ COMMIT WITH SNAPSHOT 'one'
 INSERT INTO t VALUES (2,'y')
 COMMIT
 """
+# The same in two runs: what the first leaves of the page is copied by the second, which changes it.
+FIRST = "PHASE\nSESSION a\nCREATE TABLE t(a INT, b TEXT);\nINSERT INTO t VALUES (1,'x');\nCOMMIT WITH SNAPSHOT 'one';\n"
+FIRST_TEXT = "phase 1\nsession a\nitem 1\nok\nok 1\ncommitted as 1\njournal\n1 a 1 done as 1\n"
+SECOND = "PHASE\nSESSION a\nINSERT INTO t VALUES (2,'y');\nCOMMIT;\n"
+SECOND_TEXT = "phase 1\nsession a\nitem 1\nok 1\ncommitted\njournal\n1 a 1 done\n"
 TEXT = "phase 1\nsession a\nitem 1\nok\nok 1\ncommitted as 1\nitem 2\nok 1\ncommitted\njournal\n1 a 1 done as 1\n1 a 2 done\n"
 # A file, the bytes that are written at places of it, and what the refusal names.
 DAMAGES = [
@@ -93,6 +98,22 @@ def look_at_files(program):
     hold("pagelog behind a run", files["pagelog"], HEAP)
 
 
+def look_at_two_runs(program):
+    shutil.copytree("d", "two")
+    ends(program, ["run", "two"], FIRST, 0, FIRST_TEXT)
+    first = held("two")
+    hold("page 2 behind the first run", first["pages"][2048:3072], HEAP)
+    hold("pagelog behind the first run", first["pagelog"], NEW["pagelog"])
+    hold("maplog behind the first run", first["maplog"], NEW["maplog"])
+    ends(program, ["run", "two"], SECOND, 0, SECOND_TEXT)
+    second = held("two")
+    if second["pages"][2048:3072] == first["pages"][2048:3072]:
+        sys.exit("page 2 was not written back behind the second run")
+    hold("pagelog behind the second run", second["pagelog"], HEAP)
+    hold("maplog behind the second run", second["maplog"], f"{NEW['maplog'][:-2]} {RUN}")
+    ends(program, ["show", "two"], "", 0, shown(1, 1))
+
+
 def look_at_damages(program):
     for name, changes, place in DAMAGES:
         shutil.copytree("d", "hurt")
@@ -110,8 +131,9 @@ def main():
     with tempfile.TemporaryDirectory(prefix="files-", dir=os.getcwd()) as room:
         os.chdir(room)
         look_at_files(program)
+        look_at_two_runs(program)
         look_at_damages(program)
-    print(f"the bytes of {len(SIZES)} files twice, and {len(DAMAGES)} damages, each refused at its place")
+    print(f"{len(SIZES)} files, new, behind a run and behind two, and {len(DAMAGES)} damages, each refused at its place")
 
 
 main()

@@ -55,10 +55,12 @@ def large():
 
 def full_journal():
     """Empty commits of two lines each that leave two lines of the 65,534: a refused drop takes one, a call needs two, and
-    what stands behind a call that was cut short is not run. The next phase has one line left."""
+    what stands behind a call that was cut short is not run, also a call that the grammar refuses. The next phase has one
+    line left."""
     call = "CollateData('SELECT snap_id FROM SnapIds','SELECT 1 FROM t','rql_c')\n"
     script = "SESSION a\n" + 32_766 * "COMMIT\n" + "DROP SNAPSHOTS BELOW 1\n" + call + "SELECT * FROM rql_c\nCOMMIT\n"
-    script += "PHASE\nSESSION b\nSELECT * FROM rql_c\nDROP SNAPSHOTS BELOW 0\nDROP SNAPSHOTS BELOW 0\n" + call + "COMMIT\n"
+    script += "PHASE\nSESSION b\nSELECT * FROM rql_c\nDROP SNAPSHOTS BELOW 0\nDROP SNAPSHOTS BELOW 0\n"
+    script += "CollateData('x','y','z')\nCOMMIT\n"
     cut_short = "refused 13 JournalFull"
     first = replies([*(32_766 * ["committed"]), "refused 9 NoSuchSnapshot 1 0", cut_short, "not run", "not run"])
     second = replies(["refused 20 UnknownName", "refused 9 NoSuchSnapshot 0 0", cut_short, "not run", "not run"])
@@ -67,8 +69,46 @@ def full_journal():
     return script, text, {"args": "run\n"}
 
 
+def thousand():
+    """A thousand rows, the greatest twenty of them raised by 1 before each of 120 snapshots, and two calls over all of these:
+    the sum of all rows as of each, and the hundred rows above 45."""
+    every = "'SELECT snap_id FROM SnapIds'"
+    script = "SESSION a\nCREATE TABLE t(v INT)\n" + 20 * f"INSERT INTO t VALUES {FIFTY}\n" + "COMMIT\n"
+    script += 120 * "UPDATE t SET v = v + 1 WHERE v > 49\nCOMMIT WITH SNAPSHOT\n"
+    script += f"AggregateDataInVariable({every},'SELECT SUM(v) FROM t','rql_v','SUM')\nSELECT value FROM rql_v\n"
+    script += f"CollateData({every},'SELECT v FROM t WHERE v > 45','rql_c')\n"
+    script += "SELECT COUNT(*), SUM(v), MIN(v), MAX(v) FROM rql_c"
+    asked = range(1, 121)
+    total = sum(20 * 1275 + 20 * n for n in asked)
+    above = sum(20 * (46 + 47 + 48 + 49 + 50 + n) for n in asked)
+    items = ["ok\n" + 20 * "ok 50\n" + "committed", *(f"ok 20\ncommitted as {n}" for n in asked)]
+    items += ["ok 1", f"rows 1\n{total}", "ok 12000", f"rows 1\n12000,{above},46,170"]
+    journal = ["1 done", *(f"{n + 1} done as {n}" for n in asked), *looked(122, "all"), *looked(124, "all")]
+    return script, transcript(items, journal), {"args": "run\n", "store": "64 4096\n"}
+
+
+def long_journal():
+    """One row, raised by 1 before each of 150 snapshots, and a look at the 75th. Each raise but the first captures the
+    page; 304 lines are in the journal, of which those of the beginnings are not shown."""
+    script = "SESSION a\nCREATE TABLE t(v INT)\nINSERT INTO t VALUES (0)\nCOMMIT\n"
+    script += 150 * "UPDATE t SET v = v + 1\nCOMMIT WITH SNAPSHOT\n" + "SELECT AS OF 75 * FROM t\n"
+    items = ["ok\nok 1\ncommitted", *(f"ok 1\ncommitted as {n}" for n in range(1, 151)), "rows 1\n75"]
+    journal = ["1 done", *(f"{n + 1} done as {n}" for n in range(1, 151)), *looked(152, 75)]
+    shown = "version 1\npages 64\ncapacity 1000\noldest 1\nnewest 150\ncaptures 149\n"
+    return script, transcript(items, journal), {"args": "run\nstore\n", "store": "64 1000\n", "shown": shown}
+
+
+def longest_line():
+    """A call whose argument fills its line of 4,096 bytes."""
+    call = "CollateData('SELECT snap_id FROM SnapIds','SELECT a FROM t WHERE a = 1" + 446 * " OR a = 2" + "  ','rql_c')"
+    assert len(call) == 4096
+    script = f"SESSION a\nCREATE TABLE t(a INT)\nINSERT INTO t VALUES (1),(2),(3)\nCOMMIT WITH SNAPSHOT\n{call}\n"
+    items = ["ok\nok 3\ncommitted as 1", "ok 2"]
+    return script, transcript(items, ["1 done as 1", *looked(2, "all")]), {"args": "run\n"}
+
+
 def main():
-    for made in (full_archive, large, full_journal):
+    for made in (full_archive, large, full_journal, thousand, long_journal, longest_line):
         script, text, more = made()
         for ending, held in {"": script, ".stdout": text, **{f".{it}": more[it] for it in more}}.items():
             with open(os.path.join(sys.argv[1], made.__name__ + ending), "w") as file:

@@ -2,7 +2,8 @@
 # words.sh PROGRAM: words, lines and exit statuses of the program as a shell sees them. It works in a folder of its own under
 # the current one, and ends with status 1 where one is other than it should be.
 program=$(realpath "$1")
-example=$(cd "$(dirname "$0")/../../examples" && pwd)/first_snapshot
+tests=$(cd "$(dirname "$0")" && pwd)
+example=$tests/../../examples/first_snapshot
 room=$(mktemp -d -p .) && cd "$room" || exit 1
 trap 'cd .. && rm -rf "$room"' EXIT
 rows=0 lost=0
@@ -40,18 +41,26 @@ exec </dev/null
 # words that are none of the good ones, and numbers outside their ranges
 words='retro: bad words\n'
 ends 2 "$words"
-ends 2 "$words" walk
-ends 2 "$words" RUN
+for word in walk RUN help -h --help show format $'\xff'; do ends 2 "$words" "$word"; done
+ends 2 "$words" -- run
 ends 2 "$words" run ''
 ends 2 "$words" run d d
 ends 2 "$words" run -d
-ends 2 "$words" --help
-ends 2 "$words" -- run
-ends 2 "$words" $'\xff'
-ends 2 "$words" show
+ends 2 "$words" show ''
+ends 2 "$words" show -d
+ends 2 "$words" show d d
+ends 2 "$words" SHOW d
+ends 2 "$words" format d
 ends 2 "$words" format d 16
+ends 2 "$words" format '' 16 64
 ends 2 "$words" format d +16 64
+ends 2 "$words" format d 16 -64
+ends 2 "$words" format d 16 ''
+ends 2 "$words" format d '1 6' 64
 ends 2 "$words" format d 00000000016 64
+ends 2 "$words" format d 0000000000016 64
+ends 2 "$words" format d 16 64 64
+ends 2 "$words" format 1 1
 sizes='retro: bad sizes\n'
 ends 9 "$sizes" format d 15 64
 ends 9 "$sizes" format d 65537 64
@@ -91,6 +100,44 @@ last='phase 1\nsession b\nitem 1\nrefused 10 Dropped 1 2\nitem 2\nrows 1\n6\njou
 ends 0 "$last" run e <<<$'SESSION b\nSELECT AS OF 1 * FROM t\nSELECT AS OF 2 SUM(a) FROM t'
 ends 0 'version 1\npages 16\ncapacity 64\noldest 2\nnewest 2\ncaptures 1\n' show e
 
+# two runs, a drop, a bad script and an empty one over one store, beside one that is not there
+ends 0 'formatted 64 64\n' format f 64 64
+made='phase 1\nsession a\nitem 1\nok\nok 1\ncommitted as 1\nitem 2\nok 1\ncommitted as 2\nitem 3\nrows 1\n1\n'
+ends 0 "$made"'journal\n1 a 1 done as 1\n1 a 2 done as 2\n1 a 3 looked 1\n1 a 3 unlooked\n' run f <<'END'
+SESSION a
+CREATE TABLE t(a INT)
+INSERT INTO t VALUES (1)
+COMMIT WITH SNAPSHOT 'one'
+INSERT INTO t VALUES (2)
+COMMIT WITH SNAPSHOT 'two'
+SELECT AS OF 1 * FROM t
+END
+third='phase 1\nsession a\nitem 1\nrows 2\n1\n2\nok 1\ncommitted as 3\nitem 2\nrows 1\n1\nitem 3\nrows 3\n1\n2\n3\n'
+third+='journal\n1 a 1 done as 3\n1 a 2 looked 1\n1 a 2 unlooked\n1 a 3 looked 3\n1 a 3 unlooked\n'
+ends 0 "$third" run f <<'END'
+SESSION a
+SELECT * FROM t
+INSERT INTO t VALUES (3)
+COMMIT WITH SNAPSHOT 'three'
+SELECT AS OF 1 * FROM t
+SELECT AS OF 3 * FROM t
+END
+cut='phase 1\nsession a\nitem 1\ndropped below 3\nitem 2\nrefused 10 Dropped 2 3\nitem 3\nrows 3\n1\n2\n3\n'
+cut+='journal\n1 a 1 dropped below 3\n1 a 2 refused 10\n1 a 3 looked 3\n1 a 3 unlooked\n'
+ends 0 "$cut" run f <<<$'SESSION a\nDROP SNAPSHOTS BELOW 3\nSELECT AS OF 2 * FROM t\nSELECT AS OF 3 * FROM t'
+ends 3 'retro: bad script at line 1\n' run f <<<SELECT
+ends 6 'retro: disk fault on cabinet 1\n' run nosuch <<<'SESSION a'
+ends 0 'journal\n' run f
+ends 0 'version 1\npages 64\ncapacity 64\noldest 3\nnewest 3\ncaptures 2\n' show f
+
+# bad scripts, each behind the number of its bad line; and lines as long as a script and as a line may be
+while read -r line script; do
+    ends 3 "retro: bad script at line $line\n" run < <(printf '%b' "$script")
+done <"$tests/bad_scripts"
+ends 3 'retro: bad script at line 2\n' run < <(printf 'SESSION a\n' && head -c 4194294 /dev/zero | tr '\0' '(')
+refused='phase 1\nsession a\nitem 1\nrefused 19 Syntax 0\ncommitted\njournal\n1 a 1 done\n'
+ends 0 "$refused" run < <(printf 'SESSION a\n' && head -c 4096 /dev/zero | tr '\0' '(' && printf '\nCOMMIT')
+
 # a bad script comes before a store that is not there, and changes none that is
 ends 3 'retro: bad script at line 1\n' run <<<'INSERT INTO t VALUES (1)'
 ends 3 'retro: bad script at line 1\n' run nosuch <<<'INSERT INTO t VALUES (1)'
@@ -118,10 +165,12 @@ ends 2 "$words" load 1
 ends 2 "$words" load 1 1 1
 ends 2 "$words" load -1 1
 ends 2 "$words" load +1 1
+ends 2 "$words" load 1 ''
 ends 2 "$words" load 12345678901 1
 ends 9 "$sizes" load 65537 1
 ends 9 "$sizes" load 1 2001
 ends 9 "$sizes" load 1 0
+ends 9 "$sizes" load 9999999999 1
 one='load 1 1\ncommitted 7\nsnapshots 2\ncaptures 4\nsums 63 29 70 78\npast 63\n'
 ends 0 "$one" load 1 1
 ends 0 "$one" load 0001 01

@@ -1,14 +1,13 @@
 //! Sessions that are inside their items at once: a gate holds each until another is where it should be.
 
-use crate::store_runs::{held_behind, held_on};
-use crate::stores::{told, told_at};
-use crate::tests::{Outcome, run_gated};
+use crate::devices::{Fault, MAPLOG, Ran, all_again, formatted, run_at, run_over};
+use crate::trial::{Outcome, told_at};
 use disk_mem::{Call, MemDisk};
-use disk_model::{Cabinet, Four};
+use disk_model::Four;
 use mem_cabinet::MemCabinet;
 use retro_base::SESSIONS;
 use session::{Gate, Point};
-use std::alloc::Global;
+use std::alloc::{AllocError, Global};
 use std::sync::Wait;
 use std::sync::atomic::{AtomicBool, Ordering};
 use std::test::Fail;
@@ -125,21 +124,39 @@ fn is_told(outcome: &Outcome, row: Row) -> bool {
             || between == b"2 a 1 unlooked\n2 b 3 done\n".as_slice())
 }
 
+// Runs a script in memory, whose sessions of a phase run at once, with a gate.
+fn told_gated<R: Threads + Wait + Sync, G: Gate + Sync>(
+    rt: &R,
+    alloc: Global,
+    script: &[u8],
+    gate: &G,
+) -> Result<Outcome, AllocError> {
+    let mut cabinet = MemCabinet::new(alloc, Vec::new(alloc));
+    told_at(rt, alloc, SESSIONS, &mut cabinet, &["run"], script, gate)
+}
+
 // Whether a run is told so while the look is held.
-fn is_held<R: AllocGlobal + Threads + Wait + Sync>(rt: &R, row: Row) -> Result<bool, Fail> {
+fn is_held<R: Threads + Wait + Sync>(rt: &R, alloc: Global, row: Row) -> Result<bool, AllocError> {
     let gate = LookHeld {
         rt,
         places: Places::new(),
     };
-    let outcome = run_gated(rt, row.0, &gate)?;
+    let outcome = told_gated(rt, alloc, row.0, &gate)?;
     Ok(is_told(&outcome, row) && gate.places.all_came())
+}
+
+fn are_held<R: Threads + Wait + Sync>(rt: &R, alloc: Global) -> Result<bool, AllocError> {
+    for row in ROWS {
+        if !is_held(rt, alloc, row)? {
+            return Ok(false);
+        }
+    }
+    Ok(true)
 }
 
 #[test]
 fn a_look_stays_open_while_another_session_commits(rt: HostRuntime) -> Result<(), Fail> {
-    for row in ROWS {
-        assert!(rt; is_held(&rt, row)?);
-    }
+    assert!(rt; are_held(&rt, rt.alloc())?);
     Ok(())
 }
 
@@ -184,88 +201,71 @@ const COPY_FAILS: &[u8] =
     b"phase 1\nsession a\nitem 1\nok 1\ncommitted\nsession b\nitem 1\nrefused 16 Stopped maplog 1\n\
       item 2\ncommitted\njournal\n1 a 1 done\n1 copier 0 fault maplog 1\n1 b 1 refused 16\n1 b 2 done\n";
 
-// The devices of a store, the first write on whose Maplog fails.
-fn with_failing_maplog(alloc: Global, disks: Four<MemDisk>) -> Option<Four<MemDisk>> {
-    let Four {
-        log,
-        pages,
-        pagelog,
-        maplog,
-    } = disks;
-    let failing = vec![in alloc; (Call::Write, 1)].ok()?;
-    let maplog = maplog.again(alloc, failing, None).ok()?;
-    Some(Four {
-        log,
-        pages,
-        pagelog,
-        maplog,
-    })
+const FIRST_WRITE_FAILS: Fault = Fault {
+    device: MAPLOG,
+    kind: Some(Call::Write),
+    behind: 0,
+};
+
+// Behind the start of a Maplog stands the run of its mappings: from number 0 on, one, of page 2.
+const ONE_MAPPING: &[u8] = b"\x02\0\0\0\0\0\0\0\0\0\0\0\x01\0\x02";
+
+// Whether slot 0 holds the page 2 of these devices, and the Maplog has the mapping.
+fn has_copied(four: &Four<MemDisk>, before: &Four<MemDisk>) -> bool {
+    four.pagelog.bytes().get(0..1024) == before.pages.bytes().get(2048..3072)
+        && has_mapping(four.maplog.bytes())
 }
 
-// What the run of the two inserts answers, where the first write of the Maplog fails.
-fn insert_both<R: AllocGlobal + Threads + Wait + Sync>(
-    rt: &R,
-    gate: &CopyHeld<'_, R>,
-    cabinet: &mut MemCabinet,
-) -> Option<(u8, Vec<u8>)> {
-    let alloc = rt.alloc();
-    let Ok(disks) = cabinet.fetch("d") else {
-        return None;
-    };
-    cabinet.put_back("d", with_failing_maplog(alloc, disks)?);
-    told_at(
-        rt,
-        alloc,
-        SESSIONS,
-        cabinet,
-        &["run", "d"],
-        TWO_INSERTS,
-        &[],
-        gate,
-    )
-    .ok()
+fn has_mapping(maplog: &[u8]) -> bool {
+    maplog
+        .windows(ONE_MAPPING.len())
+        .any(|body| body == ONE_MAPPING)
 }
 
-// Whether the copy failed while both sessions were inside.
-fn is_copied_beside<R: AllocGlobal + Threads + Wait + Sync>(
+// The run of the two inserts, where the first write of the Maplog fails while both sessions were inside.
+fn insert_both<R: Threads + Wait + Sync>(
     rt: &R,
-    cabinet: &mut MemCabinet,
-) -> bool {
+    alloc: Global,
+    made: &Four<MemDisk>,
+) -> Option<Ran> {
     let gate = CopyHeld {
         rt,
         places: Places::new(),
     };
-    match insert_both(rt, &gate, cabinet) {
-        Some((status, text)) => {
-            status == 6 && text.as_slice() == COPY_FAILS && gate.places.all_came()
-        }
-        None => false,
+    let four = all_again(alloc, made, FIRST_WRITE_FAILS).ok()?;
+    let ran = run_at(rt, alloc, SESSIONS, four, TWO_INSERTS, &gate)?;
+    if ran.outcome.is(6, COPY_FAILS) && gate.places.all_came() {
+        Some(ran)
+    } else {
+        None
     }
 }
 
-// Whether it failed so, and a script without a phase copied what it left.
-fn is_copied_at_last<R: AllocGlobal + Threads + Wait + Sync>(
+// Whether it copied what the commit captured, and whether a script without a phase did behind it.
+fn is_copied_behind<R: Threads + Wait + Sync>(
     rt: &R,
-    cabinet: &mut MemCabinet,
-) -> Option<bool> {
-    let (_, made) = held_behind(rt, rt.alloc(), cabinet, TWO_TABLES)?;
-    let is_beside = is_copied_beside(rt, cabinet);
-    let failed = held_on(rt.alloc(), cabinet)?;
-    let (status, last) = held_behind(rt, rt.alloc(), cabinet, b"")?;
-    Some(is_beside && !failed.has_copied(&made) && status == 0 && last.has_copied(&made))
+    alloc: Global,
+    made: &Four<MemDisk>,
+) -> Option<[bool; 2]> {
+    let failed = insert_both(rt, alloc, made)?;
+    let is_early = has_copied(&failed.four, made);
+    let last = run_over(rt, alloc, failed.four, b"")?;
+    Some([
+        is_early,
+        last.outcome.is(0, b"journal\n") && has_copied(&last.four, made),
+    ])
 }
 
-fn is_all_copied<R: AllocGlobal + Threads + Wait + Sync>(rt: &R) -> bool {
-    let mut cabinet = MemCabinet::new(rt.alloc(), Vec::new(rt.alloc()));
-    let formats: &[&str] = &["format", "d", "16", "64"];
-    let is_made = told(rt, rt.alloc(), &mut cabinet, formats, b"", &[]).is_ok();
-    is_made && is_copied_at_last(rt, &mut cabinet) == Some(true)
+fn copied_of<R: Threads + Wait + Sync>(rt: &R, alloc: Global) -> Option<[bool; 2]> {
+    let new = formatted(rt, alloc, "16")?;
+    let made = run_over(rt, alloc, new, TWO_TABLES)?;
+    is_copied_behind(rt, alloc, &made.four)
 }
 
 #[test]
 fn what_a_commit_captured_is_copied_beside_it_or_by_the_next_run(
     rt: HostRuntime,
 ) -> Result<(), Fail> {
-    assert!(rt; is_all_copied(&rt));
+    assert!(rt; copied_of(&rt, rt.alloc()) == Some([false, true]));
     Ok(())
 }

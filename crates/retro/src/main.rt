@@ -3,13 +3,9 @@
 #![tactic(auto)]
 
 #[cfg(test)]
-mod at_once;
+mod devices;
 #[cfg(test)]
-mod call_refusals;
-#[cfg(test)]
-mod calls;
-#[cfg(test)]
-mod drops;
+mod faults;
 mod formatting;
 #[cfg(test)]
 mod held_up;
@@ -17,27 +13,21 @@ mod keeping;
 mod laws;
 mod loading;
 #[cfg(test)]
-mod loads;
+mod log_fault;
 mod memory;
 mod phases;
 mod program;
 #[cfg(test)]
-mod result_tables;
+mod rows;
 mod running;
 mod saying;
-#[cfg(test)]
-mod scripts;
 mod seats;
 mod showing;
 mod slots;
-#[cfg(test)]
-mod store_runs;
-#[cfg(test)]
-mod stores;
 mod storing;
 mod summary;
 #[cfg(test)]
-mod tests;
+mod trial;
 mod words;
 mod working;
 
