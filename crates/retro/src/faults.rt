@@ -1,4 +1,4 @@
-//! Each call of each device failing in turn, and each device stopping behind each of its calls.
+//! Each call of the log and of the vault's devices failing in turn, and each of these stopping behind each of its calls.
 
 use crate::devices::{
     Fault, LOG, NO_FAULT, Ran, all_again, calls_of, crashed, device_of, formatted, run_over,
@@ -249,13 +249,6 @@ fn has_at_least(counts: Option<[u64; 4]>, least: [u64; 4]) -> bool {
 fn a_failing_log_loses_nothing_acknowledged(rt: HostRuntime) -> Result<(), Fail> {
     let counts = sweep(&rt, rt.alloc(), 0);
     assert!(rt; has_at_least(counts, [3, 6, 7, 16]), "{counts:?}");
-    Ok(())
-}
-
-#[test]
-fn failing_pages_lose_nothing_acknowledged(rt: HostRuntime) -> Result<(), Fail> {
-    let counts = sweep(&rt, rt.alloc(), 1);
-    assert!(rt; has_at_least(counts, [1, 1, 1, 3]), "{counts:?}");
     Ok(())
 }
 
