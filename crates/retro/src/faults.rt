@@ -109,7 +109,7 @@ fn is_read<R: Threads + Wait + Sync>(
 }
 
 // What becomes of the loose bytes: nothing, where the program alone is begun again, or what a crash makes of them.
-const IMAGES: [Option<u8>; 4] = [None, Some(0x00), Some(0xa5), Some(0xff)];
+const IMAGES: [Option<u8>; 2] = [None, Some(0xa5)];
 
 fn image(alloc: Global, four: &Four<MemDisk>, fill: Option<u8>) -> Option<Four<MemDisk>> {
     match fill {
