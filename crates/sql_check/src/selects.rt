@@ -64,7 +64,8 @@ fn is_key(scope: &Scope<'_>, select: &Select, columns: &[Column], name: &ColumnN
 }
 
 fn keys_have_unknown(alloc: Global, scope: &Scope<'_>, select: &Select) -> Result<bool, AllocError>
-    ensures { IfOk result (λ found. found ≡ keys_have_unknown scope.now select.now (answer_columns scope.now select.now.list)) }
+    ensures { IfOk result (λ found. found ≡ keys_have_unknown scope.now select.now
+        (answer_columns scope.now select.now.list)) }
 {
     match select.order_by.as_slice() {
         [] => Ok(false),
@@ -139,7 +140,8 @@ fn output_is_of_group(scope: &Scope<'_>, columns: &[ColumnName], value: &OutputV
 }
 
 fn any_breaks_groups(scope: &Scope<'_>, columns: &[ColumnName], outputs: &[Output]) -> bool
-    ensures { result ≡ list_any (λ (output : Output). not (output_is_of_group scope.now columns.now output.value)) outputs.now }
+    ensures { result ≡ list_any (λ (output : Output). not (output_is_of_group scope.now columns.now output.value))
+        outputs.now }
 {
     outputs.iter().any(|output| !output_is_of_group(scope, columns, &output.value))
 }

@@ -56,7 +56,8 @@ pub(crate) fn keep_of_two<'a, R: HasRow>(
     firsts: &'a [R],
     seconds: &'a [R],
 ) -> Result<Vec<JoinedRow<'a>>, Refusal>
-    ensures { Gives (λ found. found.items) result (kept (keeps filter.now) (flat_map (beside (map R.row_of seconds.now)) (map R.row_of firsts.now))) }
+    ensures { Gives (λ found. found.items) result (kept (keeps filter.now)
+        (flat_map (beside (map R.row_of seconds.now)) (map R.row_of firsts.now))) }
 {
     let mut found = Vec::new(alloc);
     let mut stack = Stack::new(alloc);
@@ -75,7 +76,8 @@ fn keep_pairs<'a, R: HasRow>(
     stack: &mut Stack<bool>,
     found: &mut Vec<JoinedRow<'a>>,
 ) -> Result<(), Refusal>
-    ensures { Gives (λ _. found.new.items) result (onto found.old.items (kept (keeps filter.now) (beside (map R.row_of seconds.now) first.now))) }
+    ensures { Gives (λ _. found.new.items) result (onto found.old.items
+        (kept (keeps filter.now) (beside (map R.row_of seconds.now) first.now))) }
 {
     for second in seconds {
         let row = JoinedRow::of_two(first, second.row());

@@ -61,7 +61,8 @@ fn rows_of_groups<'a>(
     list: &BoundList,
     rows: Vec<JoinedRow<'a>>,
 ) -> Result<Vec<OutputRow<'a>>, Refusal>
-    ensures { Gives (λ found. found.items) result (grouped_by scope.now select.now.group_by select.now.list (list_over list.now) rows.entry.items) }
+    ensures { Gives (λ found. found.items) result (grouped_by scope.now select.now.group_by select.now.list
+        (list_over list.now) rows.entry.items) }
 {
     let SelectList::Outputs(outputs) = &select.list else {
         return Err(Refusal::WrongType);

@@ -125,7 +125,8 @@ fn bind_outputs(
     snapshot: Option<u32>,
     outputs: &[Output],
 ) -> Result<Seq<BoundOutput>, AllocError>
-    ensures { IfOk result (λ bound. map over bound ≡ map (λ (output : OutputRecord) rows. output_over scope.now snapshot rows output.value) outputs.now) }
+    ensures { IfOk result (λ bound. map over bound ≡ map (λ (output : OutputRecord) rows. output_over scope.now
+        snapshot rows output.value) outputs.now) }
 {
     let mut bound = Vec::with_capacity(alloc, outputs.len())?;
     for output in outputs {

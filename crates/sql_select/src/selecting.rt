@@ -34,7 +34,8 @@ pub fn select<R: HasRow>(
     firsts: &[R],
     seconds: Option<&[R]>,
 ) -> Result<Answer, Refusal>
-    ensures { Gives (λ answer. answer) result (answer select.now scope.now columns snapshot (map R.row_of firsts.now) (option_map (map R.row_of) (option_copied seconds.entry))) }
+    ensures { Gives (λ answer. answer) result (answer select.now scope.now columns snapshot (map R.row_of firsts.now)
+        (option_map (map R.row_of) (option_copied seconds.entry))) }
 {
     let rows = kept_rows(alloc, &select.condition, scope, snapshot, firsts, seconds)?;
     let found = output_rows(alloc, scope, snapshot, select, rows)?;
@@ -52,7 +53,8 @@ fn kept_rows<'a, R: HasRow>(
     firsts: &'a [R],
     seconds: Option<&'a [R]>,
 ) -> Result<Vec<JoinedRow<'a>>, Refusal>
-    ensures { Gives (λ found. found.items) result (kept (holds_at scope.now snapshot condition.now) (joined_rows (map R.row_of firsts.now) (option_map (map R.row_of) (option_copied seconds.entry)))) }
+    ensures { Gives (λ found. found.items) result (kept (holds_at scope.now snapshot condition.now)
+        (joined_rows (map R.row_of firsts.now) (option_map (map R.row_of) (option_copied seconds.entry)))) }
 {
     let filter = Filter::bind(alloc, scope, snapshot, condition)?;
     match seconds {

@@ -93,7 +93,11 @@ impl Contents {
 
     fn add(&mut self, alloc: Global, tuples: &[Row]) -> Result<(), AllocError>
         requires { self.old.next + length tuples.now < 2 ^ 64 }
-        ensures ok { OnOk result (self.new ≡ record { next = self.old.next + length tuples.now; rows = self.old.rows ++ numbered self.old.next tuples.now }) }
+        ensures ok { OnOk result (self.new ≡ record {
+          next = self.old.next + length tuples.now;
+          rows = self.old.rows ++
+              numbered self.old.next tuples.now;
+        }) }
         ensures err { OnErr result (self.new ≡ self.old) }
     {
         let count = self.rows.len();

@@ -92,7 +92,8 @@ impl Tables {
 
     // The place of the table of that name.
     fn place(&self, name: &Name) -> Result<usize, Refusal>
-        ensures { MatchResult result (IsPlace name.now self.now) (λ why. (why ≡ UnknownName) × (table_named name.now self.now ≡ None)) }
+        ensures { MatchResult result (IsPlace name.now self.now)
+            (λ why. (why ≡ UnknownName) × (table_named name.now self.now ≡ None)) }
     {
         self.position(name).ok_or(Refusal::UnknownName)
     }
@@ -103,7 +104,8 @@ impl Tables {
         create: &CreateTable,
     ) -> Result<Reply, Refusal>
         requires { length create.now.columns ≤ 16 }
-        ensures means { Gives (λ reply. (self.new, reply)) result (performed (Statement.CreateTable create.now) None self.old) }
+        ensures means { Gives (λ reply. (self.new, reply)) result
+            (performed (Statement.CreateTable create.now) None self.old) }
         ensures refused { OnErr result (self.new ≡ self.old) }
     {
         let table = TableSchema {
@@ -119,7 +121,8 @@ impl Tables {
         alloc: Global,
         create: &CreateIndex,
     ) -> Result<Reply, Refusal>
-        ensures means { Gives (λ reply. (self.new, reply)) result (performed (Statement.CreateIndex create.now) None self.old) }
+        ensures means { Gives (λ reply. (self.new, reply)) result
+            (performed (Statement.CreateIndex create.now) None self.old) }
         ensures refused { OnErr result (self.new ≡ self.old) }
     {
         self.schema.indexes.push(IndexSchema {
@@ -132,7 +135,8 @@ impl Tables {
 
     pub(crate) fn insert(&mut self, alloc: Global, insert: &Insert) -> Result<Reply, Refusal>
         requires { checked (Statement.Insert insert.now) None self.old.schema ≡ Ok tt }
-        ensures means { Gives (λ reply. (self.new, reply)) result (performed (Statement.Insert insert.now) None self.old) }
+        ensures means { Gives (λ reply. (self.new, reply)) result
+            (performed (Statement.Insert insert.now) None self.old) }
         ensures refused { OnErr result (self.new ≡ self.old) }
     {
         let place = self.place(&insert.table)?;
@@ -150,7 +154,8 @@ impl Tables {
         update: &Update,
     ) -> Result<Reply, Refusal>
         requires { checked (Statement.Update update.now) snapshot self.old.schema ≡ Ok tt }
-        ensures means { Gives (λ reply. (self.new, reply)) result (performed (Statement.Update update.now) snapshot self.old) }
+        ensures means { Gives (λ reply. (self.new, reply)) result
+            (performed (Statement.Update update.now) snapshot self.old) }
         ensures refused { OnErr result (self.new ≡ self.old) }
     {
         let place = self.place(&update.table)?;
@@ -166,7 +171,8 @@ impl Tables {
         snapshot: Option<u32>,
         delete: &Delete,
     ) -> Result<Reply, Refusal>
-        ensures means { Gives (λ reply. (self.new, reply)) result (performed (Statement.Delete delete.now) snapshot self.old) }
+        ensures means { Gives (λ reply. (self.new, reply)) result
+            (performed (Statement.Delete delete.now) snapshot self.old) }
         ensures refused { OnErr result (self.new ≡ self.old) }
     {
         let place = self.place(&delete.table)?;
@@ -253,8 +259,10 @@ fn insert_at(
 ) -> Result<(), Refusal>
     requires within { place < length contents.old.items }
     requires width { AllByRecursion (λ (row : List ValueOf). length row ≤ 16) tuples.now }
-    ensures means { (c : ContentsOf) → Gives (λ _. (slice_index_or contents.new.items place c, length tuples.now)) result (inserted tuples.now (slice_index_or contents.old.items place c)) }
-    ensures set { (c : ContentsOf) → OnOk result (contents.new.items ≡ slice_set contents.old.items place (slice_index_or contents.new.items place c)) }
+    ensures means { (c : ContentsOf) → Gives (λ _. (slice_index_or contents.new.items place c, length tuples.now))
+        result (inserted tuples.now (slice_index_or contents.old.items place c)) }
+    ensures set { (c : ContentsOf) → OnOk result (contents.new.items ≡ slice_set contents.old.items place
+        (slice_index_or contents.new.items place c)) }
     ensures err { OnErr result (contents.new.items ≡ contents.old.items) }
 {
     contents[place].insert(alloc, tuples)
@@ -279,7 +287,8 @@ fn answer_of_one(
     table: &TableSchema,
     contents: &Contents,
 ) -> Result<Answer, Refusal>
-    ensures { Gives (λ answer. answer) result (answer query.now (table.now ∷ []) (answer_columns (table.now ∷ []) query.now.list) snapshot (rows_of contents.now.rows) None) }
+    ensures { Gives (λ answer. answer) result (answer query.now (table.now ∷ [])
+        (answer_columns (table.now ∷ []) query.now.list) snapshot (rows_of contents.now.rows) None) }
 {
     let scope = Scope::of_one(table);
     let columns = answer_columns(alloc, &scope, &query.list)?;
@@ -299,7 +308,9 @@ fn answer_of_two(
 ) -> Result<Answer, Refusal>
     requires few_first { length first.now.columns ≤ 16 }
     requires few_second { length second.now.columns ≤ 16 }
-    ensures { Gives (λ answer. answer) result (answer query.now (first.now ∷ second.now ∷ []) (answer_columns (first.now ∷ second.now ∷ []) query.now.list) snapshot (rows_of firsts.now.rows) (Some (rows_of seconds.now.rows))) }
+    ensures { Gives (λ answer. answer) result (answer query.now (first.now ∷ second.now ∷ [])
+        (answer_columns (first.now ∷ second.now ∷ []) query.now.list) snapshot (rows_of firsts.now.rows)
+        (Some (rows_of seconds.now.rows))) }
 {
     let scope = Scope::of_two(first, second);
     let columns = answer_columns(alloc, &scope, &query.list)?;
