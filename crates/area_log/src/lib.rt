@@ -2,8 +2,6 @@
 //! generation, so that a crash leaves the old list or the new one whole.
 #![tactic(auto)]
 
-#[cfg(test)]
-mod fickle;
 mod header;
 mod laws;
 mod listing;

@@ -22,9 +22,11 @@ const COMMITS: Row = (Ask::Commit(A), COMMITTED);
 
 const TOO_MANY: Refusal = Refusal::TooManyPages { needed: 1025 };
 
-const PAGES_OF_A_COMMIT: [Row; 14] = [
+// The pages of the first commit are not edited in their order.
+const PAGES_OF_A_COMMIT: [Row; 15] = [
     BEGINS,
-    (Ask::EditAll(A, 0, 1024, 1), Answer::Done),
+    (Ask::EditAll(A, 512, 1024, 1), Answer::Done),
+    (Ask::EditAll(A, 0, 512, 1), Answer::Done),
     COMMITS,
     BEGINS,
     (Ask::EditAll(A, 0, 1024, 2), Answer::Done),

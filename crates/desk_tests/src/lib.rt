@@ -4,6 +4,8 @@
 #[cfg(test)]
 mod log;
 #[cfg(test)]
+mod pool;
+#[cfg(test)]
 mod queue;
 #[cfg(test)]
 mod tests;

@@ -155,19 +155,25 @@ fn stands_at(disk: &MemDisk, place: usize, want: &[u8]) -> bool {
     bytes.len() >= place && bytes[place..].starts_with(want)
 }
 
-#[test]
-fn the_generation_after_the_last_is_the_first(rt: HostRuntime) -> Result<(), Fail> {
-    let alloc = rt.alloc();
+// Whether a log of the one generation is replaced by a region of the other.
+fn is_replaced_under(alloc: Global, generation: u64, next: u64) -> Result<bool, Refusal> {
     let mut disk = log_of(alloc, &[1])?;
-    let last = put(&mut disk, 8, &[0xff; 8]);
-    let first = replace(alloc, &mut disk, &[2]);
-    let one = stands_at(
-        &disk,
-        64,
-        &[0xa5, 0, 0, 0, 0, 0, 0, 0, 0, 0, 0, 0, 0, 0, 0, 1],
-    );
-    let lists = lists(alloc, &mut disk, &[&[2]])?;
-    assert!(rt; (last, first, one, lists) == (Ok(()), Ok(()), true, true));
+    put(&mut disk, 8, &generation.to_be_bytes())?;
+    replace(alloc, &mut disk, &[2])?;
+    let is_next = stands_at(&disk, 64, &[0xa5, 0, 0, 0, 0, 0, 0, 0])
+        && stands_at(&disk, 72, &next.to_be_bytes());
+    Ok(is_next && lists(alloc, &mut disk, &[&[2]])?)
+}
+
+#[test]
+fn generations_begin_again_at_1(rt: HostRuntime) -> Result<(), Fail> {
+    let alloc = rt.alloc();
+    let replaced = [
+        is_replaced_under(alloc, 1, 2),
+        is_replaced_under(alloc, 0xffff_ffff_ffff_fffe, 0xffff_ffff_ffff_ffff),
+        is_replaced_under(alloc, 0xffff_ffff_ffff_ffff, 1),
+    ];
+    assert!(rt; replaced == [Ok(true); 3]);
     Ok(())
 }
 

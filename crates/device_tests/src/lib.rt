@@ -7,7 +7,13 @@ mod area_logs;
 #[cfg(test)]
 mod faults;
 #[cfg(test)]
+mod fickle;
+#[cfg(test)]
+mod four;
+#[cfg(test)]
 mod gate_logs;
+#[cfg(test)]
+mod halves;
 mod on_mem_disk;
 #[cfg(test)]
 mod page_files;

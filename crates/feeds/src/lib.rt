@@ -7,8 +7,6 @@ mod mem_source;
 mod schedule;
 mod sink;
 mod source;
-#[cfg(test)]
-mod tests;
 
 pub use adapters::{StdSink, StdSource};
 pub use mem_sink::MemSink;

@@ -5,8 +5,6 @@ mod combiner;
 mod fold_set;
 mod how;
 mod laws;
-#[cfg(test)]
-mod tests;
 
 pub use combiner::{Combiner, Operation};
 pub use fold_set::{FoldSet, Folds};

@@ -178,33 +178,3 @@ fn put_length(bytes: &mut Vec<u8>)
     let count = bytes.len() - 4;
     put_u32(bytes, 0, count as u32);
 }
-
-#[cfg(test)]
-mod tests {
-    use super::{Framed, FramedBuilder};
-    use retro_base::Refusal;
-    use std::alloc::Global;
-    use std::test::Fail;
-
-    #[test]
-    fn a_body_is_framed(rt: HostRuntime) -> Result<(), Fail> {
-        let framed = Framed::new(rt.alloc(), &[3, 4, 5])?;
-        assert_eq!(rt; framed.len(), 3);
-        assert_eq!(rt; framed.as_bytes(), [0, 0, 0, 3, 3, 4, 5, 0].as_slice());
-        Ok(())
-    }
-
-    fn built(alloc: Global) -> Result<Framed, Refusal> {
-        let mut builder = FramedBuilder::new(alloc)?;
-        builder.push(3)?;
-        builder.extend_from_slice(&[4, 5])?;
-        builder.finish()
-    }
-
-    #[test]
-    fn a_body_is_framed_where_it_was_written(rt: HostRuntime) -> Result<(), Fail> {
-        let framed = built(rt.alloc())?;
-        assert_eq!(rt; framed.as_bytes(), [0, 0, 0, 3, 3, 4, 5, 0].as_slice());
-        Ok(())
-    }
-}

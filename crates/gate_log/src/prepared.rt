@@ -133,25 +133,3 @@ fn put_record(bytes: &mut Vec<u8>, framed: &Framed) -> Result<(), Refusal>
     bytes.extend_from_slice(framed.sized())?;
     Ok(())
 }
-
-#[cfg(test)]
-mod tests {
-    use super::Prepared;
-    use crate::framed::Framed;
-    use retro_base::Refusal;
-    use std::test::Fail;
-
-    #[test]
-    fn a_region_of_one_body(rt: HostRuntime) -> Result<(), Fail> {
-        let alloc = rt.alloc();
-        let bodies = vec![in alloc; Framed::new(alloc, &[1, 2])?]?;
-        let prepared = Prepared::new(alloc, 24, 258, bodies.as_slice())?;
-        let want = [
-            0, 0, 0, 0, 0, 0, 0, 0, 0, 0, 0, 0, 0, 1, 2, 0xa5, 0, 0, 0, 2, 1, 2, 0,
-        ];
-        assert_eq!(rt; prepared.bytes.as_slice(), want.as_slice());
-        let refused = Prepared::new(alloc, 23, 258, bodies.as_slice());
-        assert_eq!(rt; refused.err(), Some(Refusal::NoRoom { needed: 8, free: 7 }));
-        Ok(())
-    }
-}

@@ -90,32 +90,3 @@ fn split_record(rest: &[u8]) -> Option<(&[u8], &[u8])>
     }
     Some(behind.split_at(count))
 }
-
-#[cfg(test)]
-mod tests {
-    use super::read_records;
-    use retro_base::{Device, Refusal};
-    use std::test::Fail;
-
-    #[test]
-    fn records_end_at_the_first_closed_gate(rt: HostRuntime) -> Result<(), Fail> {
-        let bytes = [
-            0xa5, 0, 0, 0, 2, 1, 2, 0xa5, 0, 0, 0, 0, 0xa4, 0xa5, 0, 0, 0, 9,
-        ];
-        let (bodies, end) = read_records(rt.alloc(), Device::Log, 16, &bytes)?;
-        assert_eq!(rt; end, 12);
-        assert_eq!(rt; bodies.len(), 2);
-        assert_eq!(rt; bodies[0].as_slice(), [1, 2].as_slice());
-        assert!(rt; bodies[1].is_empty());
-        Ok(())
-    }
-
-    #[test]
-    fn a_record_ends_with_a_gate_inside_the_region(rt: HostRuntime) -> Result<(), Fail> {
-        let bytes = [0xa5, 0, 0, 0, 0, 0xa5, 0, 0, 0, 2, 1, 2];
-        let refused = read_records(rt.alloc(), Device::Log, 16, &bytes);
-        let (device, place) = (Device::Log, 21);
-        assert_eq!(rt; refused.err(), Some(Refusal::NotAStore { device, place }));
-        Ok(())
-    }
-}

@@ -392,6 +392,3 @@ impl<D: Disk> PagePool<D> {
         }
     }
 }
-
-#[cfg(test)]
-mod tests;

@@ -7,8 +7,6 @@ mod fields;
 mod limits;
 mod page;
 mod refusal;
-#[cfg(test)]
-mod tests;
 mod who;
 
 pub use device::Device;

@@ -4,6 +4,8 @@
 #[cfg(test)]
 mod answers;
 #[cfg(test)]
+mod folds;
+#[cfg(test)]
 mod intervals;
 #[cfg(test)]
 mod support;

@@ -145,7 +145,8 @@ const GOOD_SCRIPTS: [(&[u8], &str); 15] = [
         b"SESSION a\nCollateData ( 'a' , 'it''s' , '' )\naggregatedatainvariable('a','b','c','d')\n\
           CollateData('a','b')\nCollateData('a','b','\xff')\nAGGREGATEDATAINTABLE 'x\nCollateDataIntoIntervals !\n\
           SELECT 'CollateData' FROM t\nCOMMIT",
-        "phase; session a; call 14 20 30; call 24 28 32 36; single, syntax 19; single, syntax 21; single, syntax 23; single, syntax 25; select; commit",
+        "phase; session a; call 14 20 30; call 24 28 32 36; single, syntax 19; single, syntax 21; single, syntax 23; \
+         single, syntax 25; select; commit",
     ),
 ];
 

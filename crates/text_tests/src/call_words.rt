@@ -91,7 +91,8 @@ const CALLS: [(&str, &str); 41] = [
         "rql_c collate",
     ),
     (
-        "CollateDataIntoIntervals('select snap_id from SnapIds where snap_id > 1 order by snap_id desc limit 3','select distinct v from t, u order by v','rql_')",
+        "CollateDataIntoIntervals('select snap_id from SnapIds where snap_id > 1 order by snap_id desc limit 3',\
+         'select distinct v from t, u order by v','rql_')",
         "rql_ intervals",
     ),
     (

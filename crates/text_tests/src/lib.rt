@@ -1,6 +1,9 @@
-//! Texts read: tokens, statements and their bad places, and the words of calls, written out by hand.
+//! Texts read: tokens, statements and their bad places, and the words of calls; texts of values and of refusals, and
+//! numbers in bytes: all written out by hand.
 #![tactic(auto)]
 
+#[cfg(test)]
+mod base;
 #[cfg(test)]
 mod call_words;
 #[cfg(test)]
@@ -9,3 +12,5 @@ mod showing;
 mod texts;
 #[cfg(test)]
 mod tokens;
+#[cfg(test)]
+mod written;

@@ -7,14 +7,13 @@ use Rattle.std.proofs.lemmas.Bool.{eqb-true, eq-eqb}
 use Rattle.retro_base.specs.declared.refusal.Refusal.{Refusal}
 use Rattle.retro_base.specs.declared.who.Who.{Who}
 use Rattle.history.specs.declared.journal.Line.{Line}
-use Rattle.history.specs.declared.journal.What.{What}
 use Rattle.history.specs.declared.journal.What.TheVariants.{Began}
 use Rattle.txn_set.specs.declared.ledger.Ledger.{Ledger}
 use Rattle.journal_book.specs.declared.work.Transaction.{Transaction}
 use Rattle.journal_book.specs.declared.work.Work.{Work}
 use Rattle.journal_book.specs.declared.work.Work.TheVariants.{Open, Looking, KeptDrop}
 use Rattle.journal_book.specs.Book.{Book, lines_refused}
-use Rattle.txn_set.specs.Ledger.{IsKeptDrop, drop_kept, drop_lines, given_up, gives_up, is_closed, is_idle, is_kept, keeping_drop, keeps_drop, keeps_other_drop, kept_behind, with_open, IsOpenAs, closed, fresh, opened}
+use Rattle.txn_set.specs.Ledger.{IsKeptDrop, drop_kept, drop_lines, given_up, gives_up, is_closed, is_idle, is_kept, keeping_drop, keeps_drop, keeps_other_drop, kept_behind, with_open, IsOpenAs, fresh, opened}
 use Rattle.journal_book.specs.Works.{Works, keeping_refusal, edits_of, edits_page, latched_by, latch_holder, who_of, with_work, work_at}
 use Rattle.txn_set.specs.WorksFit.{WorksFit, kept_lines}
 use Rattle.journal_book.proofs.Slots.{work_at_with, with_work_same, works_of}
@@ -118,12 +117,3 @@ begun_open l who lines = record {
 
 pub still_open : (l : Ledger) (who : Who) (t : Transaction) → t.who ≡ who → IsOpenAs (with_open who t l).works.slots who
 still_open l who t own = record { transaction = t; open_there = at_own l.works.slots who.session (Some (Open t)); is_of = own }
-
-pub closed_idle : (l : Ledger) (who : Who) (what : What) → work_at (closed who what l).works.slots who.session ≡ None
-closed_idle l who what = at_own l.works.slots who.session None
-
-pub given_pages : (who : Who) (l : Ledger) → (given_up who l).book.pages ≡ l.book.pages
-given_pages who l = go (keeps_other_drop who (work_at l.works.slots who.session)) where
-  go : (b : Bool) → (cond b (gives_up who.session l) l).book.pages ≡ l.book.pages
-  go true = refl
-  go false = refl

@@ -7,8 +7,6 @@ mod ending;
 mod laws;
 mod ledger;
 mod refusing;
-#[cfg(test)]
-mod tests;
 
 pub use counts::Counts;
 pub use ending::Ending;

@@ -4,8 +4,6 @@
 mod list;
 mod name;
 mod row;
-#[cfg(test)]
-mod tests;
 mod text;
 mod value;
 

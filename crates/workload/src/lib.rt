@@ -5,8 +5,6 @@
 mod load;
 mod numbers;
 mod rounds;
-#[cfg(test)]
-mod tests;
 mod writing;
 
 pub use load::script_of;

@@ -1,9 +1,9 @@
-//! What no clause says: how many clean pages stay, and that calls succeed.
+//! What no clause says: that the pool's calls succeed.
 
-use super::PagePool;
-use disk_mem::{Call, MemDisk};
+use disk_mem::MemDisk;
 use disk_model::Disk;
 use history::PageImage;
+use page_pool::PagePool;
 use retro_base::{PAGE_BYTES, Page, Refusal};
 use std::alloc::Global;
 use std::test::Fail;
@@ -21,39 +21,6 @@ fn opened<D: Disk + Drop>(alloc: Global, disk: D, pages: u32) -> Result<PagePool
 fn pool_of(alloc: Global, pages: u32) -> Result<PagePool<MemDisk>, Refusal> {
     let disk = MemDisk::new(alloc, 1024 * u64::from(pages), Vec::new(alloc), None)?;
     opened(alloc, disk, pages)
-}
-
-fn is_zero<D: Disk>(pool: &mut PagePool<D>, page: u32) -> Result<bool, Refusal> {
-    if page >= pool.pages() {
-        return Ok(false);
-    }
-    let mut bytes = Page::of([1; PAGE_BYTES]);
-    pool.read(page, &mut bytes)?;
-    Ok(bytes == Page::zero())
-}
-
-// Whether all pages are zero from that one on.
-fn are_zero<D: Disk>(pool: &mut PagePool<D>, from: u32) -> Result<bool, Refusal> {
-    for page in from..pool.pages() {
-        if !is_zero(pool, page)? {
-            return Ok(false);
-        }
-    }
-    Ok(true)
-}
-
-#[test]
-fn of_8192_pages_the_last_4096_stay(rt: HostRuntime) -> Result<(), Fail> {
-    let mut pool = pool_of(rt.alloc(), 8192)?;
-    let first = are_zero(&mut pool, 0)?;
-    let kept = pool.clean.len();
-    let second = are_zero(&mut pool, 0)?;
-    let third = are_zero(&mut pool, 4096)?;
-    let left = pool.clean.len();
-    let reads = pool.into_disk().calls(Call::Read);
-    assert!(rt; (first, second, third) == (true, true, true));
-    assert!(rt; (kept, left, reads) == (4096, 4096, 16_384));
-    Ok(())
 }
 
 // Fills a page with that byte.

@@ -1,6 +1,6 @@
 //! Numbers in bytes, pages, and the words of refusals.
 
-use crate::{
+use retro_base::{
     Device, Failed, Page, Refusal, Who, get_u16, get_u32, get_u64, put_u16, put_u32, put_u64,
 };
 use std::alloc::AllocError;

@@ -1,22 +1,25 @@
-//! What no clause says: that scripts are made, whole and in bounds, and the numbers of a seed, by hand.
+//! What no clause says: that scripts of a load are made, whole and in bounds, the numbers of a seed by hand.
 
 ghost use Rattle.std.specs.Prelude.{◌≤◌};
 
-use crate::numbers::Numbers;
-use crate::script_of;
 use std::alloc::{AllocError, Global};
 use std::test::Fail;
+use workload::script_of;
 
 const MAKING: &str = "PHASE
 SESSION s
 CREATE TABLE t0(a INT, b INT)
-INSERT INTO t0 VALUES (0,0),(1,0),(2,0),(3,0),(4,0),(5,0),(6,0),(7,0),(8,0),(9,0),(10,0),(11,0),(12,0),(13,0),(14,0),(15,0),(16,0),(17,0),(18,0),(19,0)
+INSERT INTO t0 VALUES (0,0),(1,0),(2,0),(3,0),(4,0),(5,0),(6,0),(7,0),(8,0),(9,0),\
+(10,0),(11,0),(12,0),(13,0),(14,0),(15,0),(16,0),(17,0),(18,0),(19,0)
 CREATE TABLE t1(a INT, b INT)
-INSERT INTO t1 VALUES (0,0),(1,0),(2,0),(3,0),(4,0),(5,0),(6,0),(7,0),(8,0),(9,0),(10,0),(11,0),(12,0),(13,0),(14,0),(15,0),(16,0),(17,0),(18,0),(19,0)
+INSERT INTO t1 VALUES (0,0),(1,0),(2,0),(3,0),(4,0),(5,0),(6,0),(7,0),(8,0),(9,0),\
+(10,0),(11,0),(12,0),(13,0),(14,0),(15,0),(16,0),(17,0),(18,0),(19,0)
 CREATE TABLE t2(a INT, b INT)
-INSERT INTO t2 VALUES (0,0),(1,0),(2,0),(3,0),(4,0),(5,0),(6,0),(7,0),(8,0),(9,0),(10,0),(11,0),(12,0),(13,0),(14,0),(15,0),(16,0),(17,0),(18,0),(19,0)
+INSERT INTO t2 VALUES (0,0),(1,0),(2,0),(3,0),(4,0),(5,0),(6,0),(7,0),(8,0),(9,0),\
+(10,0),(11,0),(12,0),(13,0),(14,0),(15,0),(16,0),(17,0),(18,0),(19,0)
 CREATE TABLE t3(a INT, b INT)
-INSERT INTO t3 VALUES (0,0),(1,0),(2,0),(3,0),(4,0),(5,0),(6,0),(7,0),(8,0),(9,0),(10,0),(11,0),(12,0),(13,0),(14,0),(15,0),(16,0),(17,0),(18,0),(19,0)
+INSERT INTO t3 VALUES (0,0),(1,0),(2,0),(3,0),(4,0),(5,0),(6,0),(7,0),(8,0),(9,0),\
+(10,0),(11,0),(12,0),(13,0),(14,0),(15,0),(16,0),(17,0),(18,0),(19,0)
 COMMIT WITH SNAPSHOT
 ";
 
@@ -89,12 +92,4 @@ fn longest_scripts(rt: HostRuntime) -> Result<(), Fail> {
         assert_eq!(rt; length_of_most(rt.alloc(), seed)?, bytes);
     }
     Ok(())
-}
-
-#[test]
-fn numbers_of_seed_one(rt: HostRuntime) {
-    let mut numbers = Numbers::from_seed(1);
-    for number in [149, 11249, 57305, 38044, 35283, 24819, 26463, 18689] {
-        assert_eq!(rt; numbers.next(), number);
-    }
 }

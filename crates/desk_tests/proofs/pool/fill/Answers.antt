@@ -1,7 +1,7 @@
 use Rattle.std.proofs.Common.{◌≡◌, ◌∙◌, eqb, refl}
 use Rattle.std.proofs.lemmas.Bool.{eq-eqb, or_right}
 use Rattle.page_pool.specs.Side.{held}
-use Rattle.page_pool.proofs.pool.tests.fill.Goals as goal
+use Rattle.desk_tests.proofs.pool.fill.Goals as goal
 
 pub write-requires : goal.write-requires
 write-requires g c =

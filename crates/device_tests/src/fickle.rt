@@ -2,7 +2,7 @@
 
 ghost use Rattle.std.specs.Prelude.{[]};
 
-use crate::log::AreaLog;
+use area_log::AreaLog;
 use disk_model::{Disk, Failed};
 use retro_base::{Device, Refusal};
 use std::alloc::Global;

@@ -1,6 +1,6 @@
 //! What no clause says: that closures of the caller can be handed in, and what they then answer.
 
-use super::*;
+use fold_kit::{Combiner, FoldSet, Folds, How};
 
 const BOUND: i128 = 1 << 100;
 

@@ -1,7 +1,7 @@
 //! What no clause says: the written text of values, by hand, and that calls succeed.
 
-use super::*;
 use std::test::Fail;
+use values::{Duplicate, Row, Seq, Value, field};
 
 #[test]
 fn integers_are_written_in_decimal(rt: HostRuntime) -> Result<(), Fail> {

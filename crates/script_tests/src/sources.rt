@@ -1,6 +1,6 @@
 //! Sources read in pieces, and sinks and sources that fail.
 
-use crate::{MemSink, MemSource, ReadError, Sink, Source, StdSink, StdSource, put_all, read_front};
+use feeds::{MemSink, MemSource, ReadError, Sink, Source, StdSink, StdSource, put_all, read_front};
 use retro_base::{Failed, Refusal};
 use std::alloc::{AllocError, Global};
 use std::io::{self, ErrorKind, Read, Write};
