@@ -335,3 +335,17 @@ fn a_table_of_forty_pages(rt: HostRuntime) -> Result<(), Fail> {
     assert!(rt; ([there, after, left], root) == ([Ok(40), Ok(40), Ok(0)], Some((40, 39))));
     Ok(())
 }
+
+// A table of so many rows, each on a page of its own: how many of them are told.
+fn counted(alloc: Global, rows: i64) -> Result<usize, Stop<Failed>> {
+    let mut pager = zero_pages(alloc, 1110, &[])?;
+    let first = make_page(alloc, &mut pager)?;
+    add_rows(alloc, &mut pager, first, rows)?;
+    count_rows(alloc, &mut pager, first, 0)
+}
+
+#[test]
+fn a_table_of_1100_pages(rt: HostRuntime) -> Result<(), Fail> {
+    assert!(rt; counted(rt.alloc(), 1100) == Ok(1100));
+    Ok(())
+}

@@ -109,7 +109,7 @@ pub fn sixteen_values(alloc: Global, first: i64) -> Result<Row, AllocError> {
 
 // A store of so many zero pages. The listed calls fail.
 pub fn zero_pages(alloc: Global, count: usize, failing: &[u64]) -> Result<MemPager, AllocError>
-    requires { count < 1000 }
+    requires { count < 2000 }
 {
     let pages = vec![in alloc; Page::zero(); count]?;
     Ok(MemPager::new(alloc, pages, failing.to_vec(alloc)?))

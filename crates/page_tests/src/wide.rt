@@ -1,7 +1,7 @@
 //! Tables of sixteen columns whose names are of 32 letters, and forty rows of 900 bytes.
 
 use crate::support::{
-    count, delete_rows, first_integer, insert_rows, make_table_of, name, next_in_t, rows_in_t,
+    count, delete_rows, encoding, insert_rows, make_table_of, name, next_in_t, rows_in_t,
     sixteen_values, tables_and_indexes, update_rows, zero_pages,
 };
 use pager::{EditPager, MemPager, Pager, Stop};
@@ -78,17 +78,22 @@ fn delete_all<P: EditPager>(alloc: Global, pager: &mut P) -> Result<(), Stop<P::
     delete_rows(alloc, pager, &rows)
 }
 
-// Whether the table t has forty rows, numbered from 0 on, of that integer and fifteen more values.
+// Whether a row is of that number and of these values, by the bytes of both.
+fn is(alloc: Global, placed: &Placed, number: u64, row: &Row) -> Result<bool, Refusal> {
+    Ok(encoding(alloc, placed.number, &placed.row)? == encoding(alloc, number, row)?)
+}
+
+// Whether the table t has forty rows, numbered from 0 on, of the sixteen values from that integer on.
 fn forty_are<P: Pager>(alloc: Global, pager: &mut P, number: i64) -> Result<bool, Stop<P::Fault>> {
-    let rows = rows_in_t(alloc, pager)?;
-    Ok(
-        rows.len() == 40
-            && rows.iter().enumerate().all(|(i, placed)| {
-                placed.number == i as u64
-                    && placed.row.len() == 16
-                    && first_integer(&placed.row) == Some(number)
-            }),
-    )
+    let want = sixteen_values(alloc, number)?;
+    let mut count: u64 = 0;
+    for placed in &rows_in_t(alloc, pager)? {
+        if !is(alloc, placed, count, &want)? {
+            return Ok(false);
+        }
+        count = count.saturating_add(1);
+    }
+    Ok(count == 40)
 }
 
 #[test]
