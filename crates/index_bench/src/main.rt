@@ -5,7 +5,7 @@
 mod damage;
 mod keys;
 
-use damage::damaged_places;
+use damage::{damaged_places, tree_places};
 use keys::{Kept, failing_calls, kept_of, numbers_of, reads_of, texts_kept};
 use pager::{Index, Stop};
 use retro_base::Failed;
@@ -25,6 +25,7 @@ struct Told {
     texts: Kept,
     failing: u64,
     places: Vec<u64>,
+    trees: Vec<u64>,
 }
 
 fn told_of<I: Index>(alloc: Global) -> Result<Told, Stop<Failed>> {
@@ -40,6 +41,7 @@ fn told_of<I: Index>(alloc: Global) -> Result<Told, Stop<Failed>> {
         texts: texts_kept::<I>(alloc)?,
         failing: failing_calls::<I>(alloc)?,
         places: damaged_places::<I>(alloc)?,
+        trees: tree_places::<I>(alloc)?,
     })
 }
 
@@ -51,10 +53,12 @@ fn tell<R: Print>(rt: &R, name: &str, told: &Told) -> std::io::Result<()> {
         texts,
         failing,
         places,
+        trees,
     } = told;
     println!(rt; "{name}: {numbers:?}, then {left:?}")?;
     println!(rt; "{name}: {kept:?}, texts {texts:?}")?;
-    println!(rt; "{name}: {failing} calls fail in turn, damaged pages at {places:?}")
+    println!(rt; "{name}: {failing} calls fail in turn, damaged pages at {places:?}")?;
+    println!(rt; "{name}: damaged pages of trees at {trees:?}")
 }
 
 fn main(rt: HostRuntime) -> ExitCode {
