@@ -1,11 +1,12 @@
 -- What is gathered, one snapshot after the other.
-use Rattle.std.proofs.Common.{◌≡◌, ◌∙◌, ◌+◌, ◌<◌, ◌≤◌, ◌⊎◌, inl, inr, ℕ, zero, suc, Bool, List, [], ◌∷◌, ◌++◌, Option, Result, Ok, Err, append-nil, append_assoc, ap, arith, drop, get_or, length, refl, subst, sym}
-use Rattle.std.specs.List.{AllByRecursion, Contains}
+use Rattle.std.proofs.Common.{◌≡◌, ◌∙◌, ◌+◌, ◌<◌, ◌≤◌, ◌⊎◌, inl, inr, ℕ, zero, suc, Bool, List, [], ◌∷◌, ◌++◌, Result, Ok, Err, append-nil, append_assoc, ap, arith, drop, get_or, length, refl, subst, sym}
+use Rattle.std.specs.List.{Contains}
 use Rattle.std.specs.Result.{IsErr, IsErrAnd}
 use Rattle.std.proofs.lemmas.List.{drop_more}
 use Rattle.retro_base.specs.Cause.{Rose}
 use Rattle.retro_base.specs.Gives.{◌>>=◌}
 use Rattle.retro_base.specs.declared.refusal.Refusal.{Refusal}
+use Rattle.retro_base.specs.declared.refusal.Refusal.TheVariants.{OutOfMemory}
 use Rattle.pager.specs.Stop.{Allowed, AllowedStop}
 use Rattle.pager.specs.declared.stop.Stop.{Stop}
 use Rattle.pager.specs.declared.stop.Stop.TheVariants as stop
@@ -13,7 +14,7 @@ use Rattle.sql_tree.specs.declared.statement.Column.{Column}
 use Rattle.sql_select.specs.Each.{each, onto}
 use Rattle.sql_select.specs.declared.answer.Answer.{Answer}
 use Rattle.rql.specs.AsOf.{Answers, IsOfCall, IsOfSnapshot, OnlyAsks}
-use Rattle.rql.specs.Gathering.{Take, gathered, taken_later}
+use Rattle.rql.specs.Gathering.{Take, gathered, taken, taken_later}
 
 module _ {X : Type 0} (f : ℕ → Result X Refusal) where
   onto_both : (front : List X) (x : X) (r : Result (List X) Refusal) → onto front (r >>= (λ xs. Ok (x ∷ xs))) ≡ onto (front ++ x ∷ []) r
@@ -79,6 +80,17 @@ module _ {X : Type 0} (take : Take X) (answer : ℕ → Result Answer Refusal) (
   pub gathers_all : length later ≤ i → gathered take answer snapshots ≡ Ok (columns, parts)
   gathers_all le = ends (taken_later take answer columns) later i columns parts (gathered take answer snapshots) le at_columns
 
+-- the part of the first
+part_behind : {X : Type 0} (columns : List Column) (part : X) (r : Result (List X) Refusal)
+    → ◌≡◌ {A = Result (List Column × List X) Refusal} (onto (part ∷ []) r >>= (λ parts. Ok (columns, parts))) (r >>= (λ parts. Ok (columns, part ∷ parts)))
+part_behind columns part (Ok parts) = refl
+part_behind columns part (Err why) = refl
+
+pub gathers_first : {X : Type 0} (take : Take X) (answer : ℕ → Result Answer Refusal) (columns : List Column) (part : X) (first : ℕ) (later snapshots : List ℕ)
+    → snapshots ≡ first ∷ later → taken take answer first ≡ Ok (columns, part) → SoFar take answer columns (part ∷ []) 0 later snapshots
+gathers_first take answer columns part first later snapshots split e =
+    rw (split, e) (part_behind columns part (each (taken_later take answer columns) later))
+
 -- what stopped a call stopped the one round it
 pub stops_round : {F : Type 0} (inner outer : Refusal → Type 0) (why : Stop F) → AllowedStop inner why → ((refusal : Refusal) → inner refusal → outer refusal) → AllowedStop outer why
 stops_round inner outer (stop.Refused refusal) (inl e) step = inl e
@@ -89,6 +101,22 @@ pub handed_on : {X Y F : Type 0} (view : X → Y) (allows : Result Y Refusal →
     → AllowedStop (λ refusal. allows (Err refusal)) why → Allowed view allows result
 handed_on view allows (Ok x) why h said = absurd h.1
 handed_on {F = F} view allows (Err e) why h said = let P : Stop F → Type 0 = λ s. AllowedStop (λ refusal. allows (Err refusal)) s in subst P (sym h.1) said
+
+-- what a call makes of what was gathered, and then of that
+module _ {X Y Z : Type 0} (whole : Result X Refusal) (make : X → Result Y Refusal) (finish : X → Y → Z) (found : X) (is : whole ≡ Ok found) where
+  abbrev pub ending : Result Z Refusal
+  ending = whole >>= (λ x. make x >>= (λ y. Ok (finish x y)))
+
+  ending_by : (made : Result Y Refusal) → make found ≡ made → ending ≡ made >>= (λ y. Ok (finish found y))
+  ending_by made e = ap (λ r. r >>= (λ x. make x >>= (λ y. Ok (finish x y)))) is ∙ ap (λ r. r >>= (λ y. Ok (finish found y))) e
+
+  pub ends_made : (y : Y) (z : Z) → make found ≡ Ok y → z ≡ finish found y → ending ≡ Ok z
+  ends_made y z e same = ending_by (Ok y) e ∙ ap (λ z. Ok z) (sym same)
+
+  pub ends_refused : {F : Type 0} (why : Refusal) (result : Result Z (Stop F)) → IsErrAnd result (λ s. s ≡ stop.Refused why) → (why ≡ OutOfMemory) ⊎ (make found ≡ Err why) → Allowed (λ z. z) (λ r. ending ≡ r) result
+  ends_refused why (Ok z) refused said = absurd refused
+  ends_refused why (Err s) refused (inl memory) = rw refused (inl memory)
+  ends_refused why (Err s) refused (inr e) = rw refused (inr (ending_by (Err why) e))
 
 module _ {A X Y F : Type 0} (may_ask : A → ℕ → Bool) (told : A → Answers → Type 0) (goes : A → A → Type 0) (on : (a b c : A) → goes a b → goes b c → goes a c) (faults : A → ℕ) (inner outer : Refusal → Type 0) (step : (refusal : Refusal) → inner refusal → outer refusal) (before mid after : A)
     (same_asks : may_ask mid ≡ may_ask before) (same_told : (answers : Answers) → told before answers → told mid answers) (same_goes : goes before mid) (same_faults : faults mid ≡ faults before) where
@@ -113,6 +141,15 @@ module _ {A X Y F : Type 0} (may_ask : A → ℕ → Bool) (told : A → Answers
       → OnlyAsks {X = X} may_ask told goes faults inner mid after (Err why) → OnlyAsks {X = Y} may_ask told goes faults outer before after result
   asks_on (Ok y) why h asks = absurd h.1
   asks_on (Err e) why h asks = let P : Stop F → Type 0 = λ s. OnlyAsks {X = Y} may_ask told goes faults outer before after (Err s) in subst P (sym h.1) (asks_by why asks)
+
+-- want of memory, after calls that had not ended early
+pub asks_out : {A Y F : Type 0} (may_ask : A → ℕ → Bool) (told : A → Answers → Type 0) (goes : A → A → Type 0) (faults : A → ℕ) (allowed : Refusal → Type 0) (before after : A)
+    → may_ask after ≡ may_ask before → ((answers : Answers) → told before answers → told after answers) → goes before after → faults after ≡ faults before → allowed OutOfMemory
+    → (result : Result Y (Stop F)) → IsErrAnd result (λ s. s ≡ stop.Refused OutOfMemory) → OnlyAsks {X = Y} may_ask told goes faults allowed before after result
+asks_out may_ask told goes faults allowed before after same_asks same_told same_goes same_faults out (Ok y) refused = absurd refused
+asks_out {Y = Y} {F = F} may_ask told goes faults allowed before after same_asks same_told same_goes same_faults out (Err s) refused =
+    let P : Stop F → Type 0 = λ s. OnlyAsks {X = Y} may_ask told goes faults allowed before after (Err s) in
+    subst P (sym refused) (record { may_ask_stays = same_asks; told_stays = same_told; goes_on = same_goes; cause = same_faults; named = out })
 
 -- the refusals at one snapshot of a list are those of a call over the list
 pub of_snapshot : (snapshots : List ℕ) (snapshot : ℕ) → Contains snapshots snapshot → (refusal : Refusal) → IsOfSnapshot snapshot refusal → IsOfCall snapshots refusal

@@ -1,9 +1,10 @@
-pub mod Bests
 pub mod Gatherings
+pub mod GroupFolds
 pub mod GroupRows
 pub mod Parts
 pub mod RowSets
+pub mod RunFolds
 pub mod RunLaws
-pub mod RunSteps
 pub mod TableRows
+pub mod Tallies
 pub mod Twins

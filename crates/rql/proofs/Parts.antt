@@ -1,8 +1,14 @@
 -- Numbers in a high and a low part.
-use Rattle.std.proofs.Common.{◌≡◌, ◌∙◌, ◌^◌, ℤ, pos, negsuc, zero, suc, ◌+ℤ◌, ◌-ℤ◌, ◌*ℤ◌, arith, ap, refl}
+use Rattle.std.proofs.Common.{◌≡◌, ◌∙◌, ◌^◌, ℤ, pos, negsuc, zero, suc, ◌+ℤ◌, ◌-ℤ◌, ◌*ℤ◌, Option, Some, None, arith, ap, refl, sym}
+use Rattle.std.specs.Option.{SomeIff}
 use Rattle.std.proofs.lemmas.Int.{ints}
 use Rattle.std.proofs.Math.IntN.{pred_ℤ, pred_ℤ-*ℤ, suc_ℤ, suc_ℤ-*ℤ}
 use Rattle.rql.specs.Aggregates.{in_parts}
+
+-- a sum or difference that is within bounds
+pub some_is : (found : Option ℤ) (P : Type 0) (value x : ℤ) → SomeIff found P value → found ≡ Some x → x ≡ value
+some_is None P value x says e = absurd cc
+some_is (Some y) P value x says e = let same : y ≡ x = cc in sym same ∙ says.1
 
 suc_is : (m : ℤ) → m +ℤ pos 1 ≡ suc_ℤ m
 suc_is (pos n) = omega (arith, ints)

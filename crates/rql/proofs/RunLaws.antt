@@ -10,8 +10,9 @@ use Rattle.sql_select.specs.Groups.{firsts}
 use Rattle.sql_select.specs.Same.{same_row}
 use Rattle.sql_select.specs.Sameness.{same_row-Decides, same_row_equiv}
 use Rattle.sql_select.proofs.Firsts.{any_firsts, filter_no, filter_yes}
-use Rattle.rql.specs.Intervals.{GoesBefore, IsInterval, Run, RunsAreIntervals, StandsAt, appearance, has_row, run_end, runs, runs_at, set_of, stands_before}
-use Rattle.rql.proofs.RunSteps.{run_of}
+use Rattle.rql.specs.Intervals.{GoesBefore, IsInterval, RunsAreIntervals, StandsAt, appearance, has_row, run_end, runs, runs_at, set_of, stands_before}
+use Rattle.rql.specs.declared.runs_so_far.Run.{Run}
+use Rattle.rql.proofs.RunFolds.{run_of}
 
 -- ---- members of lists
 

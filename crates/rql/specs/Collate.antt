@@ -6,7 +6,6 @@ use Rattle.retro_base.specs.declared.refusal.Refusal.{Refusal}
 use Rattle.retro_base.specs.declared.refusal.Refusal.TheVariants.{NameTaken}
 use Rattle.values.specs.declared.value.Value.{Value}
 use Rattle.sql_check.specs.Names.{has_twins}
-use Rattle.sql_tree.specs.declared.statement.Column.{Column}
 use Rattle.sql_select.specs.declared.answer.Answer.{Answer}
 use Rattle.rql.specs.Columns.{name_of}
 use Rattle.rql.specs.Gathering.{Take, gathered}

@@ -14,6 +14,7 @@ use Rattle.sql_select.specs.Same.{same_row}
 use Rattle.sql_select.specs.declared.answer.Answer.{Answer}
 use Rattle.rql.specs.Columns.{name_of}
 use Rattle.rql.specs.Gathering.{Take, gathered}
+use Rattle.rql.specs.declared.runs_so_far.Run.{Run}
 
 -- the columns of the snapshots at which a run starts and ends
 abbrev pub end_columns : List Column
@@ -35,12 +36,6 @@ has_row row rows = list_any (same_row row) rows
 abbrev pub stands_before : List (List (List Value)) → ℕ → List Value → Bool
 stands_before answers zero row = false
 stands_before answers (suc place) row = has_row row (slice_index_or answers place [])
-
--- a row, and the first and the last place of a run of answers in which it stands
-pub record Run : Type 0 where
-  pub row : List Value
-  pub start : ℕ
-  pub end : ℕ
 
 -- the last place of a row's run from a place on: behind it are as many answers as have the row without a gap
 abbrev pub run_end : List (List (List Value)) → ℕ → List Value → ℕ

@@ -2,9 +2,13 @@ pub mod Aggregates
 pub mod AsOf
 pub mod Collate
 pub mod Columns
+pub mod Folding
 pub mod Gathering
+pub mod Groups
 pub mod Intervals
 pub mod Pairs
+pub mod RunsSoFar
 pub mod Table
 pub mod TableLaws
+pub mod Tallies
 pub mod Variable

@@ -12,7 +12,7 @@ use Rattle.sql_select.specs.declared.answer.Answer.{Answer}
 use Rattle.rql.specs.Aggregates.{aggregate}
 use Rattle.rql.specs.Gathering.{Take, gathered}
 use Rattle.rql.specs.declared.function.Function.{Function}
-use Rattle.rql.specs.declared.function.Function.TheVariants.{Min, Max, Sum, Count}
+use Rattle.rql.specs.declared.function.Function.TheVariants.{Min, Max, Sum}
 
 -- whether the function adds the texts of a column
 abbrev pub adds_texts : Function → Kind → Bool

@@ -1,11 +1,12 @@
 //! Sums that no number of summands takes out of their bounds.
 
-ghost use Rattle.std.specs.Prelude.{◌≡◌, ◌^◌, ◌+ℤ◌, ◌-ℤ◌, ◌≤ℤ◌, IfErr, neg_ℤ, pos};
+ghost use Rattle.std.specs.Prelude.{◌≡◌, ◌^◌, ◌+ℤ◌, ◌≤ℤ◌, IfErr, IfOk, neg_ℤ, pos};
 ghost use Rattle.sql_select.specs.Aggregates.{whole};
 ghost use Rattle.rql.specs.Aggregates.{in_parts};
 
 use fold_kit::{Folds, How};
 use retro_base::Refusal;
+use std::alloc::AllocError;
 use values::Value;
 
 /// One of the high part in the low part.
@@ -21,7 +22,7 @@ pub(crate) struct Carried {
 }
 
 impl Carried {
-    ghost use Rattle.std.specs.Prelude.{◌≡◌, ◌^◌, ◌+ℤ◌, ◌-ℤ◌, ◌≤ℤ◌, IfErr, neg_ℤ, pos};
+    ghost use Rattle.std.specs.Prelude.{◌≡◌, ◌^◌, ◌+ℤ◌, ◌≤ℤ◌, IfErr, IfOk, neg_ℤ, pos};
     ghost use Rattle.sql_select.specs.Aggregates.{whole};
     ghost use Rattle.rql.specs.AsOf.{IsOfQuery};
     ghost use Rattle.rql.specs.Aggregates.{in_parts};
@@ -33,31 +34,23 @@ impl Carried {
         Carried { high: 0, low: 0 }
     }
 
-    /// The sum with a number more.
-    pub(crate) fn plus<F: Folds>(self, folds: &F, number: i64) -> Carried
-        requires low { neg_ℤ (pos (2 ^ 100)) ≤ℤ self.high }
-        requires high { self.high ≤ℤ pos (2 ^ 100) }
-        ensures sum { in_parts result.high result.low ≡ in_parts self.high self.low +ℤ number }
-        ensures not_less { (self.high -ℤ pos 1) ≤ℤ result.high }
-        ensures not_more { result.high ≤ℤ (self.high +ℤ pos 1) }
+    /// The sum with a number more. A high part outside i128 is refused as want of memory.
+    pub(crate) fn plus<F: Folds>(self, folds: &F, number: i64) -> Result<Carried, AllocError>
+        ensures { IfOk result (λ sum. in_parts sum.high sum.low ≡ in_parts self.high self.low +ℤ number) }
     {
         let low = folds.combine(How::Add, self.low, i128::from(number));
         if low > UNIT {
-            return Carried {
-                high: self.high + 1,
-                low: low - UNIT,
-            };
+            let high = self.high.checked_add(1).ok_or(AllocError)?;
+            let low = low - UNIT;
+            return Ok(Carried { high, low });
         }
         if low < -UNIT {
-            return Carried {
-                high: self.high - 1,
-                low: low + UNIT,
-            };
+            let high = self.high.checked_sub(1).ok_or(AllocError)?;
+            let low = low + UNIT;
+            return Ok(Carried { high, low });
         }
-        Carried {
-            high: self.high,
-            low,
-        }
+        let high = self.high;
+        Ok(Carried { high, low })
     }
 
     /// The sum as a value; Overflow where it is outside i64.

@@ -1,8 +1,7 @@
 //! The answers one after the other.
 
-ghost use Rattle.std.specs.Prelude.{◌≡◌, IfErr, IfOk, IsTrue};
+ghost use Rattle.std.specs.Prelude.{◌≡◌, IsTrue};
 ghost use Rattle.std.specs.List.{AllByRecursion};
-ghost use Rattle.retro_base.specs.declared.refusal.Refusal.TheVariants.{OutOfMemory};
 ghost use Rattle.sql_tree.specs.Statement.{IsSelect};
 ghost use Rattle.rql.specs.AsOf.{IsOfCall, OnlyAsks, Tells};
 ghost use Rattle.rql.specs.Collate.{all_rows, collate, joined};
@@ -23,7 +22,11 @@ pub(crate) struct AllRows;
 impl Takes for AllRows {
     type Part = Seq<Row>;
 
+    type State = Vec<Row>;
+
     ghost take = { λ _. all_rows };
+
+    ghost holds = { λ _ _ rows parts. rows.items ≡ joined parts };
 
     fn take(
         &self,
@@ -36,18 +39,22 @@ impl Takes for AllRows {
         }
         Ok(rows)
     }
-}
 
-/// The lists one behind the other.
-pub(crate) fn join(alloc: Global, lists: Vec<Seq<Row>>) -> Result<Seq<Row>, AllocError>
-    ensures { IfOk result (λ rows. rows ≡ joined lists.items) }
-{
-    let mut rows = Vec::new(alloc);
-    for list in lists {
-        let mut list = Vec::from(list);
-        rows.append(&mut list)?;
+    fn start(&self, alloc: Global, _columns: &[Column]) -> Result<Vec<Row>, AllocError> {
+        Ok(Vec::new(alloc))
     }
-    Ok(Seq::from(rows))
+
+    fn add(
+        &self,
+        _alloc: Global,
+        rows: &mut Vec<Row>,
+        _place: usize,
+        part: Seq<Row>,
+    ) -> Result<(), AllocError> {
+        let mut part = Vec::from(part);
+        rows.append(&mut part)?;
+        Ok(())
+    }
 }
 
 /// The answers of a query at the snapshots, one after the other, with the columns of the first. Refused by what the query
@@ -61,10 +68,11 @@ pub fn collate<A: AsOf>(
 ) -> Result<Answer, Stop<A::Fault>>
     requires asked { AllByRecursion (λ snapshot. IsTrue (A.may_ask asof.old snapshot)) snapshots.now }
     requires query { IsSelect query.now }
-    ensures told { Tells (λ answer. answer) (A.told asof.old) query.now (λ answers. collate answers snapshots.now) result }
+    ensures told { Tells (λ answer. answer) (A.told asof.old) query.now (λ answers. collate answers snapshots.now)
+        result }
     ensures only_asks { OnlyAsks A.may_ask A.told A.goes A.faults (IsOfCall snapshots.now) asof.old asof.new result }
 {
-    let (columns, parts) = gather(alloc, asof, snapshots, query, &AllRows)?;
-    let rows = join(alloc, parts)?;
+    let (columns, rows) = gather(alloc, asof, snapshots, query, &AllRows)?;
+    let rows = Seq::from(rows);
     Ok(Answer { columns, rows })
 }

@@ -2,17 +2,20 @@
 //! the intervals in which their rows stand.
 #![tactic(auto)]
 
-mod aggregates;
 mod as_of;
+mod better;
 mod carried;
 mod collating;
 mod columns;
 mod function;
 mod gathering;
+mod groups;
 mod pair;
 mod row_set;
 mod runs;
+mod runs_so_far;
 mod table;
+mod tally;
 mod variable;
 
 pub use as_of::AsOf;

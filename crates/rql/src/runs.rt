@@ -1,7 +1,7 @@
 //! The runs of answers in which a row stands.
 
-ghost use Rattle.std.specs.Prelude.{◌≡◌, ◌<◌, ◌≤◌, ◌++◌, ◌∷◌, [], IfOk, IsTrue, OnOk, length, map, pos};
-ghost use Rattle.std.specs.List.{AllByRecursion, prefix_len};
+ghost use Rattle.std.specs.Prelude.{◌≡◌, ◌++◌, ◌∷◌, [], IfOk, IsTrue, length, map, pos};
+ghost use Rattle.std.specs.List.{AllByRecursion};
 ghost use Rattle.values.specs.declared.value.Kind.TheVariants as kind;
 ghost use Rattle.values.specs.declared.value.Value.TheVariants.{Int};
 ghost use Rattle.sql_check.specs.Names.{has_twins};
@@ -9,18 +9,20 @@ ghost use Rattle.values.specs.Name.{IsName};
 ghost use Rattle.sql_tree.specs.Statement.{IsSelect};
 ghost use Rattle.rql.specs.AsOf.{IsOfCall, OnlyAsks, Tells};
 ghost use Rattle.rql.specs.Columns.{name_of};
-ghost use Rattle.rql.specs.Intervals.{RunsAreIntervals, answer_set, end_columns, has_row, interval_columns, intervals, row_of_run, run_end, runs, runs_at, stands_before};
+ghost use Rattle.rql.specs.Intervals.{RunsAreIntervals, answer_set, end_columns, interval_columns, intervals, row_of_run};
+ghost use Rattle.rql.specs.RunsSoFar.{AllFit, AreRuns};
 
 use crate::as_of::AsOf;
 use crate::columns::{has_name, has_twins};
 use crate::gathering::{Takes, gather};
 use crate::row_set::RowSet;
+use crate::runs_so_far::{RunsSoFar, values_of};
 use pager::Stop;
 use retro_base::Refusal;
 use sql_select::{Answer, RowKey};
 use sql_tree::{Column, Select};
 use std::alloc::{AllocError, Global};
-use values::{Duplicate, Kind, Name, Row, Seq, Value};
+use values::{Kind, Name, Row, Seq, Value};
 
 const START_SNAPSHOT: &[u8] = b"start_snapshot";
 
@@ -34,7 +36,7 @@ fn has_twins_with_ends(columns: &[Column]) -> bool
     has_twins(columns) || has_name(START_SNAPSHOT, columns) || has_name(END_SNAPSHOT, columns)
 }
 
-// Takes the rows of an answer as a set.
+// Takes the rows of an answer as a set, and keeps the runs over the sets.
 #[derive(Drop)]
 struct AnswerSet {
     alloc: Global,
@@ -43,7 +45,11 @@ struct AnswerSet {
 impl Takes for AnswerSet {
     type Part = RowSet;
 
+    type State = RunsSoFar;
+
     ghost take = { λ _. answer_set };
+
+    ghost holds = { λ _ _ runs parts. AreRuns runs parts };
 
     fn take(&self, _snapshot: u32, columns: &[Column], rows: Seq<Row>) -> Result<RowSet, Refusal> {
         if has_twins_with_ends(columns) {
@@ -51,78 +57,40 @@ impl Takes for AnswerSet {
         }
         Ok(RowSet::new(self.alloc, rows)?)
     }
-}
 
-// Whether the row stands in the set before the place.
-fn stands_before(sets: &[RowSet], place: usize, row: &RowKey) -> bool
-    requires { place < length sets.now }
-    ensures { result ≡ stands_before sets.now place row.now }
-{
-    match place.checked_sub(1) {
-        Some(before) => sets[before].contains(row),
-        None => false,
+    fn start(&self, alloc: Global, _columns: &[Column]) -> Result<RunsSoFar, AllocError> {
+        RunsSoFar::new(alloc)
     }
-}
 
-// How many of the sets, from the first on, have the row.
-fn run_length(sets: &[RowSet], row: &RowKey) -> usize
-    ensures length { result ≡ prefix_len (has_row row.now) sets.now }
-    ensures within { result ≤ length sets.now }
-{
-    sets.iter().take_while(|set| set.contains(row)).count()
-}
-
-// The last place of the row's run from the place on.
-fn run_end(sets: &[RowSet], start: usize, row: &RowKey) -> usize
-    requires { start < length sets.now }
-    ensures end { result ≡ run_end sets.now start row.now }
-    ensures within { result < length sets.now }
-{
-    start + run_length(&sets[start + 1..], row)
+    fn add(
+        &self,
+        alloc: Global,
+        runs: &mut RunsSoFar,
+        place: usize,
+        part: RowSet,
+    ) -> Result<(), AllocError> {
+        runs.add(alloc, place, part)
+    }
 }
 
 // A run as a row.
 fn row_of_run(alloc: Global, row: &RowKey, start: u32, end: u32) -> Result<Row, AllocError>
     ensures { IfOk result (λ found. found ≡ row.now ++ Int (pos start) ∷ Int (pos end) ∷ []) }
 {
-    let mut found = Vec::new(alloc);
-    for value in row.values() {
-        found.push(value.copy(alloc)?)?;
-    }
+    let mut found = values_of(alloc, row)?;
     found.push(Value::Int(i64::from(start)))?;
     found.push(Value::Int(i64::from(end)))?;
     Ok(Seq::from(found))
 }
 
-// Adds the runs that start at the place.
-fn add_runs_at(
-    alloc: Global,
-    snapshots: &[u32],
-    sets: &[RowSet],
-    start: usize,
-    rows: &mut Vec<Row>,
-) -> Result<(), AllocError>
-    requires as_many { length sets.now ≡ length snapshots.now }
-    requires place { start < length sets.now }
-    ensures { OnOk result (rows.new.items ≡ rows.old.items ++ map (row_of_run snapshots.now) (runs_at sets.now start)) }
+// The runs over the answers at the snapshots, as rows.
+fn rows_of_runs(alloc: Global, snapshots: &[u32], found: &RunsSoFar) -> Result<Seq<Row>, AllocError>
+    requires { AllFit (length snapshots.now) found.now.ongoing.items found.now.runs.items }
+    ensures { IfOk result (λ rows. rows ≡ map (row_of_run snapshots.now) found.now.runs.items) }
 {
-    for row in sets[start].as_slice() {
-        if !stands_before(sets, start, row) {
-            let end = run_end(sets, start, row);
-            rows.push(row_of_run(alloc, row, snapshots[start], snapshots[end])?)?;
-        }
-    }
-    Ok(())
-}
-
-// The runs over the sets at the snapshots.
-fn rows_of_runs(alloc: Global, snapshots: &[u32], sets: &[RowSet]) -> Result<Seq<Row>, AllocError>
-    requires { length sets.now ≡ length snapshots.now }
-    ensures { IfOk result (λ rows. rows ≡ map (row_of_run snapshots.now) (runs sets.now)) }
-{
-    let mut rows = Vec::new(alloc);
-    for start in 0..sets.len() {
-        add_runs_at(alloc, snapshots, sets, start, &mut rows)?;
+    let mut rows = Vec::with_capacity(alloc, found.runs.len())?;
+    for run in &found.runs {
+        rows.push(row_of_run(alloc, &run.row, snapshots[run.start], snapshots[run.end])?)?;
     }
     Ok(Seq::from(rows))
 }
@@ -170,12 +138,13 @@ pub fn intervals<A: AsOf>(
 ) -> Result<Answer, Stop<A::Fault>>
     requires asked { AllByRecursion (λ snapshot. IsTrue (A.may_ask asof.old snapshot)) snapshots.now }
     requires query { IsSelect query.now }
-    ensures told { Tells (λ answer. answer) (A.told asof.old) query.now (λ answers. intervals answers snapshots.now) result }
+    ensures told { Tells (λ answer. answer) (A.told asof.old) query.now (λ answers. intervals answers snapshots.now)
+        result }
     ensures only_asks { OnlyAsks A.may_ask A.told A.goes A.faults (IsOfCall snapshots.now) asof.old asof.new result }
 {
-    let (columns, sets) = gather(alloc, asof, snapshots, query, &AnswerSet { alloc })?;
+    let (columns, runs) = gather(alloc, asof, snapshots, query, &AnswerSet { alloc })?;
     let columns = interval_columns(alloc, snapshots, columns)?;
-    let rows = rows_of_runs(alloc, snapshots, &sets)?;
+    let rows = rows_of_runs(alloc, snapshots, &runs)?;
     Ok(Answer { columns, rows })
 }
 

@@ -1,41 +1,45 @@
 //! The rows of all answers, grouped, and one row of each group.
 
-ghost use Rattle.std.specs.Prelude.{◌≡◌, IfErr, IfOk, IsTrue, map, slice_get};
+ghost use Rattle.std.specs.Prelude.{◌≡◌, IfOk, IsTrue, map};
 ghost use Rattle.std.specs.List.{AllByRecursion};
-ghost use Rattle.retro_base.specs.Gives.{Gives};
-ghost use Rattle.sql_select.specs.Each.{each};
 ghost use Rattle.sql_tree.specs.Statement.{IsSelect};
-ghost use Rattle.rql.specs.AsOf.{IsOfCall, IsOfQuery, OnlyAsks, Tells};
+ghost use Rattle.rql.specs.AsOf.{IsOfCall, OnlyAsks, Tells};
+ghost use Rattle.rql.specs.Collate.{joined};
+ghost use Rattle.rql.specs.Groups.{AreGroups};
 ghost use Rattle.rql.specs.Pairs.{function_of};
-ghost use Rattle.rql.specs.Table.{column_in, in_table, key_of, keyed_row, kind_in, paired_rows, row_of_group, table_rows, value_in, values_at};
+ghost use Rattle.rql.specs.Table.{column_in, in_table, kind_in, paired_rows};
 ghost use Rattle.rql.specs.TableLaws.{TablesFit};
 
-use crate::aggregates::aggregate;
 use crate::as_of::AsOf;
-use crate::collating::join;
 use crate::columns::has_twins;
 use crate::function::Function;
 use crate::gathering::{Takes, gather};
+use crate::groups::Groups;
 use crate::pair::{Pair, any_sums_texts, function_of, has_twin_pairs, names_unknown};
-use evaluation::JoinedRow;
 use fold_kit::Folds;
 use pager::Stop;
 use retro_base::Refusal;
-use sql_select::{Answer, KeyedRow, groups};
+use sql_select::Answer;
 use sql_tree::{Column, Select};
 use std::alloc::{AllocError, Global};
-use values::{Duplicate, Kind, Row, Seq, Value};
+use values::{Kind, Row, Seq};
 
 // Takes the rows of an answer to whose columns the pairs apply.
 #[derive(Drop)]
-struct PairedRows<'a> {
+struct PairedRows<'a, F> {
+    folds: &'a F,
     pairs: &'a [Pair],
 }
 
-impl Takes for PairedRows<'_> {
+impl<F: Folds> Takes for PairedRows<'_, F> {
     type Part = Seq<Row>;
 
+    type State = Groups;
+
     ghost take = { λ taking. paired_rows taking.pairs.now };
+
+    ghost holds = { λ taking columns groups parts.
+        AreGroups (map (function_of taking.pairs.now) columns) groups (joined parts) };
 
     fn take(
         &self,
@@ -54,6 +58,23 @@ impl Takes for PairedRows<'_> {
         }
         Ok(rows)
     }
+
+    fn start(&self, alloc: Global, columns: &[Column]) -> Result<Groups, AllocError> {
+        Ok(Groups::new(alloc, functions_of(alloc, self.pairs, columns)?))
+    }
+
+    fn add(
+        &self,
+        alloc: Global,
+        groups: &mut Groups,
+        _place: usize,
+        part: Seq<Row>,
+    ) -> Result<(), AllocError> {
+        for row in part.as_slice() {
+            groups.add(alloc, self.folds, row.as_slice())?;
+        }
+        Ok(())
+    }
 }
 
 // The function of each column that has one.
@@ -69,124 +90,6 @@ fn functions_of(
         functions.push(function_of(pairs, column))?;
     }
     Ok(functions)
-}
-
-// The values of a row in the columns without a function.
-fn key_of(alloc: Global, functions: &[Option<Function>], row: &[Value]) -> Result<Row, AllocError>
-    ensures { IfOk result (λ key. key ≡ key_of functions.now row.now) }
-{
-    let mut key = Vec::new(alloc);
-    for (function, value) in functions.iter().zip(row) {
-        if function.is_none() {
-            key.push(value.copy(alloc)?)?;
-        }
-    }
-    Ok(Seq::from(key))
-}
-
-fn keyed_rows<'a>(
-    alloc: Global,
-    functions: &[Option<Function>],
-    rows: &'a [Row],
-) -> Result<Vec<KeyedRow<'a>>, AllocError>
-    ensures { IfOk result (λ keyed. keyed.items ≡ map (keyed_row functions.now) rows.now) }
-{
-    let mut keyed = Vec::with_capacity(alloc, rows.len())?;
-    for row in rows {
-        let key = key_of(alloc, functions, row.as_slice())?;
-        let row = JoinedRow::of_one(row.as_slice());
-        keyed.push(KeyedRow { key, row })?;
-    }
-    Ok(keyed)
-}
-
-fn value_at(alloc: Global, place: usize, row: &JoinedRow<'_>) -> Result<Option<Value>, AllocError>
-    ensures { IfOk result (λ value. value ≡ slice_get row.now place) }
-{
-    match row.get(place) {
-        Some(value) => Ok(Some(value.copy(alloc)?)),
-        None => Ok(None),
-    }
-}
-
-fn values_at(alloc: Global, place: usize, rows: &[JoinedRow<'_>]) -> Result<Vec<Value>, AllocError>
-    ensures { IfOk result (λ values. values.items ≡ values_at place rows.now) }
-{
-    let mut values = Vec::with_capacity(alloc, rows.len())?;
-    for row in rows {
-        if let Some(value) = value_at(alloc, place, row)? {
-            values.push(value)?;
-        }
-    }
-    Ok(values)
-}
-
-// The value of a group in the column at a place.
-fn value_in<F: Folds>(
-    alloc: Global,
-    folds: &F,
-    rows: &[JoinedRow<'_>],
-    place: usize,
-    function: Option<Function>,
-) -> Result<Option<Value>, Refusal>
-    ensures exact { Gives (λ value. value) result (value_in rows.now (place, function)) }
-    ensures named { IfErr result IsOfQuery }
-{
-    match function {
-        None => match rows.first() {
-            Some(row) => Ok(value_at(alloc, place, row)?),
-            None => Ok(None),
-        },
-        Some(function) => aggregate(folds, function, values_at(alloc, place, rows)?),
-    }
-}
-
-fn row_of_group<F: Folds>(
-    alloc: Global,
-    folds: &F,
-    functions: &[Option<Function>],
-    rows: &[JoinedRow<'_>],
-) -> Result<Row, Refusal>
-    ensures exact { Gives (λ row. row) result (row_of_group functions.now rows.now) }
-    ensures named { IfErr result IsOfQuery }
-{
-    let mut values = Vec::with_capacity(alloc, functions.len())?;
-    for (place, function) in functions.iter().enumerate() {
-        if let Some(value) = value_in(alloc, folds, rows, place, *function)? {
-            values.push(value)?;
-        }
-    }
-    Ok(Seq::from(values))
-}
-
-fn rows_of_groups<F: Folds>(
-    alloc: Global,
-    folds: &F,
-    functions: &[Option<Function>],
-    groups: &[Seq<JoinedRow<'_>>],
-) -> Result<Seq<Row>, Refusal>
-    ensures exact { Gives (λ rows. rows) result (each (row_of_group functions.now) groups.now) }
-    ensures named { IfErr result IsOfQuery }
-{
-    let mut rows = Vec::with_capacity(alloc, groups.len())?;
-    for group in groups {
-        rows.push(row_of_group(alloc, folds, functions, group.as_slice())?)?;
-    }
-    Ok(Seq::from(rows))
-}
-
-fn table_rows<F: Folds>(
-    alloc: Global,
-    folds: &F,
-    functions: &[Option<Function>],
-    rows: Seq<Row>,
-) -> Result<Seq<Row>, Refusal>
-    ensures exact { Gives (λ rows. rows) result (table_rows functions.now rows) }
-    ensures named { IfErr result IsOfQuery }
-{
-    let keyed = keyed_rows(alloc, functions, rows.as_slice())?;
-    let groups = groups(alloc, keyed)?;
-    rows_of_groups(alloc, folds, functions, &groups)
 }
 
 fn kind_in(function: Option<Function>, kind: Kind) -> Kind
@@ -230,12 +133,13 @@ pub fn in_table<A: AsOf, F: Folds>(
 ) -> Result<Answer, Stop<A::Fault>>
     requires asked { AllByRecursion (λ snapshot. IsTrue (A.may_ask asof.old snapshot)) snapshots.now }
     requires query { IsSelect query.now }
-    ensures told { Tells (λ answer. answer) (A.told asof.old) query.now (λ answers. in_table pairs.now answers snapshots.now) result }
+    ensures told { Tells (λ answer. answer) (A.told asof.old) query.now
+        (λ answers. in_table pairs.now answers snapshots.now) result }
     ensures only_asks { OnlyAsks A.may_ask A.told A.goes A.faults (IsOfCall snapshots.now) asof.old asof.new result }
 {
-    let (columns, parts) = gather(alloc, asof, snapshots, query, &PairedRows { pairs })?;
-    let functions = functions_of(alloc, pairs, columns.as_slice())?;
-    let rows = table_rows(alloc, folds, &functions, join(alloc, parts)?)?;
+    let taking = PairedRows { folds, pairs };
+    let (columns, groups) = gather(alloc, asof, snapshots, query, &taking)?;
+    let rows = groups.finish(alloc)?;
     let columns = columns_in(alloc, pairs, columns)?;
     Ok(Answer { columns, rows })
 }

@@ -2,16 +2,16 @@
 
 ghost use Rattle.std.specs.Prelude.{◌≡◌, ◌∷◌, [], IfErr, IfOk, IsTrue, codes};
 ghost use Rattle.std.specs.List.{AllByRecursion};
-ghost use Rattle.retro_base.specs.Gives.{Gives};
 ghost use Rattle.retro_base.specs.declared.refusal.Refusal.TheVariants.{NotOneValue};
 ghost use Rattle.sql_tree.specs.Statement.{IsSelect};
 ghost use Rattle.rql.specs.AsOf.{IsOfCall, IsOfQuery, OnlyAsks, Tells};
-ghost use Rattle.rql.specs.Variable.{adds_texts, in_variable, kind_of_result, one_value, only, rows_of, value_of};
+ghost use Rattle.rql.specs.Tallies.{AreRowsOf, IsTally};
+ghost use Rattle.rql.specs.Variable.{adds_texts, in_variable, kind_of_result, one_value, only, value_of};
 
-use crate::aggregates::aggregate;
 use crate::as_of::AsOf;
 use crate::function::Function;
 use crate::gathering::{Takes, gather};
+use crate::tally::Tally;
 use fold_kit::Folds;
 use pager::Stop;
 use retro_base::Refusal;
@@ -47,14 +47,19 @@ pub(crate) fn adds_texts(function: Function, kind: Kind) -> bool
 
 // Takes the one value of an answer.
 #[derive(Drop)]
-struct OneValue {
+struct OneValue<'a, F> {
+    folds: &'a F,
     function: Function,
 }
 
-impl Takes for OneValue {
+impl<F: Folds> Takes for OneValue<'_, F> {
     type Part = Value;
 
+    type State = Tally;
+
     ghost take = { λ taking. one_value taking.function };
+
+    ghost holds = { λ taking _. IsTally taking.function };
 
     fn take(&self, snapshot: u32, columns: &[Column], rows: Seq<Row>) -> Result<Value, Refusal> {
         let [column] = columns else {
@@ -64,6 +69,21 @@ impl Takes for OneValue {
             return Err(Refusal::WrongType);
         }
         value_of(snapshot, rows)
+    }
+
+    fn start(&self, _alloc: Global, _columns: &[Column]) -> Result<Tally, AllocError> {
+        Ok(Tally::new())
+    }
+
+    fn add(
+        &self,
+        alloc: Global,
+        tally: &mut Tally,
+        _place: usize,
+        value: Value,
+    ) -> Result<(), AllocError> {
+        tally.add(alloc, self.folds, self.function, &value)?;
+        Ok(())
     }
 }
 
@@ -76,17 +96,13 @@ fn kind_of_result(function: Function, columns: &[Column]) -> Kind
     }
 }
 
-fn rows_of<F: Folds>(
-    alloc: Global,
-    folds: &F,
-    function: Function,
-    values: Vec<Value>,
-) -> Result<Seq<Row>, Refusal>
-    ensures exact { Gives (λ rows. rows) result (rows_of function values.items) }
+// The row of the values in one.
+fn rows_of(alloc: Global, function: Function, tally: Tally) -> Result<Seq<Row>, Refusal>
+    ensures exact { AreRowsOf function tally result }
     ensures named { IfErr result IsOfQuery }
 {
     let mut rows = Seq::new(alloc);
-    if let Some(value) = aggregate(folds, function, values)? {
+    if let Some(value) = tally.finish(function)? {
         let mut row = Seq::new(alloc);
         row.push(value)?;
         rows.push(row)?;
@@ -119,12 +135,14 @@ pub fn in_variable<A: AsOf, F: Folds>(
 ) -> Result<Answer, Stop<A::Fault>>
     requires asked { AllByRecursion (λ snapshot. IsTrue (A.may_ask asof.old snapshot)) snapshots.now }
     requires query { IsSelect query.now }
-    ensures told { Tells (λ answer. answer) (A.told asof.old) query.now (λ answers. in_variable function answers snapshots.now) result }
+    ensures told { Tells (λ answer. answer) (A.told asof.old) query.now
+        (λ answers. in_variable function answers snapshots.now) result }
     ensures only_asks { OnlyAsks A.may_ask A.told A.goes A.faults (IsOfCall snapshots.now) asof.old asof.new result }
 {
-    let (columns, values) = gather(alloc, asof, snapshots, query, &OneValue { function })?;
+    let taking = OneValue { folds, function };
+    let (columns, tally) = gather(alloc, asof, snapshots, query, &taking)?;
     let kind = kind_of_result(function, columns.as_slice());
-    let rows = rows_of(alloc, folds, function, values)?;
+    let rows = rows_of(alloc, function, tally)?;
     let columns = columns_of(alloc, kind)?;
     Ok(Answer { columns, rows })
 }

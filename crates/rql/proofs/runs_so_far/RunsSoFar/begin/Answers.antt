@@ -1,0 +1,37 @@
+use Rattle.std.proofs.Common.{◌≡◌, ◌∙◌, ◌+◌, ◌++◌, ◌<◌, ◌∷◌, [], ℕ, ap, append_assoc, arith, drop, false, get_or, length, refl, rules, subst, sym}
+use Rattle.rql.specs.Intervals.{has_row}
+use Rattle.rql.specs.RunsSoFar.{AllFit, begun}
+use Rattle.rql.specs.declared.runs_so_far.Run.{Run}
+use Rattle.rql.proofs.RunFolds.{begun_next, fits_push}
+use Rattle.rql.proofs.runs_so_far.RunsSoFar.begin.Goals as goal
+
+below : (n : ℕ) → n < n + 1
+below n = omega arith
+
+pub loop-row-preserved : goal.loop-row-preserved
+loop-row-preserved c =
+    let before = c.loop-row.invariant in
+    let rows = c.as_slice-row-items.result.now in
+    let row = c.row-item.result in
+    let at : row ≡ get_or rows c.loop-row.row-index row = search rules in
+    let copied : c.new-row.result ≡ row = search rules in
+    let run : Run = record { row = row; start = c.args.place; end = c.args.place } in
+    let runs = c.loop-row.self.runs.items in
+    let last = c.loop-row.self.last in
+    let pushed : c.push-in-loop-row.new.self.items ≡ runs ++ run ∷ [] = search rules in
+    let added : c.push.new.self.items ≡ c.loop-row.self.ongoing.items ++ length runs ∷ [] = search rules in
+    let none : has_row row last ≡ false = search rules in
+    record {
+      last = before.last;
+      runs =
+          ap (λ l. l ++ begun c.args.place last (drop (c.loop-row.row-index + 1) rows)) pushed
+          ∙ append_assoc runs (run ∷ []) (begun c.args.place last (drop (c.loop-row.row-index + 1) rows))
+          ∙ ap (λ l. runs ++ l) (sym (begun_next c.args.place last rows c.loop-row.row-index row c.loop-row-test.true at
+          none))
+          ∙ before.runs;
+      fit = λ fits.
+          subst (λ l. AllFit (c.args.place + 1) l c.push-in-loop-row.new.self.items) (sym added)
+          (subst (λ l. AllFit (c.args.place + 1) (c.loop-row.self.ongoing.items ++ length runs ∷ []) l) (sym pushed)
+          (fits_push (c.args.place + 1) c.loop-row.self.ongoing.items runs run (below c.args.place) refl
+          (before.fit fits)));
+    }
