@@ -6,7 +6,7 @@ use Rattle.std.specs.Str.Lines.{lines}
 use Rattle.script.specs.declared.limits.TheConstants.{SCRIPT_BYTES}
 use Rattle.script.proofs.OneScript.{take_take}
 use Rattle.script.specs.Line.{IsLine}
-use Rattle.script.specs.Rules.{FrontDecides}
+use Rattle.script.specs.Rules.{FrontDecides, IsFirstBad, IsFirstBreak, IsToldBy, KeepsRules, Tells}
 use Rattle.script.specs.Script.{script_of, IsScript, IsBadAt, ReadsAs}
 use Rattle.script.specs.Text.{lines_in_bounds}
 use Rattle.script.specs.declared.line.Line.{Line}
@@ -36,8 +36,25 @@ unfolding IsScript IsBadAt
 back bytes (Ok script) is = subst (Good script) (sym (front_lines SCRIPT_BYTES bytes)) is
 back bytes (Err number) is = subst (BadFirst number) (sym (front_lines SCRIPT_BYTES bytes)) is
 
+-- and by the rules
+abbrev Told : Script → List (Option (List ℕ)) → Type 0
+Told script texts = (said : List Line) × AllZip IsLine texts said × KeepsRules said × Tells said script
+
+abbrev BreaksFirst : ℕ → List (Option (List ℕ)) → Type 0
+BreaksFirst number texts = (said : List Line) × AllZip IsLine (take number texts) said × IsFirstBreak said number
+
+told : (bytes : List ℕ) (script : Script) → IsToldBy (take (SCRIPT_BYTES + 1) bytes) script → IsToldBy bytes script
+unfolding IsToldBy
+told bytes script is = subst (Told script) (front_lines SCRIPT_BYTES bytes) is
+
+first_bad : (bytes : List ℕ) (n : ℕ) → IsFirstBad (take (SCRIPT_BYTES + 1) bytes) n → IsFirstBad bytes n
+unfolding IsFirstBad
+first_bad bytes n is = subst (BreaksFirst n) (front_lines SCRIPT_BYTES bytes) is
+
 pub front_decides : FrontDecides
 front_decides = record {
   reads = reads;
   only = λ bytes answer only other is. only other (back bytes other is);
+  told = told;
+  first_bad = first_bad;
 }

@@ -5,3 +5,4 @@ pub mod OneLine
 pub mod OneScript
 pub mod ReadLaws
 pub mod RuleLaws
+pub mod ToldLaws

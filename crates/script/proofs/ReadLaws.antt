@@ -11,8 +11,10 @@ use Rattle.script.proofs.FirstLine.{lines-some}
 use Rattle.script.proofs.FitLaws.{DraftFits, step_fits, finished_fits}
 use Rattle.script.specs.Limits.{LineFits, ScriptFits}
 use Rattle.script.proofs.OneScript.{OnlyLine, only_good, only_bad}
+use Rattle.script.proofs.ToldLaws.{bad_first}
 use Rattle.script.specs.Line.{IsLine}
-use Rattle.script.specs.Script.{step, finished, script_from, script_of, IsScript, IsBadAt, IsOnlyReading, IsRefused}
+use Rattle.script.specs.Rules.{IsFirstBad, IsRefused}
+use Rattle.script.specs.Script.{step, finished, script_from, script_of, IsScript, IsBadAt, IsOnlyReading}
 use Rattle.script.specs.Text.{in_bounds, lines_in_bounds, script_lines}
 use Rattle.script.specs.declared.draft.ScriptSoFar.{ScriptSoFar}
 use Rattle.script.specs.declared.draft.ScriptSoFar.TheVariants as draft
@@ -120,9 +122,9 @@ read_more bytes rest more first number state next line h split shorter is only f
   behind = behind_next (goes_too_far bytes) first more state next line is stepped;
 }
 
--- the first bad line, and that the bytes are nothing else
+-- the first bad line, that the bytes are nothing else, and that it is the first by the rules
 abbrev pub IsBadOnlyAt : List ℕ → ℕ → Type 0
-IsBadOnlyAt bytes number = IsBadAt bytes number × IsOnlyReading bytes (Err number)
+IsBadOnlyAt bytes number = IsBadAt bytes number × IsOnlyReading bytes (Err number) × IsFirstBad bytes number
 
 -- the line that may not stand there is bad
 pub bad_line : (bytes rest more first : List ℕ) (number : ℕ) (state : ScriptSoFar) (line : Line) → HasRead bytes rest number state → lines rest ≡ first ∷ lines more
@@ -134,9 +136,12 @@ bad_line bytes rest more first number state line h split is only stopped =
     let cut : take number (script_lines bytes) ≡ here =
     rw (whole_more bytes rest more first number state h split)
     (take_at here (lines_in_bounds (goes_too_far bytes) (lines more)) number (omega (arith, h.count, length-append h.before (new ∷ [])))) in
-    let bad : script_of (h.said ++ line ∷ []) ≡ Err number = h.goes_on (line ∷ []) ∙ rw stopped refl in (
-      (h.said ++ line ∷ [], rw cut (are_push IsLine h.before h.said new line h.are is), bad),
+    let bad : script_of (h.said ++ line ∷ []) ≡ Err number = h.goes_on (line ∷ []) ∙ rw stopped refl in
+    let here_bad : IsBadAt bytes number =
+    (h.said ++ line ∷ [], rw cut (are_push IsLine h.before h.said new line h.are is), bad) in (
+      here_bad,
       only_bad bytes (h.said ++ line ∷ []) number (rw cut (are_push OnlyLine h.before h.said new line h.only only)) bad,
+      bad_first bytes number here_bad,
     )
 
 all_read : (bytes rest : List ℕ) (number : ℕ) (state : ScriptSoFar) (h : HasRead bytes rest number state) → length rest ≡ 0 → script_lines bytes ≡ h.before
@@ -170,7 +175,8 @@ unfolding IsScript IsBadAt
 bad_end bytes rest number state h none bad =
     let all : take number (script_lines bytes) ≡ h.before = rw (all_read bytes rest number state h none) (take_all number h.before (omega (arith, h.count))) in
     let answer : script_of h.said ≡ Err number = end_said bytes rest number state h ∙ bad in
-    ((h.said, rw all h.are, answer), only_bad bytes h.said number (rw all h.only) answer)
+    let here : IsBadAt bytes number = (h.said, rw all h.are, answer) in
+    (here, only_bad bytes h.said number (rw all h.only) answer, bad_first bytes number here)
 
 abbrev EndsBadly : ℕ → ScriptSoFar → Refusal → Type 0
 EndsBadly number state refusal = (refusal ≡ OutOfMemory) ⊎ ((refusal ≡ BadScript number) × (finished number state ≡ Err number))

@@ -10,7 +10,7 @@ use Rattle.std.proofs.lemmas.List.{take_at, map-append}
 use Rattle.std.proofs.lemmas.List.Elements.{filter-append}
 use Rattle.std.proofs.lemmas.Option.{slice_get_past}
 use Rattle.retro_base.specs.declared.limits.TheConstants.{ITEMS, PHASES, SESSIONS}
-use Rattle.script.specs.Rules.{Standing, behind, behind_all, breaks, breaks_at, counted, counts, has_no_room, in_phase, IsFirstBreak, item_lines, items_on, nothing, phase_lines, session_lines, standing, Tells}
+use Rattle.script.specs.Rules.{Standing, behind, behind_all, breaks, breaks_at, counted, counts, has_no_room, in_phase, IsFirstBreak, KeepsRules, item_lines, items_on, nothing, phase_lines, session_lines, standing, Tells}
 use Rattle.script.specs.Script.{end_step, finished, goes_on, has_name, is_closed, new_session, open_step, opened, phases_of, script_from, script_of, sessions_of, single_step, statement_step, step}
 use Rattle.script.specs.declared.draft.ScriptSoFar.{ScriptSoFar}
 use Rattle.script.specs.declared.draft.ScriptSoFar.TheVariants as draft
@@ -307,6 +307,14 @@ is_broken lines (Err m) number s first = ap Err (same_first lines m number (from
 
 pub bad_law : (lines : List Line) (number : ℕ) → (script_of lines ≡ Err number) ↔ IsFirstBreak lines number
 bad_law lines number = (broken_is lines (script_of lines) number (all_breaks lines), is_broken lines (script_of lines) number (all_breaks lines))
+
+none_broken : (lines : List Line) (answer : Result Script ℕ) (script : Script) → Says [] lines answer
+    → answer ≡ Ok script → KeepsRules lines
+none_broken lines (Ok found) script s e = λ place. s place (omega arith)
+none_broken lines (Err number) script s e = cc
+
+pub kept_law : (lines : List Line) (script : Script) → script_of lines ≡ Ok script → KeepsRules lines
+kept_law lines script = none_broken lines (script_of lines) script (all_breaks lines)
 
 -- the lines that count, of what was read
 abbrev statements_of : Option OpenSession → List Line

@@ -1,10 +1,14 @@
--- The rules of a script, line by line, and its lines written back.
+-- The rules of a script, line by line, its lines written back, and what bytes are by both.
 use Rattle.std.specs.Prelude.{◌≡◌, ◌+◌, ◌++◌, ◌<◌, ◌==◌, ◌&&◌, ◌||◌, ◌↔◌, ℕ, Bool, true, false, not, List, [], ◌∷◌, Result, Ok, Err, length, nat_le, take, map, filter, slice_get, flat_map, if◌then◌else◌}
-use Rattle.std.specs.List.{list_any}
+use Rattle.std.specs.List.{AllZip, list_any}
 use Rattle.std.specs.Option.{option_map_or}
 use Rattle.std.specs.Str.{bytes_eq}
 use Rattle.retro_base.specs.declared.limits.TheConstants.{ITEMS, PHASES, SESSIONS}
-use Rattle.script.specs.Script.{script_of, ReadsAs, IsOnlyReading}
+use Rattle.retro_base.specs.declared.refusal.Refusal.{Refusal}
+use Rattle.retro_base.specs.declared.refusal.Refusal.TheVariants as refusal
+use Rattle.script.specs.Line.{IsLine}
+use Rattle.script.specs.Script.{script_of, IsBadAt, ReadsAs, IsOnlyReading}
+use Rattle.script.specs.Text.{script_lines}
 use Rattle.script.specs.declared.limits.TheConstants.{SCRIPT_BYTES}
 use Rattle.script.specs.declared.line.Line.{Line}
 use Rattle.script.specs.declared.line.Line.TheVariants.{Skipped, Phase, Session, Ends, Single, Statement, Bad}
@@ -71,6 +75,10 @@ abbrev pub IsFirstBreak : List Line → ℕ → Type 0
 IsFirstBreak lines number =
     (place : ℕ) × (number ≡ place + 1) × (breaks_at lines place ≡ true) × ((earlier : ℕ) → earlier < place → breaks_at lines earlier ≡ false)
 
+-- no line breaks a rule, and no transaction is open at the end
+abbrev pub KeepsRules : List Line → Type 0
+KeepsRules lines = (place : ℕ) → breaks_at lines place ≡ false
+
 -- the lines of an item
 abbrev pub item_lines : Item → List Line
 item_lines (item.Transaction t) = map Statement t.statements ++ Ends t.end ∷ []
@@ -102,12 +110,32 @@ in_phase lines = lines
 abbrev pub Tells : List Line → Script → Type 0
 Tells lines script = in_phase (counted lines) ≡ flat_map phase_lines script.phases
 
+-- the lines of the bytes keep the rules, and tell this script
+unfoldable pub IsToldBy : List ℕ → Script → Type 0
+IsToldBy bytes script =
+    (lines : List Line) × AllZip IsLine (script_lines bytes) lines × KeepsRules lines × Tells lines script
+
+-- of the lines of the bytes, the one of this number is the first that breaks a rule: the lines up to it say so
+unfoldable pub IsFirstBad : List ℕ → ℕ → Type 0
+IsFirstBad bytes number =
+    (lines : List Line) × AllZip IsLine (take number (script_lines bytes)) lines × IsFirstBreak lines number
+
+-- what bytes may be refused for
+abbrev pub IsRefused : List ℕ → Refusal → Type 0
+IsRefused bytes refusal.OutOfMemory = Unit {0}
+IsRefused bytes (refusal.BadScript number) =
+    IsBadAt bytes number × IsOnlyReading bytes (Err number) × IsFirstBad bytes number
+IsRefused bytes other = ⊥
+
 -- The law of `script_of`: a bad line is the first that breaks a rule, and a script is what its lines tell.
 pub record ReadsByTheRules : Type 0 where
   pub bad : (lines : List Line) (number : ℕ) → (script_of lines ≡ Err number) ↔ IsFirstBreak lines number
   pub good : (lines : List Line) (script : Script) → script_of lines ≡ Ok script → Tells lines script
 
--- The law of the bytes that are read: the first SCRIPT_BYTES + 1 bytes decide what the bytes read as.
+-- The law of the bytes that are read: the first SCRIPT_BYTES + 1 decide what they read as, and what their lines tell.
 pub record FrontDecides : Type 0 where
   pub reads : (bytes : List ℕ) (answer : Result Script ℕ) → ReadsAs (take (SCRIPT_BYTES + 1) bytes) answer → ReadsAs bytes answer
   pub only : (bytes : List ℕ) (answer : Result Script ℕ) → IsOnlyReading (take (SCRIPT_BYTES + 1) bytes) answer → IsOnlyReading bytes answer
+  pub told : (bytes : List ℕ) (script : Script) → IsToldBy (take (SCRIPT_BYTES + 1) bytes) script
+      → IsToldBy bytes script
+  pub first_bad : (bytes : List ℕ) (n : ℕ) → IsFirstBad (take (SCRIPT_BYTES + 1) bytes) n → IsFirstBad bytes n

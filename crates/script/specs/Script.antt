@@ -4,8 +4,6 @@ use Rattle.std.specs.List.{AllZip, list_any}
 use Rattle.std.specs.Option.{option_map, option_map_or}
 use Rattle.std.specs.Str.{bytes_eq}
 use Rattle.retro_base.specs.declared.limits.TheConstants.{ITEMS, PHASES, SESSIONS}
-use Rattle.retro_base.specs.declared.refusal.Refusal.{Refusal}
-use Rattle.retro_base.specs.declared.refusal.Refusal.TheVariants as refusal
 use Rattle.sql_tree.specs.declared.statement.Statement.{Statement as StatementOf}
 use Rattle.script.specs.Line.{IsLine}
 use Rattle.script.specs.Text.{script_lines}
@@ -130,9 +128,3 @@ ReadsAs bytes (Err number) = IsBadAt bytes number
 -- they are nothing else
 abbrev pub IsOnlyReading : List ℕ → Result Script ℕ → Type 0
 IsOnlyReading bytes answer = (other : Result Script ℕ) → ReadsAs bytes other → other ≡ answer
-
--- what bytes may be refused for
-abbrev pub IsRefused : List ℕ → Refusal → Type 0
-IsRefused bytes refusal.OutOfMemory = Unit {0}
-IsRefused bytes (refusal.BadScript number) = IsBadAt bytes number × IsOnlyReading bytes (Err number)
-IsRefused bytes other = ⊥

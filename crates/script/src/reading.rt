@@ -2,7 +2,8 @@
 
 ghost use Rattle.std.specs.Prelude.{◌≡◌, ◌≤◌, ◌+◌, IfOk, IfErr, OnOk, length, take};
 ghost use Rattle.script.specs.Limits.{ScriptFits};
-ghost use Rattle.script.specs.Script.{IsScript, IsOnlyReading, IsRefused};
+ghost use Rattle.script.specs.Rules.{IsRefused, IsToldBy};
+ghost use Rattle.script.specs.Script.{IsScript, IsOnlyReading};
 
 use crate::draft::ScriptSoFar;
 use crate::limits::SCRIPT_BYTES;
@@ -16,6 +17,7 @@ use std::alloc::Global;
 pub fn read(alloc: Global, bytes: &[u8]) -> Result<Script, Refusal>
     ensures found { IfOk result (IsScript bytes.now) }
     ensures only { IfOk result (λ script. IsOnlyReading bytes.now (Ok script)) }
+    ensures told { IfOk result (IsToldBy bytes.now) }
     ensures fits { IfOk result ScriptFits }
     ensures short { OnOk result (length bytes.now ≤ SCRIPT_BYTES) }
     ensures refused { IfErr result (IsRefused bytes.now) }

@@ -2,6 +2,7 @@ use Rattle.std.proofs.Common.{Result, Ok, Err, OnOk, ◌≡◌, ◌+◌, ◌≤�
 use Rattle.std.proofs.lemmas.Bool.Decides.{nat_tests}
 use Rattle.script.specs.declared.limits.TheConstants.{SCRIPT_BYTES}
 use Rattle.script.proofs.ReadLaws.{goes_too_far, read_none, read_more, bad_line, end_good, end_only, end_fits, end_short, end_bad}
+use Rattle.script.proofs.ToldLaws.{good_told}
 use Rattle.script.proofs.reading.read.Goals as goal
 use Rattle.script.proofs.reading.read.Goals.{then-too_far, else-too_far}
 
@@ -36,6 +37,9 @@ returns-clause-found c =
     let rest = c.loop-rest.rest.now in
     let none : length rest ≡ 0 = grind (arith, nat_tests) in
     end_good c.args.bytes.now rest c.loop-rest.number c.loop-rest.draft c.finish.result c.loop-rest.invariant none c.finish.ensures.good
+
+pub returns-clause-told : goal.returns-clause-told
+returns-clause-told c = good_told c.args.bytes.now c.finish.result (returns-clause-found c)
 
 pub returns-clause-only : goal.returns-clause-only
 returns-clause-only c =
