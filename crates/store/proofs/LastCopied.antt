@@ -3,12 +3,15 @@ use Rattle.std.proofs.Common.{◌≡◌, ◌⊎◌, ◌≤◌, ◌++◌, ◌∙�
 use Rattle.std.proofs.Math.ListN.{set}
 use Rattle.std.proofs.lemmas.List.{length-set}
 use Rattle.std.specs.Prelude.{slice_get}
+use Rattle.atomic_table.specs.Seated.{TableId}
 use Rattle.disk_model.specs.Disk.{State}
+use Rattle.disk_model.specs.Moments.{Clock}
 use Rattle.retro_base.specs.declared.limits.TheConstants.{SESSIONS}
 use Rattle.turn.specs.Seats.{IsSame}
 use Rattle.store.specs.Closing.{HasCopiedAt, HaveCopied, resting}
 use Rattle.store.specs.Seats.{Sat}
-use Rattle.store.specs.WorkerRounds.{WorkerLeaves, worker}
+use Rattle.store.specs.declared.pace.Worker.TheVariants.{Copier}
+use Rattle.store.specs.WorkerRounds.{HasWorked, WorkerLeaves, worker}
 
 some_is : {A : Type 0} (x y : A) → Some x ≡ Some y → x ≡ y
 some_is x y e = cc
@@ -29,6 +32,12 @@ left_in (z ∷ zs) zero x y was (suc k) s there = (s, there, inl refl)
 left_in (z ∷ zs) (suc place) x y was zero s there = (s, there, inl refl)
 left_in (z ∷ zs) (suc place) x y was (suc k) s there = left_in zs place x y was k s there
 
+-- and what was set
+set_at : {A : Type 0} (xs : List A) (place : ℕ) (x y : A) → slice_get xs place ≡ Some x → slice_get (set xs place y) place ≡ Some y
+set_at [] place x y was = absurd (cc was)
+set_at (z ∷ zs) zero x y was = refl
+set_at (z ∷ zs) (suc place) x y was = set_at zs place x y was
+
 -- ---- a list that was changed in place
 
 gone_all : {A : Type 0} (ys : List A) (n : ℕ) → length ys ≤ n → drop n ys ≡ []
@@ -48,19 +57,19 @@ back_again xs ys n long same =
 
 -- ---- seats
 
-pub none_copied : {D : Type 0} (state : D → State) (faults : D → ℕ) (phase : ℕ) (seats : List (Sat D)) → HaveCopied state faults phase seats seats
-none_copied state faults phase seats = record { count = refl; each = λ k s there. (s, there, inl refl) }
+module _ {D : Type 0} (is_honest : D → Type 0) (state : D → State) (faults : D → ℕ) (z : TableId) (remembers : Type 0) (clock : D → Clock) (phase : ℕ) (seats : List (Sat D)) where
+  module _ (place : ℕ) (old new : Sat D) (was : slice_get seats place ≡ Some old) (number : old.number ≡ SESSIONS) (same : IsSame old new) (leaves : WorkerLeaves (worker phase old.number) (resting state faults old) (resting state faults new))
+      (works : HasWorked is_honest state faults z remembers clock (worker phase old.number) Copier old new) where
+    copied : HasCopiedAt is_honest state faults z remembers clock phase old new
+    copied = record { same = same; number = number; leaves = leaves; works = works }
 
-pub one_copied : {D : Type 0} (state : D → State) (faults : D → ℕ) (phase : ℕ) (seats : List (Sat D)) (place : ℕ) (old new : Sat D) → slice_get seats place ≡ Some old → old.number ≡ SESSIONS → IsSame old new
-    → WorkerLeaves (worker phase old.number) (resting state faults old) (resting state faults new) → HaveCopied state faults phase seats (set seats place new)
-one_copied {D} state faults phase seats place old new was number same leaves = record {
-  count = length-set seats place new;
-  each = λ k s there. let found = left_in seats place old new was k s there in (found.0, found.1, by_case s found.0 found.2);
-}
-  where
-    copied : HasCopiedAt state faults phase old new
-    copied = record { same = same; number = number; leaves = leaves }
-
-    by_case : (s t : Sat D) → (t ≡ s) ⊎ ((old ≡ s) × (t ≡ new)) → (t ≡ s) ⊎ HasCopiedAt state faults phase s t
+    by_case : (s t : Sat D) → (t ≡ s) ⊎ ((old ≡ s) × (t ≡ new)) → (t ≡ s) ⊎ HasCopiedAt is_honest state faults z remembers clock phase s t
     by_case s t (inl stays) = inl stays
-    by_case s t (inr it) = inr (subst (λ (u : Sat D). HasCopiedAt state faults phase u t) it.0 (subst (λ (u : Sat D). HasCopiedAt state faults phase old u) (sym it.1) copied))
+    by_case s t (inr it) = inr (subst (λ (u : Sat D). HasCopiedAt is_honest state faults z remembers clock phase u t) it.0 (subst (λ (u : Sat D). HasCopiedAt is_honest state faults z remembers clock phase old u) (sym it.1) copied))
+
+    pub one_copied : HaveCopied is_honest state faults z remembers clock phase seats (set seats place new)
+    one_copied = record {
+      count = length-set seats place new;
+      each = λ k s there. let found = left_in seats place old new was k s there in (found.0, found.1, by_case s found.0 found.2);
+      runs = inr (record { place = place; before = old; after = new; was = was; is = set_at seats place old new was; does = copied });
+    }

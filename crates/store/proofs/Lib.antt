@@ -31,6 +31,7 @@ pub mod Opened
 pub mod Overlaps
 pub mod Passing
 pub mod Pasts
+pub mod Pending
 pub mod Reaching
 pub mod ReadGiven
 pub mod Reading
@@ -47,7 +48,9 @@ pub mod Telling
 pub mod Trying
 pub mod Viewed
 pub mod Visiting
+pub mod Within
 pub mod WorkerEnds
+pub mod WorkerSeats
 pub mod Workers
 pub mod Working
 pub mod Worlds

@@ -1,5 +1,5 @@
 -- What a seat has behind a read of the past.
-use Rattle.std.proofs.Common.{◌≡◌, ◌∙◌, ◌≤◌, ◌<◌, ◌++◌, ℕ, Bool, true, cond, eqb, List, [], length, Option, Some, Result, Ok, Err, refl, sym, ap, subst, inl, arith, append_assoc, append-nil, eq-eqb}
+use Rattle.std.proofs.Common.{◌≡◌, ◌∙◌, ◌≤◌, ◌<◌, ◌++◌, ℕ, Bool, true, cond, eqb, List, [], length, Option, Some, Result, Ok, Err, refl, sym, ap, subst, inl, inr, arith, append_assoc, append-nil, eq-eqb}
 use Rattle.std.specs.Prelude.{IfOk, OnOk}
 use Rattle.std.proofs.lemmas.List.Elements.{filter-append}
 use Rattle.atomic_table.specs.Seated.{TableId}
@@ -36,12 +36,12 @@ use Rattle.txn_set.specs.declared.ledger.Ledger.{Ledger}
 use Rattle.txn_set.specs.WorksFit.{pins_at}
 use Rattle.turn.specs.declared.view.Holding.{Holding}
 use Rattle.turn.specs.Faults.{desk_faults, fault_times}
-use Rattle.turn.specs.Seats.{mine, opening, seen}
+use Rattle.turn.specs.Seats.{held, mine, opening, seen}
 use Rattle.turn.specs.Views.{holding}
 use Rattle.store.specs.declared.desk_side.DeskSide.{DeskSide}
 use Rattle.store.specs.declared.start.Start.{Start}
 use Rattle.store.specs.Calls.{PeekDoes}
-use Rattle.store.specs.Past.{FindsIn, IsNewFault, IsPastCause, IsPastOf, IsPinnedBy, IsSeeking, IsTableOf}
+use Rattle.store.specs.Past.{FindsIn, IsNewFault, IsPastCause, IsPastOf, IsPinnedBy, IsSeeking, IsTableOf, ReadsAtMost, ScansBelow}
 use Rattle.store.specs.Seats.{CountFits, IsReady, Sat, StaysIn, Visited, Visits, Waits, journal, slots_of}
 use Rattle.store.specs.Start.{IsAbove, IsOpenedTo, Origin, desk_counts, opened_base}
 use Rattle.store.proofs.Answering.{page_told}
@@ -231,3 +231,12 @@ module _ {D : Type 0} (is_honest : D → Type 0) (state : D → State) (faults :
           ∙ (ap (λ (k : ℕ). in_slot vault (capacity_of o.history) (told_of plain n page).bytes (first_in vault.mappings k peeked.acked page)) start
           ∙ (ap (λ (k : ℕ). in_slot vault (capacity_of o.history) (told_of plain n page).bytes (first_in vault.mappings (told_of plain n page).start k page)) told.1
           ∙ (right ∙ ap (λ (l : List Line). pages_as_of (after_journal o.history l) n page) place))))
+
+-- ---- how many entries are read
+
+pub scanned : {D : Type 0} (is_honest : D → Type 0) (state : D → State) (faults : D → ℕ) (z : TableId) (covered before after upto : ℕ) (s1 s2 : Sat D) → upto ≤ held s1 → held s1 ≤ held s2 → ScansBelow is_honest state faults z covered before after upto s1 s2
+    → ReadsAtMost is_honest state faults z covered before after s2
+scanned is_honest state faults z covered before after upto s1 s2 known rises scans = record {
+  none = λ all. scans.none (omega (arith, known, rises, all));
+  cost = inr (upto, s1, known, scans);
+}

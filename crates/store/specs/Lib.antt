@@ -16,6 +16,7 @@ pub mod Seen
 pub mod Sides
 pub mod Start
 pub mod Tried
+pub mod Within
 pub mod WorkerRounds
 pub mod Workers
 pub mod Worlds

@@ -1,5 +1,6 @@
 -- What a reader of the past has, and what it is given.
-use Rattle.std.specs.Prelude.{◌≡◌, ◌≤◌, ◌<◌, max, true, false, ℕ, Bool, List, [], length, Some, Result, OnOk}
+use Rattle.std.specs.Prelude.{◌≡◌, ◌⊎◌, ◌≤◌, ◌<◌, max, true, false, ℕ, Bool, List, [], length, Some, Result, OnOk}
+use Rattle.atomic_table.specs.Seated.{TableId}
 use Rattle.disk_model.specs.Disk.{State}
 use Rattle.retro_base.specs.declared.device.Device.{Device}
 use Rattle.retro_base.specs.declared.refusal.Refusal.{Refusal}
@@ -19,11 +20,14 @@ use Rattle.race_model.specs.Desk.{capacity_of}
 use Rattle.race_model.specs.Fits.{VaultFits}
 use Rattle.race_model.specs.Reading.{in_slot}
 use Rattle.race_model.specs.Vault.{Vault}
-use Rattle.skippy.specs.Mappings.{Mappings, end_of, first_in}
+use Rattle.skippy.specs.Bound.{different, scan_bound}
+use Rattle.skippy.specs.Mappings.{Mappings, end_of, first_in, pages_in}
+use Rattle.skippy.specs.Steps.{AddsAtMost}
+use Rattle.archive.specs.Archive.{Running}
 use Rattle.turn.specs.Faults.{fault_times}
 use Rattle.turn.specs.Seats.{held, mine, opening, seen}
 use Rattle.store.specs.declared.start.Start.{Start}
-use Rattle.store.specs.Seats.{Sat}
+use Rattle.store.specs.Seats.{Sat, VisitedVault}
 use Rattle.store.specs.Start.{IsAbove, IsOpenedTo, Origin, opened_base}
 
 -- a look of the seat, or of the one that it helps, pins the snapshot
@@ -113,3 +117,21 @@ IsPastRefusal s table fault = (fault.wrote ≡ false) × IsPastCause s table.cov
 abbrev pub IsNewFault : {D : Type 0} → (D → ℕ) → Sat D → Fault → Type 0
 IsNewFault {D} faults s fault = (start : Start D) (d : Device) (c : ℕ) → opening s ≡ Some start
     → fault.why ≡ DiskFault d c → IsAbove faults start d c
+
+module _ {D : Type 0} (is_honest : D → Type 0) (state : D → State) (faults : D → ℕ) (z : TableId) (covered before after : ℕ)
+  where
+    -- In one visit to the vault no entry of the Maplog's levels was read where the table covered the mappings below a
+    -- number; else no more than the bound of a scan of them from what it covered on.
+    pub record ScansBelow (upto : ℕ) (old new : Sat D) : Type 0 where
+      pub archive : Running D
+      pub left : Running D
+      pub visited : VisitedVault is_honest state faults z old new archive left
+      pub none : upto ≤ covered → after ≡ before
+      pub cost : AddsAtMost (scan_bound covered upto (different (pages_in archive.side.levels covered upto))) before after
+
+    -- No entry was read where the table covered all that the seat has seen the vault hold, or where the desk refused;
+    -- else no more than the bound of a scan below a number that it had seen the vault hold.
+    pub record ReadsAtMost (new : Sat D) : Type 0 where
+      pub none : held new ≤ covered → after ≡ before
+      pub cost : (after ≡ before)
+          ⊎ ((upto : ℕ) × (middle : Sat D) × (upto ≤ held middle) × ScansBelow upto middle new)

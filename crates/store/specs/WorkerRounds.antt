@@ -1,5 +1,5 @@
 -- What a worker leaves, whose rounds come one behind the other.
-use Rattle.std.specs.Prelude.{◌≡◌, ◌⊎◌, ◌≤◌, ℕ, Bool, true, false, List, [], ◌∷◌, None, is_some, Result, Ok, Err, IfSome}
+use Rattle.std.specs.Prelude.{◌≡◌, ◌⊎◌, ◌≤◌, ◌++◌, ℕ, Bool, true, false, List, [], ◌∷◌, None, is_some, Result, Ok, Err, IfSome, OnOk}
 use Rattle.atomic_table.specs.Seated.{TableId}
 use Rattle.disk_model.specs.Disk.{State}
 use Rattle.disk_model.specs.Moments.{Clock}
@@ -14,7 +14,9 @@ use Rattle.history.specs.Lines.{base_of, first_stop, lines_of}
 use Rattle.journal_law.specs.Seats.{Adds, Idle, IsNew, View, Waits}
 use Rattle.race_model.specs.Vault.{Batch}
 use Rattle.turn.specs.Seats.{held, mine, opening, seen}
-use Rattle.store.specs.Rounds.{CopiesRound}
+use Rattle.store.specs.declared.pace.Worker.{Worker}
+use Rattle.store.specs.declared.pace.Worker.TheVariants.{Copier, Flusher}
+use Rattle.store.specs.Rounds.{CopiesRound, Passes, WritesRound, no_batch}
 use Rattle.store.specs.Seats.{Sat}
 use Rattle.store.specs.Start.{opened_base}
 use Rattle.store.specs.Workers.{IsFreshWorker}
@@ -89,3 +91,26 @@ abbrev pub Copies : {D : Type 0} → (D → Type 0) → (D → State) → (D →
     Result Bool Refusal → Batch × Sat D → Batch × Sat D → Type 0
 Copies is_honest state faults z remembers clock who result old new =
     CopiesRound is_honest state faults z remembers clock who old.0 new.0 result old.1 new.1
+
+module _ {D : Type 0} (is_honest : D → Type 0) (state : D → State) (faults : D → ℕ) (z : TableId) (remembers : Type 0)
+    (clock : D → Clock) (who : Who) where
+  -- The copier's rounds came one behind the other, in a batch of its own; behind Ok the vault holds all that stood
+  -- captured in the journal that the seat had seen. Where there was no memory for the batch, nothing was done.
+  pub data CopierEnds (result : Result (Unit {0}) Refusal) (old new : Sat D) : Type 0 where
+    NoBatch : result ≡ Err OutOfMemory → new ≡ old → CopierEnds result old new
+    Ran : (batch : Batch) → EndsWith (Copies is_honest state faults z remembers clock who) (last_answer result)
+        (no_batch, old) (batch, new) → OnOk result (IsHeld new (seen new)) → CopierEnds result old new
+
+  -- the rounds of a worker, which are its own
+  abbrev pub WorkerEnds : Worker → Result (Unit {0}) Refusal → Sat D → Sat D → Type 0
+  WorkerEnds Copier result old new = CopierEnds result old new
+  WorkerEnds Flusher result old new =
+      EndsWith (WritesRound is_honest state faults z remembers clock who) (last_answer result) old new
+
+  -- The store had stopped when the seat asked, which did no more; or the worker ran, and left the line of the fault that
+  -- ended it, if one did.
+  pub data HasWorked (kind : Worker) (old new : Sat D) : Type 0 where
+    FoundStopped : Passes z old new → is_some (first_stop (seen new)) ≡ true → HasWorked kind old new
+    HasEnded : (asked : Sat D) (result : Result (Unit {0}) Refusal) → Passes z old asked →
+        is_some (first_stop (seen asked)) ≡ false → WorkerEnds kind result asked new →
+        (mine new).lines ≡ (mine asked).lines ++ lines_left who result → HasWorked kind old new

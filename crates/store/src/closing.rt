@@ -1,9 +1,8 @@
 //! A store that is closed.
 
-ghost use Rattle.std.specs.Prelude.{◌≡◌, ◌≢◌, IfNone, IfSome, Some, length, slice_get};
-ghost use Rattle.std.specs.List.{AllByRecursion};
+ghost use Rattle.std.specs.Prelude.{◌≡◌, IfNone, IfSome, Some, length, slice_get};
 ghost use Rattle.retro_base.specs.declared.limits.TheConstants.{SESSIONS};
-ghost use Rattle.store.specs.Closing.{AreReady, Closes, ClosesCopied, ClosesTold, HaveCopied, MayCopyLast};
+ghost use Rattle.store.specs.Closing.{AreReady, Closes, ClosesCopied, ClosesTold, HasNoCopier, HaveCopied, MayCopyLast};
 ghost use Rattle.store.specs.Seats.{Sat, start_of};
 ghost use Rattle.turn.specs.Tables.{table_of};
 
@@ -28,7 +27,7 @@ pub struct Closed<D> {
 // The place of the copier's seat.
 fn copier_place<D: Disk + Drop>(seats: &[Seat<D>]) -> Option<usize>
     ensures some { IfSome result (λ k. (s : Sat D) × (slice_get seats.now k ≡ Some s) × (s.number ≡ SESSIONS)) }
-    ensures none { IfNone result (AllByRecursion (λ (s : Sat D). s.number ≢ SESSIONS) seats.now) }
+    ensures none { IfNone result (HasNoCopier seats.now) }
 {
     seats
         .iter()
@@ -84,7 +83,8 @@ impl<D: Disk + Drop> Store<D> {
         requires ready { AreReady (table_of self.now.turn) seats.old }
         requires may { MayCopyLast D.state D.faults seats.old }
         ensures ready { AreReady (table_of self.now.turn) seats.new }
-        ensures copied { HaveCopied D.state D.faults phase seats.old seats.new }
+        ensures copied { HaveCopied D.is_honest D.state D.faults (table_of self.now.turn) D.remembers D.clock phase
+            seats.old seats.new }
     {
         let Some(place) = copier_place(seats) else {
             return;
@@ -105,13 +105,14 @@ impl<D: Disk + Drop> Store<D> {
     /// Ends the store with all its seats, in any order. Before, unless it has stopped, it makes copy rounds at the seat
     /// behind those of the sessions, if it is among them, under item 0 in this phase, until nothing is pending or one is
     /// refused: the line of the fault that ended them, if one did, is that seat's first. Tells whether the archive holds
-    /// captures up to the journal's last, so that none is in the log alone.
+    /// captures up to the journal's last, so that none is in the log alone. Where the seats have met, it does unless that
+    /// seat is not among them, a fault of a write has its line, the archive had stopped, or memory was wanting.
     pub fn close_copied<R: Wait>(self, rt: &R, seats: Vec<Seat<D>>, phase: u16) -> (Closed<D>, bool)
         requires all { length seats.items ≡ self.turn.table.shared.key.seats }
         requires ready { AreReady (table_of self.turn) seats.items }
         requires may { MayCopyLast D.state D.faults seats.items }
-        ensures closed { ClosesCopied D.is_honest D.state D.faults (start_of self.turn)
-            self.turn.table.shared.key.seats phase seats.items result.0 result.1 }
+        ensures closed { ClosesCopied D.is_honest D.state D.faults (table_of self.turn) D.remembers D.clock
+            (start_of self.turn) self.turn.table.shared.key.seats phase seats.items result.0 result.1 }
     {
         let mut seats = seats;
         self.copy_last(rt, seats.as_mut_slice(), phase);

@@ -1,6 +1,7 @@
 //! Of the pages now and at each retained snapshot.
 
 ghost use Rattle.store.specs.Recovery.{ClosedShows, OpeningShows, OpensShown};
+ghost use Rattle.store.specs.Within.{LeftOpens};
 ghost use Rattle.store.specs.Worlds.{NamesAreSame, NamesStay, OthersAreRefused, PinsAreSame, RetainedAreHeld, WorldIsOfHistory};
 
 use disk_model::Disk;
@@ -28,4 +29,7 @@ pub fn laws_of_crashes<D: Disk + Drop>()
     ensures opens { OpensShown }
     // So they see of whatever a crash leaves of a store that is closed.
     ensures closed { ClosedShows D.is_honest D.state D.faults }
+    // Whatever a crash leaves of the four devices within a call of the desk's, one of the archive's, or both, they open
+    // to the history behind the journal, or to it with the change in doubt.
+    ensures within { LeftOpens D.is_honest D.state }
 {}

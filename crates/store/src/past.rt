@@ -3,7 +3,7 @@
 ghost use Rattle.std.specs.Prelude.{◌≡◌, ◌≤◌, IfErr, IfOk, MatchResult, OnOk};
 ghost use Rattle.store.specs.Calls.{PeekDoes};
 ghost use Rattle.store.specs.Past.{FindsIn, IsNewFault, IsPastOf, IsPastRefusal, IsPinnedBy, IsRetainedBy, IsSeeking};
-ghost use Rattle.store.specs.Past.{IsTableOf, new_table};
+ghost use Rattle.store.specs.Past.{IsTableOf, ReadsAtMost, ScansBelow, new_table};
 ghost use Rattle.store.specs.Seats.{CountFits, IsPage, IsReady, IsWhole, StaysIn, Visits, Waits};
 ghost use Rattle.turn.specs.Seats.{held, mine};
 ghost use Rattle.turn.specs.Tables.{table_of};
@@ -80,6 +80,8 @@ impl<D: Disk + Drop> Store<D> {
         ensures waits { Waits seat.old seat.new }
         ensures finds { FindsIn D.is_honest D.state seat.old seat.new snapshot table.old table.new upto page
             out.old out.new result }
+        ensures steps { ScansBelow D.is_honest D.state D.faults (table_of self.now.turn) table.old.covered steps.old
+            steps.new upto seat.old seat.new }
         ensures cause { IfErr result (IsPastRefusal seat.new table.old) }
         ensures fault { IfErr result (IsNewFault D.faults seat.old) }
     {
@@ -93,7 +95,8 @@ impl<D: Disk + Drop> Store<D> {
     /// Fills `out` with a page as of a snapshot that an open look of this seat pins, or of the seat that it helps. The
     /// table is kept from one read of the snapshot to the next. It asks the desk, and then the vault below the number
     /// of captures that the desk knows to be there. Refused for want of memory, not where the table covers all that is
-    /// held; and exactly where a read of a device failed; `out` is then undefined.
+    /// held; and exactly where a read of a device failed; `out` is then undefined. `steps` counts the entries of the
+    /// Maplog's levels that it reads: none where the table covers all that is held, else what one scan reads at most.
     pub fn past<R: Wait, L: Ledger>(
         &self,
         rt: &R,
@@ -116,6 +119,8 @@ impl<D: Disk + Drop> Store<D> {
         ensures first_met { IsTableOf D.is_honest D.state seat.new snapshot table.new }
         ensures page { OnOk result (IsPastOf D.is_honest D.state seat.new snapshot page out.new) }
         ensures retained { OnOk result (IsRetainedBy seat.new snapshot) }
+        ensures steps { ReadsAtMost D.is_honest D.state D.faults (table_of self.now.turn) table.old.covered steps.old
+            steps.new seat.new }
         ensures cause { IfErr result (IsPastRefusal seat.new table.old) }
         ensures fault { IfErr result (IsNewFault D.faults seat.old) }
     {

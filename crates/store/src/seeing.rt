@@ -4,7 +4,7 @@ ghost use Rattle.std.specs.Prelude.{◌≡◌, ◌<◌, ◌≤◌, ℕ, is_some,
 ghost use Rattle.history.specs.Lines.{first_stop, horizon_of};
 ghost use Rattle.store.specs.Seats.{IsPage, IsReady, IsWhole, StaysIn, Waits};
 ghost use Rattle.store.specs.Start.{opened_base};
-ghost use Rattle.turn.specs.Seats.{held, mine, opening, seen};
+ghost use Rattle.turn.specs.Seats.{IsSame, held, mine, opening, seen};
 ghost use Rattle.turn.specs.Tables.{table_of};
 ghost use Rattle.turn.specs.Views.{lending, lent, longer, returned};
 
@@ -67,8 +67,9 @@ impl<D: Disk + Drop> Store<D> {
         requires ready { IsReady (table_of self.now.turn) seat.old }
         requires room { 1 < (mine seat.old).parts }
         ensures ready { IsReady (table_of self.now.turn) seat.new × IsReady (table_of self.now.turn) result }
+        ensures same { IsSame seat.old seat.new }
         ensures seat { (mine seat.new ≡ lending (mine seat.old)) × (seen seat.new ≡ seen seat.old)
-            × (opening seat.new ≡ opening seat.old) × (held seat.new ≡ held seat.old) }
+            × (held seat.new ≡ held seat.old) }
         ensures helper { (mine result ≡ lent (mine seat.old)) × (seen result ≡ seen seat.old)
             × (opening result ≡ opening seat.old) × (held result ≡ held seat.old) }
     {
@@ -80,8 +81,8 @@ impl<D: Disk + Drop> Store<D> {
         requires ready { IsReady (table_of self.now.turn) seat.old × IsReady (table_of self.now.turn) helper }
         requires helper { (helper.number ≡ seat.old.number) × ((mine helper).parts ≡ 1) }
         ensures ready { IsReady (table_of self.now.turn) seat.new }
-        ensures seat { (mine seat.new ≡ returned (mine helper) (mine seat.old))
-            × (opening seat.new ≡ opening seat.old) }
+        ensures same { IsSame seat.old seat.new }
+        ensures seat { mine seat.new ≡ returned (mine helper) (mine seat.old) }
         ensures seen { seen seat.new ≡ longer (seen seat.old) (seen helper) }
         ensures waits { Waits seat.old seat.new }
         ensures rises { (held seat.old ≤ held seat.new) × (held helper ≤ held seat.new) }

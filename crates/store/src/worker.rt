@@ -1,11 +1,12 @@
 //! A worker at the seat that a store is held with.
 
-ghost use Rattle.std.specs.Prelude.{◌≡◌, [], None};
+ghost use Rattle.std.specs.Prelude.{◌≡◌, ◌++◌, [], None};
 ghost use Rattle.journal_law.specs.Seats.{Idle};
 ghost use Rattle.store.specs.Frames.{GoesOn};
 ghost use Rattle.store.specs.Seats.{IsReady, IsWhole};
 ghost use Rattle.store.specs.Seen.{view_of};
-ghost use Rattle.store.specs.WorkerRounds.{IsFreshOrStopped, MayWork, WorkerGives, WorkerLeaves, worker as worker_name};
+ghost use Rattle.store.specs.WorkerRounds.{HasWorked, IsFreshOrStopped, MayWork, WorkerEnds, WorkerGives, WorkerLeaves};
+ghost use Rattle.store.specs.WorkerRounds.{lines_left, worker as worker_name};
 ghost use Rattle.store.specs.Workers.{IsWorker};
 ghost use Rattle.turn.specs.Seats.{IsSame, mine};
 ghost use Rattle.turn.specs.Tables.{table_of};
@@ -38,6 +39,10 @@ fn run<R: Wait, D: Disk + Drop>(
     ensures idle { (mine seat.new).work ≡ None }
     ensures gives { WorkerGives (worker_name phase seat.old.number) (view_of D.state D.faults None [] seat.old)
         (view_of D.state D.faults None [] seat.new) result }
+    ensures ends { WorkerEnds D.is_honest D.state D.faults (table_of store.now.turn) D.remembers D.clock
+        (worker_name phase seat.old.number) worker result seat.old seat.new }
+    ensures lines { (mine seat.new).lines
+        ≡ (mine seat.old).lines ++ lines_left (worker_name phase seat.old.number) result }
 {
     match worker {
         Worker::Copier => {
@@ -67,6 +72,8 @@ pub(crate) fn run_unless_stopped<R: Wait, D: Disk + Drop>(
     ensures idle { (mine seat.new).work ≡ None }
     ensures leaves { WorkerLeaves (worker_name phase seat.old.number) (view_of D.state D.faults None [] seat.old)
         (view_of D.state D.faults None [] seat.new) }
+    ensures works { HasWorked D.is_honest D.state D.faults (table_of store.now.turn) D.remembers D.clock
+        (worker_name phase seat.old.number) worker seat.old seat.new }
 {
     if store.stopped(rt, seat) {
         return;
@@ -84,6 +91,8 @@ impl<'a, R: Wait, D: Disk + Drop> Held<'a, R, D> {
         ensures leaves { WorkerLeaves (worker_name phase self.old.seat.number)
             (view_of D.state D.faults self.old.asked self.old.told.items self.old.seat)
             (view_of D.state D.faults self.new.asked self.new.told.items self.new.seat) }
+        ensures works { HasWorked D.is_honest D.state D.faults (table_of self.old.store.now.turn) D.remembers D.clock
+            (worker_name phase self.old.seat.number) worker self.old.seat self.new.seat }
         ensures goes { GoesOn (table_of self.old.store.now.turn) (table_of self.new.store.now.turn)
             self.old.seat self.new.seat }
     {

@@ -8,7 +8,7 @@ use Rattle.turn.specs.Seats.{IsSame, mine, seen}
 use Rattle.store.specs.Closing.{MayCopyLast, resting}
 use Rattle.store.specs.Seats.{IsReady, IsWhole, Sat}
 use Rattle.store.specs.WorkerRounds.{IsFreshOrStopped}
-use Rattle.store_tests.proofs.WorkerSeats.{Each, IsNewSeat, of_front, of_last, with_last}
+use Rattle.store.proofs.WorkerSeats.{Each, IsNewSeat, of_front, of_last, with_last}
 
 module _ {D : Type 0} (z : TableId) (state : D → State) (faults : D → ℕ) (xs0 xs1 xs2 : List (Sat D)) (c s : Sat D) (one : xs0 ≡ xs1 ++ c ∷ []) (two : xs1 ≡ xs2 ++ s ∷ []) where
   abbrev MayCall : ℕ → Sat D → Type 0

@@ -1,3 +1,2 @@
 pub mod LastSeats
 pub mod Stepping
-pub mod WorkerSeats

@@ -1,6 +1,6 @@
 use Rattle.store.specs.Seats.{IsReady, IsSized, IsWhole, Sat}
 use Rattle.turn.specs.Tables.{table_of}
-use Rattle.store_tests.proofs.WorkerSeats.{copier_works, flusher_works, last_three, pushed, rest_calls, session_calls, session_idle}
+use Rattle.store.proofs.WorkerSeats.{copier_works, flusher_works, last_three, pushed, rest_calls, session_calls, session_idle}
 use Rattle.store_bench.proofs.tell_on.Goals as goal
 
 pub tell_job-told-requires-clause-session : goal.tell_job-told-requires-clause-session

@@ -1,6 +1,6 @@
 use Rattle.store.specs.Seats.{IsReady, IsWhole, Sat}
 use Rattle.turn.specs.Tables.{table_of}
-use Rattle.store_tests.proofs.WorkerSeats.{pushed}
+use Rattle.store.proofs.WorkerSeats.{pushed}
 use Rattle.store_tests.proofs.plays.leave.Goals as goal
 
 pub close-requires-clause-ready : goal.close-requires-clause-ready

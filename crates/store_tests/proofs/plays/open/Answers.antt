@@ -1,5 +1,5 @@
 use Rattle.turn.specs.Tables.{table_of}
-use Rattle.store_tests.proofs.WorkerSeats.{copier_works, flusher_works, rest_calls, session_calls, session_idle}
+use Rattle.store.proofs.WorkerSeats.{copier_works, flusher_works, rest_calls, session_calls, session_idle}
 use Rattle.store_tests.proofs.plays.open.Goals as goal
 
 pub returns-in-Some-pop-2-clause-session : goal.returns-in-Some-pop-2-clause-session

@@ -3,6 +3,7 @@ use Rattle.turn.specs.Tables.{table_of}
 use Rattle.store.specs.Closing.{AreReady, ClosesTold, HaveCopied, MayCopyLast}
 use Rattle.store.specs.Seats.{Sat, start_of}
 use Rattle.store.proofs.LastCopied.{back_again}
+use Rattle.store.proofs.Pending.{pends}
 use Rattle.store.proofs.shared.Store.close_copied.Goals as goal
 
 pub copy_last-requires-clause-ready : goal.copy_last-requires-clause-ready
@@ -25,12 +26,20 @@ ended-requires-clause-ready g c =
 
 pub returns : goal.returns
 returns g c =
+    let disk = g.D.Disk in
+    let z = table_of c.args.self.turn in
+    let start = start_of c.args.self.turn in
+    let limit = c.args.self.turn.table.shared.key.seats in
+    let last = c.copy_last.new.seats in
     let value = c.as_mut_slice.ensures.value in
-    let back = back_again c.copy_last.new.seats c.args.seats.items c.args.seats.len c.args.seats.ok.0 (c.copy_last.ensures.copied.count ∙ ap length value) in
+    let back = back_again last c.args.seats.items c.args.seats.len c.args.seats.ok.0 (c.copy_last.ensures.copied.count ∙ ap length value) in
+    let worked = subst (λ (xs : List (Sat g.row.D.Denot)). HaveCopied disk.is_honest disk.state disk.faults z disk.remembers disk.clock c.args.phase xs last) value c.copy_last.ensures.copied in
+    let ends = subst (λ (xs : List (Sat g.row.D.Denot)). ClosesTold disk.is_honest disk.state disk.faults start limit xs c.ended.result.0 c.ended.result.1) back c.ended.ensures.closed in
     record {
       closed = record {
-        last = c.copy_last.new.seats;
-        worked = subst (λ (xs : List (Sat g.row.D.Denot)). HaveCopied g.D.Disk.state g.D.Disk.faults c.args.phase xs c.copy_last.new.seats) value c.copy_last.ensures.copied;
-        ends = subst (λ (xs : List (Sat g.row.D.Denot)). ClosesTold g.D.Disk.is_honest g.D.Disk.state g.D.Disk.faults (start_of c.args.self.turn) c.args.self.turn.table.shared.key.seats xs c.ended.result.0 c.ended.result.1) back c.ended.ensures.closed;
+        last = last;
+        worked = worked;
+        ends = ends;
+        pending = pends disk.is_honest disk.state disk.faults z disk.remembers disk.clock start limit c.args.phase c.args.seats.items last c.ended.result.0 c.ended.result.1 worked ends (λ k s there. (c.copy_last.ensures.ready k s there).0);
       };
     }

@@ -5,7 +5,8 @@ use Rattle.turn.specs.Seats.{IsSame, mine}
 use Rattle.turn.specs.Tables.{table_of}
 use Rattle.store.specs.Closing.{resting}
 use Rattle.store.specs.Seats.{IsReady, IsWhole, Sat}
-use Rattle.store.specs.WorkerRounds.{IsFreshOrStopped, WorkerLeaves, worker}
+use Rattle.store.specs.declared.pace.Worker.TheVariants.{Copier}
+use Rattle.store.specs.WorkerRounds.{HasWorked, IsFreshOrStopped, WorkerLeaves, worker}
 use Rattle.store.specs.Workers.{IsWorker}
 use Rattle.store.proofs.LastCopied.{found_in, one_copied}
 use Rattle.store.proofs.shared.Store.copy_last.Goals as goal
@@ -45,6 +46,7 @@ returns-clause-copied g c =
     let found = c.in-Some.ensures.some in
     let e = c.run_unless_stopped.ensures in
     let is = get_or_from_slice_get c.args.seats.now c.in-Some.place found.0 c.index-seats-place.result found.1 in
-    one_copied g.D.Disk.state g.D.Disk.faults c.args.phase c.args.seats.now c.in-Some.place found.0 c.run_unless_stopped.new.seat found.1 found.2
+    one_copied g.D.Disk.is_honest g.D.Disk.state g.D.Disk.faults (table_of c.args.self.now.turn) g.D.Disk.remembers g.D.Disk.clock c.args.phase c.args.seats.now c.in-Some.place found.0 c.run_unless_stopped.new.seat found.1 found.2
     (subst (λ (s : Sat g.row.D.Denot). IsSame s c.run_unless_stopped.new.seat) is e.same)
     (subst (λ (s : Sat g.row.D.Denot). WorkerLeaves (worker c.args.phase s.number) (resting g.D.Disk.state g.D.Disk.faults s) (resting g.D.Disk.state g.D.Disk.faults c.run_unless_stopped.new.seat)) is e.leaves)
+    (subst (λ (s : Sat g.row.D.Denot). HasWorked g.D.Disk.is_honest g.D.Disk.state g.D.Disk.faults (table_of c.args.self.now.turn) g.D.Disk.remembers g.D.Disk.clock (worker c.args.phase s.number) Copier s c.run_unless_stopped.new.seat) is e.works)

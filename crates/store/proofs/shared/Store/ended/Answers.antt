@@ -41,6 +41,7 @@ returns g c =
           vault = e.closed.vault_fits.0;
           acked = e.closed.acked;
           each = λ k s there. let r = e.right k s there in let own = c.requires.ready k s there in record { front = r.front; lines = sym own.0.lines ∙ r.lines; work = r.work };
+          known = λ k s there. (e.right k s there).held;
           foreign = λ n le. (e.closed.foreign n le).0;
           differ = e.closed.differ;
           counted = subst (λ x. AllByRecursion (IsCounted (of_each disk.faults x)) (journal side)) (sym disks)

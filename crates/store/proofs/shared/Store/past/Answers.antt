@@ -1,6 +1,10 @@
-use Rattle.std.proofs.Common.{◌∙◌, false, refl, sym}
-use Rattle.store.proofs.Recalling.{cause_so, fault_so, past_so, seeks_so, stays_on, stays_so, table_so, waits_on, waits_so}
+use Rattle.std.proofs.Common.{◌≡◌, ◌≤◌, ◌∙◌, Result, arith, false, inl, refl, subst, sym}
+use Rattle.store.proofs.Recalling.{cause_so, fault_so, past_so, scanned, seeks_so, stays_on, stays_so, table_so, waits_on, waits_so}
 use Rattle.store.proofs.Meeting.{whole_stays, work_stays}
+use Rattle.std.specs.Prelude.{IfOk}
+use Rattle.retro_base.specs.declared.refusal.Refusal.{Refusal}
+use Rattle.store_core.specs.declared.copying.Peeked.{Peeked}
+use Rattle.turn.specs.Seats.{held}
 use Rattle.store.proofs.shared.Store.past.Goals as goal
 
 pub sought-requires-clause-seeking : goal.sought-requires-clause-seeking
@@ -63,3 +67,22 @@ returns-in-Ok-sought-clause-retained g c =
       sound = λ start e. c.sought.ensures.finds.sound start (sym same ∙ e);
       retained = λ start e. c.sought.ensures.finds.retained start (sym same ∙ e);
     }
+
+pub returns-in-Err-clause-steps : goal.returns-in-Err-clause-steps
+returns-in-Err-clause-steps g c = record { none = λ h. refl; cost = inl refl }
+
+pub returns-in-Ok-sought-clause-steps : goal.returns-in-Ok-sought-clause-steps
+returns-in-Ok-sought-clause-steps g c =
+    let v = c.told.ensures.visits in
+    let acked = v.visited.acked in
+    let is = subst (λ (r : Result Peeked Refusal). IfOk r (λ p. p.acked ≡ v.before.core.desk.queue.first)) c.in-Ok.is v.does.upto in
+    let known : c.in-Ok.peeked.acked ≤ held c.told.new.seat = omega (arith, acked, is) in
+    scanned g.D.Disk.is_honest g.D.Disk.state g.D.Disk.faults _ c.args.table.now.covered c.args.steps.now c.sought.new.steps c.in-Ok.peeked.acked c.told.new.seat c.sought.new.seat known c.sought.ensures.same.rises c.sought.ensures.steps
+
+pub returns-in-Err-sought-clause-steps : goal.returns-in-Err-sought-clause-steps
+returns-in-Err-sought-clause-steps g c =
+    let v = c.told.ensures.visits in
+    let acked = v.visited.acked in
+    let is = subst (λ (r : Result Peeked Refusal). IfOk r (λ p. p.acked ≡ v.before.core.desk.queue.first)) c.in-Ok.is v.does.upto in
+    let known : c.in-Ok.peeked.acked ≤ held c.told.new.seat = omega (arith, acked, is) in
+    scanned g.D.Disk.is_honest g.D.Disk.state g.D.Disk.faults _ c.args.table.now.covered c.args.steps.now c.sought.new.steps c.in-Ok.peeked.acked c.told.new.seat c.sought.new.seat known c.sought.ensures.same.rises c.sought.ensures.steps

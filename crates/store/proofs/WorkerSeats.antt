@@ -1,4 +1,4 @@
--- What is so of each seat of a list.
+-- What is so of the last three of the eighteen new seats of a store: a session, the copier and the flusher.
 use Rattle.std.proofs.Common.{◌≡◌, ◌++◌, ℕ, zero, suc, List, [], ◌∷◌, length, None, slice_get, Some, arith, inl, inr, length-append, refl, sym, ap, subst, ◌∙◌}
 use Rattle.history.specs.declared.journal.Line.{Line}
 use Rattle.history.specs.Lines.{lines_of}
