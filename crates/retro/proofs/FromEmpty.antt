@@ -24,7 +24,7 @@ use Rattle.opening.specs.Devices.{AreHonest, AreImages, IsUnopened, SameCounts, 
 use Rattle.opening.specs.Laws.{AreReadOneWay}
 use Rattle.opening.proofs.OneWay.{are_read_one_way}
 use Rattle.replay.specs.Opened.{Contents, opened}
-use Rattle.journal_law.specs.Lawful.{Ground}
+use Rattle.journal_law.specs.Lawful.{Ground, Opening}
 use Rattle.journal_law.specs.Pages.{Pages as PagesOf}
 use Rattle.journal_law.specs.Shows.{Shows}
 use Rattle.journal_law.specs.World.{Mark, World, newest}
@@ -38,7 +38,8 @@ use Rattle.session.specs.declared.kept.Kept.{Kept}
 use Rattle.store_format.specs.Empty.{AreInRange, AreSame, IsEmptyStore, empty_base, empty_contents, zero_pages}
 use Rattle.store.specs.Opening.{AreRefused}
 use Rattle.store.specs.Worlds.{AreMarksOf, IsWorldOf}
-use Rattle.retro.specs.Memory.{LeftFromEmpty, LeftInMemory, RanInMemory, RepliedInMemory, empty_ground, empty_opening, memory_opening, memory_sizes}
+use Rattle.retro.specs.Memory.{LeftFrom, RunsFrom, empty_ground, empty_opening, memory_opening, memory_sizes}
+use Rattle.retro.specs.Phases.{RanOver, RepliedOver}
 use Rattle.retro.specs.Storing.{HasRunOver, IsPrinted, Leaves, OpenAs, OpensShowing, RunsOn}
 use Rattle.retro.specs.declared.storing.Ended.{Ended}
 use Rattle.retro.proofs.Phased.{prints}
@@ -132,11 +133,15 @@ module _ {D : Type 0} (extent faults : D → ℕ) (is_honest : D → Type 0) (re
     unopened why is = absurd is
 
     left : StoreLaw → AreInRange sizes → (plan : Plan) (ended : Ended) → Leaves faults is_honest state plan made last ended
-        → LeftFromEmpty sizes plan (of_each faults first) (of_each faults last) ended
+        → LeftFrom sizes.pages plan (empty_opening sizes (of_each faults first)) (of_each faults last) ended
     left zeros range plan ended leaves =
         let is = ground_is read sizes (seen_of state made) leaves.ground (of_each faults first) holds (leaves.opens honest) (λ device. leaves.counts device ∙ counts device) in
+        let ran : HasRunOver plan (empty_ground sizes (of_each faults first)) (of_each faults last) ended = subst (λ (g : Ground). HasRunOver plan g (of_each faults last) ended) is (leaves.ran honest) in
+        let tables = (empty_opening sizes (of_each faults first)).tables in
+        let shows = shows_none zeros sizes (of_each faults first) range in
         record {
-          replied = (subst (λ (g : Ground). HasRunOver plan g (of_each faults last) ended) is (leaves.ran honest)).replied (empty_opening sizes (of_each faults first)).tables (shows_none zeros sizes (of_each faults first) range);
+          lawful = ran.lawful tables shows;
+          replied = ran.replied tables shows;
           newest_is = leaves.newest_is ∙ ap (λ (g : Ground). newest g.pages) is;
           captures_are = leaves.captures_are ∙ ap (λ (g : Ground). (base_of g.base ended.journal).captures) is;
         }
@@ -147,14 +152,23 @@ module _ {D : Type 0} (extent faults : D → ℕ) (is_honest : D → Type 0) (re
     unopened_so plan (Err why) runs = unopened why runs.unopened
 
     pub left_so : StoreLaw → AreInRange sizes → (plan : Plan) (result : Result Ended Refusal) → RunsOn extent faults is_honest remembers state clock plan made last result
-        → IfOk result (LeftFromEmpty sizes plan (of_each faults first) (of_each faults last))
+        → IfOk result (LeftFrom sizes.pages plan (empty_opening sizes (of_each faults first)) (of_each faults last))
     left_so zeros range plan (Ok ended) runs = left zeros range plan ended runs.leaves
     left_so zeros range plan (Err why) runs = tt
+
+-- ---- what is printed of a run
+
+-- it is the transcript of its journal
+pub told_from : (size : ℕ) (plan : Plan) (o : Opening (sql size)) (ending : Device → ℕ) (ended : Ended) (text : List ℕ) → LeftFrom size plan o ending ended → IsPrinted plan ended text → RanOver size plan o ending ended.journal text
+told_from size plan o ending ended text left print =
+    prints size plan o ending ended.journal (kept_by_place print.kept) text
+    (subst (λ (k : Result (List (List (List Kept))) AllocError). IfOk k (λ kept. RepliedOver size plan o ending ended.journal (kept_by_place kept))) print.kept_is left.replied)
+    (print.text_is ∙ ap (λ (n : ℕ). printed plan (kept_by_place print.kept) n ended.journal) left.newest_is)
 
 -- ---- in memory, where no call fails
 
 -- so many faults have all
-pub no_faults : {D : Type 0} (disks : Four D) → of_each (λ (disk : D). 0) disks ≡ (λ (device : Device). 0)
+no_faults : {D : Type 0} (disks : Four D) → of_each (λ (disk : D). 0) disks ≡ (λ (device : Device). 0)
 no_faults disks = fun_ext at
   where
     at : (device : Device) → of_each (λ disk. 0) disks device ≡ 0
@@ -164,20 +178,8 @@ no_faults disks = fun_ext at
     at Maplog = refl
     at Cabinet = refl
 
-pub in_memory : {D : Type 0} (first last : Four D) (plan : Plan) (ended : Ended) → LeftFromEmpty memory_sizes plan (of_each (λ (disk : D). 0) first) (of_each (λ (disk : D). 0) last) ended → LeftInMemory plan ended
-in_memory {D} first last plan ended left =
-    subst (λ (f : Device → ℕ). LeftFromEmpty memory_sizes plan f (λ device. 0) ended) (no_faults first)
-    (subst (λ (f : Device → ℕ). LeftFromEmpty memory_sizes plan (of_each (λ (disk : D). 0) first) f ended) (no_faults last) left)
-
--- what is printed is its transcript
-pub told_in_memory : (plan : Plan) (ended : Ended) (text : List ℕ) → LeftInMemory plan ended → IsPrinted plan ended text → RanInMemory plan ended.journal text
-told_in_memory plan ended text left print =
-    prints MEMORY_PAGES plan memory_opening (λ device. 0) ended.journal (kept_by_place print.kept) text
-    (subst (λ (k : Result (List (List (List Kept))) AllocError). IfOk k (λ kept. RepliedInMemory plan ended.journal (kept_by_place kept))) print.kept_is left.replied)
-    (print.text_is ∙ ap (λ (n : ℕ). printed plan (kept_by_place print.kept) n ended.journal) left.newest_is)
-
 -- what was refused was refused for want of memory
-pub wants_memory : (before after : Device → ℕ) (why : Refusal) → before ≡ (λ (device : Device). 0) → after ≡ (λ (device : Device). 0) → IsUnopened (λ (device : Device) (broken : ℕ). ⊥) before after why → why ≡ OutOfMemory
+wants_memory : (before after : Device → ℕ) (why : Refusal) → before ≡ (λ (device : Device). 0) → after ≡ (λ (device : Device). 0) → IsUnopened (λ (device : Device) (broken : ℕ). ⊥) before after why → why ≡ OutOfMemory
 wants_memory before after OutOfMemory old new is = refl
 wants_memory before after (NotAStore device broken) old new is = absurd is.1
 wants_memory before after (DiskFault device count) old new is =
@@ -186,6 +188,15 @@ wants_memory before after (DiskFault device count) old new is =
     let rose : Rose 0 0 = subst (λ (n : ℕ). Rose n 0) none (subst (λ (n : ℕ). Rose (before device) n) still is.0.3) in
     absurd (omega (arith, rose))
 wants_memory before after why old new is = absurd is
+
+-- a run there is one from its opening
+pub runs_from : {D : Type 0} (first last : Four D) (plan : Plan) (result : Result Ended Refusal)
+    → IfOk result (LeftFrom MEMORY_PAGES plan (empty_opening memory_sizes (of_each (λ (disk : D). 0) first)) (of_each (λ (disk : D). 0) last))
+    → IfErr result (IsUnopened (λ (device : Device) (broken : ℕ). ⊥) (of_each (λ (disk : D). 0) first) (of_each (λ (disk : D). 0) last)) → RunsFrom MEMORY_PAGES memory_opening plan result
+runs_from {D} first last plan (Ok ended) left cause =
+    subst (λ (f : Device → ℕ). LeftFrom MEMORY_PAGES plan (empty_opening memory_sizes f) (λ device. 0) ended) (no_faults first)
+    (subst (λ (f : Device → ℕ). LeftFrom MEMORY_PAGES plan (empty_opening memory_sizes (of_each (λ (disk : D). 0) first)) f ended) (no_faults last) left)
+runs_from {D} first last plan (Err why) left cause = wants_memory (of_each (λ (disk : D). 0) first) (of_each (λ (disk : D). 0) last) why (no_faults first) (no_faults last) cause
 
 -- a device of zeros is blank, and has its size
 pub size_is : (size : ℕ) (disk : List ℕ) → disk ≡ replicate size 0 → length disk ≡ size

@@ -8,6 +8,7 @@ pub mod Front
 pub mod Loaded
 pub mod Numbers
 pub mod Phased
+pub mod Refused
 pub mod Replied
 pub mod Seated
 pub mod Stepped

@@ -418,7 +418,7 @@ module _ {D : Type 0} (extent faults : D → ℕ) (is_honest : D → Type 0) (re
             (subst (λ (a : Running D). is_honest a.pagelog.disk) (sym begun.begins.1) (begun.read.pagelog.same.honest.0 honest.pagelog)));
       }
 
-  module _ (limit : ℕ) (limit_is : limit ≡ SEATS) (plan : Plan) (risen : List (Sat D)) (left : Closed D) (copied : Bool) (closes : ClosesCopied is_honest state faults start limit (last_phase plan) risen left copied) where
+  module _ (limit : ℕ) (limit_is : limit ≡ SEATS) (z : TableId) (plan : Plan) (risen : List (Sat D)) (left : Closed D) (copied : Bool) (closes : ClosesCopied is_honest state faults z remembers clock start limit (last_phase plan) risen left copied) where
     abbrev Last : Closes is_honest state faults start limit closes.last left
     Last = closes.ends.closes
 
@@ -487,7 +487,7 @@ module _ {D : Type 0} (extent faults : D → ℕ) (is_honest : D → Type 0) (re
       J = left.journal
 
       -- the seat of a number in the end
-      last_of : (number : ℕ) (less : number < SEATS) → (t : Sat D) × (slice_get closes.last (come.each number less).place ≡ Some t) × ((t ≡ (come.each number less).seat) ⊎ HasCopiedAt state faults (last_phase plan) (come.each number less).seat t)
+      last_of : (number : ℕ) (less : number < SEATS) → (t : Sat D) × (slice_get closes.last (come.each number less).place ≡ Some t) × ((t ≡ (come.each number less).seat) ⊎ HasCopiedAt is_honest state faults z remembers clock (last_phase plan) (come.each number less).seat t)
       last_of number less = let one = come.each number less in closes.worked.each one.place one.seat one.there
 
       abbrev after_at : (number : ℕ) → (number < SEATS) ⊎ (SEATS ≤ number) → View
@@ -529,7 +529,7 @@ module _ {D : Type 0} (extent faults : D → ℕ) (is_honest : D → Type 0) (re
                     (subst (λ (v : View). TellsFirst (worker (last_phase plan) one.seat.number) v (resting state faults t)) (sym one.view_is) first),
               )
 
-          by_case : (t ≡ one.seat) ⊎ HasCopiedAt state faults (last_phase plan) one.seat t → Waits (come.views number) (resting state faults t) (come.views number).work
+          by_case : (t ≡ one.seat) ⊎ HasCopiedAt is_honest state faults z remembers clock (last_phase plan) one.seat t → Waits (come.views number) (resting state faults t) (come.views number).work
               ⊎ ((SESSIONS ≤ number) × TellsFirst (worker (last_phase plan) number) (come.views number) (resting state faults t))
           by_case (inl same) = inl (subst (λ (v : View). Waits v (resting state faults t) v.work) (sym (one.view_is ∙ ap (resting state faults) (sym same))) (waits_none (resting state faults t)))
           by_case (inr copied_there) = by_leaves copied_there.number copied_there.leaves

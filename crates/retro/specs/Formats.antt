@@ -11,8 +11,9 @@ use Rattle.retro_base.specs.declared.refusal.Refusal.{Refusal}
 use Rattle.opening.specs.Devices.{AreImages, IsUnopened, of_each, SameCounts}
 use Rattle.session.specs.Line.{line}
 use Rattle.store_format.specs.Empty.{IsEmptyStore}
-use Rattle.retro.specs.Says.{Ends}
 use Rattle.tables.specs.Tables.{no_tables}
+use Rattle.retro.specs.Says.{Ends}
+use Rattle.retro.specs.Seen.{Seen}
 use Rattle.retro.specs.Storing.{OpensShowing}
 use Rattle.retro.specs.Stores.{HandsOutNone, TakesBack}
 
@@ -41,10 +42,9 @@ MakesIn faults is_out tells store extent device_faults state dir sizes old new r
     × Makes extent device_faults state (tells old) sizes first last result)
 
 -- `format DIR PAGES CAPACITY`: a store was made or not, and so it ends
-pub record Formats {K C D : Type 0} (held : K → Option (List ℕ)) (sink_faults : K → ℕ) (faults : C → ℕ)
-    (is_out : C → List ℕ → Type 0) (tells : C → Type 0) (store : C → List ℕ → Option (Four D))
-    (extent device_faults : D → ℕ) (state : D → State) (dir : List ℕ) (sizes : Sizes) (sink_old sink_new : K)
-    (old new : C) (status : ℕ) : Type 0 where
+pub record Formats {C D : Type 0} (faults : C → ℕ) (is_out : C → List ℕ → Type 0) (tells : C → Type 0)
+    (store : C → List ℕ → Option (Four D)) (extent device_faults : D → ℕ) (state : D → State) (dir : List ℕ)
+    (sizes : Sizes) (sink : Seen) (old new : C) (status : ℕ) : Type 0 where
   pub made : Result (Unit {0}) Refusal
   pub makes : MakesIn faults is_out tells store extent device_faults state dir sizes old new made
-  pub ends : Ends held sink_faults sink_old sink_new (λ _. formatted_line sizes) made status
+  pub ends : Ends sink (λ _. formatted_line sizes) made status

@@ -1,3 +1,4 @@
+pub mod Asked
 pub mod Formats
 pub mod Keeping
 pub mod Loads
@@ -6,6 +7,7 @@ pub mod Memory
 pub mod Phases
 pub mod Program
 pub mod Says
+pub mod Seen
 pub mod Shows
 pub mod Slots
 pub mod Steps

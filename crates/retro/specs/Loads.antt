@@ -1,24 +1,27 @@
 -- A load, and what is written of it.
-use Rattle.std.specs.Prelude.{◌≡◌, ◌==◌, ◌++◌, ◌||◌, ◌⊎◌, ◌∷◌, ℕ, Bool, true, false, not, List, [], length, filter, get_or, codes, Option, Some, None}
+use Rattle.std.specs.Prelude.{◌≡◌, ◌==◌, ◌++◌, ◌||◌, ◌∷◌, ℕ, Bool, true, false, not, List, [], length, filter, get_or, codes, Option, Some, None, Result, Ok, Err, MatchResult}
 use Rattle.std.specs.Fmt.{decimal}
 use Rattle.std.specs.List.{flat_map, slice_split}
 use Rattle.std.specs.Option.{option_map_or}
 use Rattle.std.specs.Str.{bytes_eq}
+use Rattle.retro_base.specs.declared.limits.TheConstants.{MEMORY_PAGES}
+use Rattle.retro_base.specs.declared.refusal.Refusal.{Refusal}
 use Rattle.history.specs.declared.journal.Line.{Line}
 use Rattle.history.specs.declared.journal.What.{What}
 use Rattle.history.specs.declared.journal.What.TheVariants.{Done}
-use Rattle.history.specs.Lines.{base_of}
 use Rattle.session.specs.Line.{line}
 use Rattle.session.specs.Plan.{Plan, numbered}
-use Rattle.session.specs.Replies.{text_of}
+use Rattle.session.specs.Replies.{kept_by_place, text_of}
 use Rattle.session.specs.Wording.{word}
 use Rattle.session.specs.declared.kept.Kept.{Kept}
-use Rattle.store_format.specs.Empty.{empty_base}
 use Rattle.workload.specs.Load.{load_lines, script_text, table_numbers}
-use Rattle.retro.specs.Memory.{RepliedInMemory, memory_sizes}
-use Rattle.retro.specs.Program.{AsksFor, IsTheBadLine}
-use Rattle.retro.specs.Says.{Tells, WritesOne, bad_script_line}
+use Rattle.retro.specs.Asked.{BytesAsk, RefusesScript}
+use Rattle.retro.specs.Memory.{RunsFrom, memory_opening}
+use Rattle.retro.specs.Says.{Refuses, WritesOne}
+use Rattle.retro.specs.Seen.{Seen}
 use Rattle.retro.specs.Shows.{number_line}
+use Rattle.retro.specs.declared.asking.NoPlan.{NoPlan}
+use Rattle.retro.specs.declared.storing.Ended.{Ended}
 
 -- ---- what the journal tells
 
@@ -81,17 +84,22 @@ summary seed rounds kept captures journal =
 abbrev pub load_text : ℕ → ℕ → List ℕ
 load_text seed rounds = script_text (load_lines seed rounds)
 
--- The text is the summary of a journal that a run of the load's script in memory may leave, and of what it replied.
-pub record IsSummary (seed rounds : ℕ) (text : List ℕ) : Type 0 where
-  pub plan : Plan
-  pub journal : List Line
-  pub kept : ℕ → ℕ → List Kept
-  pub asks : AsksFor (Some (load_text seed rounds)) plan
-  pub ran : RepliedInMemory plan journal kept
-  pub is_text : text ≡ summary seed rounds (kept (length plan) 0) (base_of (empty_base memory_sizes) journal).captures journal
+-- the summary of a run of a load's plan, by what it replied
+pub record IsSummary (seed rounds : ℕ) (plan : Plan) (ended : Ended) (text : List ℕ) : Type 0 where
+  pub kept : List (List (List Kept))
+  pub kept_is : ended.kept ≡ Ok kept
+  pub text_is : text ≡ summary seed rounds (kept_by_place kept (length plan) 0) ended.captures ended.journal
 
--- `load`: the summary is written. Were the script bad at a line, that would be told.
-abbrev pub Loads : {K : Type 0} → (K → Option (List ℕ)) → (K → ℕ) → ℕ → ℕ → K → K → ℕ → Type 0
-Loads held faults seed rounds old new status =
-    WritesOne held faults old new (IsSummary seed rounds) status
-    ⊎ ((n : ℕ) × IsTheBadLine n (load_text seed rounds) × Tells held faults old new (bad_script_line n) 3 status)
+-- how a run of a load's plan ends: its summary is written
+abbrev pub EndsLoad : ℕ → ℕ → Seen → Plan → Result Ended Refusal → ℕ → Type 0
+EndsLoad seed rounds sink plan (Ok ended) status = WritesOne sink (IsSummary seed rounds plan ended) status
+EndsLoad seed rounds sink plan (Err why) status = Refuses sink why status
+
+-- `load`: so its script asks; so the plan was run over an empty store in memory, and so it ends
+pub record Loads (seed rounds : ℕ) (sink : Seen) (status : ℕ) : Type 0 where
+  pub asked : Result Plan NoPlan
+  pub is_asked : BytesAsk (load_text seed rounds) asked
+  pub runs : MatchResult asked
+      (λ plan. (ended : Result Ended Refusal) × RunsFrom MEMORY_PAGES memory_opening plan ended
+      × EndsLoad seed rounds sink plan ended status)
+      (λ why. RefusesScript sink why status)

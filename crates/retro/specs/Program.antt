@@ -1,67 +1,51 @@
--- The run of a script, and how it ends.
-use Rattle.std.specs.Prelude.{◌≡◌, ◌≢◌, ◌⊎◌, ◌<◌, ◌-◌, ◌^◌, ◌∷◌, ◌==◌, ℕ, IsTrue, List, [], Option, Some, IfSome, Ok, Err}
+-- The run of a script that names no folder, and how it ends.
+use Rattle.std.specs.Prelude.{◌≡◌, ◌≢◌, ◌⊎◌, ◌<◌, ◌-◌, ◌^◌, ◌∷◌, ◌==◌, ℕ, IsTrue, List, [], Some, IfSome, Result, Ok, Err, MatchResult}
 use Rattle.std.specs.List.{list_any}
-use Rattle.std.specs.Option.{option_map}
-use Rattle.feeds.specs.Feeds.{added}
-use Rattle.retro_base.specs.Cause.{Rose}
-use Rattle.script.specs.Script.{ReadsAs, IsOnlyReading}
+use Rattle.retro_base.specs.declared.refusal.Refusal.{Refusal}
+use Rattle.script.specs.Script.{ReadsAs}
 use Rattle.script.specs.declared.structure.Script.{Script}
-use Rattle.history.specs.declared.journal.Line.{Line}
-use Rattle.session.specs.Plan.{IsPlan, Plan}
-use Rattle.retro.specs.Memory.{RanInMemory}
-use Rattle.retro.specs.Says.{HoldsFront, Says, bad_script_line, out_of_memory_line, source_fault_line}
+use Rattle.journal_law.specs.Lawful.{Opening}
+use Rattle.session.specs.Plan.{Plan}
+use Rattle.session.specs.Sql.{sql}
+use Rattle.retro.specs.Asked.{IsAsked, IsTheBadLine, RefusesScript}
+use Rattle.retro.specs.Memory.{RunsFrom}
+use Rattle.retro.specs.Phases.{RanOver}
+use Rattle.retro.specs.Says.{Refuses, WritesOne}
+use Rattle.retro.specs.Seen.{HasFailed, IsSteady, Seen}
+use Rattle.retro.specs.declared.asking.NoPlan.{NoPlan}
+use Rattle.retro.specs.declared.storing.Ended.{Ended}
 
--- the bytes are this script, and nothing else
-abbrev pub IsTheScript : Script → List ℕ → Type 0
-IsTheScript script bytes = ReadsAs bytes (Ok script) × IsOnlyReading bytes (Ok script)
+-- how a run of a plan from an opening ends: the transcript of its journal is written
+abbrev pub EndsFrom : (size : ℕ) → Opening (sql size) → Seen → Plan → Result Ended Refusal → ℕ → Type 0
+EndsFrom size o sink plan (Ok ended) status =
+    WritesOne sink (RanOver size plan o o.opened.faults ended.journal) status
+EndsFrom size o sink plan (Err why) status = Refuses sink why status
 
--- the bytes are no script, first bad at the line of this number, and nothing else
-abbrev pub IsTheBadLine : ℕ → List ℕ → Type 0
-IsTheBadLine number bytes = ReadsAs bytes (Err number) × IsOnlyReading bytes (Err number)
+-- The headline: `run`, with this opening. What its script asks for, or why for nothing; the run of that plan, which left
+-- one journal; and how it ended.
+pub record RunsPlainly (size : ℕ) (o : Opening (sql size)) (source sink : Seen) (status : ℕ) : Type 0 where
+  pub asked : Result Plan NoPlan
+  pub is_asked : IsAsked source asked
+  pub runs : MatchResult asked
+      (λ plan. (ended : Result Ended Refusal) × RunsFrom size o plan ended × EndsFrom size o sink plan ended status)
+      (λ why. RefusesScript sink why status)
 
--- the script that was left in the source asks for this plan
-pub record AsksFor (left : Option (List ℕ)) (plan : Plan) : Type 0 where
-  pub script : Script
-  pub read : IfSome left (IsTheScript script)
-  pub asks : IsPlan script plan
-
--- The text is the transcript of one journal, which a run of the script that was left in the source may leave, from a store without tables on.
-pub record IsTranscript (left : Option (List ℕ)) (text : List ℕ) : Type 0 where
-  pub script : Script
-  pub plan : Plan
-  pub journal : List Line
-  pub read : IfSome left (IsTheScript script)
-  pub asks : IsPlan script plan
-  pub ran : RanInMemory plan journal text
-
--- the source was read to its end
-abbrev pub ReadToEnd : Option (List ℕ) → Option (List ℕ) → Type 0
-ReadToEnd before now = now ≡ option_map (λ bytes. []) before
-
--- The headline. With status 0 the source was read to its end, and the sink holds what it held and the transcript of one journal; with
--- status 5 a front of it; with status 8 a front of it or of that status's line.
-pub record WritesOneJournal {K : Type 0} (left_before left_now : Option (List ℕ)) (held : K → Option (List ℕ)) (old new : K) (status : ℕ) : Type 0 where
-  pub done : status ≡ 0 → (text : List ℕ) × IsTranscript left_before text × ReadToEnd left_before left_now × (held new ≡ added (held old) text)
-  pub sink_fault : status ≡ 5 → (text : List ℕ) × IsTranscript left_before text × ReadToEnd left_before left_now × HoldsFront held old new text
-  pub out_of_memory : status ≡ 8 → HoldsFront held old new out_of_memory_line ⊎ ((text : List ℕ) × IsTranscript left_before text × HoldsFront held old new text)
-
--- `run`: each status has its cause, and the line that it writes. Bytes that are bad at a line are refused, and a good
--- script and no fault end well, unless memory runs out.
-pub record RunsPlainly {S K : Type 0} (left : S → Option (List ℕ)) (source_faults : S → ℕ) (held : K → Option (List ℕ))
-    (sink_faults : K → ℕ) (source_old source_new : S) (sink_old sink_new : K) (status : ℕ) : Type 0 where
-  pub one_journal : WritesOneJournal (left source_old) (left source_new) held sink_old sink_new status
+-- What the status of `run` tells. No other comes, and each has its cause. Bytes that are bad at a line are refused, and a
+-- good script and no fault end well, unless memory runs out.
+pub record HasCauses (source sink : Seen) (status : ℕ) : Type 0 where
   pub statuses : IsTrue (list_any (λ one. one == status) (0 ∷ 3 ∷ 4 ∷ 5 ∷ 8 ∷ []))
-  pub source_fault : status ≡ 4 → Rose (source_faults source_old) (source_faults source_new)
-  pub source_steady : status ≢ 4 → source_faults source_new ≡ source_faults source_old
-  pub source_fault_said : status ≡ 4 → Says held sink_faults sink_old sink_new source_fault_line
-  pub bad_script : status ≡ 3 → (n : ℕ) × IfSome (left source_old) (IsTheBadLine n)
-      × Says held sink_faults sink_old sink_new (bad_script_line n)
-  pub sink_fault : status ≡ 5 → Rose (sink_faults sink_old) (sink_faults sink_new)
-  pub sink_steady : status ≡ 0 → sink_faults sink_new ≡ sink_faults sink_old
-  pub bad_line : (bytes : List ℕ) (n : ℕ) → left source_old ≡ Some bytes → ReadsAs bytes (Err n)
-      → source_faults source_new ≡ source_faults source_old → source_faults source_old < 2 ^ 64 - 1
-      → (status ≡ 3) ⊎ (status ≡ 8)
-  pub complete : (bytes : List ℕ) (script : Script) → left source_old ≡ Some bytes → ReadsAs bytes (Ok script)
-      → source_faults source_new ≡ source_faults source_old → source_faults source_old < 2 ^ 64 - 1
-      → sink_faults sink_new ≡ sink_faults sink_old → sink_faults sink_old < 2 ^ 64 - 1
+  pub source_fault : status ≡ 4 → HasFailed source
+  pub source_steady : status ≢ 4 → IsSteady source
+  pub bad_script : status ≡ 3 → (n : ℕ) × IfSome source.bytes_old (IsTheBadLine n)
+  pub sink_fault : status ≡ 5 → HasFailed sink
+  pub sink_steady : status ≡ 0 → IsSteady sink
+  pub bad_line : (bytes : List ℕ) (n : ℕ) → source.bytes_old ≡ Some bytes → ReadsAs bytes (Err n)
+      → IsSteady source → source.faults_old < 2 ^ 64 - 1 → (status ≡ 3) ⊎ (status ≡ 8)
+  pub complete : (bytes : List ℕ) (script : Script) → source.bytes_old ≡ Some bytes → ReadsAs bytes (Ok script)
+      → IsSteady source → source.faults_old < 2 ^ 64 - 1 → IsSteady sink → sink.faults_old < 2 ^ 64 - 1
       → (status ≡ 0) ⊎ (status ≡ 8)
+
+-- the law of `run`
+abbrev pub StatusesTellCauses : Type 0
+StatusesTellCauses = (size : ℕ) (o : Opening (sql size)) (source sink : Seen) (status : ℕ)
+    → RunsPlainly size o source sink status → HasCauses source sink status

@@ -1,14 +1,14 @@
 -- The one-line texts of the program, what it puts into its sink, and how a command ends.
-use Rattle.std.specs.Prelude.{◌≡◌, ◌⊎◌, ◌≤◌, ◌++◌, ◌∷◌, ◌==◌, ℕ, IsTrue, List, [], length, take, codes, Option, Result, Ok, Err}
+use Rattle.std.specs.Prelude.{◌≡◌, ◌⊎◌, ◌≤◌, ◌++◌, ◌∷◌, ◌==◌, ℕ, IsTrue, List, [], length, take, codes, Result, Ok, Err}
 use Rattle.std.specs.Fmt.{decimal}
 use Rattle.std.specs.List.{list_any}
 use Rattle.feeds.specs.Feeds.{added}
-use Rattle.retro_base.specs.Cause.{Rose}
 use Rattle.retro_base.specs.Device.{device_name}
 use Rattle.retro_base.specs.declared.device.Device.{Device}
 use Rattle.retro_base.specs.declared.refusal.Refusal.{Refusal}
-use Rattle.retro_base.specs.declared.refusal.Refusal.TheVariants.{DiskFault, NotAStore}
+use Rattle.retro_base.specs.declared.refusal.Refusal.TheVariants.{DiskFault, NotAStore, OutOfMemory}
 use Rattle.session.specs.Line.{line}
+use Rattle.retro.specs.Seen.{HasFailed, IsSteady, Seen}
 use Rattle.retro.specs.declared.saying.Status.{Status}
 use Rattle.retro.specs.declared.saying.Status.TheVariants as statuses
 
@@ -28,14 +28,6 @@ number_of statuses.BadSizes = 9
 abbrev pub IsStatus : ℕ → Type 0
 IsStatus number = IsTrue (list_any (λ one. one == number) (0 ∷ 2 ∷ 3 ∷ 4 ∷ 5 ∷ 6 ∷ 7 ∷ 8 ∷ 9 ∷ []))
 
--- a run of a script over a store in memory may end so
-abbrev pub IsOfRuns : Status → Type 0
-IsOfRuns statuses.BadWords = ⊥
-IsOfRuns statuses.DiskFault = ⊥
-IsOfRuns statuses.NotAStore = ⊥
-IsOfRuns statuses.BadSizes = ⊥
-IsOfRuns status = Unit {0}
-
 -- a command on a store may end so
 abbrev pub IsOfStores : Status → Type 0
 IsOfStores statuses.BadWords = ⊥
@@ -44,7 +36,7 @@ IsOfStores statuses.SourceFault = ⊥
 IsOfStores statuses.BadSizes = ⊥
 IsOfStores status = Unit {0}
 
--- a run over a store may end so
+-- a run of a script may end so
 abbrev pub IsOfKept : Status → Type 0
 IsOfKept statuses.BadWords = ⊥
 IsOfKept statuses.BadSizes = ⊥
@@ -76,45 +68,48 @@ abbrev pub not_a_store_line : Device → ℕ → List ℕ
 not_a_store_line device place = device_line (codes "retro: not a store, ") device (codes " at ") place
 
 -- the sink holds what it held, and a front of the text
-abbrev pub HoldsFront : {K : Type 0} → (K → Option (List ℕ)) → K → K → List ℕ → Type 0
-HoldsFront held old new text = (n : ℕ) × (n ≤ length text) × (held new ≡ added (held old) (take n text))
+abbrev pub HoldsFront : Seen → List ℕ → Type 0
+HoldsFront sink text = (n : ℕ) × (n ≤ length text) × (sink.bytes_new ≡ added sink.bytes_old (take n text))
 
--- the sink holds what it held and the text; or a front of the text, and its count of faults rose
-abbrev pub Says : {K : Type 0} → (K → Option (List ℕ)) → (K → ℕ) → K → K → List ℕ → Type 0
-Says held faults old new text = (held new ≡ added (held old) text) ⊎ (Rose (faults old) (faults new) × HoldsFront held old new text)
+-- the sink holds what it held and the text; or a front of the text, and a call of it failed
+abbrev pub Says : Seen → List ℕ → Type 0
+Says sink text = (sink.bytes_new ≡ added sink.bytes_old text) ⊎ (HasFailed sink × HoldsFront sink text)
 
 -- memory ran out: the status is 8, and the sink holds at most that line more
-abbrev pub LacksMemory : {K : Type 0} → (K → Option (List ℕ)) → K → K → ℕ → Type 0
-LacksMemory held old new status = (status ≡ 8) × HoldsFront held old new out_of_memory_line
+abbrev pub LacksMemory : Seen → ℕ → Type 0
+LacksMemory sink status = (status ≡ 8) × HoldsFront sink out_of_memory_line
 
 -- the line was said, with that status; or memory ran out
-abbrev pub Tells : {K : Type 0} → (K → Option (List ℕ)) → (K → ℕ) → K → K → List ℕ → ℕ → ℕ → Type 0
-Tells held faults old new text own status =
-    ((status ≡ own) × Says held faults old new text) ⊎ LacksMemory held old new status
+abbrev pub Tells : Seen → List ℕ → ℕ → ℕ → Type 0
+Tells sink text own status = ((status ≡ own) × Says sink text) ⊎ LacksMemory sink status
 
--- The text was written, with status 0; or a front of it, with status 5, and the sink's count of faults rose; or memory
--- ran out.
-abbrev pub Writes : {K : Type 0} → (K → Option (List ℕ)) → (K → ℕ) → K → K → List ℕ → ℕ → Type 0
-Writes held faults old new text status =
-    ((status ≡ 0) × (held new ≡ added (held old) text) × (faults new ≡ faults old))
-    ⊎ (((status ≡ 5) × HoldsFront held old new text × Rose (faults old) (faults new))
-    ⊎ LacksMemory held old new status)
+-- The text was written, with status 0; or a front of it, with status 5, and a call of the sink failed; or memory ran
+-- out.
+abbrev pub Writes : Seen → List ℕ → ℕ → Type 0
+Writes sink text status =
+    ((status ≡ 0) × (sink.bytes_new ≡ added sink.bytes_old text) × IsSteady sink)
+    ⊎ (((status ≡ 5) × HoldsFront sink text × HasFailed sink) ⊎ LacksMemory sink status)
 
 -- a text of this kind was written, or there was none for want of memory
-abbrev pub WritesOne : {K : Type 0} → (K → Option (List ℕ)) → (K → ℕ) → K → K → (List ℕ → Type 0) → ℕ → Type 0
-WritesOne held faults old new IsIt status =
-    ((text : List ℕ) × IsIt text × Writes held faults old new text status) ⊎ LacksMemory held old new status
+abbrev pub WritesOne : Seen → (List ℕ → Type 0) → ℕ → Type 0
+WritesOne sink IsIt status = ((text : List ℕ) × IsIt text × Writes sink text status) ⊎ LacksMemory sink status
 
--- A command found nothing to write: a fault of a device is told with status 6, and bytes that are no store's with status 7.
-abbrev pub Refuses : {K : Type 0} → (K → Option (List ℕ)) → (K → ℕ) → K → K → Refusal → ℕ → Type 0
-Refuses held faults old new (DiskFault device count) status =
-    Tells held faults old new (disk_fault_line device count) 6 status
-Refuses held faults old new (NotAStore device place) status =
-    Tells held faults old new (not_a_store_line device place) 7 status
-Refuses held faults old new refusal status = LacksMemory held old new status
+-- why a command found no store, or not what is in it
+abbrev pub IsNoStore : Refusal → Type 0
+IsNoStore (DiskFault device count) = Unit {0}
+IsNoStore (NotAStore device place) = Unit {0}
+IsNoStore OutOfMemory = Unit {0}
+IsNoStore refusal = ⊥
+
+-- A command found nothing to write: a fault of a device is told with status 6, and bytes that are no store's with
+-- status 7.
+abbrev pub Refuses : Seen → Refusal → ℕ → Type 0
+Refuses sink (DiskFault device count) status = Tells sink (disk_fault_line device count) 6 status
+Refuses sink (NotAStore device place) status = Tells sink (not_a_store_line device place) 7 status
+Refuses sink OutOfMemory status = LacksMemory sink status
+Refuses sink refusal status = ⊥
 
 -- how a command ends after what it found
-abbrev pub Ends : {K A : Type 0} → (K → Option (List ℕ)) → (K → ℕ) → K → K → (A → List ℕ) → Result A Refusal → ℕ
-    → Type 0
-Ends held faults old new text (Ok found) status = Writes held faults old new (text found) status
-Ends held faults old new text (Err refusal) status = Refuses held faults old new refusal status
+abbrev pub Ends : {A : Type 0} → Seen → (A → List ℕ) → Result A Refusal → ℕ → Type 0
+Ends sink text (Ok found) status = Writes sink (text found) status
+Ends sink text (Err refusal) status = Refuses sink refusal status

@@ -12,6 +12,7 @@ use Rattle.session.specs.Line.{line}
 use Rattle.store.specs.Opening.{AreRefused, IsShownOf}
 use Rattle.store.specs.declared.fetching.Shown.{Shown}
 use Rattle.retro.specs.Says.{Ends}
+use Rattle.retro.specs.Seen.{Seen}
 use Rattle.retro.specs.Stores.{HandsOutNone, TakesBack}
 
 -- a word and a number
@@ -48,10 +49,9 @@ LooksIn faults is_out tells store extent device_faults is_honest remembers state
     × Looks extent device_faults is_honest remembers state clock first last result)
 
 -- `show DIR`: this was found, and so it ends
-pub record Shows {K C D : Type 0} (held : K → Option (List ℕ)) (sink_faults : K → ℕ) (faults : C → ℕ)
-    (is_out : C → List ℕ → Type 0) (tells : C → Type 0) (store : C → List ℕ → Option (Four D))
-    (extent device_faults : D → ℕ) (is_honest : D → Type 0) (remembers : Type 0) (state : D → State) (clock : D → Clock)
-    (dir : List ℕ) (sink_old sink_new : K) (old new : C) (status : ℕ) : Type 0 where
+pub record Shows {C D : Type 0} (faults : C → ℕ) (is_out : C → List ℕ → Type 0) (tells : C → Type 0)
+    (store : C → List ℕ → Option (Four D)) (extent device_faults : D → ℕ) (is_honest : D → Type 0) (remembers : Type 0)
+    (state : D → State) (clock : D → Clock) (dir : List ℕ) (sink : Seen) (old new : C) (status : ℕ) : Type 0 where
   pub found : Result Shown Refusal
   pub looks : LooksIn faults is_out tells store extent device_faults is_honest remembers state clock dir old new found
-  pub ends : Ends held sink_faults sink_old sink_new shown_text found status
+  pub ends : Ends sink shown_text found status

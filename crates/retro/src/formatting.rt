@@ -4,6 +4,7 @@ ghost use Rattle.std.specs.Prelude.{◌≡◌, ◌≢◌, IfOk};
 ghost use Rattle.store_format.specs.Empty.{AreInRange};
 ghost use Rattle.retro.specs.Formats.{Formats, formatted_line, MakesIn};
 ghost use Rattle.retro.specs.Says.{IsStatus};
+ghost use Rattle.retro.specs.Seen.{seen};
 
 use crate::saying::{cabinet_fault, push_number, refuse, write_made};
 use disk_model::{Cabinet, Sizes};
@@ -53,8 +54,8 @@ pub fn format<K: Sink, C: Cabinet>(
     sizes: Sizes,
 ) -> u8
     requires { AreInRange sizes }
-    ensures formats { Formats K.held K.faults C.faults C.is_out C.tells C.store C.Device.extent C.Device.faults
-        C.Device.state dir.now sizes sink.old sink.new cabinet.old cabinet.new result }
+    ensures formats { Formats C.faults C.is_out C.tells C.store C.Device.extent C.Device.faults C.Device.state dir.now
+        sizes (seen K.held K.faults sink.old sink.new) cabinet.old cabinet.new result }
     ensures status { IsStatus result }
     ensures words { (result ≢ 2) × (result ≢ 9) }
 {

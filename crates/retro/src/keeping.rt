@@ -4,8 +4,9 @@ ghost use Rattle.std.specs.Prelude.{◌≡◌, ◌≢◌, ◌<◌, Ok};
 ghost use Rattle.session.specs.Plan.{PlanFits};
 ghost use Rattle.retro.specs.Keeping.{EndsRun, has_fault, in_place, is_fault, RunsIn, RunsOnStore};
 ghost use Rattle.retro.specs.Says.{IsOfKept, IsOfStores, IsStatus, number_of};
+ghost use Rattle.retro.specs.Seen.{seen};
 
-use crate::running::{plan_from, refuse as refuse_script};
+use crate::asking::{plan_from, refuse as refuse_script};
 use crate::saying::{Status, cabinet_fault, refuse, write_made};
 use crate::storing::{Ended, run_on, transcript_of};
 use disk_model::Cabinet;
@@ -70,7 +71,7 @@ fn in_place(other: Status, status: Status) -> Status
 // Writes the transcript of a run, if there was memory for it; want of memory is told too where the archive lacks
 // captures.
 fn tell<K: Sink>(alloc: Global, sink: &mut K, plan: &Plan, ended: &Ended) -> Status
-    ensures ends { EndsRun K.held K.faults sink.old sink.new plan.now (Ok ended.now) (number_of result) }
+    ensures ends { EndsRun (seen K.held K.faults sink.old sink.new) plan.now (Ok ended.now) (number_of result) }
     ensures status { IsOfStores result }
 {
     let status = write_made(sink, transcript_of(alloc, plan, ended));
@@ -96,14 +97,14 @@ fn kept<R: Threads + Wait + Sync, S: Source, K: Sink, C: Cabinet, F: Folds + Syn
     gate: &G,
 ) -> Status
     requires threads { 0 < threads }
-    ensures runs { RunsIn (S.left source.old) (S.left source.new) (S.faults source.old) (S.faults source.new) K.held K.faults
-        C.faults C.is_out C.tells C.store C.Device.extent C.Device.faults C.Device.is_honest C.Device.remembers
-        C.Device.state C.Device.clock dir.now sink.old sink.new cabinet.old cabinet.new (number_of result) }
+    ensures runs { RunsIn C.faults C.is_out C.tells C.store C.Device.extent C.Device.faults C.Device.is_honest
+        C.Device.remembers C.Device.state C.Device.clock dir.now (seen S.left S.faults source.old source.new)
+        (seen K.held K.faults sink.old sink.new) cabinet.old cabinet.new (number_of result) }
     ensures status { IsOfKept result }
 {
     let plan = match plan_from(alloc, source) {
         Ok(plan) => plan,
-        Err(refusal) => return refuse_script(alloc, sink, refusal),
+        Err(why) => return refuse_script(alloc, sink, why),
     };
     match run_in(alloc, rt, threads, cabinet, dir, folds, gate, &plan) {
         Ok(ended) => tell(alloc, sink, &plan, &ended),
@@ -131,9 +132,9 @@ pub fn keep<
     gate: &G,
 ) -> u8
     requires threads { 0 < threads }
-    ensures runs { RunsIn (S.left source.old) (S.left source.new) (S.faults source.old) (S.faults source.new) K.held K.faults
-        C.faults C.is_out C.tells C.store C.Device.extent C.Device.faults C.Device.is_honest C.Device.remembers
-        C.Device.state C.Device.clock dir.now sink.old sink.new cabinet.old cabinet.new result }
+    ensures runs { RunsIn C.faults C.is_out C.tells C.store C.Device.extent C.Device.faults C.Device.is_honest
+        C.Device.remembers C.Device.state C.Device.clock dir.now (seen S.left S.faults source.old source.new)
+        (seen K.held K.faults sink.old sink.new) cabinet.old cabinet.new result }
     ensures status { IsStatus result }
     ensures words { (result ≢ 2) × (result ≢ 9) }
 {

@@ -1,61 +1,35 @@
 //! `load SEED N`.
 
-ghost use Rattle.std.specs.Prelude.{◌≡◌, ◌≢◌, ◌<◌, ◌≤◌, ℕ, Err, IfOk, Some};
+ghost use Rattle.std.specs.Prelude.{◌≢◌, ◌<◌, ◌≤◌, IfOk};
 ghost use Rattle.session.specs.Plan.{PlanFits};
-ghost use Rattle.retro.specs.Loads.{IsSummary, Loads, load_text};
-ghost use Rattle.retro.specs.Program.{AsksFor, IsTheBadLine};
+ghost use Rattle.retro.specs.Asked.{BytesAsk};
+ghost use Rattle.retro.specs.Loads.{Loads, load_text};
 ghost use Rattle.retro.specs.Says.{IsOfKept, IsStatus, number_of};
+ghost use Rattle.retro.specs.Seen.{seen};
 
+use crate::asking::{NoPlan, plan_in, refuse as refuse_script};
 use crate::memory::run_in_memory;
-use crate::running::refuse;
-use crate::saying::{Status, write_made};
+use crate::saying::{Status, refuse, write_made};
 use crate::summary::summary_of;
 use feeds::Sink;
 use fold_kit::Folds;
-use retro_base::Refusal;
-use session::{Gate, Items, Plan, plan_of};
+use session::{Gate, Items, Plan};
 use std::alloc::Global;
 use std::sync::Wait;
 use std::thread::Threads;
 use workload::script_of;
 
-// What the script of a load asks for.
-fn load_plan(alloc: Global, seed: u32, rounds: u32) -> Result<Plan, Refusal>
+// What the script of a load asks for, or why it asks for nothing.
+fn load_plan(alloc: Global, seed: u32, rounds: u32) -> Result<Plan, NoPlan>
     requires { seed ≤ 65536 }
-    ensures planned { IfOk result (AsksFor (Some (load_text seed rounds))) }
+    ensures asks { BytesAsk (load_text seed rounds) result }
     ensures fits { IfOk result (λ plan. PlanFits plan) }
-    ensures bad_script { (n : ℕ) → result ≡ Err (Refusal.BadScript n) → IsTheBadLine n (load_text seed rounds) }
-    ensures no_source { result ≢ Err Refusal.SourceFault }
 {
     let bytes = script_of(alloc, seed, rounds)?;
-    let script = script::read(alloc, bytes.as_slice())?;
-    let plan = plan_of(alloc, script)?;
-    Ok(plan)
+    plan_in(alloc, bytes.as_slice())
 }
 
-// The summary of a load, or why there is none.
-fn loaded<R: Threads + Wait + Sync, F: Folds + Sync, G: Gate + Sync>(
-    alloc: Global,
-    rt: &R,
-    threads: usize,
-    seed: u32,
-    rounds: u32,
-    folds: &F,
-    gate: &G,
-) -> Result<Vec<u8>, Refusal>
-    requires threads { 0 < threads }
-    requires seed { seed ≤ 65536 }
-    ensures written { IfOk result (λ text. IsSummary seed rounds text.items) }
-    ensures bad_script { (n : ℕ) → result ≡ Err (Refusal.BadScript n) → IsTheBadLine n (load_text seed rounds) }
-    ensures no_source { result ≢ Err Refusal.SourceFault }
-{
-    let plan = load_plan(alloc, seed, rounds)?;
-    let ended = run_in_memory(alloc, rt, threads, &Items { gate, folds }, &plan)?;
-    let text = summary_of(alloc, seed, rounds, &plan, &ended)?;
-    Ok(text)
-}
-
-// Writes the summary of a load, or the line that stands in its place.
+// Runs the script of a load and writes the summary, or the line that stands in its place. Answers how it ended.
 fn told<R: Threads + Wait + Sync, K: Sink, F: Folds + Sync, G: Gate + Sync>(
     alloc: Global,
     rt: &R,
@@ -68,11 +42,15 @@ fn told<R: Threads + Wait + Sync, K: Sink, F: Folds + Sync, G: Gate + Sync>(
 ) -> Status
     requires threads { 0 < threads }
     requires seed { seed ≤ 65536 }
-    ensures loads { Loads K.held K.faults seed rounds sink.old sink.new (number_of result) }
+    ensures loads { Loads seed rounds (seen K.held K.faults sink.old sink.new) (number_of result) }
     ensures status { IsOfKept result }
 {
-    match loaded(alloc, rt, threads, seed, rounds, folds, gate) {
-        Ok(text) => write_made(sink, Ok(text)),
+    let plan = match load_plan(alloc, seed, rounds) {
+        Ok(plan) => plan,
+        Err(why) => return refuse_script(alloc, sink, why),
+    };
+    match run_in_memory(alloc, rt, threads, &Items { gate, folds }, &plan) {
+        Ok(ended) => write_made(sink, summary_of(alloc, seed, rounds, &plan, &ended)),
         Err(refusal) => refuse(alloc, sink, refusal),
     }
 }
@@ -91,7 +69,7 @@ pub fn load<R: Threads + Wait + Sync, K: Sink, F: Folds + Sync, G: Gate + Sync>(
 ) -> u8
     requires threads { 0 < threads }
     requires seed { seed ≤ 65536 }
-    ensures loads { Loads K.held K.faults seed rounds sink.old sink.new result }
+    ensures loads { Loads seed rounds (seen K.held K.faults sink.old sink.new) result }
     ensures status { IsStatus result }
     ensures words { (result ≢ 2) × (result ≢ 9) }
 {

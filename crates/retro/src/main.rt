@@ -2,6 +2,7 @@
 //! reply; makes stores in folders, and shows what they hold; and runs loads, of which it writes a summary.
 #![tactic(auto)]
 
+mod asking;
 #[cfg(test)]
 mod devices;
 #[cfg(test)]

@@ -5,7 +5,7 @@ ghost use Rattle.disk_model.specs.Cabinet.{AreSized, Each, IsBlank};
 ghost use Rattle.opening.specs.Devices.{IsUnopened, of_each};
 ghost use Rattle.session.specs.Plan.{PlanFits};
 ghost use Rattle.store_format.specs.Empty.{AreInRange};
-ghost use Rattle.retro.specs.Memory.{LeftFromEmpty, LeftInMemory};
+ghost use Rattle.retro.specs.Memory.{LeftFrom, RunsFrom, empty_opening, memory_opening};
 
 use crate::storing::{Ended, run_on};
 use disk_mem::RamDisk;
@@ -37,7 +37,8 @@ fn run_from_empty<R: Threads + Wait + Sync, D: Disk + Drop + Send, I: RunItems +
     requires sized { AreSized D.extent sizes disks }
     requires blank { Each (IsBlank D.extent D.is_honest D.state) disks }
     ensures cause { IfErr result.1 (IsUnopened (λ _ _. ⊥) (of_each D.faults disks) (of_each D.faults result.0)) }
-    ensures left { IfOk result.1 (LeftFromEmpty sizes plan.now (of_each D.faults disks) (of_each D.faults result.0)) }
+    ensures left { IfOk result.1 (LeftFrom sizes.pages plan.now (empty_opening sizes (of_each D.faults disks))
+        (of_each D.faults result.0)) }
 {
     // Laws for the proof: pages of zeros hold no tables, and bytes that hold a store are not refused as those of none.
     store_law();
@@ -83,8 +84,7 @@ pub fn run_in_memory<R: Threads + Wait + Sync, I: RunItems + Sync>(
 ) -> Result<Ended, Refusal>
     requires threads { 0 < threads }
     requires fits { PlanFits plan.now }
-    ensures left { IfOk result (LeftInMemory plan.now) }
-    ensures wanting { IfErr result (λ why. why ≡ Refusal.OutOfMemory) }
+    ensures { RunsFrom MEMORY_PAGES memory_opening plan.now result }
 {
     let sizes = Sizes {
         pages: MEMORY_PAGES,

@@ -1,10 +1,9 @@
 //! The one-line texts of the program, and what it puts into its sink.
 
-ghost use Rattle.std.specs.Prelude.{◌≡◌, ◌≢◌, ◌⊎◌, ◌++◌, ◌∷◌, IfErr, IfOk, OnOk};
+ghost use Rattle.std.specs.Prelude.{◌≡◌, ◌≢◌, ◌++◌, ◌∷◌, IfErr, IfOk, OnOk};
 ghost use Rattle.std.specs.Fmt.{decimal};
-ghost use Rattle.feeds.specs.Feeds.{added};
-ghost use Rattle.retro_base.specs.Cause.{Rose};
-ghost use Rattle.retro.specs.Says.{HoldsFront, IsOfKept, IsOfStores, IsStatus, LacksMemory, Refuses, Says, Writes, device_line, number_of};
+ghost use Rattle.retro.specs.Says.{HoldsFront, IsNoStore, IsOfKept, IsOfStores, IsStatus, LacksMemory, Refuses, Says, Writes, device_line, number_of};
+ghost use Rattle.retro.specs.Seen.{seen};
 
 use disk_model::Cabinet;
 use feeds::{Sink, put_all};
@@ -40,8 +39,8 @@ impl Status {
 /// Puts the text into the sink, as far as it takes it, and answers the status.
 pub fn say<K: Sink>(sink: &mut K, text: &[u8], status: Status) -> Status
     ensures status { result ≡ status }
-    ensures said { Says K.held K.faults sink.old sink.new text.now }
-    ensures front { HoldsFront K.held sink.old sink.new text.now }
+    ensures said { Says (seen K.held K.faults sink.old sink.new) text.now }
+    ensures front { HoldsFront (seen K.held K.faults sink.old sink.new) text.now }
 {
     match put_all(sink, text) {
         Ok(()) => status,
@@ -51,11 +50,8 @@ pub fn say<K: Sink>(sink: &mut K, text: &[u8], status: Status) -> Status
 
 /// Puts the text of a run that went well into the sink, as far as it takes it.
 pub fn write<K: Sink>(sink: &mut K, text: &[u8]) -> Status
-    ensures ends { (result ≡ Status.Done) ⊎ (result ≡ Status.SinkFault) }
-    ensures done { result ≡ Status.Done → (K.held sink.new ≡ added (K.held sink.old) text.now)
-        × (K.faults sink.new ≡ K.faults sink.old) }
-    ensures cut { result ≡ Status.SinkFault → HoldsFront K.held sink.old sink.new text.now
-        × Rose (K.faults sink.old) (K.faults sink.new) }
+    ensures written { Writes (seen K.held K.faults sink.old sink.new) text.now (number_of result) }
+    ensures status { IsOfStores result }
 {
     match put_all(sink, text) {
         Ok(()) => Status::Done,
@@ -84,7 +80,7 @@ fn device_line(
 
 /// Says that memory ran out.
 pub fn lack_memory<K: Sink>(sink: &mut K) -> Status
-    ensures said { LacksMemory K.held sink.old sink.new (number_of result) }
+    ensures said { LacksMemory (seen K.held K.faults sink.old sink.new) (number_of result) }
     ensures status { result ≡ Status.OutOfMemory }
 {
     say(sink, b"retro: out of memory\n", Status::OutOfMemory)
@@ -92,8 +88,8 @@ pub fn lack_memory<K: Sink>(sink: &mut K) -> Status
 
 /// Writes the text of a command that went well, if there was memory for it.
 pub fn write_made<K: Sink>(sink: &mut K, text: Result<Vec<u8>, AllocError>) -> Status
-    ensures ok { IfOk text (λ made. Writes K.held K.faults sink.old sink.new made.items (number_of result)) }
-    ensures err { IfErr text (λ _. LacksMemory K.held sink.old sink.new (number_of result)) }
+    ensures ok { IfOk text (λ made. Writes (seen K.held K.faults sink.old sink.new) made.items (number_of result)) }
+    ensures err { IfErr text (λ _. LacksMemory (seen K.held K.faults sink.old sink.new) (number_of result)) }
     ensures status { IsOfStores result }
 {
     match text {
@@ -123,7 +119,8 @@ pub fn cabinet_fault<C: Cabinet>(cabinet: &C) -> Refusal
 
 /// Says why a command found nothing to write: a fault of a device, bytes that are no store's, or want of memory.
 pub fn refuse<K: Sink>(alloc: Global, sink: &mut K, refusal: Refusal) -> Status
-    ensures said { Refuses K.held K.faults sink.old sink.new refusal (number_of result) }
+    requires { IsNoStore refusal }
+    ensures said { Refuses (seen K.held K.faults sink.old sink.new) refusal (number_of result) }
     ensures status { IsOfStores result }
 {
     match refusal {
@@ -139,6 +136,7 @@ pub fn refuse<K: Sink>(alloc: Global, sink: &mut K, refusal: Refusal) -> Status
                 Err(AllocError) => lack_memory(sink),
             }
         }
-        _ => lack_memory(sink),
+        Refusal::OutOfMemory => lack_memory(sink),
+        _ => unreachable!(),
     }
 }

@@ -3,6 +3,7 @@
 ghost use Rattle.std.specs.Prelude.{◌≡◌, ◌≢◌, ◌++◌, IfOk, OnOk};
 ghost use Rattle.retro.specs.Shows.{LooksIn, number_line, shown_text, Shows};
 ghost use Rattle.retro.specs.Says.{IsStatus};
+ghost use Rattle.retro.specs.Seen.{seen};
 
 use crate::saying::{cabinet_fault, push_number, refuse, write_made};
 use disk_model::Cabinet;
@@ -68,8 +69,8 @@ fn lines_of(alloc: Global, shown: &Shown) -> Result<Vec<u8>, AllocError>
 
 /// Writes what the store in the folder shows of itself. Answers the exit status.
 pub fn show<K: Sink, C: Cabinet>(alloc: Global, sink: &mut K, cabinet: &mut C, dir: &str) -> u8
-    ensures shows { Shows K.held K.faults C.faults C.is_out C.tells C.store C.Device.extent C.Device.faults
-        C.Device.is_honest C.Device.remembers C.Device.state C.Device.clock dir.now sink.old sink.new
+    ensures shows { Shows C.faults C.is_out C.tells C.store C.Device.extent C.Device.faults C.Device.is_honest
+        C.Device.remembers C.Device.state C.Device.clock dir.now (seen K.held K.faults sink.old sink.new)
         cabinet.old cabinet.new result }
     ensures status { IsStatus result }
     ensures words { (result ≢ 2) × (result ≢ 9) }

@@ -1,12 +1,11 @@
 //! The summary of a load.
 
-ghost use Rattle.std.specs.Prelude.{◌≡◌, ◌<◌, ◌++◌, Ok, IfOk, List, OnOk, length, map};
+ghost use Rattle.std.specs.Prelude.{◌≡◌, ◌<◌, ◌++◌, IfOk, OnOk, length, map};
 ghost use Rattle.std.specs.List.{flat_map};
 ghost use Rattle.session.specs.Replies.{kept_by_place, text_of};
 ghost use Rattle.session.specs.Wording.{word};
-ghost use Rattle.session.specs.declared.kept.Kept.{Kept as KeptOf};
 ghost use Rattle.workload.specs.Load.{table_numbers};
-ghost use Rattle.retro.specs.Loads.{count_of, declares, is_commit, is_number, load_line, number_at, numbers_in, numbers_of, past_line, summary, sums_line};
+ghost use Rattle.retro.specs.Loads.{IsSummary, count_of, declares, is_commit, is_number, load_line, number_at, numbers_in, numbers_of, past_line, summary, sums_line};
 
 use crate::saying::push_number;
 use crate::showing::push_line;
@@ -207,9 +206,7 @@ pub fn summary_of(
     plan: &Plan,
     ended: &Ended,
 ) -> Result<Vec<u8>, AllocError>
-    ensures { IfOk result (λ text. (kept : List (List (List KeptOf))) × (ended.now.kept ≡ Ok kept)
-        × (text.items ≡ summary seed rounds (kept_by_place kept (length plan.now) 0) ended.now.captures
-        ended.now.journal)) }
+    ensures { IfOk result (λ text. IsSummary seed rounds plan.now ended.now text.items) }
 {
     match &ended.kept {
         Ok(kept) => lines_of(

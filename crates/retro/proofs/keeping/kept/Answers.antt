@@ -1,11 +1,10 @@
-use Rattle.std.proofs.Common.{Err, refl}
+use Rattle.std.proofs.Common.{Err, inl, inr, refl}
+use Rattle.retro.proofs.Refused.{handed_none, ran_none}
 use Rattle.retro.proofs.keeping.kept.Goals as goal
 
 pub returns-in-Err-clause-runs : goal.returns-in-Err-clause-runs
-returns-in-Err-clause-runs g c =
-    let why = c.in-Err.ensures in
-    record {
-      asked = Err c.in-Err.refusal;
-      is_asked = record { planned = tt; whole = tt; bad_script = why.bad_script; source_fault = why.source_fault; steady = why.steady };
-      runs = (refl, c.refuse.ensures.refused);
-    }
+returns-in-Err-clause-runs g c = record {
+  asked = Err c.in-Err.why;
+  is_asked = c.in-Err.ensures.asked;
+  runs = (refl, c.refuse.ensures.refused);
+}

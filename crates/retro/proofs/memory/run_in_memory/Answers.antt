@@ -1,9 +1,7 @@
-use Rattle.std.proofs.lemmas.Result.{IfOk-weaker}
-use Rattle.retro.proofs.FromEmpty.{in_memory}
+use Rattle.retro.proofs.FromEmpty.{runs_from}
 use Rattle.retro.proofs.memory.run_in_memory.Goals as goal
 
-pub returns-clause-left : goal.returns-clause-left
-returns-clause-left g c =
-    let first = c.in_ok-disks.disks in
-    let last = c.run_from_empty-ended.result.0 in
-    IfOk-weaker c.run_from_empty-ended.result.1 _ _ (λ ended left. in_memory first last c.args.plan.now ended left) c.run_from_empty-ended.ensures.left
+pub returns : goal.returns
+returns g c =
+    let run = c.run_from_empty-ended in
+    runs_from c.in_ok-disks.disks run.result.0 c.args.plan.now run.result.1 run.ensures.left run.ensures.cause

@@ -1,0 +1,6 @@
+use Rattle.std.proofs.Common.{inl, inr}
+use Rattle.retro.proofs.Refused.{handed_none, made_none}
+use Rattle.retro.proofs.formatting.format.Goals as goal
+
+pub refuse-status-requires : goal.refuse-status-requires
+refuse-status-requires g c = elim c.in-Err.ensures [ inl none ↦ handed_none none | inr made ↦ made_none made.3 ]
