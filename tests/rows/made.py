@@ -107,8 +107,95 @@ def longest_line():
     return script, transcript(items, ["1 done as 1", *looked(2, "all")]), {"args": "run\n"}
 
 
+def rows_of(found):
+    lines = [",".join(map(str, row)) for row in found]
+    return "\n".join([f"rows {len(lines)}", *lines])
+
+
+def inserted(table, rows, count):
+    """Statements that insert the rows, so many in each, and their replies."""
+    parts = [rows[at : at + count] for at in range(0, len(rows), count)]
+    tuples = (",".join(f"({','.join(map(repr, row))})" for row in part) for part in parts)
+    return [f"INSERT INTO {table} VALUES {them}" for them in tuples], [f"ok {len(part)}" for part in parts]
+
+
+def lines_of(statements):
+    assert max(map(len, statements)) <= 4096
+    return "".join(f"{statement}\n" for statement in statements)
+
+
+def deep():
+    """An expression of 1,019 steps and a condition under 1,017 NOTs, each as long as its line. An odd number of `1 - ..` is one
+    of them, and an odd number of NOTs is one."""
+    one_less, no = 1019 * "1-(" + "v" + 1019 * ")", 1017 * "NOT "
+    statements = ["CREATE TABLE t(v INT)", "INSERT INTO t VALUES (5),(-7),(11)", f"SELECT {one_less} FROM t"]
+    statements += [f"SELECT v FROM t WHERE {no}v = 5", f"UPDATE t SET v = {one_less}", f"DELETE FROM t WHERE {no}v = 8"]
+    replies = ["ok", "ok 3", rows_of([(-4,), (8,), (-10,)]), rows_of([(-7,), (11,)]), "ok 3", "ok 2", rows_of([(8,)])]
+    script = "SESSION a\n" + lines_of([*statements, "SELECT * FROM t", "COMMIT"])
+    return script, transcript(["\n".join([*replies, "committed"])], ["1 done"]), {"args": "run\n"}
+
+
+def many_rows():
+    """5,000 rows whose values are 0 to 4,999 in a mixed order: sorted, told apart, joined with five, changed, taken out and
+    grouped."""
+    rows, five = [(i % 50, i * 7919 % 5000) for i in range(5000)], [(k, 3 * k + 1) for k in (3, 17, 29, 41, 60)]
+    left = [(k, v + 5000 if k < 25 else v) for k, v in rows]
+    left = [(k, v) for k, v in left if v >= 2500]
+    of = lambda k, found: [v for key, v in found if key == k]
+    below = ((k, [v for key, v in rows if key < k]) for k, _ in five)
+    groups = ((k, of(k, left)) for k in dict.fromkeys(k for k, _ in left))
+    added, added_replies = inserted("t", rows, 250)
+    asked = {
+        "SELECT k, v FROM t ORDER BY v": rows_of(sorted(rows, key=lambda row: row[1])),
+        "SELECT v FROM t ORDER BY k DESC, v LIMIT 150": rows_of([(v,) for k in (49, 48) for v in sorted(of(k, rows))][:150]),
+        "SELECT DISTINCT k FROM t": rows_of((k,) for k in range(50)),
+        "SELECT DISTINCT v FROM t ORDER BY v DESC LIMIT 3": rows_of([(4999,), (4998,), (4997,)]),
+        "SELECT t.v, u.w FROM t, u WHERE t.k = u.k": rows_of((v, w) for k, v in rows for key, w in five if k == key),
+        "SELECT u.k, COUNT(*), SUM(t.v) FROM t, u WHERE t.k < u.k GROUP BY u.k": rows_of((k, len(v), sum(v)) for k, v in below),
+        "UPDATE t SET v = v + 5000 WHERE k < 25": "ok 2500",
+        "DELETE FROM t WHERE v < 2500": f"ok {5000 - len(left)}",
+        "SELECT k, COUNT(*), SUM(v), MAX(v) FROM t GROUP BY k": rows_of((k, len(v), sum(v), max(v)) for k, v in groups),
+    }
+    script = "SESSION a\nCREATE TABLE t(k INT, v INT)\nCREATE TABLE u(k INT, w INT)\n"
+    script += lines_of([*added, *inserted("u", five, 5)[0], *asked, "COMMIT WITH SNAPSHOT"])
+    script += "DELETE FROM t\nSELECT COUNT(*), SUM(v) FROM t\nCOMMIT\nSELECT AS OF 1 COUNT(*), SUM(v) FROM t\n"
+    items = ["\n".join(["ok", "ok", *added_replies, "ok 5", *asked.values(), "committed as 1"])]
+    items += [f"ok {len(left)}\nrows 1\n0,0\ncommitted", rows_of([(len(left), sum(v for _, v in left))])]
+    return script, transcript(items, ["1 done as 1", "2 done", *looked(3, 1)]), {"args": "run\n", "store": "512 4096\n"}
+
+
+def wide_rows():
+    """1,100 rows of 852 bytes, each on a page of its own, so that their chain passes a thousand pages: added by two
+    transactions, 900 of them changed and ten taken out by a third; all of them at once are too many pages for a fourth."""
+    letters = "abcdefghijklmnopqrstuvwxyz"
+    rows = [(i, *(4 * [200 * letters[i % 26]]), 24 * letters[i % 26]) for i in range(1100)]
+    first, first_replies = inserted("w", rows[:552], 4)
+    second, second_replies = inserted("w", rows[552:], 4)
+    told = lambda found: rows_of([(len(found), sum(found), min(found), max(found))])
+    of_all, every = "COUNT(*), SUM(id), MIN(id), MAX(id) FROM w", "'SELECT snap_id FROM SnapIds'"
+    left = [*range(910, 1100), *range(10_000, 10_900)]
+    groups = ((200 * letter, sum(i % 26 == at for i in range(1100))) for at, letter in enumerate(letters))
+    asked = {
+        f"SELECT {of_all}": told(range(1100)),
+        "SELECT id, e FROM w WHERE id > 1096": rows_of((i, 24 * letters[i % 26]) for i in (1097, 1098, 1099)),
+        "SELECT d, COUNT(*) FROM w GROUP BY d": rows_of(groups),
+        "UPDATE w SET id = id + 10000 WHERE id < 900": "ok 900",
+        "DELETE FROM w WHERE id < 910": "ok 10",
+    }
+    snapshot, ends = "COMMIT WITH SNAPSHOT", [f"SELECT AS OF {n} {of_all}" for n in (1, 2, 3)]
+    ends += [f"AggregateDataInVariable({every},'SELECT COUNT(*) FROM w','rql_v','SUM')", "SELECT value FROM rql_v"]
+    script = "SESSION a\nCREATE TABLE w(id INT, a TEXT, b TEXT, c TEXT, d TEXT, e TEXT)\n"
+    script += lines_of([*first, snapshot, *second, snapshot, *asked, snapshot, "UPDATE w SET id = id + 1", "COMMIT", *ends])
+    items = ["\n".join(["ok", *first_replies, "committed as 1"]), "\n".join([*second_replies, "committed as 2"])]
+    items += ["\n".join([*asked.values(), "committed as 3"]), "refused 15 TooManyPages 1025", told(range(552))]
+    items += [told(range(1100)), told(left), "ok 1", rows_of([(552 + 1100 + 1090,)])]
+    journal = ["1 done as 1", "2 done as 2", "3 done as 3", "4 refused 15"]
+    journal += [*looked(5, 1), *looked(6, 2), *looked(7, 3), *looked(8, "all")]
+    return script, transcript(items, journal), {"args": "run\n", "store": "2048 4096\n"}
+
+
 def main():
-    for made in (full_archive, large, full_journal, thousand, long_journal, longest_line):
+    for made in (full_archive, large, full_journal, thousand, long_journal, longest_line, deep, many_rows, wide_rows):
         script, text, more = made()
         for ending, held in {"": script, ".stdout": text, **{f".{it}": more[it] for it in more}}.items():
             with open(os.path.join(sys.argv[1], made.__name__ + ending), "w") as file:
