@@ -1,6 +1,7 @@
 #!/bin/sh
 # Instructions of the built program for each of the four calls over a hundred and over a thousand snapshots of a table of a
-# hundred rows, of which one changes between two snapshots; those of the script without the call are taken off. It needs valgrind.
+# hundred rows, of which one changes between two snapshots; and of the calls' queries asked as of each snapshot in turn, an
+# item each. Those of the script without them are taken off. It needs valgrind.
 cd "$(dirname "$0")/../crates/retro" && rt run -- run < stdin > /dev/null 2>&1 || exit 1
 script=$(mktemp)
 trap 'rm -f "$script"' EXIT
@@ -17,6 +18,11 @@ over() {
     valgrind --tool=callgrind --callgrind-out-file=/dev/null out/retro run < "$script" 2>&1 > /dev/null | awk '/refs/ { gsub(",", "", $NF); print $NF }'
 }
 
+# a query as of each of so many snapshots
+each() {
+    awk -v snapshots="$1" -v query="$2" 'BEGIN { for (n = 1; n <= snapshots; n++) printf "SELECT AS OF %d %s\n", n, query }'
+}
+
 for snapshots in 100 1000; do
     without=$(over "$snapshots" '')
     echo "no call, $snapshots snapshots: $without"
@@ -26,5 +32,8 @@ for snapshots in 100 1000; do
         "AggregateDataInTable($list,'SELECT k, v FROM t','rql_t','(v,MAX)')" \
         "CollateDataIntoIntervals($list,'SELECT k, v FROM t','rql_i')"; do
         echo "${call%%(*}, $snapshots snapshots: $(($(over "$snapshots" "$call") - without))"
+    done
+    for query in 'k, v FROM t' 'SUM(v) FROM t'; do
+        echo "SELECT $query as of each of $snapshots: $(($(over "$snapshots" "$(each "$snapshots" "$query")") - without))"
     done
 done
