@@ -73,8 +73,9 @@ all_of made 16 64
 printf '%d cases, %d runs\n' "$cases" "$runs"
 beside words.sh "$tests/words/words.sh" "$program"
 beside sums.py python3 "$tests/at_once/sums.py" "$program" 10
+beside at_once.py python3 "$tests/at_once/at_once.py" "$program" 100
 beside files.py python3 "$tests/files/files.py" "$program"
 beside kill.py python3 "$tests/kill/kill.py" "$program" 50
-beside at_once.py python3 "$tests/kill/at_once.py" "$program" 10
+beside "kill/at_once.py" python3 "$tests/kill/at_once.py" "$program" 10
 printf '%d of them other than they should be\n' "$lost"
 [ "$lost" -eq 0 ]

@@ -21,7 +21,7 @@ import time
 FIRST, LONG = 100, 40
 
 # A slow device ends the cycles early, in seconds, though not below so many.
-LATEST, FEWEST = 75, 10
+LATEST, FEWEST = 55, 10
 
 
 def script(items):
