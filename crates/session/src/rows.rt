@@ -3,7 +3,7 @@
 ghost use Rattle.std.specs.Prelude.{◌≡◌, ◌++◌, IfOk, OnOk, map};
 ghost use Rattle.csv.specs.Records.{fields_of};
 ghost use Rattle.std.specs.List.{AllByRecursion};
-ghost use Rattle.session.specs.Rows.{IsShown, row_lines, row_text};
+ghost use Rattle.session.specs.Rows.{IsShown, row_lines};
 ghost use Rattle.values.specs.Value.{text_of};
 
 use csv::{ByteRecord, WriterBuilder};
@@ -43,15 +43,17 @@ fn record(alloc: Global, row: &Row) -> Result<ByteRecord, AllocError>
     Ok(record)
 }
 
-// A writer of one record over memory is refused for want of memory alone.
+// The rows, a line each, by one writer. Over memory it is refused for want of memory alone.
 #[tactic(auto, using(crate::proofs::Quoting::row_same))]
-fn row_bytes(alloc: Global, row: &Row) -> Result<Vec<u8>, AllocError>
-    ensures { IfOk result (λ bytes. bytes.items ≡ row_text row.now) }
+fn rows_bytes(alloc: Global, rows: &[Row]) -> Result<Vec<u8>, AllocError>
+    ensures { IfOk result (λ bytes. bytes.items ≡ row_lines rows.now) }
 {
-    let record = record(alloc, row)?;
     let mut writer = WriterBuilder::new().from_writer(Vec::new(alloc));
-    if writer.write_byte_record(&record).is_err() {
-        return Err(AllocError);
+    for row in rows {
+        let record = record(alloc, row)?;
+        if writer.write_byte_record(&record).is_err() {
+            return Err(AllocError);
+        }
     }
     match writer.into_inner() {
         Ok(bytes) => Ok(bytes),
@@ -63,9 +65,7 @@ fn row_bytes(alloc: Global, row: &Row) -> Result<Vec<u8>, AllocError>
 pub fn write_rows(alloc: Global, rows: &[Row], out: &mut Vec<u8>) -> Result<(), AllocError>
     ensures { OnOk result (out.new.items ≡ out.old.items ++ row_lines rows.now) }
 {
-    for row in rows {
-        let bytes = row_bytes(alloc, row)?;
-        out.extend_from_slice(bytes.as_slice())?;
-    }
+    let bytes = rows_bytes(alloc, rows)?;
+    out.extend_from_slice(bytes.as_slice())?;
     Ok(())
 }
