@@ -1,6 +1,7 @@
 #!/bin/sh
-# Instructions of the built program for one select of each kind over a table of 500 to 4,000 rows, and for a join of 50 to 200 rows with as many. The table
-# alone stands before each, to be taken off.
+# Instructions of the built program for twenty selects of each kind over a table of 500 to 4,000 rows, and for twenty joins of 50 to 200 rows with as
+# many; an update is made twenty times too. The table alone stands before each, to be taken off. Workers beside the session take some millions more
+# or less, so a statement alone would not be seen.
 . "$(dirname "$0")/count.sh"
 
 # so many rows (k, v) in a table, k below a tenth of them, v all different, 200 rows a statement
@@ -18,7 +19,8 @@ over() {
     printf 'SESSION a\nCREATE TABLE t(k INT, v INT)\nCREATE TABLE u(k INT, v INT)\n'
     rows "$1" t
     if [ "$2" = both ]; then rows "$1" u; fi
-    printf '%s\nCOMMIT\n' "$3"
+    for _ in 1 2 3 4 5 6 7 8 9 10 11 12 13 14 15 16 17 18 19 20; do printf '%s\n' "$3"; done
+    printf 'COMMIT\n'
 }
 
 for n in 500 1000 2000 4000; do
