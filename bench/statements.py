@@ -1,12 +1,11 @@
 #!/usr/bin/env python3
-"""statements.py PROGRAM [--times N]: statements of the program in memory beside those of SQLite in memory, in one run.
+"""statements.py PROGRAM: statements of the program in memory beside those of SQLite in memory, in one run.
 
 The tables: t of 3,000 and then of 60,000 rows (k, v), k in turn one of a hundred numbers and v all different, and u and w
-of 200 rows each. Each statement is given N times as text, by one session in one transaction, and the time of the same
-run without it is taken off; SQLite is given the same texts. Seconds are of the wall, the least of three runs. Answers that
-differ end it with status 1.
+of 200 rows each. Each statement is given as text, 400 and 20 times (an INSERT at most 100 times), by one session in one
+transaction, and the time of the same run without it is taken off; SQLite is given the same texts, and keeps none of them
+prepared. Seconds are of the wall, the least of three runs. Answers that differ end it with status 1.
 """
-import argparse
 import sqlite3
 import subprocess
 import sys
@@ -27,12 +26,14 @@ STATEMENTS = [
 
 def inserts(table, rows):
     pairs = [f"({n % 100},{n * 7907 % rows})" for n in range(rows)]
-    return [f"INSERT INTO {table} VALUES {','.join(pairs[at:at + 200])}" for at in range(0, rows, 200)]
+    statements = [f"INSERT INTO {table} VALUES {','.join(pairs[at:at + 200])}" for at in range(0, rows, 200)]
+    # A commit has at most 1,024 pages.
+    return [line for at in range(0, len(statements), 50) for line in statements[at : at + 50] + ["COMMIT"]]
 
 
 def made(rows):
     tables = [f"CREATE TABLE {name}(k INT, v INT)" for name in "tuw"]
-    return tables + inserts("t", rows) + inserts("u", 200) + inserts("w", 200)
+    return tables + ["COMMIT"] + inserts("t", rows) + inserts("u", 200) + inserts("w", 200)
 
 
 def least(call):
@@ -49,9 +50,8 @@ def reedsickle(program, lines):
 
 def rows_told(lines):
     """The rows of the last answer of a transcript, none where its last reply is `ok`."""
-    end = lines.index("committed")
-    heads = [at for at in range(end) if lines[at].startswith(("rows ", "ok"))]
-    last = heads[-1]
+    end = max(at for at, line in enumerate(lines) if line == "committed")
+    last = max(at for at in range(end) if lines[at].startswith(("rows ", "ok")))
     if lines[last].startswith("ok"):
         return []
     return [tuple(map(int, line.split(","))) for line in lines[last + 1 : end]]
@@ -59,22 +59,24 @@ def rows_told(lines):
 
 def sqlite(lines, text, times):
     """Seconds of the statement so many times, and its last answer."""
-    db = sqlite3.connect(":memory:", isolation_level=None)
+    db = sqlite3.connect(":memory:", isolation_level=None, cached_statements=0)
     db.execute("BEGIN")
     for line in lines:
-        db.execute(line)
+        if line != "COMMIT":
+            db.execute(line)
     start = time.perf_counter()
     for _ in range(times):
         told = db.execute(text).fetchall()
     return time.perf_counter() - start, told
 
 
-def compare(program, rows, times):
+def compare(program, rows):
     lines = made(rows)
     alone, _ = least(lambda: reedsickle(program, lines))
     agree = True
     print(f"{rows} rows, microseconds a statement: here, SQLite, and how many times as long it takes here")
     for name, text in STATEMENTS:
+        times = 1_200_000 // rows if text.startswith(("SELECT", "UPDATE")) else min(1_200_000 // rows, 100)
         here, told = least(lambda: reedsickle(program, lines + [text] * times))
         there, rows_there = least(lambda: sqlite(lines, text, times))
         mine, its = (here - alone) / times * 1e6, there / times * 1e6
@@ -84,12 +86,9 @@ def compare(program, rows, times):
 
 
 def main():
-    words = argparse.ArgumentParser()
-    words.add_argument("program")
-    words.add_argument("--times", type=int, default=50)
-    words = words.parse_args()
-    agree = [compare(words.program, rows, words.times) for rows in (3_000, 60_000)]
-    sys.exit(not all(agree))
+    if len(sys.argv) != 2:
+        sys.exit(__doc__)
+    sys.exit(not all([compare(sys.argv[1], rows) for rows in (3_000, 60_000)]))
 
 
 main()
