@@ -2,8 +2,9 @@
 """peers.py PROGRAM [--rows R] [--rounds N] [--touch K] [--store STORE_BENCH] [--commits C]: the program beside SQLite
 on one piece of work, in one run.
 
-The work: a table of R rows of two integers; N rounds, each of which adds a number to K neighbouring rows by one UPDATE
-and declares a snapshot as it commits; then the sum of a column as of every snapshot; all on files. SQLite does it in
+The work: a table of R rows of two integers, found by the first (here by an index, in SQLite by the key); N rounds,
+each of which adds a number to K neighbouring rows by one UPDATE and declares a snapshot as it commits; then the sum of
+a column as of every snapshot; all on files. SQLite does it in
 two ways: history by triggers (rows with the snapshots between which they held), and a copy of the table at each
 snapshot, in WAL mode with a sync at each commit. It declares the snapshot in the commit of the UPDATE, one sync a
 round, and in a commit of its own, two syncs, as many as the program has. Sums that differ end it with status 1. Seconds
@@ -54,7 +55,7 @@ def reedsickle(program, rows, rounds, touch):
 
     subprocess.run([program, "format", "books", "4096", "16384"], check=True, capture_output=True)
     parts = [",".join(f"({a},0)" for a in range(at, min(at + 200, rows))) for at in range(0, rows, 200)]
-    run("CREATE TABLE t(a INT, b INT)", *(f"INSERT INTO t VALUES {part}" for part in parts), "COMMIT")
+    run("CREATE TABLE t(a INT, b INT)", "CREATE INDEX by_a ON t(a)", *(f"INSERT INTO t VALUES {part}" for part in parts), "COMMIT")
     update = "UPDATE t SET b = b + {1} WHERE a >= {0} AND a < {2}\nCOMMIT WITH SNAPSHOT"
     opening, _ = timed(lambda: run("SELECT * FROM SnapIds"))
     written, _ = timed(lambda: run(*(update.format(at, value, at + touch) for at, value in changes(rows, rounds, touch))))

@@ -1,7 +1,8 @@
-//! The statements. In each `~` stands for a hundred letters, and `#` for thirty-one.
+//! The statements. In each `~` stands for a hundred letters, `^` for a hundred of the greatest byte, and `#` for
+//! thirty-one letters.
 
-/// In sixteen pages the catalog's first page tells thirteen tables, and a fourteenth needs two pages where one is free. An
-/// index takes that one for its row, and then there is none for a table.
+/// In sixteen pages the catalog's first page tells thirteen tables, and one page is free. A fourteenth table needs two, and
+/// so does an index: one for its row, and its root page.
 pub const FULL: [&str; 16] = [
     "CREATE TABLE a(x INT)",
     "CREATE TABLE b(x INT)",
@@ -130,8 +131,40 @@ pub const WIDE: [&str; 4] = [
     "SELECT #a, #p FROM #t",
 ];
 
+/// The table that gets ten thousand rows.
+pub const BIG: [&str; 1] = ["CREATE TABLE big(k INT, g INT, p TEXT)"];
+
+/// Indexes over its rows, which stand: one whose entries have two values, and one whose entries differ.
+pub const INDEXES: [&str; 2] = ["CREATE INDEX by_g ON big(g)", "CREATE INDEX by_k ON big(k)"];
+
+/// Selects over them that read few pages, by the index whose column is equal to a literal, or that is the only one with
+/// bounds.
+pub const LOOK_UPS: [&str; 6] = [
+    "SELECT p FROM big WHERE k = 5000",
+    "SELECT p FROM big WHERE 9999 = k AND g > -1",
+    "SELECT k FROM big WHERE k >= 4200 AND k < 4210",
+    "SELECT k FROM big WHERE 3 > k AND (g = 0 OR g = 1)",
+    "SELECT k FROM big WHERE k = 12345",
+    "SELECT k FROM big WHERE k > 5 AND k < 3",
+];
+
+/// Selects over them that read more: all rows, or those of one of two values.
+pub const WALKS: [&str; 3] = [
+    "SELECT COUNT(*) FROM big WHERE k = 5000 OR k = 5001",
+    "SELECT COUNT(*) FROM big WHERE NOT k > 5000",
+    "SELECT COUNT(*) FROM big WHERE g = 1",
+];
+
 /// The statements over ten thousand rows, behind those that insert them.
-pub const LARGE: [&str; 8] = [
+pub const LARGE: [&str; 17] = [
+    "UPDATE big SET g = 2 WHERE k >= 300 AND k < 400",
+    "SELECT COUNT(*), MIN(k), MAX(k) FROM big WHERE g = 2",
+    "SELECT COUNT(*), SUM(g) FROM big WHERE k >= 250 AND k < 450",
+    "UPDATE big SET g = g - g WHERE k < 0",
+    "DELETE FROM big WHERE k > 9899",
+    "SELECT COUNT(*), SUM(k) FROM big WHERE 9000 < k",
+    "INSERT INTO big VALUES (9900,0,'back'),(-1,1,'below')",
+    "SELECT k, p FROM big WHERE 9900 <= k OR k < 0",
     "SELECT COUNT(*), SUM(k), MIN(k), MAX(k) FROM big",
     "UPDATE big SET k = k + 10000",
     "SELECT SUM(k) FROM big",
@@ -139,7 +172,26 @@ pub const LARGE: [&str; 8] = [
     "SELECT g, COUNT(*), SUM(k) FROM big GROUP BY g",
     "DELETE FROM big WHERE g = 0",
     "SELECT COUNT(*), SUM(k) FROM big",
-    "SELECT k, p FROM big WHERE k > 19996",
+    "SELECT k, p FROM big WHERE k > 19896",
+    "SELECT COUNT(*) FROM big WHERE k >= 9999 AND k <= 10001",
+];
+
+/// An index over texts of up to two hundred bytes, many of them equal.
+pub const TEXTS: [&str; 14] = [
+    "CREATE TABLE t(k INT, p TEXT)",
+    "INSERT INTO t VALUES (1,'~~'),(2,'~~'),(3,'^^'),(4,''),(5,'~~'),(6,'a'),(7,'^^'),(8,'~~')",
+    "CREATE INDEX by_p ON t(p)",
+    "INSERT INTO t VALUES (11,'~~'),(12,'~~'),(13,'^^'),(14,''),(15,'~~'),(16,'a'),(17,'^^'),(18,'~~')",
+    "INSERT INTO t VALUES (21,'~~'),(22,'~~'),(23,'^^'),(24,''),(25,'~~'),(26,'a'),(27,'^^'),(28,'~~')",
+    "SELECT k FROM t WHERE p = '~~'",
+    "SELECT k FROM t WHERE p > '~~'",
+    "SELECT k FROM t WHERE '^^' <= p AND NOT k = 3",
+    "SELECT k FROM t WHERE p < 'b' AND t.k > 4",
+    "SELECT k FROM t WHERE p = 'a' OR k = 1",
+    "UPDATE t SET p = '^^' WHERE p = '~~' AND k > 10",
+    "SELECT COUNT(*), MIN(k), SUM(k) FROM t WHERE p >= '^^'",
+    "DELETE FROM t WHERE p > 'a' AND p <= '~~'",
+    "SELECT k FROM t",
 ];
 
 /// A table of which page 2 holds five rows and page 3 one.
@@ -156,4 +208,15 @@ pub const KINDS: [&str; 6] = [
     "UPDATE t SET p = '~~' WHERE k = 4",
     "DELETE FROM t WHERE k = 6",
     "SELECT SUM(k) FROM t",
+];
+
+/// An index over that table, whose entries stand on one page.
+pub const KEY: &str = "CREATE INDEX by_k ON t(k)";
+
+/// A statement of each kind over that table with that index.
+pub const KEYED: [&str; 4] = [
+    "INSERT INTO t VALUES (7,'~~')",
+    "UPDATE t SET k = 70 WHERE k = 6",
+    "DELETE FROM t WHERE k > 5",
+    "SELECT SUM(k) FROM t WHERE k >= 4",
 ];

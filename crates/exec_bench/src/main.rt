@@ -12,7 +12,7 @@ use pager::Stop;
 use retro_base::Failed;
 use std::alloc::Global;
 use std::process::ExitCode;
-use stories::{faults, large, many, replies_of, wide};
+use stories::{faults, large, many, replies_of, texts_indexed, wide};
 
 fn story(alloc: Global) -> Result<String, Stop<Failed>> {
     let mut out = String::new(alloc);
@@ -21,6 +21,7 @@ fn story(alloc: Global) -> Result<String, Stop<Failed>> {
     replies_of(alloc, &REFUSED, &mut out)?;
     many(alloc, &mut out)?;
     wide(alloc, &mut out)?;
+    texts_indexed(alloc, &mut out)?;
     faults(alloc, &mut out)?;
     large(alloc, &mut out)?;
     Ok(out)

@@ -1,7 +1,9 @@
 //! What the statements tell, as text.
 
 use crate::both::{Both, nothing, over_pages, parsed, reply_twice, zero_pages};
-use crate::lines::{KINDS, LARGE, MANY, TWO_PAGES, WIDE};
+use crate::lines::{
+    BIG, INDEXES, KEY, KEYED, KINDS, LARGE, LOOK_UPS, MANY, TEXTS, TWO_PAGES, WALKS, WIDE,
+};
 use crate::texts::text_of;
 use pager::{MemPager, Pager, Stop};
 use retro_base::{Failed, Page, Refusal};
@@ -39,7 +41,7 @@ pub fn replies_of(alloc: Global, lines: &[&str], out: &mut String) -> Result<(),
 
 /// How many of the statements of all kinds there are, were refused, and were answered otherwise by plain tables.
 pub fn many(alloc: Global, out: &mut String) -> Result<(), Refusal> {
-    let mut both = nothing(alloc, 64)?;
+    let mut both = nothing(alloc, 128)?;
     let (mut refused, mut different) = (0_u32, 0_u32);
     for line in MANY {
         let replies = reply_twice(alloc, line, &mut both)?;
@@ -83,6 +85,12 @@ pub fn wide(alloc: Global, out: &mut String) -> Result<(), Refusal> {
     agreed(alloc, &WIDE, &mut both, out)
 }
 
+/// The index over texts.
+pub fn texts_indexed(alloc: Global, out: &mut String) -> Result<(), Refusal> {
+    let mut both = nothing(alloc, 64)?;
+    agreed(alloc, &TEXTS, &mut both, out)
+}
+
 // The statement that inserts the tuples of these numbers, a row of sixty bytes each.
 fn insert_line(alloc: Global, first: u32) -> Result<String, AllocError> {
     let mut line = String::from_str(alloc, "INSERT INTO big VALUES ")?;
@@ -98,32 +106,70 @@ fn insert_line(alloc: Global, first: u32) -> Result<String, AllocError> {
     Ok(line)
 }
 
-/// The large table: how many statements inserted its rows alike, and what then became of it.
-pub fn large(alloc: Global, out: &mut String) -> Result<(), Refusal> {
-    let mut both = nothing(alloc, 2000)?;
-    agreed(
-        alloc,
-        &["CREATE TABLE big(k INT, g INT, p TEXT)"],
-        &mut both,
-        out,
-    )?;
+// How many statements inserted the large table's rows alike.
+fn inserts(alloc: Global, both: &mut Both) -> Result<u32, Refusal> {
     let mut inserted = 0_u32;
     for statement in 0..ROWS / TUPLES {
         let line = insert_line(alloc, statement.saturating_mul(TUPLES))?;
-        let replies = reply_twice(alloc, line.as_str(), &mut both)?;
+        let replies = reply_twice(alloc, line.as_str(), both)?;
         if replies.pages.as_str() == "ok 250" && replies.plain.as_str() == "ok 250" {
             inserted = inserted.saturating_add(1);
         }
     }
-    let text = format!(in alloc; "inserts of 250 rows: {inserted}\n")?;
-    out.push_str(text.as_str())?;
-    agreed(alloc, &LARGE, &mut both, out)
+    Ok(inserted)
 }
 
-// The pages of a table of two pages.
-fn two_pages(alloc: Global) -> Result<Vec<Page>, Stop<Failed>> {
+// Selects over the large table, and whether they read few pages.
+fn selects(
+    alloc: Global,
+    lines: &[&str],
+    both: &mut Both,
+    out: &mut String,
+) -> Result<(), Stop<Failed>> {
+    agreed(alloc, lines, both, out)?;
+    reads(alloc, both.pages.pages(), lines, out)
+}
+
+/// The large table: how many statements inserted its rows alike, what its indexes find, and what then became of it.
+pub fn large(alloc: Global, out: &mut String) -> Result<(), Stop<Failed>> {
+    let mut both = nothing(alloc, 4000)?;
+    agreed(alloc, &BIG, &mut both, out)?;
+    let inserted = inserts(alloc, &mut both)?;
+    let text = format!(in alloc; "inserts of 250 rows: {inserted}\n")?;
+    out.push_str(text.as_str())?;
+    agreed(alloc, &INDEXES, &mut both, out)?;
+    selects(alloc, &LOOK_UPS, &mut both, out)?;
+    selects(alloc, &WALKS, &mut both, out)?;
+    agreed(alloc, &LARGE, &mut both, out)?;
+    Ok(())
+}
+
+// Whether each select reads at most eight pages: whether there is a ninth read, whose fault comes out.
+fn reads(
+    alloc: Global,
+    pages: &[Page],
+    lines: &[&str],
+    out: &mut String,
+) -> Result<(), Stop<Failed>> {
+    for line in lines {
+        let more = fault_comes_out(alloc, pages, line, 9)?;
+        let reply = if more {
+            "more than 8 reads"
+        } else {
+            "8 reads or fewer"
+        };
+        tell(out, line, reply)?;
+    }
+    Ok(())
+}
+
+// The pages of a table of two pages, behind these lines.
+fn two_pages(alloc: Global, lines: &[&str]) -> Result<Vec<Page>, Stop<Failed>> {
     let mut pager = zero_pages(alloc, 16)?;
     for line in TWO_PAGES {
+        reply(alloc, line, &mut pager)?;
+    }
+    for line in lines {
         reply(alloc, line, &mut pager)?;
     }
     Ok(pager.pages().to_vec(alloc)?)
@@ -131,7 +177,7 @@ fn two_pages(alloc: Global) -> Result<Vec<Page>, Stop<Failed>> {
 
 // A pager of these pages whose call of that number fails; call 0 never comes.
 fn failing_at(alloc: Global, pages: &[Page], call: u64) -> Result<MemPager, Stop<Failed>> {
-    if pages.len() > 16 {
+    if pages.len() > 4096 {
         return Err(Stop::Refused(Refusal::BadSizes));
     }
     let failing = vec![in alloc; call; 1]?;
@@ -176,10 +222,19 @@ fn calls_of(alloc: Global, pages: &[Page], line: &str) -> Result<usize, Stop<Fai
 
 /// For each kind of statement: how many edits it makes, and whether the fault of each edit and of two reads or more came out.
 pub fn faults(alloc: Global, out: &mut String) -> Result<(), Stop<Failed>> {
-    let pages = two_pages(alloc)?;
-    for line in KINDS {
-        let edits = edits_of(alloc, &pages, line)?;
-        let reads = calls_of(alloc, &pages, line)?.saturating_sub(edits);
+    kinds(alloc, &two_pages(alloc, &[])?, &KINDS, out)?;
+    kinds(alloc, &two_pages(alloc, &[KEY])?, &KEYED, out)
+}
+
+fn kinds(
+    alloc: Global,
+    pages: &[Page],
+    lines: &[&str],
+    out: &mut String,
+) -> Result<(), Stop<Failed>> {
+    for line in lines {
+        let edits = edits_of(alloc, pages, line)?;
+        let reads = calls_of(alloc, pages, line)?.saturating_sub(edits);
         let every = if reads < 2 { "too few" } else { "all" };
         let reply = format!(in alloc; "{edits} edits, {every} faults came out")?;
         tell(out, line, reply.as_str())?;

@@ -4,3 +4,4 @@ pub mod Heads
 pub mod Packing
 pub mod Ways
 pub mod Routes
+pub mod Fronts

@@ -1,6 +1,6 @@
 -- Entries that stand first in bytes, and what a page holds.
 use Rattle.std.proofs.Common.{◌⊎◌, ◌≡◌, ◌<◌, ◌≤◌, ◌^◌, ◌+◌, ◌-◌, ◌*◌, ◌++◌, ◌∙◌, ℕ, suc, List, [], ◌∷◌, length, get_or, take, drop, replicate, Some, None, Ok, Err, inl, inr, refl, sym, ap, subst, arith, append_assoc}
-use Rattle.std.specs.List.{flat_map, AllByRecursion}
+use Rattle.std.specs.List.{AllByRecursion}
 use Rattle.std.proofs.lemmas.Bool.{cases_lt, le-leb, leb-true}
 use Rattle.std.proofs.lemmas.List.{take_at, drop_at, drop-drop, drop-replicate, drop_more, take-append-drop, take-take, get_or-take, get_or_past, length-append, length-drop, length-take-le, append-nil}
 use Rattle.std.proofs.lemmas.List.Concat.{flat_map-cons, flat_map-append}
@@ -12,7 +12,7 @@ use Rattle.values.specs.declared.value.Value.{Value}
 use Rattle.retro_base.specs.declared.refusal.Refusal.{Refusal}
 use Rattle.retro_base.specs.declared.refusal.Refusal.TheVariants.{OutOfMemory}
 use Rattle.values.specs.Row.{row_bytes}
-use Rattle.row_codec.specs.RowCode.{row_code, value_code, encoded, IsEncoded, IsDecoded, IsRow}
+use Rattle.row_codec.specs.RowCode.{row_code, encoded, IsEncoded, IsDecoded, IsRow}
 use Rattle.row_codec.proofs.Codes.{same_parts, one_row, row_size}
 use Rattle.heap_file.specs.declared.page.Entry.{Entry}
 use Rattle.heap_file.specs.declared.page.HeapPage.{HeapPage}

@@ -1,8 +1,8 @@
 -- Ways along chains, and refusals that are handed on.
 use Rattle.heap_file.proofs.Positions.{find-at, find-none}
 use Rattle.std.specs.Option.{option_map}
-use Rattle.std.proofs.Common.{◌≡◌, ◌≢◌, ◌&&◌, not, ◌<◌, ◌++◌, ℕ, zero, suc, true, false, List, [], ◌∷◌, length, get_or, Some, None, Result, Ok, Err, eqb, inl, inr, refl, sym, subst, arith, ap}
-use Rattle.std.proofs.lemmas.Bool.{lt-ltb, eq-eqb, ne_eqb}
+use Rattle.std.proofs.Common.{◌≡◌, ◌≢◌, ◌&&◌, not, ◌<◌, ◌++◌, ℕ, true, false, List, [], ◌∷◌, length, get_or, Some, None, Result, Ok, Err, eqb, inl, inr, refl, sym, subst, ap}
+use Rattle.std.proofs.lemmas.Bool.{lt-ltb}
 use Rattle.retro_base.specs.declared.refusal.Refusal.{Refusal}
 use Rattle.pager.specs.Pages.{Pages, with_bytes}
 use Rattle.pager.specs.Root.{page_in, freed}

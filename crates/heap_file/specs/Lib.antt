@@ -1,4 +1,5 @@
 pub mod Chain
+pub mod Filling
 pub mod HeapPage
 pub mod Laws
 pub mod Route

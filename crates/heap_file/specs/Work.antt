@@ -1,6 +1,6 @@
 -- What the calls do to the pages, page by page.
 use Rattle.std.specs.Option.{option_map}
-use Rattle.std.specs.Prelude.{◌≡◌, ◌<◌, ◌+◌, ◌-◌, ◌^◌, ◌++◌, ◌==◌, ◌&&◌, not, ℕ, Bool, List, [], ◌∷◌, length, Option, Some, None, Result, Ok, Err, nat_le, slice_index_or, if◌then◌else◌, position}
+use Rattle.std.specs.Prelude.{◌≡◌, ◌+◌, ◌-◌, ◌^◌, ◌++◌, ◌==◌, ◌&&◌, not, ℕ, List, [], ◌∷◌, length, Option, Some, None, Result, Ok, Err, if◌then◌else◌, position}
 use Rattle.std.specs.List.{remove, insert, find}
 use Rattle.retro_base.specs.declared.refusal.Refusal.{Refusal}
 use Rattle.values.specs.declared.value.Value.{Value}
@@ -151,3 +151,11 @@ changed size pages first page entry = do
   either (have_room (rest.entries ++ entry ∷ []))
       (only (Ok (page, with_bytes pages page (page_bytes (record rest { entries = insert rest.entries place entry })))))
       (appended size (with_bytes pages page (page_bytes rest)) first entry)
+
+-- rows are added in order, under the next row numbers; answers the number and the page of each
+abbrev pub all_placed : ℕ → ℕ → List (List Value) → Pages → Result (List (ℕ × ℕ) × Pages) Refusal → Type 0
+all_placed size first [] pages = only (Ok ([], pages))
+all_placed size first (row ∷ rows) pages = do
+  here ← added size pages first row
+  others ← all_placed size first rows here.1
+  only (Ok (here.0 ∷ others.0, others.1))

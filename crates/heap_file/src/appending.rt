@@ -15,7 +15,7 @@ use std::alloc::{AllocFailed, Global};
 use values::{Duplicate, Row, Seq};
 
 // The last page of the chain that begins with a page, as that page names it.
-fn last_page(first: u32, head: &HeapPage) -> u32
+pub(crate) fn last_page(first: u32, head: &HeapPage) -> u32
     ensures { result ≡ last_page first head.now }
 {
     if head.last == 0 { first } else { head.last }

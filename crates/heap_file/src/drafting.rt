@@ -10,6 +10,7 @@ ghost use Rattle.heap_file.specs.Work.{added, changed, got, made, next_of, on_li
 
 use crate::appending::{append, append_with_head};
 use crate::chain::{Link, Placed, chain, load, rows_of, store};
+pub use crate::filling::add_all;
 use crate::page::{Entry, HeapPage, has_room};
 pub use crate::removing::{Cursor, remove, remove_at};
 use pager::{Draft, Pager, Stop, broken, take};

@@ -6,6 +6,7 @@ mod calls;
 mod chain;
 pub mod drafting;
 mod entries;
+mod filling;
 mod laws;
 mod page;
 mod removing;

@@ -86,7 +86,7 @@ pub fn has_room(entries: &[Entry], entry: &Entry) -> bool
 }
 
 // How many bytes entries take.
-fn entries_length(entries: &[Entry]) -> usize
+pub(crate) fn entries_length(entries: &[Entry]) -> usize
     requires entries { AllByRecursion IsEntry entries.now }
     requires fits { HaveRoom entries.now }
     ensures { length (entry_bytes entries.now) ≡ result }
@@ -99,7 +99,7 @@ fn entries_length(entries: &[Entry]) -> usize
 }
 
 // How many bytes an entry takes.
-fn entry_length(entry: &Entry) -> usize
+pub(crate) fn entry_length(entry: &Entry) -> usize
     requires { IsShort entry.now.row }
     ensures length { length (entry_code entry.now) ≡ result }
     ensures short { result ≤ 902 }

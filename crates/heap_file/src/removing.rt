@@ -1,6 +1,6 @@
 //! Rows that are taken out of a table, drafted.
 
-ghost use Rattle.std.specs.Prelude.{◌≡◌, ◌≢◌, ◌==◌, ◌&&◌, ℕ, not, IfOk, IfSome, OnOk, length};
+ghost use Rattle.std.specs.Prelude.{◌≡◌, ◌≢◌, ◌==◌, ◌&&◌, ℕ, not, IfOk, IfSome, OnOk, length, position};
 ghost use Rattle.pager.specs.Draft.{drafted, Drafts, Reads};
 ghost use Rattle.pager.specs.Pages.{Pages};
 ghost use Rattle.pager.specs.Stop.{OnlyDrafts, OnlyReads};
@@ -195,14 +195,17 @@ fn pass(route: Seq<u32>, page: u32) -> Option<(u32, Seq<u32>)>
     ensures { IsPassed route page result }
 {
     let mut pages = Vec::from(route);
-    'places: for place in 1..pages.len() {
-        if pages[place] == page {
-            let previous = pages[place - 1];
-            pages.remove(place);
-            return Some((previous, Seq::from(pages)));
-        }
-    }
-    None
+    let place = 1 + place_in(pages.get(1..)?, page)?;
+    let previous = pages[place - 1];
+    pages.remove(place);
+    Some((previous, Seq::from(pages)))
+}
+
+// The place of a page among pages.
+fn place_in(pages: &[u32], page: u32) -> Option<usize>
+    ensures { result ≡ position (λ other. other == page) pages.now }
+{
+    pages.iter().position(|other| *other == page)
 }
 
 // Drafts that a page is taken out of its chain, and freed: the previous page names the next one.

@@ -1,4 +1,5 @@
 pub mod Adding
+pub mod Apart
 pub mod Appending
 pub mod Changing
 pub mod Counts
@@ -16,4 +17,5 @@ pub mod Routes
 pub mod Rows
 pub mod Spotting
 pub mod Starting
+pub mod Staying
 pub mod Stores

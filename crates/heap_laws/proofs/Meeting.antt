@@ -1,7 +1,7 @@
 -- A page of a chain is met on the way along it, so what is done to it may be told of that way.
 use Rattle.heap_file.proofs.Positions.{position-at}
 use Rattle.std.proofs.lemmas.Bool.{ne_eqb}
-use Rattle.std.proofs.Common.{◌≡◌, ◌<◌, ◌≤◌, ◌-◌, ◌++◌, ◌∙◌, ◌⊎◌, ℕ, List, [], ◌∷◌, length, map, get_or, Result, Ok, Err, inl, inr, refl, sym, ap, arith, subst, length-append, eqb, eq-eqb}
+use Rattle.std.proofs.Common.{◌≡◌, ◌<◌, ◌≤◌, ◌-◌, ◌++◌, ◌∙◌, ◌⊎◌, ℕ, List, [], ◌∷◌, length, get_or, Result, Ok, Err, inl, inr, refl, sym, ap, arith, subst, length-append, eqb, eq-eqb}
 use Rattle.std.proofs.lemmas.List.{get_or_append_left, get_or_at, get_or_default}
 use Rattle.std.specs.List.{insert}
 use Rattle.retro_base.specs.declared.refusal.Refusal.{Refusal}

@@ -205,11 +205,6 @@ take-well size pages firsts indexes well page root free taking =
         let more = taking.moves p in
         well.inner p (omega (arith, some, count, more, ap one_if away.0))
 
--- the free list of a well-formed store that counts none is empty
-pub free-none : (free : List ℕ) → length free ≡ 0 → free ≡ []
-free-none [] none = refl
-free-none (page ∷ rest) none = absurd cc
-
 -- where no page is in the free list, the first that was never used is taken
 take-unused : (size : ℕ) (pages : Pages) (firsts indexes : List ℕ) (well : WellFormed size pages firsts indexes) → (root_at pages).free ≡ 0 → 2 + (root_at pages).used < size
     → Taking size pages firsts indexes well (2 + (root_at pages).used) (record { used = (root_at pages).used + 1; first_free = 0; free = 0 }) []

@@ -171,9 +171,6 @@ rows-cons link links = flat_map-cons rows_on link links
 pub rows-middle : (a : List Link) (link : Link) (b : List Link) → rows_of (a ++ link ∷ b) ≡ rows_of a ++ (rows_on link ++ rows_of b)
 rows-middle a link b = rows-append a (link ∷ b) ∙ ap (λ (rows : List Placed). rows_of a ++ rows) (rows-cons link b)
 
-pub pages-middle : (a : List Link) (link : Link) (b : List Link) → pages_on (a ++ link ∷ b) ≡ pages_on a ++ link.page ∷ pages_on b
-pages-middle a link b = map-append (λ (l : Link). l.page) a (link ∷ b)
-
 -- the end of links is told by their pages
 pub end-append : (first : ℕ) (a : List Link) (link : Link) (b : List Link) → end_of first (a ++ link ∷ b) ≡ end_of link.page b
 end-append first [] link b = refl

@@ -1,11 +1,13 @@
 -- What the calls do to well-formed pages.
-use Rattle.std.specs.Prelude.{◌≡◌, ◌<◌, ◌≤◌, ◌-◌, ◌^◌, ℕ, List, [], ◌∷◌, length, replicate, slice_index, false, Some, Result, Ok, Err}
+use Rattle.std.specs.Prelude.{◌≡◌, ◌<◌, ◌≤◌, ◌+◌, ◌-◌, ◌^◌, ◌++◌, ℕ, List, [], ◌∷◌, length, replicate, slice_index, Some, Result, Ok, Err}
 use Rattle.std.specs.List.{Contains}
+use Rattle.std.specs.List.Sorted.{IsPermutation}
 use Rattle.retro_base.specs.declared.refusal.Refusal.{Refusal}
 use Rattle.retro_base.specs.declared.refusal.Refusal.TheVariants.{PagesFull}
 use Rattle.values.specs.declared.value.Value.{Value}
-use Rattle.pager.specs.Pages.{Pages, with_bytes}
-use Rattle.pager.specs.Root.{taken}
+use Rattle.pager.specs.Index.{EditsOnly, IsApart}
+use Rattle.pager.specs.Pages.{Pages}
+use Rattle.pager.specs.Root.{all_taken, taken}
 use Rattle.heap_file.specs.declared.page.Entry.{Entry}
 use Rattle.heap_file.specs.declared.page.HeapPage.{HeapPage}
 use Rattle.heap_file.specs.declared.chain.Link.{Link}
@@ -115,14 +117,53 @@ pub record TakesForIndex (size : ℕ) (pages : Pages) (firsts indexes : List ℕ
   pub stay : AllStay size pages after firsts
   pub well : WellFormed size after firsts (page ∷ indexes)
 
--- The pages of the indexes: one is taken as a table's first page is, and whatever is written on one, the store stays
--- well-formed and each table as it was.
+-- so many pages were taken for indexes, one after the other
+pub record TakesForIndexes (size : ℕ) (pages : Pages) (firsts indexes : List ℕ) (count : ℕ) (taken : List ℕ)
+    (after : Pages) : Type 0 where
+  pub fewer : count + free_pages size after ≡ free_pages size pages
+  pub edits : EditsOnly (0 ∷ []) pages after
+  pub stay : AllStay size pages after firsts
+  pub well : WellFormed size after firsts (taken ++ indexes)
+
+-- The pages of the indexes: one is taken as a table's first page is, and so are many, which is refused exactly where
+-- fewer are free. Whatever is written on them, the store stays well-formed and each table as it was. Their order does
+-- not count, and none of them is taken again.
 pub record IndexPagesLaw : Type 0 where
   pub take : (size : ℕ) (pages : Pages) (firsts indexes : List ℕ) (answer : Result (ℕ × Pages) Refusal)
       → WellFormed size pages firsts indexes → taken size pages ≡ answer
       → DoesOrIsFull size (λ page after. TakesForIndex size pages firsts indexes page after) (free_pages size pages ≡ 0)
       answer
-  pub write : (size : ℕ) (pages : Pages) (firsts indexes : List ℕ) (page : ℕ) (bytes : List ℕ)
-      → WellFormed size pages firsts indexes → Contains indexes page
-      → WellFormed size (with_bytes pages page bytes) firsts indexes
-      × AllStay size pages (with_bytes pages page bytes) firsts
+  pub take_many : (size : ℕ) (pages : Pages) (firsts indexes : List ℕ) (count : ℕ)
+      (answer : Result (List ℕ × Pages) Refusal)
+      → WellFormed size pages firsts indexes → all_taken size count pages ≡ answer
+      → DoesOrIsFull size (λ taken after. TakesForIndexes size pages firsts indexes count taken after)
+      (free_pages size pages < count) answer
+  pub write : (size : ℕ) (pages after : Pages) (firsts indexes : List ℕ)
+      → WellFormed size pages firsts indexes → EditsOnly indexes pages after
+      → WellFormed size after firsts indexes × AllStay size pages after firsts
+  pub reorder : (size : ℕ) (pages : Pages) (firsts indexes others : List ℕ)
+      → WellFormed size pages firsts indexes → IsPermutation indexes others → WellFormed size pages firsts others
+  pub apart : (size : ℕ) (pages : Pages) (firsts held others : List ℕ)
+      → WellFormed size pages firsts (held ++ others) → IsApart size pages held
+
+-- these pages are as before, and not edited
+abbrev pub AreSpared : List ℕ → Pages → Pages → Type 0
+AreSpared list pages after =
+    (page : ℕ) → Contains list page → (after.at page ≡ pages.at page) × (after.edited page ≡ pages.edited page)
+
+-- The calls on tables leave the pages of the indexes alone.
+pub record IndexesStayLaw : Type 0 where
+  pub make : (size : ℕ) (pages after : Pages) (firsts indexes : List ℕ) (first : ℕ)
+      → WellFormed size pages firsts indexes → MakesTable size pages firsts indexes first after
+      → AreSpared indexes pages after
+  pub add : (size : ℕ) (pages after : Pages) (firsts indexes : List ℕ) (first : ℕ) (table : Table) (row : List Value)
+      (placed : ℕ × ℕ)
+      → WellFormed size pages firsts indexes → Contains firsts first
+      → AddsRow size pages firsts indexes first table row placed after → AreSpared indexes pages after
+  pub remove : (size : ℕ) (pages after : Pages) (firsts indexes : List ℕ) (first : ℕ) (table : Table) (page number : ℕ)
+      → WellFormed size pages firsts indexes → Contains firsts first
+      → RemovesRow size pages firsts indexes first table page number after → AreSpared indexes pages after
+  pub change : (size : ℕ) (pages after : Pages) (firsts indexes : List ℕ) (first : ℕ) (table : Table) (page : ℕ)
+      (entry : Entry) (to : ℕ)
+      → WellFormed size pages firsts indexes → Contains firsts first
+      → ChangesRow size pages firsts indexes first table page entry to after → AreSpared indexes pages after

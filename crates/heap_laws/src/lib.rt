@@ -3,7 +3,7 @@
 
 mod store;
 
-ghost use Rattle.heap_laws.specs.Laws.{AddLaw, ChainAnswersAreOne, ChangeLaw, FreshLaw, IndexPagesLaw, MakeLaw, ReadLaw, RemoveLaw, SizedLaw};
+ghost use Rattle.heap_laws.specs.Laws.{AddLaw, ChainAnswersAreOne, ChangeLaw, FreshLaw, IndexPagesLaw, IndexesStayLaw, MakeLaw, ReadLaw, RemoveLaw, SizedLaw};
 
 pub use store::with_table;
 
@@ -49,7 +49,12 @@ pub fn change_law()
     ensures { ChangeLaw }
 {}
 
-/// A page is taken for an index, and what is written on it leaves the tables.
+/// Pages are taken for indexes, and what is written on them leaves the tables.
 pub fn index_pages_law()
     ensures { IndexPagesLaw }
+{}
+
+/// What is done to tables leaves the pages of the indexes alone.
+pub fn indexes_stay_law()
+    ensures { IndexesStayLaw }
 {}

@@ -3,5 +3,4 @@ pub mod Marks
 pub mod LineFacts
 pub mod Lasts
 pub mod Replies
-pub mod Shown
 pub mod Seating

@@ -10,5 +10,4 @@ pub mod RepliesTold
 pub mod Seating
 pub mod Seats
 pub mod Shows
-pub mod Visible
 pub mod World

@@ -4,7 +4,6 @@ ghost use Rattle.journal_law.specs.Laws.{LawOfTheJournal};
 ghost use Rattle.journal_law.specs.LinesFit.{LinesFit};
 ghost use Rattle.journal_law.specs.RepliesTold.{RepliesTold};
 ghost use Rattle.journal_law.specs.Seating.{SeatsSuffice};
-ghost use Rattle.journal_law.specs.Visible.{VisibleLinesDecide};
 ghost use Rattle.std.specs.Prelude.{Option};
 ghost use Rattle.retro_base.specs.declared.who.Who.{Who};
 
@@ -29,11 +28,6 @@ pub fn lines_fit<T: Language>()
 /// What a session tells of an item that has ended is the item's reply.
 pub fn replies_are_told<T: Language>()
     ensures { RepliesTold T.language }
-{}
-
-/// The lines that a transcript shows, without the pages that commits write, decide the tables and the snapshots.
-pub fn visible_lines_decide<T: Language>()
-    ensures { VisibleLinesDecide T.language }
 {}
 
 /// What the calls of a seat promise gives the facts of its lines.

@@ -4,7 +4,5 @@
 mod laws;
 mod seat;
 
-pub use laws::{
-    Language, law_of_the_journal, lines_fit, replies_are_told, seats_suffice, visible_lines_decide,
-};
+pub use laws::{Language, law_of_the_journal, lines_fit, replies_are_told, seats_suffice};
 pub use seat::{Ending, Seat, ToldFault};

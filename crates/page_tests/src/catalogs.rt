@@ -1,5 +1,7 @@
 //! Catalogs: byte for byte by hand, full, and damaged.
 
+ghost use Rattle.std.specs.Prelude.{◌<◌};
+
 use crate::chains::{add_row, take_out};
 use crate::support::{
     begins, edits_are, make_index, make_table, one_table, tables_and_indexes, text, zero_pages,
@@ -34,12 +36,12 @@ fn a_table_in_bytes(rt: HostRuntime) -> Result<(), Fail> {
     Ok(())
 }
 
-// What an index i over t(a) adds to it: the count of rows and the next row number are 3, and (3,'i','t',0,0,0) stands under
-// number 2.
+// What an index i over t(a) adds to it: the count of rows and the next row number are 3, and (3,'i','t',0,2,3) stands under
+// number 2: it is a tree, and its root page is 3.
 const ROW_OF_I: [u8; 53] = [
     0, 51, 0, 0, 0, 0, 0, 0, 0, 2, 6, //
     1, 0, 0, 0, 0, 0, 0, 0, 3, 2, 1, b'i', 2, 1, b't', //
-    1, 0, 0, 0, 0, 0, 0, 0, 0, 1, 0, 0, 0, 0, 0, 0, 0, 0, 1, 0, 0, 0, 0, 0, 0, 0, 0,
+    1, 0, 0, 0, 0, 0, 0, 0, 0, 1, 0, 0, 0, 0, 0, 0, 0, 2, 1, 0, 0, 0, 0, 0, 0, 0, 3,
 ];
 
 // The first page of the catalog of t(a INT) with the index i over a.
@@ -58,27 +60,33 @@ fn an_index_in_bytes(rt: HostRuntime) -> Result<(), Fail> {
     let alloc = rt.alloc();
     let mut pager = one_table(alloc)?;
     let made = make_index(alloc, &mut pager, b"i", b"t", 0);
-    let edited = edits_are(alloc, &pager, 3, &[1]);
-    let page = begins(&pager, 1, &catalog_with_i(alloc)?);
+    let edited = edits_are(alloc, &pager, 3, &[0, 1, 3]);
+    let pages = [
+        begins(&pager, 1, &catalog_with_i(alloc)?),
+        begins(&pager, 3, &[6, 0, 0, 0, 0, 0, 0, 0]),
+    ];
     let read = tables_and_indexes(alloc, &mut pager);
-    assert!(rt; (made, edited, page) == (Ok(()), Ok(true), true));
+    assert!(rt; (made, edited, pages) == (Ok(()), Ok(true), [true; 2]));
     assert!(rt; read == Ok((1, 1)));
     Ok(())
 }
 
-// A store of 16 pages with thirteen tables of one column, named a to m: their rows fill the first page of the catalog, and
-// page 15 alone is free.
-fn thirteen_tables(alloc: Global) -> Result<MemPager, Stop<Failed>> {
-    let mut pager = zero_pages(alloc, 16, &[])?;
+// A store of so many pages with thirteen tables of one column, named a to m: their rows fill the first page of the catalog,
+// and the pages from 15 on are free.
+fn thirteen_tables(alloc: Global, pages: usize) -> Result<MemPager, Stop<Failed>>
+    requires { pages < 2000 }
+{
+    let mut pager = zero_pages(alloc, pages, &[])?;
     for letter in b'a'..=b'm' {
         make_table(alloc, &mut pager, &[letter], &[Kind::Int])?;
     }
     Ok(pager)
 }
 
-// The same with eighteen indexes over the table m, named A to R: their rows fill page 15.
+// The same of 35 pages with eighteen indexes over the table m, named A to R: their rows fill one more page of the catalog,
+// and with their root pages 34 are taken.
 fn eighteen_indexes(alloc: Global) -> Result<MemPager, Stop<Failed>> {
-    let mut pager = thirteen_tables(alloc)?;
+    let mut pager = thirteen_tables(alloc, 35)?;
     for letter in b'A'..=b'R' {
         make_index(alloc, &mut pager, &[letter], b"m", 0)?;
     }
@@ -86,13 +94,13 @@ fn eighteen_indexes(alloc: Global) -> Result<MemPager, Stop<Failed>> {
 }
 
 #[test]
-fn the_nineteenth_index_needs_a_page(rt: HostRuntime) -> Result<(), Fail> {
+fn the_nineteenth_index_needs_two_pages(rt: HostRuntime) -> Result<(), Fail> {
     let alloc = rt.alloc();
     let mut pager = eighteen_indexes(alloc)?;
     let told = tables_and_indexes(alloc, &mut pager);
     let edits = pager.edits().len();
     let made = make_index(alloc, &mut pager, b"S", b"m", 0);
-    let full = Refusal::PagesFull { pages: 16 };
+    let full = Refusal::PagesFull { pages: 35 };
     assert!(rt; (told, made) == (Ok((13, 18)), Err(Stop::Refused(full))));
     assert!(rt; pager.edits().len() == edits);
     Ok(())
@@ -101,7 +109,7 @@ fn the_nineteenth_index_needs_a_page(rt: HostRuntime) -> Result<(), Fail> {
 #[test]
 fn the_fourteenth_table_needs_two_pages(rt: HostRuntime) -> Result<(), Fail> {
     let alloc = rt.alloc();
-    let mut pager = thirteen_tables(alloc)?;
+    let mut pager = thirteen_tables(alloc, 16)?;
     let told = tables_and_indexes(alloc, &mut pager);
     let edits = pager.edits().len();
     let made = make_table(alloc, &mut pager, b"n", &[Kind::Int]);
@@ -133,7 +141,7 @@ fn a_catalog_that_names_itself_is_no_chain(rt: HostRuntime) -> Result<(), Fail> 
 }
 
 // Rows of a catalog behind those of t(a INT). A cell without a text is its number.
-const DAMAGED: [&[&[(i64, &[u8])]]; 8] = [
+const DAMAGED: [&[&[(i64, &[u8])]]; 9] = [
     // Too few values, a kind of column that there is not, and a kind of row that there is not.
     &[&[(1, b""), (0, b"u")]],
     &[&[(2, b""), (0, b"t"), (1, b""), (0, b"b"), (3, b"")]],
@@ -144,7 +152,8 @@ const DAMAGED: [&[&[(i64, &[u8])]]; 8] = [
         &[(1, b""), (0, b"u"), (9, b"")],
         &[(2, b""), (0, b"u"), (1, b""), (0, b"a"), (1, b"")],
     ],
-    // An index of a form that there is not, one over a table that is not there, and one over a column that is not there.
+    // Indexes of two forms that there are not, one over a table that is not there, and one over a column that is not there.
+    &[&[(3, b""), (0, b"i"), (0, b"t"), (0, b""), (1, b""), (9, b"")]],
     &[&[(3, b""), (0, b"i"), (0, b"t"), (0, b""), (3, b""), (0, b"")]],
     &[&[(3, b""), (0, b"i"), (0, b"u"), (0, b""), (0, b""), (0, b"")]],
     &[&[(3, b""), (0, b"i"), (0, b"t"), (1, b""), (0, b""), (0, b"")]],

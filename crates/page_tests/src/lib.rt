@@ -9,10 +9,18 @@ mod chains;
 #[cfg(test)]
 mod changes;
 #[cfg(test)]
+mod index_pages;
+#[cfg(test)]
+mod indexes;
+#[cfg(test)]
+mod many_rows;
+#[cfg(test)]
 mod pages;
 #[cfg(test)]
 mod row_bytes;
 #[cfg(test)]
 mod support;
+#[cfg(test)]
+mod whole_rows;
 #[cfg(test)]
 mod wide;

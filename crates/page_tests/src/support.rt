@@ -4,16 +4,17 @@
 ghost use Rattle.std.specs.Prelude.{◌≤◌, ◌<◌, All, IsTrue};
 ghost use Rattle.std.specs.List.{AllByRecursion};
 ghost use Rattle.heap_file.specs.HeapPage.{IsShort};
-ghost use Rattle.heap_file.specs.declared.chain.Placed.{Placed};
+ghost use Rattle.relation.specs.declared.drafting.RowChange.{RowChange};
 
 use pager::{EditPager, MemPager, Pager, Stop};
 use relation::{
-    Catalog, Placed, StoredTable, create_index, create_table, delete, insert, next_number, open,
-    rows, update,
+    Catalog, Placed, RowChange, StoredTable, create_index, create_table, delete, insert,
+    next_number, open, ranged, rows, update,
 };
 use retro_base::{Failed, Page, ROW_BYTES, Refusal};
 use sql_tree::Column;
 use std::alloc::{AllocError, Global};
+use tree_index::TreeIndex;
 use values::{Kind, Name, Row, Seq, Text, Value, is_name, is_text};
 
 pub fn name(alloc: Global, bytes: &[u8]) -> Result<Name, Refusal> {
@@ -47,17 +48,17 @@ pub fn is_short(row: &Row) -> bool
 }
 
 // Whether each row can.
-fn are_short(rows: &[Row]) -> bool
+pub fn are_short(rows: &[Row]) -> bool
     ensures { IsTrue result → All IsShort rows.now }
 {
     rows.iter().all(|row| is_short(row))
 }
 
 // Whether each row can that a row becomes.
-fn become_short(changes: &[Placed]) -> bool
-    ensures { IsTrue result → All (λ (placed : Placed). IsShort placed.row) changes.now }
+pub fn become_short(changes: &[RowChange]) -> bool
+    ensures { IsTrue result → All (λ (change : RowChange). IsShort change.row) changes.now }
 {
-    changes.iter().all(|placed| is_short(&placed.row))
+    changes.iter().all(|change| is_short(&change.row))
 }
 
 // The encoding of a row under its number. A row without values is refused, and one of more than sixteen.
@@ -170,7 +171,7 @@ pub fn make_index<P: EditPager>(
     let index = name(alloc, index)?;
     let catalog = open(alloc, pager)?;
     let table = table_of(alloc, &catalog, table)?;
-    create_index(alloc, pager, &index, table, place)
+    create_index::<TreeIndex, P>(alloc, pager, &index, table, place)
 }
 
 // How many tables there are, and how many indexes.
@@ -183,7 +184,7 @@ pub fn tables_and_indexes<P: Pager>(
 }
 
 // The table of that name of a catalog.
-fn table_of<'a>(
+pub fn table_of<'a>(
     alloc: Global,
     catalog: &'a Catalog,
     table: &[u8],
@@ -206,7 +207,7 @@ pub fn insert_rows<P: EditPager>(
         return Err(Stop::Refused(Refusal::BadSizes));
     }
     let catalog = open(alloc, pager)?;
-    insert(alloc, pager, t(alloc, &catalog)?, rows)
+    insert::<TreeIndex, P>(alloc, pager, t(alloc, &catalog)?, rows)
 }
 
 // Adds a row of one integer to the table t.
@@ -217,6 +218,81 @@ pub fn insert_integer<P: EditPager>(
 ) -> Result<(), Stop<P::Fault>> {
     let row = integer(alloc, number)?;
     insert_rows(alloc, pager, &[row])
+}
+
+// Adds the rows of the integers from the first up to the last, without it, to the table t.
+pub fn insert_integers<P: EditPager>(
+    alloc: Global,
+    pager: &mut P,
+    from: u32,
+    to: u32,
+) -> Result<(), Stop<P::Fault>> {
+    let mut rows = Vec::new(alloc);
+    for number in from..to {
+        rows.push(integer(alloc, i64::from(number))?)?;
+    }
+    insert_rows(alloc, pager, &rows)
+}
+
+// A store of so many pages with t(a INT) and the rows of so many integers from 0 on.
+pub fn integers(alloc: Global, pages: usize, count: u32) -> Result<MemPager, Stop<Failed>> {
+    let mut pager = zero_pages(alloc, pages.min(1999), &[])?;
+    make_table(alloc, &mut pager, b"t", &[Kind::Int])?;
+    insert_integers(alloc, &mut pager, 0, count)?;
+    Ok(pager)
+}
+
+// The same with the index i over a, which is made first.
+pub fn indexed_integers(alloc: Global, pages: usize, count: u32) -> Result<MemPager, Stop<Failed>> {
+    let mut pager = integers(alloc, pages, 0)?;
+    make_index(alloc, &mut pager, b"i", b"t", 0)?;
+    insert_integers(alloc, &mut pager, 0, count)?;
+    Ok(pager)
+}
+
+// Adds one to the integer of each row of the table t, in one call.
+pub fn raise_integers<P: EditPager>(alloc: Global, pager: &mut P) -> Result<(), Stop<P::Fault>> {
+    let mut changes = Vec::new(alloc);
+    for was in rows_in_t(alloc, pager)? {
+        let before = first_integer(&was.row).unwrap_or(0);
+        let row = integer(alloc, before.saturating_add(1))?;
+        changes.push(RowChange { was, row })?;
+    }
+    update_rows(alloc, pager, changes)
+}
+
+// Takes all rows out of the table t, in one call.
+pub fn delete_all<P: EditPager>(alloc: Global, pager: &mut P) -> Result<(), Stop<P::Fault>> {
+    let rows = rows_in_t(alloc, pager)?;
+    delete_rows(alloc, pager, &rows)
+}
+
+// How many rows these are, and the sum of their integers.
+pub fn sum_of(rows: &[Placed]) -> (usize, i64) {
+    let mut sum: i64 = 0;
+    for placed in rows {
+        sum = sum.saturating_add(first_integer(&placed.row).unwrap_or(0));
+    }
+    (rows.len(), sum)
+}
+
+// How many rows of the table t its first index tells between two integers, and the sum of these.
+pub fn sum_between<P: Pager>(
+    alloc: Global,
+    pager: &mut P,
+    low: i64,
+    high: i64,
+) -> Result<(usize, i64), Stop<P::Fault>> {
+    let catalog = open(alloc, pager)?;
+    let table = t(alloc, &catalog)?;
+    let index = *table
+        .indexes
+        .as_slice()
+        .first()
+        .ok_or(Refusal::UnknownName)?;
+    let (low, high) = (Value::Int(low), Value::Int(high));
+    let rows = ranged::<TreeIndex, P>(alloc, pager, table, &index, &low, &high)?;
+    Ok(sum_of(&rows))
 }
 
 // Adds a row of five texts to the table t.
@@ -235,13 +311,13 @@ pub fn insert_texts<P: EditPager>(
 pub fn update_rows<P: EditPager>(
     alloc: Global,
     pager: &mut P,
-    changes: &[Placed],
+    changes: Vec<RowChange>,
 ) -> Result<(), Stop<P::Fault>> {
-    if !become_short(changes) {
+    if !become_short(&changes) {
         return Err(Stop::Refused(Refusal::BadSizes));
     }
     let catalog = open(alloc, pager)?;
-    update(alloc, pager, t(alloc, &catalog)?, changes)
+    update::<TreeIndex, P>(alloc, pager, t(alloc, &catalog)?, changes)
 }
 
 // Changes a row of the table t, which stands on page 2, to one integer.
@@ -251,9 +327,13 @@ pub fn update_integer<P: EditPager>(
     number: u64,
     value: i64,
 ) -> Result<(), Stop<P::Fault>> {
-    let row = integer(alloc, value)?;
     let page = 2;
-    update_rows(alloc, pager, &[Placed { number, page, row }])
+    let row = integer(alloc, 0)?;
+    let was = Placed { number, page, row };
+    let row = integer(alloc, value)?;
+    let mut changes = Vec::new(alloc);
+    changes.push(RowChange { was, row })?;
+    update_rows(alloc, pager, changes)
 }
 
 // Takes rows out of the table t.
@@ -263,7 +343,7 @@ pub fn delete_rows<P: EditPager>(
     rows: &[Placed],
 ) -> Result<(), Stop<P::Fault>> {
     let catalog = open(alloc, pager)?;
-    delete(alloc, pager, t(alloc, &catalog)?, rows)
+    delete::<TreeIndex, P>(alloc, pager, t(alloc, &catalog)?, rows)
 }
 
 // Takes the rows of these numbers out of the table t.

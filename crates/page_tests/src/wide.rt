@@ -1,11 +1,11 @@
 //! Tables of sixteen columns whose names are of 32 letters, and forty rows of 900 bytes.
 
 use crate::support::{
-    count, delete_rows, encoding, insert_rows, make_table_of, name, next_in_t, rows_in_t,
+    count, delete_all, encoding, insert_rows, make_table_of, name, next_in_t, rows_in_t,
     sixteen_values, tables_and_indexes, update_rows, zero_pages,
 };
 use pager::{EditPager, MemPager, Pager, Stop};
-use relation::Placed;
+use relation::{Placed, RowChange};
 use retro_base::{Failed, Refusal};
 use sql_tree::Column;
 use std::alloc::{AllocError, Global};
@@ -43,14 +43,11 @@ fn long_rows(alloc: Global, count: u32, number: i64) -> Result<Vec<Row>, AllocEr
 }
 
 // The rows, each of which becomes one of that number.
-fn changes_to(alloc: Global, rows: &[Placed], number: i64) -> Result<Vec<Placed>, AllocError> {
+fn changes_to(alloc: Global, rows: Vec<Placed>, number: i64) -> Result<Vec<RowChange>, AllocError> {
     let mut changes = Vec::new(alloc);
-    for placed in rows {
-        changes.push(Placed {
-            number: placed.number,
-            page: placed.page,
-            row: sixteen_values(alloc, number)?,
-        })?;
+    for was in rows {
+        let row = sixteen_values(alloc, number)?;
+        changes.push(RowChange { was, row })?;
     }
     Ok(changes)
 }
@@ -70,12 +67,8 @@ fn update_all<P: EditPager>(
     number: i64,
 ) -> Result<(), Stop<P::Fault>> {
     let rows = rows_in_t(alloc, pager)?;
-    update_rows(alloc, pager, &changes_to(alloc, &rows, number)?)
-}
-
-fn delete_all<P: EditPager>(alloc: Global, pager: &mut P) -> Result<(), Stop<P::Fault>> {
-    let rows = rows_in_t(alloc, pager)?;
-    delete_rows(alloc, pager, &rows)
+    let changes = changes_to(alloc, rows, number)?;
+    update_rows(alloc, pager, changes)
 }
 
 // Whether a row is of that number and of these values, by the bytes of both.

@@ -1,24 +1,17 @@
 -- Rows of the catalog, and rows that fit columns.
-use Rattle.std.proofs.Common.{◌≡◌, ◌∙◌, ◌<◌, ◌≤◌, ◌+◌, ◌++◌, ◌&&◌, ◌||◌, ◌==◌, ◌⊎◌, ℕ, ℤ, pos, nat_le, Bool, true, false, List, [], ◌∷◌, length, map, take, refl, sym, ap, arith, add-zero, suc, get_or, inl, inr, length-append}
-use Rattle.std.specs.List.{flat_map, list_all, AllByRecursion}
+use Rattle.std.proofs.Common.{◌≡◌, ◌∙◌, ◌<◌, ◌≤◌, ◌+◌, ◌++◌, ◌&&◌, ◌||◌, ◌==◌, ◌⊎◌, ℕ, nat_le, Bool, true, false, List, [], ◌∷◌, length, map, take, refl, sym, ap, arith, add-zero, get_or, inl, inr}
+use Rattle.std.specs.List.{list_all, AllByRecursion}
 use Rattle.std.proofs.lemmas.List.{length-take-le, map-append, take_more}
-use Rattle.std.proofs.lemmas.List.Concat.{flat_map-cons}
 use Rattle.std.proofs.lemmas.Bool.{leb-true, and_parts, eqb-true}
-use Rattle.retro_base.specs.Fields.{field_bytes}
-use Rattle.retro_base.proofs.FieldLaws.{length-field_bytes}
 use Rattle.values.specs.Text.{IsPrintable, IsText}
 use Rattle.values.specs.declared.value.Value.{Value}
-use Rattle.values.specs.declared.value.Value.TheVariants.{Int, Text}
-use Rattle.values.specs.Value.{kind_of}
-use Rattle.row_codec.specs.RowCode.{row_code, value_code}
 use Rattle.values.specs.Name.{IsName, begins_word, continues_word}
 use Rattle.sql_tree.specs.declared.statement.Column.{Column as TableColumn}
 use Rattle.heap_file.specs.HeapPage.{IsShort}
 use Rattle.relation.specs.declared.row.CatalogRow.{CatalogRow}
 use Rattle.relation.specs.declared.row.CatalogRow.TheVariants.{Table, Column}
-use Rattle.relation.specs.CatalogRow.{kind_number, row_values}
+use Rattle.relation.specs.CatalogRow.{row_values}
 use Rattle.relation.specs.Work.{row_of_index, rows_of_columns, rows_of_table}
-use Rattle.sql_tree.specs.Rows.{same_kind, fits}
 
 -- the rows of one column more
 pub rows_of_columns-push : (table : List ℕ) (place : ℕ) (columns : List TableColumn) (column : TableColumn) → rows_of_columns table place (columns ++ column ∷ []) ≡ rows_of_columns table place columns ++ Column (record { table = table; place = place + length columns; column = column }) ∷ []
@@ -99,8 +92,8 @@ column_short table place column h n = record {
 }
 
 -- the row of an index is short
-pub index_short : (name table : List ℕ) (place : ℕ) → IsName name → IsName table → IsShort (row_values (row_of_index name table place))
-index_short name table place h n = record {
+pub index_short : (name table : List ℕ) (place root : ℕ) → IsName name → IsName table → IsShort (row_values (row_of_index name table place root))
+index_short name table place root h n = record {
   some = omega arith;
   few = omega arith;
   short = omega (arith, name-short name h, name-short table n);

@@ -3,3 +3,7 @@ pub mod Steps
 pub mod Finding
 pub mod Told
 pub mod Naming
+pub mod Halves
+pub mod Listed
+pub mod Reached
+pub mod Spots

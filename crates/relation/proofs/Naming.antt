@@ -4,7 +4,7 @@ use Rattle.std.proofs.Common.{◌≡◌, ◌∙◌, ◌<◌, ◌+◌, ◌++◌, 
 use Rattle.std.specs.Prelude.{is_some}
 use Rattle.std.specs.BTreeMap.{BTreeMap, get, is_at}
 use Rattle.std.specs.Cmp.Lexicographic.{pointwise_decides, slice_cmp}
-use Rattle.std.specs.List.{cons_option}
+use Rattle.std.specs.List.{cons_option, filter_map}
 use Rattle.std.specs.Ordering.{is_eq, nat_cmp}
 use Rattle.std.proofs.lemmas.Bool.{cases_lt}
 use Rattle.std.proofs.lemmas.Bool.Decides.{nat_tests}
@@ -13,10 +13,13 @@ use Rattle.std.proofs.lemmas.List.{append-nil, get_or_default}
 use Rattle.retro_base.specs.declared.refusal.Refusal.{Refusal}
 use Rattle.relation.specs.declared.catalog.StoredTable.{StoredTable}
 use Rattle.relation.specs.declared.catalog.CatalogEntry.{CatalogEntry}
-use Rattle.relation.specs.declared.row.CatalogRow.TheVariants.{Column}
+use Rattle.relation.specs.declared.row.CatalogRow.TheVariants.{Column, Index}
 use Rattle.relation.specs.declared.row.ColumnRow.{ColumnRow}
 use Rattle.relation.specs.declared.row.TableRow.{TableRow}
-use Rattle.relation.specs.Catalog.{as_column, column_rows, table_told, table_with, table_place}
+use Rattle.relation.specs.Catalog.{as_column, as_kept, column_rows, kept_indexes, table_told, table_with, table_place}
+use Rattle.relation.specs.declared.catalog.StoredIndex.{StoredIndex}
+use Rattle.relation.specs.declared.row.IndexRow.{IndexRow}
+use Rattle.relation.specs.declared.row.IndexForm.TheVariants.{Tree}
 use Rattle.values.specs.Name.{same_name}
 use Rattle.relation.specs.Named.{place_under, rows_under}
 use Rattle.relation.proofs.Steps.{filter_map-next, filter_map-none}
@@ -31,42 +34,54 @@ at_name a b = names_alike a b (slice_cmp nat_cmp a b) refl
 pub name_is : (a b : List ℕ) → same_name a b ≡ true → a ≡ b
 name_is a b h = (pointwise_decides (λ (x y : ℕ). (eqb-true x y, eq-eqb x y)) a b).0 h
 
--- the rows of each table, where one is added to those of its table
-pub row_added : (old mid new : BTreeMap (List ℕ) (List ColumnRow)) (key named table : List ℕ) (row : ColumnRow) (rows : List ColumnRow)
+-- what is kept for each table, where one item is added to that of its table
+pub item_added : {A : Type 0} (old mid new : BTreeMap (List ℕ) (List A)) (key named table : List ℕ) (item : A) (items : List A)
     → ((q : List ℕ) → get (slice_cmp nat_cmp) mid q ≡ cond (is_at (slice_cmp nat_cmp key) q) None (get (slice_cmp nat_cmp) old q))
-    → ((q : List ℕ) → get (slice_cmp nat_cmp) new q ≡ cond (is_at (slice_cmp nat_cmp named) q) (Some rows) (get (slice_cmp nat_cmp) mid q))
-    → named ≡ key → rows ≡ rows_under old key ++ row ∷ [] → rows_under new table ≡ rows_under old table ++ cond (same_name key table) (row ∷ []) []
-row_added old mid new key named table row rows removed inserted one are = go (same_name key table) refl
+    → ((q : List ℕ) → get (slice_cmp nat_cmp) new q ≡ cond (is_at (slice_cmp nat_cmp named) q) (Some items) (get (slice_cmp nat_cmp) mid q))
+    → named ≡ key → items ≡ rows_under old key ++ item ∷ [] → rows_under new table ≡ rows_under old table ++ cond (same_name key table) (item ∷ []) []
+item_added old mid new key named table item items removed inserted one are = go (same_name key table) refl
   where
-    go : (b : Bool) → same_name key table ≡ b → rows_under new table ≡ rows_under old table ++ cond b (row ∷ []) []
+    go : (b : Bool) → same_name key table ≡ b → rows_under new table ≡ rows_under old table ++ cond b (item ∷ []) []
     go true e =
         let same : key ≡ table = name_is key table e in
-        rw (inserted table, one, at_name key table, e) (are ∙ ap (λ (name : List ℕ). rows_under old name ++ row ∷ []) same)
+        rw (inserted table, one, at_name key table, e) (are ∙ ap (λ (name : List ℕ). rows_under old name ++ item ∷ []) same)
     go false e = rw (inserted table, removed table, one, at_name key table, e, append-nil) refl
 
+-- what is kept for each table of the rows of the catalog so far, where `of` tells what each row is to its table
+abbrev pub IsKept : {A : Type 0} → (List ℕ → CatalogEntry → Option A) → BTreeMap (List ℕ) (List A) → List CatalogEntry → Type 0
+IsKept of kept rows = (table : List ℕ) → rows_under kept table ≡ filter_map (of table) rows
+
 -- one row of the catalog more
-pub columns-more : (columns after : BTreeMap (List ℕ) (List ColumnRow)) (rows : List CatalogEntry) (i : ℕ) (told : CatalogEntry) (row : ColumnRow) → i < length rows → told ≡ get_or rows i told → told.row ≡ Column row
-    → ((table : List ℕ) → rows_under columns table ≡ column_rows table (take i rows))
-    → ((table : List ℕ) → rows_under after table ≡ rows_under columns table ++ cond (same_name row.table table) (row ∷ []) [])
-    → (table : List ℕ) → rows_under after table ≡ column_rows table (take (i + 1) rows)
-columns-more columns after rows i told row lt is column so_far added table =
-    let next : column_rows table (take (i + 1) rows) ≡ column_rows table (take i rows) ++ cons_option (as_column table told.row) [] = filter_map-next (λ (told : CatalogEntry). as_column table told.row) rows i told lt is in
-    let one : cons_option (as_column table told.row) [] ≡ cond (same_name row.table table) (row ∷ []) [] = rw column (chosen (same_name row.table table)) in
-    added table ∙ ap (λ (l : List ColumnRow). l ++ cond (same_name row.table table) (row ∷ []) []) (so_far table) ∙ ap (λ (l : List ColumnRow). column_rows table (take i rows) ++ l) (sym one) ∙ sym next
+pub kept-more : {A : Type 0} (of : List ℕ → CatalogEntry → Option A) (kept after : BTreeMap (List ℕ) (List A)) (rows : List CatalogEntry) (i : ℕ) (told : CatalogEntry) (named : List ℕ) (item : A) → i < length rows → told ≡ get_or rows i told
+    → ((table : List ℕ) → of table told ≡ cond (same_name named table) (Some item) None)
+    → IsKept of kept (take i rows)
+    → ((table : List ℕ) → rows_under after table ≡ rows_under kept table ++ cond (same_name named table) (item ∷ []) [])
+    → IsKept of after (take (i + 1) rows)
+kept-more {A} of kept after rows i told named item lt is tells so_far added table =
+    let next = filter_map-next (of table) rows i told lt is in
+    let one : cons_option (of table told) [] ≡ cond (same_name named table) (item ∷ []) [] = rw (tells table) (chosen (same_name named table)) in
+    added table ∙ ap (λ (l : List A). l ++ cond (same_name named table) (item ∷ []) []) (so_far table) ∙ ap (λ (l : List A). filter_map (of table) (take i rows) ++ l) (sym one) ∙ sym next
   where
-    chosen : (b : Bool) → cons_option (cond b (Some row) None) [] ≡ cond b (row ∷ []) []
+    chosen : (b : Bool) → cons_option (cond b (Some item) None) [] ≡ cond b (item ∷ []) []
     chosen true = refl
     chosen false = refl
 
-pub columns-other : (columns : BTreeMap (List ℕ) (List ColumnRow)) (rows : List CatalogEntry) (i : ℕ) (told : CatalogEntry) → i < length rows → told ≡ get_or rows i told → ((table : List ℕ) → as_column table told.row ≡ None)
-    → ((table : List ℕ) → rows_under columns table ≡ column_rows table (take i rows))
-    → (table : List ℕ) → rows_under columns table ≡ column_rows table (take (i + 1) rows)
-columns-other columns rows i told lt is none so_far table =
-    so_far table ∙ sym (filter_map-none (λ (told : CatalogEntry). as_column table told.row) rows i told lt is (none table))
+pub kept-other : {A : Type 0} (of : List ℕ → CatalogEntry → Option A) (kept : BTreeMap (List ℕ) (List A)) (rows : List CatalogEntry) (i : ℕ) (told : CatalogEntry) → i < length rows → told ≡ get_or rows i told → ((table : List ℕ) → of table told ≡ None)
+    → IsKept of kept (take i rows) → IsKept of kept (take (i + 1) rows)
+kept-other of kept rows i told lt is none so_far table =
+    so_far table ∙ sym (filter_map-none (of table) rows i told lt is (none table))
 
--- the table of a row, by the rows of its columns
-pub told-under : (rows : List CatalogEntry) (columns : List ColumnRow) (row : ℕ × TableRow) (r : Result StoredTable Refusal) → columns ≡ column_rows row.1.name rows → table_with columns row r → table_told rows row r
-told-under rows columns row r same h = subst (λ (cs : List ColumnRow). table_with cs row r) same h
+-- a column's row, and that of an index that is kept, told under the name of its table
+pub column-tells : (told : CatalogEntry) (row : ColumnRow) (table : List ℕ) → told.row ≡ Column row → as_column table told.row ≡ cond (same_name row.table table) (Some row) None
+column-tells told row table is = rw is refl
+
+pub index-tells : (told : CatalogEntry) (row : IndexRow) (table : List ℕ) → told.row ≡ Index row → row.form ≡ Tree → as_kept table told.row ≡ cond (same_name row.table table) (Some (record { place = row.place; root = row.root })) None
+index-tells told row table is tree = rw (is, tree) refl
+
+-- the table of a row, by the rows of its columns and its indexes
+pub told-under : (rows : List CatalogEntry) (columns : List ColumnRow) (indexes : List StoredIndex) (row : ℕ × TableRow) (r : Result StoredTable Refusal) → columns ≡ column_rows row.1.name rows → indexes ≡ kept_indexes row.1.name rows → table_with columns indexes row r → table_told rows row r
+told-under rows columns indexes row r same these h =
+    subst (λ (cs : List ColumnRow). table_with cs (kept_indexes row.1.name rows) row r) same (subst (λ (is : List StoredIndex). table_with columns is row r) these h)
 
 -- the place of the first table of a name, among so many
 abbrev pub IsPlaceBelow : ℕ → List ℕ → List StoredTable → Option ℕ → Type 0

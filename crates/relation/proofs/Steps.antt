@@ -9,7 +9,7 @@ use Rattle.sql_tree.specs.declared.statement.Column.{Column}
 use Rattle.pager.specs.Draft.{Edits, drafted}
 use Rattle.pager.specs.Pages.{Pages}
 use Rattle.pager.specs.Allows.{◌>>=◌, only}
-use Rattle.relation.specs.Each.{each, in_turn}
+use Rattle.relation.specs.Each.{each, each_in_turn, in_turn}
 use Rattle.relation.specs.Work.{all_added, created}
 
 -- one item more
@@ -66,6 +66,47 @@ in_turn-next step xs i x v p q r lt is h s =
 pub in_turn-ended : {A X : Type 0} (step : A → Pages → Result (X × Pages) Refusal → Type 0) (xs : List A) (i : ℕ) (x : A) (p q : Pages) (why : Refusal) → i < length xs → x ≡ get_or xs i x → in_turn step (take i xs) p (Ok (tt, q)) → step x q (Err why) → in_turn step xs p (Err why)
 in_turn-ended step xs i x p q why lt is h s =
     subst (λ l. in_turn step l p (Err why)) (ap (λ y. take i xs ++ y ∷ drop (suc i) xs) is ∙ around xs i x lt) (in_turn-stop step (take i xs) x (drop (suc i) xs) p q why h s)
+
+-- one answer alone is allowed
+abbrev pub left : {A : Type 0} → A → Result A Refusal → A
+left other (Ok x) = x
+left other (Err why) = other
+
+pub ok_is : {A : Type 0} (x y : A) → only (Ok x) (Ok y) → x ≡ y
+ok_is x y h = ap (left x) h
+
+pub firsts : {A B : Type 0} (x y : A × B) → only (Ok x) (Ok y) → x.0 ≡ y.0
+firsts {A} {B} x y h = ap (λ (p : A × B). p.0) (ok_is x y h)
+
+pub seconds : {A B : Type 0} (x y : A × B) → only (Ok x) (Ok y) → x.1 ≡ y.1
+seconds {A} {B} x y h = ap (λ (p : A × B). p.1) (ok_is x y h)
+
+-- one edit more whose answer is kept, and one that is refused
+pub each_in_turn-push : {A B : Type 0} (step : A → Pages → Result (B × Pages) Refusal → Type 0) (xs : List A) (x : A) (ys : List B) (y : B) (p q r : Pages) → each_in_turn step xs p (Ok (ys, q)) → step x q (Ok (y, r)) → each_in_turn step (xs ++ x ∷ []) p (Ok (ys ++ y ∷ [], r))
+each_in_turn-push step [] x ys y p q r h s =
+    let none : [] ≡ ys = firsts ([], p) (ys, q) h in
+    let same : q ≡ p = sym (seconds ([], p) (ys, q) h) in
+    ((y, r), subst (λ (at : Pages). step x at (Ok (y, r))) same s, (([], r), refl, ap (λ l. Ok (l ++ y ∷ [], r)) none))
+each_in_turn-push step (z ∷ xs) x ys y p q r h s =
+    let split : h.0.0 ∷ h.2.0.0 ≡ ys = firsts (h.0.0 ∷ h.2.0.0, h.2.0.1) (ys, q) h.2.2 in
+    let same : q ≡ h.2.0.1 = sym (seconds (h.0.0 ∷ h.2.0.0, h.2.0.1) (ys, q) h.2.2) in
+    (h.0, h.1, ((h.2.0.0 ++ y ∷ [], r), each_in_turn-push step xs x h.2.0.0 y h.0.1 h.2.0.1 r h.2.1 (subst (λ (at : Pages). step x at (Ok (y, r))) same s), ap (λ l. Ok (l ++ y ∷ [], r)) split))
+
+pub each_in_turn-stop : {A B : Type 0} (step : A → Pages → Result (B × Pages) Refusal → Type 0) (xs : List A) (x : A) (behind : List A) (ys : List B) (p q : Pages) (why : Refusal) → each_in_turn step xs p (Ok (ys, q)) → step x q (Err why) → each_in_turn step (xs ++ x ∷ behind) p (Err why)
+each_in_turn-stop step [] x behind ys p q why h s =
+    let same : q ≡ p = sym (seconds ([], p) (ys, q) h) in
+    inl (subst (λ (at : Pages). step x at (Err why)) same s)
+each_in_turn-stop step (z ∷ xs) x behind ys p q why h s =
+    let same : q ≡ h.2.0.1 = sym (seconds (h.0.0 ∷ h.2.0.0, h.2.0.1) (ys, q) h.2.2) in
+    inr (h.0, h.1, inl (each_in_turn-stop step xs x behind h.2.0.0 h.0.1 h.2.0.1 why h.2.1 (subst (λ (at : Pages). step x at (Err why)) same s)))
+
+pub each_in_turn-next : {A B : Type 0} (step : A → Pages → Result (B × Pages) Refusal → Type 0) (xs : List A) (i : ℕ) (x : A) (ys : List B) (y : B) (p q r : Pages) → i < length xs → x ≡ get_or xs i x → each_in_turn step (take i xs) p (Ok (ys, q)) → step x q (Ok (y, r)) → each_in_turn step (take (i + 1) xs) p (Ok (ys ++ y ∷ [], r))
+each_in_turn-next step xs i x ys y p q r lt is h s =
+    rw (take_more xs i x lt, ← is) (each_in_turn-push step (take i xs) x ys y p q r h s)
+
+pub each_in_turn-ended : {A B : Type 0} (step : A → Pages → Result (B × Pages) Refusal → Type 0) (xs : List A) (i : ℕ) (x : A) (ys : List B) (p q : Pages) (why : Refusal) → i < length xs → x ≡ get_or xs i x → each_in_turn step (take i xs) p (Ok (ys, q)) → step x q (Err why) → each_in_turn step xs p (Err why)
+each_in_turn-ended step xs i x ys p q why lt is h s =
+    subst (λ l. each_in_turn step l p (Err why)) (ap (λ y. take i xs ++ y ∷ drop (suc i) xs) is ∙ around xs i x lt) (each_in_turn-stop step (take i xs) x (drop (suc i) xs) ys p q why h s)
 
 -- a refusal that is handed on
 pub handed_on : {M P Q B : Type 0} → (P → Q) → M ⊎ (P × B) → M ⊎ (Q × B)

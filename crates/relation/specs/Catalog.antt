@@ -1,5 +1,5 @@
 -- What the catalog says: the tables, with their first pages and columns, and the indexes.
-use Rattle.std.specs.Prelude.{◌≡◌, ◌≤◌, ◌<◌, ◌==◌, ℕ, Bool, true, false, List, length, map, Option, Some, None, Result, Ok, Err, slice_get, slice_index_or, if◌then◌else◌, position}
+use Rattle.std.specs.Prelude.{◌≡◌, ◌≤◌, ◌<◌, ◌==◌, ℕ, List, length, map, Option, Some, None, Result, Ok, Err, slice_get, slice_index_or, if◌then◌else◌, position}
 use Rattle.std.specs.List.{AllByRecursion, filter_map, find}
 use Rattle.retro_base.specs.declared.refusal.Refusal.{Refusal}
 use Rattle.sql_tree.specs.declared.schema.IndexSchema.{IndexSchema}
@@ -11,12 +11,15 @@ use Rattle.pager.specs.Allows.{◌>>=◌, only, either}
 use Rattle.heap_file.specs.Chain.{scanned}
 use Rattle.heap_file.specs.Work.{next_of}
 use Rattle.relation.specs.declared.catalog.Catalog.{Catalog}
+use Rattle.relation.specs.declared.catalog.StoredIndex.{StoredIndex}
 use Rattle.relation.specs.declared.catalog.StoredTable.{StoredTable}
 use Rattle.relation.specs.declared.catalog.CatalogEntry.{CatalogEntry}
 use Rattle.relation.specs.declared.catalog.TheConstants.{CATALOG}
 use Rattle.relation.specs.declared.row.CatalogRow.{CatalogRow}
 use Rattle.relation.specs.declared.row.CatalogRow.TheVariants.{Table, Column, Index}
 use Rattle.relation.specs.declared.row.ColumnRow.{ColumnRow}
+use Rattle.relation.specs.declared.row.IndexForm.{IndexForm}
+use Rattle.relation.specs.declared.row.IndexForm.TheVariants.{Named, Tree}
 use Rattle.relation.specs.declared.row.IndexRow.{IndexRow}
 use Rattle.relation.specs.declared.row.TableRow.{TableRow}
 use Rattle.relation.specs.CatalogRow.{IsRowOf}
@@ -53,11 +56,26 @@ as_index page (Table row) = None
 as_index page (Column row) = None
 as_index page (Index row) = Some (page, row)
 
+-- an index of that form, where a table keeps it: one that is kept by name alone has no entries
+abbrev pub stored_index : IndexForm → ℕ → ℕ → Option StoredIndex
+stored_index Named place root = None
+stored_index Tree place root = Some (record { place = place; root = root })
+
+-- the index of an index's row, where the table of that name keeps it
+abbrev pub as_kept : List ℕ → CatalogRow → Option StoredIndex
+as_kept table (Table row) = None
+as_kept table (Column row) = None
+as_kept table (Index row) = if same_name row.table table then stored_index row.form row.place row.root else None
+
 abbrev pub table_rows : List CatalogEntry → List (ℕ × TableRow)
 table_rows rows = filter_map (λ (told : CatalogEntry). as_table told.page told.row) rows
 
 abbrev pub column_rows : List ℕ → List CatalogEntry → List ColumnRow
 column_rows table rows = filter_map (λ (told : CatalogEntry). as_column table told.row) rows
+
+-- the indexes that the table of that name keeps, in the order in which they were made
+abbrev pub kept_indexes : List ℕ → List CatalogEntry → List StoredIndex
+kept_indexes table rows = filter_map (λ (told : CatalogEntry). as_kept table told.row) rows
 
 abbrev pub index_rows : List CatalogEntry → List (ℕ × IndexRow)
 index_rows rows = filter_map (λ (told : CatalogEntry). as_index told.page told.row) rows
@@ -86,14 +104,16 @@ abbrev pub AreColumnsOf : List ColumnRow → Option (List TableColumn) → Type 
 AreColumnsOf rows None = (columns : List TableColumn) → AreColumns rows columns → ⊥
 AreColumnsOf rows (Some columns) = AreColumns rows columns
 
--- a table with the columns that these rows tell; one whose rows do not tell them breaks the page of its own row
-abbrev pub table_with : List ColumnRow → ℕ × TableRow → Result StoredTable Refusal → Type 0
-table_with columns row (Ok table) =
+-- a table with the columns that these rows tell, and with these indexes; one whose rows do not tell columns breaks the
+-- page of its own row
+abbrev pub table_with : List ColumnRow → List StoredIndex → ℕ × TableRow → Result StoredTable Refusal → Type 0
+table_with columns indexes row (Ok table) =
     (table.name ≡ row.1.name) × (table.first ≡ row.1.first) × AreColumnsOf columns (Some table.columns)
-table_with columns row (Err why) = (why ≡ broken row.0) × AreColumnsOf columns None
+    × (table.indexes ≡ indexes)
+table_with columns indexes row (Err why) = (why ≡ broken row.0) × AreColumnsOf columns None
 
 abbrev pub table_told : List CatalogEntry → ℕ × TableRow → Result StoredTable Refusal → Type 0
-table_told rows row = table_with (column_rows row.1.name rows) row
+table_told rows row = table_with (column_rows row.1.name rows) (kept_indexes row.1.name rows) row
 
 -- the table of that name
 abbrev pub table_named : List ℕ → List StoredTable → Option StoredTable

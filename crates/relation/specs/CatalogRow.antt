@@ -8,7 +8,7 @@ use Rattle.values.specs.Name.{IsName}
 use Rattle.relation.specs.declared.row.CatalogRow.{CatalogRow}
 use Rattle.relation.specs.declared.row.CatalogRow.TheVariants.{Table, Column, Index}
 use Rattle.relation.specs.declared.row.IndexForm.{IndexForm}
-use Rattle.relation.specs.declared.row.IndexForm.TheVariants.{Named, Chain, Tree}
+use Rattle.relation.specs.declared.row.IndexForm.TheVariants.{Named, Tree}
 
 -- a column's kind as a number
 abbrev pub kind_number : Kind → ℕ
@@ -18,7 +18,6 @@ kind_number kind.Text = 2
 -- an index's form as a number
 abbrev pub form_number : IndexForm → ℕ
 form_number Named = 0
-form_number Chain = 1
 form_number Tree = 2
 
 -- The values of a row: 1, the table's name and its first page; or 2, the table's name, the place from 0, the column's

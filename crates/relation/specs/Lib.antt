@@ -1,5 +1,6 @@
 pub mod Catalog
 pub mod CatalogRow
 pub mod Each
+pub mod Entries
 pub mod Named
 pub mod Work

@@ -1,11 +1,9 @@
 -- What the calls answer, and what they do to the pages.
-use Rattle.std.specs.Prelude.{◌≡◌, ◌+◌, ◌==◌, ℕ, Bool, true, false, List, [], ◌∷◌, map, Option, Some, None, Result, Ok, Err, if◌then◌else◌}
+use Rattle.std.specs.Prelude.{◌≡◌, ◌+◌, ◌==◌, ℕ, true, List, [], ◌∷◌, map, Option, Some, None, Result, Ok, Err, if◌then◌else◌}
 use Rattle.std.specs.List.{AllByRecursion}
+use Rattle.std.specs.List.Sorted.{IsNonDecreasingBy, IsPermutation}
 use Rattle.retro_base.specs.declared.refusal.Refusal.{Refusal}
-use Rattle.values.specs.declared.value.Kind.{Kind}
-use Rattle.values.specs.declared.value.Kind.TheVariants as kind
 use Rattle.values.specs.declared.value.Value.{Value}
-use Rattle.values.specs.Value.{kind_of}
 use Rattle.sql_tree.specs.Scope.{column_place}
 use Rattle.sql_tree.specs.declared.schema.Schema.{Schema}
 use Rattle.sql_tree.specs.declared.statement.Column.{Column as TableColumn}
@@ -13,15 +11,20 @@ use Rattle.pager.specs.Pages.{Pages, broken}
 use Rattle.heap_file.specs.declared.chain.Placed.{Placed}
 use Rattle.pager.specs.Allows.{◌>>=◌, only}
 use Rattle.heap_file.specs.Chain.{scanned}
-use Rattle.heap_file.specs.Work.{added, changed, made, next_of, removed}
+use Rattle.heap_file.specs.Work.{added, changed, got, made, next_of, removed}
+use Rattle.pager.specs.declared.index.Found.{Found}
+use Rattle.relation.specs.declared.catalog.StoredIndex.{StoredIndex}
 use Rattle.relation.specs.declared.catalog.StoredTable.{StoredTable}
 use Rattle.relation.specs.declared.catalog.TheConstants.{CATALOG}
 use Rattle.relation.specs.declared.row.CatalogRow.{CatalogRow}
 use Rattle.relation.specs.declared.row.CatalogRow.TheVariants.{Table, Column, Index}
-use Rattle.relation.specs.declared.row.IndexForm.TheVariants.{Named}
+use Rattle.relation.specs.declared.row.IndexForm.TheVariants.{Tree}
 use Rattle.relation.specs.Catalog.{catalog, schema_of, table_named}
 use Rattle.relation.specs.CatalogRow.{row_values}
-use Rattle.relation.specs.Each.{each, in_turn}
+use Rattle.relation.specs.Each.{each, each_in_turn, each_some, in_turn}
+use Rattle.relation.specs.Entries.{EditsIndex, entries_edited, entries_of, rows_listed, rows_moved}
+use Rattle.relation.specs.declared.drafting.RowChange.{RowChange}
+use Rattle.relation.specs.declared.listing.Moved.{Moved}
 use Rattle.sql_tree.specs.Rows.{fits}
 
 -- the tables and indexes there are
@@ -81,12 +84,37 @@ rows_of_table name first columns = Table (record { name = name; first = first })
 abbrev pub all_added : ℕ → ℕ → List (List Value) → Pages → Result (Unit {0} × Pages) Refusal → Type 0
 all_added size first = in_turn (λ row pages. added size pages first row)
 
+-- the same, with where the rows then stand
+abbrev pub row_placed : ℕ → ℕ → List Value → Pages → Result (Placed × Pages) Refusal → Type 0
+row_placed size first row pages = do
+  placed ← added size pages first row
+  only (Ok (record { number = placed.0.0; page = placed.0.1; row = row }, placed.1))
+
+-- rows with where they stand: each under the number and on the page beside it
+abbrev pub standing : List (List Value × (ℕ × ℕ)) → List Placed
+standing pairs = map
+    (λ (pair : List Value × (ℕ × ℕ)). record { number = pair.1.0; page = pair.1.1; row = pair.0 }) pairs
+
+-- rows are added, and told where they stand
+abbrev pub all_placed : ℕ → ℕ → List (List Value) → Pages → Result (List Placed × Pages) Refusal → Type 0
+all_placed size first = each_in_turn (row_placed size first)
+
 -- rows of the table that begins with that page change, in order: each stands on its page under its number, and becomes
--- this
-abbrev pub all_changed : ℕ → ℕ → List Placed → Pages → Result (Unit {0} × Pages) Refusal → Type 0
-all_changed size first = in_turn
-    (λ (placed : Placed) pages. changed size pages first placed.page
-    (record { number = placed.number; row = placed.row }))
+-- this; the answer is what became of them
+abbrev pub row_changes : ℕ → ℕ → RowChange → Pages → Result (Moved × Pages) Refusal → Type 0
+row_changes size first change pages = do
+  page ← changed size pages first change.was.page (record { number = change.was.number; row = change.row })
+  only
+      (Ok (
+        record {
+          was = change.was;
+          becomes = record { number = change.was.number; page = page.0; row = change.row };
+        },
+        page.1,
+      ))
+
+abbrev pub all_changed : ℕ → ℕ → List RowChange → Pages → Result (List Moved × Pages) Refusal → Type 0
+all_changed size first = each_in_turn (row_changes size first)
 
 -- rows of the table that begins with that page are taken out, in order, each of the page where it stands
 abbrev pub all_removed : ℕ → ℕ → List Placed → Pages → Result (Unit {0} × Pages) Refusal → Type 0
@@ -98,55 +126,108 @@ created size pages name columns = do
   table ← made size pages
   all_added size CATALOG (map row_values (rows_of_table name table.0 columns)) table.1
 
--- the catalog's row of an index over the column at that place of a table; the index is kept by name alone
-abbrev pub row_of_index : List ℕ → List ℕ → ℕ → CatalogRow
-row_of_index name table place =
-    Index (record { name = name; table = table; place = place; form = Named; root = 0 })
+-- the catalog's row of an index over the column at that place of a table, with that root page
+abbrev pub row_of_index : List ℕ → List ℕ → ℕ → ℕ → CatalogRow
+row_of_index name table place root =
+    Index (record { name = name; table = table; place = place; form = Tree; root = root })
 
--- an index over the column at that place of a table is made: its row is added to the catalog
-abbrev pub index_added : ℕ → List ℕ → List ℕ → ℕ → Pages → Result (Unit {0} × Pages) Refusal → Type 0
-index_added size name table place = all_added size CATALOG (row_values (row_of_index name table place) ∷ [])
+-- An index over the column at that place of a table is made: its root page, its row in the catalog, and an entry for each
+-- row that the table has.
+abbrev pub table_indexed : (ℕ → Pages → Result (ℕ × Pages) Refusal → Type 0) → EditsIndex → ℕ → List ℕ → StoredTable → ℕ
+    → Pages → Result (Unit {0} × Pages) Refusal → Type 0
+table_indexed make add size name table place pages = do
+  rows ← rows_at size pages table
+  root ← make size pages
+  told ← all_added size CATALOG (row_values (row_of_index name table.name place root.0) ∷ []) root.1
+  entries_edited add size root.0 (entries_of place rows) told.1
 
--- an index over the column of that name of a table is made
-abbrev pub indexed : ℕ → Pages → List ℕ → List ℕ → List ℕ → Result (Unit {0} × Pages) Refusal → Type 0
-indexed size pages name table column = do
+-- the same of the column of that name of the table of that name
+abbrev pub indexed : (ℕ → Pages → Result (ℕ × Pages) Refusal → Type 0) → EditsIndex → ℕ → Pages → List ℕ → List ℕ
+    → List ℕ → Result (Unit {0} × Pages) Refusal → Type 0
+indexed make add size pages name table column = do
   found ← table_in size pages table
   place ← only (or_broken (column_place column found.columns))
-  index_added size name table place pages
+  table_indexed make add size name found place pages
 
--- rows are added to the table of that name, in order
-abbrev pub inserted : ℕ → Pages → List ℕ → List (List Value) → Result (Unit {0} × Pages) Refusal → Type 0
-inserted size pages name rows = do
+-- rows are added to a table, in order, and then to its indexes
+abbrev pub table_inserted : EditsIndex → ℕ → StoredTable → List (List Value) → Pages
+    → Result (Unit {0} × Pages) Refusal → Type 0
+table_inserted add size table rows pages = do
+  placed ← all_placed size table.first rows pages
+  rows_listed add size table.indexes placed.0 placed.1
+
+-- the same of the table of that name
+abbrev pub inserted : EditsIndex → ℕ → Pages → List ℕ → List (List Value) → Result (Unit {0} × Pages) Refusal → Type 0
+inserted add size pages name rows = do
   table ← table_in size pages name
-  all_added size table.first rows pages
+  table_inserted add size table rows pages
 
--- the page where the row of that number stands; where none has it, the table's first page is told as broken
-abbrev pub page_of : ℕ → ℕ → List Placed → Result ℕ Refusal
-page_of first number [] = Err (broken first)
-page_of first number (placed ∷ rows) = if placed.number == number then Ok placed.page else page_of first number rows
+-- the row of that number; where none has it, the table's first page is told as broken
+abbrev pub placed_of : ℕ → ℕ → List Placed → Result Placed Refusal
+placed_of first number [] = Err (broken first)
+placed_of first number (placed ∷ rows) = if placed.number == number then Ok placed else placed_of first number rows
 
--- a row of a table changes
-abbrev pub row_changed : ℕ → ℕ → List Placed → ℕ × List Value → Pages → Result (ℕ × Pages) Refusal → Type 0
-row_changed size first rows change pages = do
-  page ← only (page_of first change.0 rows)
-  changed size pages first page (record { number = change.0; row = change.1 })
+-- rows of a table change, in order, and its indexes follow
+abbrev pub table_updated : EditsIndex → EditsIndex → ℕ → StoredTable → List RowChange → Pages
+    → Result (Unit {0} × Pages) Refusal → Type 0
+table_updated add remove size table changes pages = do
+  moves ← all_changed size table.first changes pages
+  rows_moved add remove size table.indexes moves.0 moves.1
+
+-- what the row of a number becomes, with how it stands
+abbrev pub change_of : ℕ → List Placed → ℕ × List Value → Result RowChange Refusal → Type 0
+change_of first rows change = do
+  was ← only (placed_of first change.0 rows)
+  only (Ok (record { was = was; row = change.1 }))
 
 -- rows of the table of that name change, in order, under their numbers
-abbrev pub updated : ℕ → Pages → List ℕ → List (ℕ × List Value) → Result (Unit {0} × Pages) Refusal → Type 0
-updated size pages name changes = do
+abbrev pub updated : EditsIndex → EditsIndex → ℕ → Pages → List ℕ → List (ℕ × List Value)
+    → Result (Unit {0} × Pages) Refusal → Type 0
+updated add remove size pages name changes = do
   table ← table_in size pages name
   rows ← rows_at size pages table
-  in_turn (row_changed size table.first rows) changes pages
+  told ← each (change_of table.first rows) changes
+  table_updated add remove size table told pages
 
--- a row of a table is taken out
-abbrev pub row_removed : ℕ → ℕ → List Placed → ℕ → Pages → Result (Unit {0} × Pages) Refusal → Type 0
-row_removed size first rows number pages = do
-  page ← only (page_of first number rows)
-  removed size pages first page number
+-- rows of a table are taken out, in order, and then their entries of its indexes
+abbrev pub table_deleted : EditsIndex → ℕ → StoredTable → List Placed → Pages → Result (Unit {0} × Pages) Refusal
+    → Type 0
+table_deleted remove size table rows pages = do
+  done ← all_removed size table.first rows pages
+  rows_listed remove size table.indexes rows done.1
 
 -- the rows of these numbers are taken out of the table of that name, in order
-abbrev pub deleted : ℕ → Pages → List ℕ → List ℕ → Result (Unit {0} × Pages) Refusal → Type 0
-deleted size pages name numbers = do
+abbrev pub deleted : EditsIndex → ℕ → Pages → List ℕ → List ℕ → Result (Unit {0} × Pages) Refusal → Type 0
+deleted remove size pages name numbers = do
   table ← table_in size pages name
   rows ← rows_at size pages table
-  in_turn (row_removed size table.first rows) numbers pages
+  gone ← each (λ number. only (placed_of table.first number rows)) numbers
+  table_deleted remove size table gone pages
+
+-- these entries in rising row number
+abbrev pub by_number : List Found → Result (List Found) Refusal → Type 0
+by_number found (Ok sorted) =
+    IsPermutation found sorted × IsNonDecreasingBy (λ (entry : Found). entry.number) sorted
+by_number found (Err why) = ⊥
+
+-- a row that was found, where it is there; one that does not fit the columns breaks its page
+abbrev pub fitting_found : List TableColumn → Found → Option (List Value) → Result (Option Placed) Refusal
+fitting_found columns entry None = Ok None
+fitting_found columns entry (Some row) =
+    if fits columns row then Ok (Some (record { number = entry.number; page = entry.page; row = row }))
+    else Err (broken entry.page)
+
+-- the row of an entry, where its page holds it
+abbrev pub row_found : ℕ → Pages → List TableColumn → Found → Result (Option Placed) Refusal → Type 0
+row_found size pages columns entry = do
+  row ← got size pages entry.page entry.number
+  only (fitting_found columns entry row)
+
+-- The rows of a table whose value in the column of an index is at least `low` and at most `high`, in rising number, as
+-- the index lists them; an entry whose row is not on its page is passed over.
+abbrev pub ranged_at : (ℕ → ℕ → Value → Value → Pages → Result (List Found) Refusal → Type 0) → ℕ → Pages → StoredTable
+    → StoredIndex → Value → Value → Result (List Placed) Refusal → Type 0
+ranged_at range size pages table index low high = do
+  found ← range size index.root low high pages
+  sorted ← by_number found
+  each_some (row_found size pages table.columns) sorted

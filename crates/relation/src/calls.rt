@@ -1,20 +1,22 @@
 //! The calls: each that edits drafts what it does, and then makes the edits.
 
-ghost use Rattle.std.specs.Prelude.{◌≤◌, All, IfOk, length};
+ghost use Rattle.std.specs.Prelude.{◌≡◌, ◌≤◌, All, IfOk, length};
 ghost use Rattle.pager.specs.Stop.{Accounts, Answers, Makes, OnlyReads};
 ghost use Rattle.heap_file.specs.HeapPage.{IsShort};
 ghost use Rattle.heap_file.specs.Work.{next_of};
-ghost use Rattle.heap_file.specs.declared.chain.Placed.{Placed};
+ghost use Rattle.values.specs.Value.{kind_of};
 ghost use Rattle.relation.specs.Catalog.{HaveFewColumns, catalog};
-ghost use Rattle.relation.specs.Work.{AllPlacedFit, all_added, all_changed, all_removed, created, index_added, rows_at};
+ghost use Rattle.relation.specs.Work.{AllPlacedFit, created, ranged_at, rows_at, table_deleted, table_indexed, table_inserted, table_updated};
+ghost use Rattle.relation.specs.declared.drafting.RowChange.{RowChange};
 
-use crate::catalog::{Catalog, StoredTable, read_catalog};
-use crate::drafting;
+use crate::catalog::{Catalog, StoredIndex, StoredTable, read_catalog};
+use crate::drafting::{self, RowChange};
+use crate::ranging;
 use heap_file::Placed;
-use pager::{Draft, EditPager, Pager, Stop};
+use pager::{Draft, EditPager, Index, Pager, Stop};
 use sql_tree::Column;
 use std::alloc::Global;
-use values::{Name, Row};
+use values::{Name, Row, Value};
 
 /// The catalog, read once for all calls that follow until a table or an index is made.
 pub fn open<P: Pager>(alloc: Global, pager: &mut P) -> Result<Catalog, Stop<P::Fault>>
@@ -40,6 +42,26 @@ pub fn rows<P: Pager>(
 {
     let draft = Draft::new(alloc, pager.size());
     drafting::rows(alloc, pager, &draft, table)
+}
+
+/// The rows of a table whose value in the column of one of its indexes is at least `low` and at most `high`, in rising
+/// number, each with the page where it stands: those alone that the index lists are read.
+pub fn ranged<I: Index, P: Pager>(
+    alloc: Global,
+    pager: &mut P,
+    table: &StoredTable,
+    index: &StoredIndex,
+    low: &Value,
+    high: &Value,
+) -> Result<Vec<Placed>, Stop<P::Fault>>
+    requires { kind_of low.now ≡ kind_of high.now }
+    ensures ranged { Answers (λ rows. rows.items) (P.tells pager.new)
+        (λ pages. ranged_at I.ranged (P.size pager.old) pages table.now index.now low.now high.now) result }
+    ensures fitting { IfOk result (λ rows. AllPlacedFit table.now.columns rows.items) }
+    ensures only_reads { OnlyReads P.tells P.goes P.size P.faults pager.old pager.new result }
+{
+    let draft = Draft::new(alloc, pager.size());
+    ranging::ranged::<I, P>(alloc, pager, &draft, table, index, low, high)
 }
 
 /// The next row number of a table.
@@ -75,10 +97,10 @@ pub fn create_table<P: EditPager>(
     Ok(())
 }
 
-/// Makes an index over the column at that place of a table. It is kept by name alone: it takes no page, and lists
-/// nothing. Its name is to be a new one, and the table is to have that column. Refused before the first edit where more
-/// pages are needed than are free.
-pub fn create_index<P: EditPager>(
+/// Makes an index over the column at that place of a table, with an entry for each row that the table has. Its name is
+/// to be a new one, and the table is to have that column. Refused before the first edit where more pages are needed than
+/// are free.
+pub fn create_index<I: Index, P: EditPager>(
     alloc: Global,
     pager: &mut P,
     name: &Name,
@@ -86,68 +108,68 @@ pub fn create_index<P: EditPager>(
     place: u32,
 ) -> Result<(), Stop<P::Fault>>
     ensures indexed { Makes (λ u. u) (P.tells pager.old) (P.tells pager.new)
-        (index_added (P.size pager.old) name.now table.now.name place) result }
+        (table_indexed I.made I.added (P.size pager.old) name.now table.now place) result }
     ensures accounts { Accounts P.goes P.size P.faults pager.old pager.new result }
 {
     let mut draft = Draft::new(alloc, pager.size());
-    drafting::create_index(alloc, pager, &mut draft, name, &table.name, place)?;
+    drafting::create_index::<I, P>(alloc, pager, &mut draft, name, table, place)?;
     draft.write(pager)?;
     Ok(())
 }
 
-/// Adds rows to a table, in order, under the next row numbers. Each row is to have one value of each column's kind.
-/// Refused before the first edit where more pages are needed than are free.
-pub fn insert<P: EditPager>(
+/// Adds rows to a table, in order, under the next row numbers, and to its indexes. Each row is to have one value of each
+/// column's kind. Refused before the first edit where more pages are needed than are free.
+pub fn insert<I: Index, P: EditPager>(
     alloc: Global,
     pager: &mut P,
     table: &StoredTable,
     rows: &[Row],
 ) -> Result<(), Stop<P::Fault>>
     requires { All IsShort rows.now }
-    ensures added { Makes (λ u. u) (P.tells pager.old) (P.tells pager.new)
-        (all_added (P.size pager.old) table.now.first rows.now) result }
+    ensures inserted { Makes (λ u. u) (P.tells pager.old) (P.tells pager.new)
+        (table_inserted I.added (P.size pager.old) table.now rows.now) result }
     ensures accounts { Accounts P.goes P.size P.faults pager.old pager.new result }
 {
     let mut draft = Draft::new(alloc, pager.size());
-    drafting::insert(alloc, pager, &mut draft, table.first, rows)?;
+    drafting::insert::<I, P>(alloc, pager, &mut draft, table, rows)?;
     draft.write(pager)?;
     Ok(())
 }
 
-/// Changes rows of a table, in order: each stands on its page under its number, as `rows` told, and becomes this. A row
-/// that does not stand there is refused as a page that is broken. Refused before the first edit where more pages are
-/// needed than are free.
-pub fn update<P: EditPager>(
+/// Changes rows of a table, in order, and its indexes with them: each row stands on its page under its number, as `rows`
+/// or `ranged` told, and becomes this. A row that does not stand there is refused as a page that is broken. Refused
+/// before the first edit where more pages are needed than are free.
+pub fn update<I: Index, P: EditPager>(
     alloc: Global,
     pager: &mut P,
     table: &StoredTable,
-    changes: &[Placed],
+    changes: Vec<RowChange>,
 ) -> Result<(), Stop<P::Fault>>
-    requires { All (λ (placed : Placed). IsShort placed.row) changes.now }
-    ensures changed { Makes (λ u. u) (P.tells pager.old) (P.tells pager.new)
-        (all_changed (P.size pager.old) table.now.first changes.now) result }
+    requires { All (λ (change : RowChange). IsShort change.row) changes.items }
+    ensures updated { Makes (λ u. u) (P.tells pager.old) (P.tells pager.new)
+        (table_updated I.added I.removed (P.size pager.old) table.now changes.items) result }
     ensures accounts { Accounts P.goes P.size P.faults pager.old pager.new result }
 {
     let mut draft = Draft::new(alloc, pager.size());
-    drafting::update(alloc, pager, &mut draft, table.first, changes)?;
+    drafting::update::<I, P>(alloc, pager, &mut draft, table, changes)?;
     draft.write(pager)?;
     Ok(())
 }
 
-/// Takes rows out of a table, in order, each of the page where it stands, as `rows` told. A row that does not stand
-/// there is refused as a page that is broken.
-pub fn delete<P: EditPager>(
+/// Takes rows out of a table, in order, each of the page where it stands, as `rows` or `ranged` told, and their entries
+/// out of its indexes. A row that does not stand there is refused as a page that is broken.
+pub fn delete<I: Index, P: EditPager>(
     alloc: Global,
     pager: &mut P,
     table: &StoredTable,
     rows: &[Placed],
 ) -> Result<(), Stop<P::Fault>>
-    ensures removed { Makes (λ u. u) (P.tells pager.old) (P.tells pager.new)
-        (all_removed (P.size pager.old) table.now.first rows.now) result }
+    ensures deleted { Makes (λ u. u) (P.tells pager.old) (P.tells pager.new)
+        (table_deleted I.removed (P.size pager.old) table.now rows.now) result }
     ensures accounts { Accounts P.goes P.size P.faults pager.old pager.new result }
 {
     let mut draft = Draft::new(alloc, pager.size());
-    drafting::delete(alloc, pager, &mut draft, table.first, rows)?;
+    drafting::delete::<I, P>(alloc, pager, &mut draft, table, rows)?;
     draft.write(pager)?;
     Ok(())
 }

@@ -7,7 +7,9 @@ ghost use Rattle.relation.specs.Catalog.{AreColumnsOf, as_index, as_table, HaveF
 ghost use Rattle.relation.specs.Each.{each, TellsPage};
 ghost use Rattle.relation.specs.Named.{ArePlaces, rows_under};
 
-use crate::named::{ColumnRows, Places, columns_by_table, places_of};
+use crate::named::{
+    ColumnRows, KeptIndexes, Places, columns_by_table, indexes_by_table, places_of,
+};
 use crate::row::{CatalogRow, ColumnRow, IndexRow, TableRow, row_of};
 use heap_file::{Placed, drafting};
 use pager::{Draft, Pager, Stop, broken};
@@ -26,15 +28,30 @@ pub struct CatalogEntry {
     pub row: CatalogRow,
 }
 
-/// A table: its name, its first page, and its columns in order.
+/// An index that a table keeps: the place of its column among the table's, and its root page.
+#[derive(Clone, Copy)]
+pub struct StoredIndex {
+    pub place: u32,
+    pub root: u32,
+}
+
+impl Duplicate for StoredIndex {
+    fn copy(&self, _alloc: Global) -> Result<StoredIndex, AllocError> {
+        Ok(*self)
+    }
+}
+
+/// A table: its name, its first page, its columns in order, and the indexes that it keeps, in the order in which they
+/// were made. An index that is kept by name alone is none of these.
 #[derive(Drop)]
 pub struct StoredTable {
     pub name: Name,
     pub first: u32,
     pub columns: Seq<Column>,
+    pub indexes: Seq<StoredIndex>,
 }
 
-/// The tables and indexes, in the order in which they were made.
+/// The tables and all indexes, in the order in which they were made.
 #[derive(Drop)]
 pub struct Catalog {
     pub tables: Seq<StoredTable>,
@@ -140,9 +157,10 @@ fn tables_told(alloc: Global, rows: &[CatalogEntry]) -> Result<Vec<StoredTable>,
 {
     let mut tables = Vec::new(alloc);
     let columns = columns_by_table(alloc, rows)?;
+    let indexes = indexes_by_table(alloc, rows)?;
     for told in rows {
         if let Some(row) = table_row(told) {
-            tables.push(table_told(alloc, &columns, told.page, row)?)?;
+            tables.push(table_told(alloc, &columns, &indexes, told.page, row)?)?;
         }
     }
     Ok(tables)
@@ -164,10 +182,13 @@ fn table_row(told: &CatalogEntry) -> Option<&TableRow>
 fn table_told(
     alloc: Global,
     columns: &ColumnRows,
+    indexes: &KeptIndexes,
     page: u32,
     row: &TableRow,
 ) -> Result<StoredTable, Refusal>
-    ensures { TellsPage (λ table. table) (table_with (rows_under columns.now row.now.name) (page, row.now)) result }
+    ensures { TellsPage (λ table. table)
+        (table_with (rows_under columns.now row.now.name) (rows_under indexes.now row.now.name) (page, row.now))
+        result }
 {
     let Some(columns) = columns_under(alloc, columns, &row.name)? else {
         return Err(broken(page));
@@ -176,7 +197,22 @@ fn table_told(
         name: row.name.copy(alloc)?,
         first: row.first,
         columns,
+        indexes: indexes_under(alloc, indexes, &row.name)?,
     })
+}
+
+// The indexes that the table of that name keeps.
+fn indexes_under(
+    alloc: Global,
+    indexes: &KeptIndexes,
+    table: &Name,
+) -> Result<Seq<StoredIndex>, AllocError>
+    ensures { IfOk result (λ kept. kept ≡ rows_under indexes.now table.now) }
+{
+    match indexes.get(table) {
+        Some(kept) => kept.copy(alloc),
+        None => Ok(Seq::new(alloc)),
+    }
 }
 
 // The columns of that table. None where their rows tell no table's columns.

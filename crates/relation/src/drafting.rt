@@ -1,25 +1,39 @@
 //! The calls on a draft: no page is edited before the draft is written.
 
-ghost use Rattle.std.specs.Prelude.{◌≡◌, ◌≤◌, All, IfOk, length, map};
-ghost use Rattle.pager.specs.Draft.{Drafts, Reads};
+ghost use Rattle.std.specs.List.{zip};
+ghost use Rattle.std.specs.Prelude.{◌≡◌, ◌≤◌, All, IfOk, IfSome, Option, length, map};
+ghost use Rattle.pager.specs.Draft.{Drafts, Reads, drafted};
+ghost use Rattle.pager.specs.Pages.{Pages};
 ghost use Rattle.pager.specs.Stop.{OnlyDrafts, OnlyReads};
 ghost use Rattle.pager.specs.Allows.{only};
+ghost use Rattle.heap_file.specs.Chain.{HoldsStill, IsWritable};
 ghost use Rattle.heap_file.specs.HeapPage.{IsShort};
-ghost use Rattle.heap_file.specs.declared.chain.Placed.{Placed};
+ghost use Rattle.heap_file.specs.declared.chain.Link.{Link};
+ghost use Rattle.relation.specs.declared.catalog.TheConstants.{CATALOG};
+ghost use Rattle.relation.specs.declared.drafting.RowChange.{RowChange};
+ghost use Rattle.relation.specs.declared.listing.Moved.{Moved};
 ghost use Rattle.relation.specs.CatalogRow.{row_values};
 ghost use Rattle.relation.specs.Each.{TellsPage, each};
-ghost use Rattle.relation.specs.Work.{AllPlacedFit, all_added, all_changed, all_removed, created, fitting, index_added, rows_at, rows_of_table};
+ghost use Rattle.relation.specs.Work.{AllPlacedFit, all_added, all_changed, all_placed, all_removed, created, fitting, row_changes, rows_at, rows_of_table, standing, table_deleted, table_indexed, table_inserted, table_updated};
 ghost use Rattle.sql_tree.specs.Rows.{fits};
 
-use crate::catalog::{CATALOG, StoredTable};
+use crate::catalog::{CATALOG, StoredIndex, StoredTable};
+use crate::listing::{EntryEdit, Moved, list_in, list_rows, move_rows};
 use crate::row::{column_values, index_values, table_values};
-use heap_file::Placed;
 use heap_file::drafting::{self, Cursor};
-use pager::{Draft, Pager, Stop, broken};
+use heap_file::{Link, Placed};
+use pager::{Draft, Index, Pager, Stop, broken};
 use retro_base::Refusal;
 use sql_tree::{Column, fits};
 use std::alloc::{AllocError, Global};
-use values::{Name, Row, Value};
+use values::{Duplicate, Name, Row};
+
+/// A row as it stands, and what it becomes.
+#[derive(Drop)]
+pub struct RowChange {
+    pub was: Placed,
+    pub row: Row,
+}
 
 /// The rows of a table, in rising number.
 pub fn rows<P: Pager>(
@@ -68,7 +82,7 @@ pub fn create_table<P: Pager>(
 {
     let first = drafting::make(alloc, pager, draft)?;
     let rows = rows_of_table(alloc, name, first, columns)?;
-    insert(alloc, pager, draft, CATALOG, &rows)
+    add_to_catalog(alloc, pager, draft, &rows)
 }
 
 // The catalog's rows of a table.
@@ -90,80 +104,213 @@ fn rows_of_table(
     Ok(rows)
 }
 
-/// Drafts an index over the column at that place of a table, by its name alone.
-pub fn create_index<P: Pager>(
+/// Drafts an index over the column at that place of a table: its root page, its row in the catalog, and an entry for
+/// each row of the table.
+pub fn create_index<I: Index, P: Pager>(
     alloc: Global,
     pager: &mut P,
     draft: &mut Draft,
     name: &Name,
-    table: &Name,
+    table: &StoredTable,
     place: u32,
 ) -> Result<(), Stop<P::Fault>>
     requires { draft.old.size ≡ P.size pager.old }
     ensures indexed { Drafts (λ u. u) (P.tells pager.new) draft.old.list draft.new.list
-        (index_added draft.old.size name.now table.now place) result }
+        (table_indexed I.made I.added draft.old.size name.now table.now place) result }
     ensures only_drafts { OnlyDrafts P.tells P.goes P.size P.faults pager.old pager.new result }
     ensures size { draft.new.size ≡ draft.old.size }
 {
-    let row = index_values(alloc, name, table, place)?;
-    insert(alloc, pager, draft, CATALOG, &[row])
+    let rows = rows(alloc, pager, draft, table)?;
+    let root = make_root::<I, P>(alloc, pager, draft)?;
+    let row = index_values(alloc, name, &table.name, place, root)?;
+    add_to_catalog(alloc, pager, draft, &[row])?;
+    let index = StoredIndex { place, root };
+    list_in::<I, P>(alloc, pager, draft, EntryEdit::Add, index, &rows)
 }
 
-/// Drafts rows at the end of the table that begins with that page, in order.
-pub fn insert<P: Pager>(
+// Drafts rows at the end of the catalog, in order.
+fn add_to_catalog<P: Pager>(
     alloc: Global,
     pager: &mut P,
     draft: &mut Draft,
-    first: u32,
     rows: &[Row],
 ) -> Result<(), Stop<P::Fault>>
     requires size { draft.old.size ≡ P.size pager.old }
     requires rows { All IsShort rows.now }
     ensures added { Drafts (λ u. u) (P.tells pager.new) draft.old.list draft.new.list
-        (all_added draft.old.size first rows.now) result }
+        (all_added draft.old.size CATALOG rows.now) result }
     ensures only_drafts { OnlyDrafts P.tells P.goes P.size P.faults pager.old pager.new result }
     ensures size { draft.new.size ≡ draft.old.size }
 {
-    for row in rows {
-        drafting::add(alloc, pager, draft, first, row)?;
-    }
+    add_rows(alloc, pager, draft, CATALOG, rows)?;
     Ok(())
 }
 
-/// Drafts that rows of a table change, in order: each stands on its page under its number, and becomes this.
-pub fn update<P: Pager>(
+// Drafts an index without entries, and answers its root page.
+fn make_root<I: Index, P: Pager>(
+    alloc: Global,
+    pager: &mut P,
+    draft: &mut Draft,
+) -> Result<u32, Stop<P::Fault>>
+    requires { draft.old.size ≡ P.size pager.old }
+    ensures made { Drafts (λ root. root) (P.tells pager.new) draft.old.list draft.new.list (I.made draft.old.size)
+        result }
+    ensures only_drafts { OnlyDrafts P.tells P.goes P.size P.faults pager.old pager.new result }
+    ensures size { draft.new.size ≡ draft.old.size }
+{
+    let index = I::make_in(alloc, pager, draft)?;
+    Ok(index.root())
+}
+
+/// Drafts rows at the end of a table, in order, and their entries in its indexes.
+pub fn insert<I: Index, P: Pager>(
+    alloc: Global,
+    pager: &mut P,
+    draft: &mut Draft,
+    table: &StoredTable,
+    rows: &[Row],
+) -> Result<(), Stop<P::Fault>>
+    requires size { draft.old.size ≡ P.size pager.old }
+    requires rows { All IsShort rows.now }
+    ensures inserted { Drafts (λ u. u) (P.tells pager.new) draft.old.list draft.new.list
+        (table_inserted I.added draft.old.size table.now rows.now) result }
+    ensures only_drafts { OnlyDrafts P.tells P.goes P.size P.faults pager.old pager.new result }
+    ensures size { draft.new.size ≡ draft.old.size }
+{
+    let placed = add_rows(alloc, pager, draft, table.first, rows)?;
+    let indexes = table.indexes.as_slice();
+    list_rows::<I, P>(alloc, pager, draft, EntryEdit::Add, indexes, &placed)
+}
+
+// Drafts rows at the end of the table that begins with that page, in order, and answers where they stand.
+fn add_rows<P: Pager>(
     alloc: Global,
     pager: &mut P,
     draft: &mut Draft,
     first: u32,
-    changes: &[Placed],
-) -> Result<(), Stop<P::Fault>>
+    rows: &[Row],
+) -> Result<Vec<Placed>, Stop<P::Fault>>
     requires size { draft.old.size ≡ P.size pager.old }
-    requires rows { All (λ (placed : Placed). IsShort placed.row) changes.now }
-    ensures changed { Drafts (λ u. u) (P.tells pager.new) draft.old.list draft.new.list
-        (all_changed draft.old.size first changes.now) result }
+    requires rows { All IsShort rows.now }
+    ensures placed { Drafts (λ placed. placed.items) (P.tells pager.new) draft.old.list draft.new.list
+        (all_placed draft.old.size first rows.now) result }
     ensures only_drafts { OnlyDrafts P.tells P.goes P.size P.faults pager.old pager.new result }
     ensures size { draft.new.size ≡ draft.old.size }
 {
-    let mut known = None;
-    for change in changes {
-        let link = drafting::page_at(alloc, pager, draft, known, change.page)?;
-        let (_, after) = drafting::change_on(
-            alloc,
-            pager,
-            draft,
-            first,
-            link,
-            change.number,
-            &change.row,
-        )?;
-        known = after;
-    }
-    Ok(())
+    let spots = drafting::add_all(alloc, pager, draft, first, rows)?;
+    Ok(standing(alloc, rows, &spots)?)
 }
 
-/// Drafts that rows of a table are taken out, in order, each of the page where it stands.
-pub fn delete<P: Pager>(
+// Rows with where they stand.
+fn standing(alloc: Global, rows: &[Row], spots: &[(u64, u32)]) -> Result<Vec<Placed>, AllocError>
+    ensures { IfOk result (λ placed. placed.items ≡ standing (zip rows.now spots.now)) }
+{
+    let mut placed = Vec::with_capacity(alloc, rows.len())?;
+    for (row, spot) in rows.iter().zip(spots) {
+        let (number, page) = *spot;
+        let row = row.copy(alloc)?;
+        placed.push(Placed { number, page, row })?;
+    }
+    Ok(placed)
+}
+
+/// Drafts that rows of a table change, in order, each where it stands, and that the table's indexes follow.
+pub fn update<I: Index, P: Pager>(
+    alloc: Global,
+    pager: &mut P,
+    draft: &mut Draft,
+    table: &StoredTable,
+    changes: Vec<RowChange>,
+) -> Result<(), Stop<P::Fault>>
+    requires size { draft.old.size ≡ P.size pager.old }
+    requires rows { All (λ (change : RowChange). IsShort change.row) changes.items }
+    ensures updated { Drafts (λ u. u) (P.tells pager.new) draft.old.list draft.new.list
+        (table_updated I.added I.removed draft.old.size table.now changes.items) result }
+    ensures only_drafts { OnlyDrafts P.tells P.goes P.size P.faults pager.old pager.new result }
+    ensures size { draft.new.size ≡ draft.old.size }
+{
+    let moves = change_rows(alloc, pager, draft, table.first, changes)?;
+    move_rows::<I, P>(alloc, pager, draft, table.indexes.as_slice(), &moves)
+}
+
+// Drafts that rows of the table that begins with that page change, in order, and answers what became of them.
+fn change_rows<P: Pager>(
+    alloc: Global,
+    pager: &mut P,
+    draft: &mut Draft,
+    first: u32,
+    changes: Vec<RowChange>,
+) -> Result<Vec<Moved>, Stop<P::Fault>>
+    requires size { draft.old.size ≡ P.size pager.old }
+    requires rows { All (λ (change : RowChange). IsShort change.row) changes.items }
+    ensures changed { Drafts (λ moves. moves.items) (P.tells pager.new) draft.old.list draft.new.list
+        (all_changed draft.old.size first changes.items) result }
+    ensures only_drafts { OnlyDrafts P.tells P.goes P.size P.faults pager.old pager.new result }
+    ensures size { draft.new.size ≡ draft.old.size }
+{
+    let mut moves = Vec::new(alloc);
+    let mut known = None;
+    for change in changes {
+        let (moved, after) = change_row(alloc, pager, draft, first, known, change)?;
+        moves.push(moved)?;
+        known = after;
+    }
+    Ok(moves)
+}
+
+// Drafts that a row changes where it stands; its page is not read where it is known already. Answers what became of the
+// row, and its page where that is known then.
+fn change_row<P: Pager>(
+    alloc: Global,
+    pager: &mut P,
+    draft: &mut Draft,
+    first: u32,
+    known: Option<Link>,
+    change: RowChange,
+) -> Result<(Moved, Option<Link>), Stop<P::Fault>>
+    requires size { draft.old.size ≡ P.size pager.old }
+    requires known { IfSome known (IsWritable draft.old.size) }
+    requires row { IsShort change.row }
+    ensures changed { Drafts (λ (done : Moved × Option Link). done.0) (P.tells pager.new) draft.old.list draft.new.list
+        (λ pages answer. HoldsStill draft.old.size pages known → row_changes draft.old.size first change pages answer)
+        result }
+    ensures stands { (base shown : Pages) → P.tells pager.new base shown
+        → HoldsStill draft.old.size (drafted shown draft.old.list) known
+        → IfOk result (λ done. HoldsStill draft.old.size (drafted shown draft.new.list) done.1) }
+    ensures writable { IfOk result (λ done. IfSome done.1 (IsWritable draft.old.size)) }
+    ensures only_drafts { OnlyDrafts P.tells P.goes P.size P.faults pager.old pager.new result }
+    ensures size { draft.new.size ≡ draft.old.size }
+{
+    let RowChange { was, row } = change;
+    let number = was.number;
+    let link = drafting::page_at(alloc, pager, draft, known, was.page)?;
+    let (page, after) = drafting::change_on(alloc, pager, draft, first, link, number, &row)?;
+    let becomes = Placed { number, page, row };
+    Ok((Moved { was, becomes }, after))
+}
+
+/// Drafts that rows of a table are taken out, in order, each of the page where it stands, and then their entries of the
+/// table's indexes.
+pub fn delete<I: Index, P: Pager>(
+    alloc: Global,
+    pager: &mut P,
+    draft: &mut Draft,
+    table: &StoredTable,
+    rows: &[Placed],
+) -> Result<(), Stop<P::Fault>>
+    requires { draft.old.size ≡ P.size pager.old }
+    ensures deleted { Drafts (λ u. u) (P.tells pager.new) draft.old.list draft.new.list
+        (table_deleted I.removed draft.old.size table.now rows.now) result }
+    ensures only_drafts { OnlyDrafts P.tells P.goes P.size P.faults pager.old pager.new result }
+    ensures size { draft.new.size ≡ draft.old.size }
+{
+    remove_rows(alloc, pager, draft, table.first, rows)?;
+    let indexes = table.indexes.as_slice();
+    list_rows::<I, P>(alloc, pager, draft, EntryEdit::Remove, indexes, rows)
+}
+
+// Drafts that rows of the table that begins with that page are taken out, in order.
+fn remove_rows<P: Pager>(
     alloc: Global,
     pager: &mut P,
     draft: &mut Draft,

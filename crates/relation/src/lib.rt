@@ -4,9 +4,14 @@
 mod calls;
 mod catalog;
 mod drafting;
+mod listing;
 mod named;
+mod ranging;
 mod row;
 
-pub use calls::{create_index, create_table, delete, insert, next_number, open, rows, update};
-pub use catalog::{Catalog, StoredTable};
+pub use calls::{
+    create_index, create_table, delete, insert, next_number, open, ranged, rows, update,
+};
+pub use catalog::{Catalog, StoredIndex, StoredTable};
+pub use drafting::RowChange;
 pub use heap_file::Placed;

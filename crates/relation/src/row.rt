@@ -25,12 +25,11 @@ pub struct ColumnRow {
     pub column: Column,
 }
 
-/// How an index keeps its entries: not at all, where it is kept by name alone, in a sorted chain of pages, or in a
-/// tree.
+/// How an index keeps its entries: not at all, where it is kept by name alone, or on pages of the one kind of index that
+/// the calls are given. The program gives them trees.
 #[derive(Clone, Copy)]
 pub enum IndexForm {
     Named,
-    Chain,
     Tree,
 }
 
@@ -198,7 +197,6 @@ fn form_of(number: i64) -> Option<IndexForm>
 {
     match number {
         0 => Some(IndexForm::Named),
-        1 => Some(IndexForm::Chain),
         2 => Some(IndexForm::Tree),
         _ => None,
     }
@@ -238,9 +236,15 @@ pub fn column_values(
     Ok(Seq::from(values))
 }
 
-/// The values of the row of an index that is kept by name alone.
-pub fn index_values(alloc: Global, name: &Name, table: &Name, place: u32) -> Result<Row, AllocError>
-    ensures values { IfOk result (λ values. values ≡ row_values (row_of_index name.now table.now place)) }
+/// The values of the row of an index that has pages.
+pub fn index_values(
+    alloc: Global,
+    name: &Name,
+    table: &Name,
+    place: u32,
+    root: u32,
+) -> Result<Row, AllocError>
+    ensures values { IfOk result (λ values. values ≡ row_values (row_of_index name.now table.now place root)) }
     ensures short { IfOk result IsShort }
 {
     let mut values = Vec::new(alloc);
@@ -248,8 +252,8 @@ pub fn index_values(alloc: Global, name: &Name, table: &Name, place: u32) -> Res
     values.push(name_value(alloc, name)?)?;
     values.push(name_value(alloc, table)?)?;
     values.push(Value::Int(i64::from(place)))?;
-    values.push(Value::Int(0))?;
-    values.push(Value::Int(0))?;
+    values.push(Value::Int(2))?;
+    values.push(Value::Int(i64::from(root)))?;
     Ok(Seq::from(values))
 }
 

@@ -3,14 +3,17 @@
 
 ghost use Rattle.std.specs.Prelude.{All, IfOk};
 ghost use Rattle.heap_file.specs.HeapPage.{IsShort};
-ghost use Rattle.heap_file.specs.declared.chain.Placed.{Placed};
+ghost use Rattle.relation.specs.declared.drafting.RowChange.{RowChange};
 
 use pager::{MemPager, Stop};
-use relation::{Catalog, Placed, StoredTable, create_table, delete, insert, open, rows, update};
+use relation::{
+    Catalog, Placed, RowChange, StoredTable, create_table, delete, insert, open, rows, update,
+};
 use retro_base::{Failed, Page, Refusal};
 use sql_tree::Column;
 use std::alloc::Global;
 use std::process::ExitCode;
+use tree_index::TreeIndex;
 use values::{Duplicate, Kind, Name, Row, Seq, Text, Value, is_name};
 
 const PAGES: usize = 2000;
@@ -82,7 +85,7 @@ fn insert_rows(
 ) -> Result<(), Stop<Failed>> {
     for _ in 0..count {
         let row = sixty_bytes(alloc, b'x')?;
-        insert(alloc, pager, table, &[row])?;
+        insert::<TreeIndex, MemPager>(alloc, pager, table, &[row])?;
     }
     Ok(())
 }
@@ -97,15 +100,18 @@ fn scan(
 }
 
 // The rows, each of which becomes one of that letter.
-fn changes_of(alloc: Global, rows: &[Placed], letter: u8) -> Result<Vec<Placed>, Refusal>
-    ensures { IfOk result (λ changes. All (λ (placed : Placed). IsShort placed.row) changes.items) }
+fn changes_of(alloc: Global, rows: &[Placed], letter: u8) -> Result<Vec<RowChange>, Refusal>
+    ensures { IfOk result (λ changes. All (λ (change : RowChange). IsShort change.row) changes.items) }
 {
     let mut changes = Vec::new(alloc);
     for placed in rows {
+        let was = Placed {
+            number: placed.number,
+            page: placed.page,
+            row: placed.row.copy(alloc)?,
+        };
         let row = sixty_bytes(alloc, letter)?;
-        let number = placed.number;
-        let page = placed.page;
-        changes.push(Placed { number, page, row })?;
+        changes.push(RowChange { was, row })?;
     }
     Ok(changes)
 }
@@ -118,8 +124,9 @@ fn update_rows(
     rows: &[Placed],
 ) -> Result<usize, Stop<Failed>> {
     let changes = changes_of(alloc, rows, b'y')?;
-    update(alloc, pager, table, &changes)?;
-    Ok(changes.len())
+    let count = changes.len();
+    update::<TreeIndex, MemPager>(alloc, pager, table, changes)?;
+    Ok(count)
 }
 
 #[inline(never)]
@@ -130,7 +137,7 @@ fn update_one(
     rows: &[Placed],
 ) -> Result<(), Stop<Failed>> {
     let changes = changes_of(alloc, &rows[..rows.len().min(1)], b'z')?;
-    update(alloc, pager, table, &changes)
+    update::<TreeIndex, MemPager>(alloc, pager, table, changes)
 }
 
 #[inline(never)]
@@ -141,7 +148,7 @@ fn delete_half(
     mut rows: Vec<Placed>,
 ) -> Result<(), Stop<Failed>> {
     rows.retain(|placed| placed.number % 2 == 0);
-    delete(alloc, pager, table, &rows)
+    delete::<TreeIndex, MemPager>(alloc, pager, table, &rows)
 }
 
 #[inline(never)]
@@ -151,7 +158,7 @@ fn delete_latter_half(
     table: &StoredTable,
     rows: &[Placed],
 ) -> Result<(), Stop<Failed>> {
-    delete(alloc, pager, table, &rows[rows.len() / 2..])
+    delete::<TreeIndex, MemPager>(alloc, pager, table, &rows[rows.len() / 2..])
 }
 
 // Makes a table for each pair of letters, until there are so many, and counts those of the catalog.

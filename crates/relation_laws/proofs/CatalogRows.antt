@@ -2,7 +2,7 @@
 use Rattle.std.proofs.Common.{◌≡◌, ◌≢◌, ◌<◌, ◌≤◌, ◌+◌, ◌^◌, ℕ, pos, zero, suc, Bool, true, false, List, [], ◌∷◌, length, map, get_or, Ok, refl, ap, arith, subst, sym}
 use Rattle.std.specs.Int.{w64}
 use Rattle.std.specs.Int.RustNames.{FitsSigned}
-use Rattle.std.specs.List.{AllByRecursion, AllZip, Contains, cons_option}
+use Rattle.std.specs.List.{AllByRecursion, Contains, cons_option}
 use Rattle.values.specs.declared.value.Kind.{Kind}
 use Rattle.values.specs.declared.value.Kind.TheVariants as kind
 use Rattle.values.specs.declared.value.Value.{Value}
@@ -10,7 +10,6 @@ use Rattle.row_codec.specs.RowCode.{IsValue}
 use Rattle.row_codec.proofs.Codes.{row_size}
 use Rattle.values.specs.Name.{IsName, same_name}
 use Rattle.sql_tree.specs.declared.statement.Column.{Column as TableColumn}
-use Rattle.pager.specs.Pages.{Pages}
 use Rattle.heap_file.specs.declared.chain.Placed.{Placed}
 use Rattle.heap_file.specs.HeapPage.{IsShort}
 use Rattle.heap_laws.specs.Table.{IsStorable}
@@ -18,7 +17,7 @@ use Rattle.relation.specs.declared.catalog.CatalogEntry.{CatalogEntry}
 use Rattle.relation.specs.declared.row.CatalogRow.{CatalogRow}
 use Rattle.relation.specs.declared.row.CatalogRow.TheVariants.{Table, Column, Index}
 use Rattle.relation.specs.declared.row.ColumnRow.{ColumnRow}
-use Rattle.relation.specs.Catalog.{AreColumns, as_column, column_rows, index_rows, table_rows, row_told}
+use Rattle.relation.specs.Catalog.{AreColumns, as_column, as_kept, column_rows, index_rows, kept_indexes, table_rows, row_told}
 use Rattle.relation.specs.CatalogRow.{IsCatalogRow, kind_number, row_values}
 use Rattle.relation.specs.Each.{each}
 use Rattle.relation.specs.Work.{row_of_index, rows_of_columns, rows_of_table}
@@ -50,9 +49,9 @@ column-storable : (table : List ℕ) (place : ℕ) (column : TableColumn) → Is
 column-storable table place column is lt named =
     storable _ (column_short table place column is named) (small-fits 2 (omega arith), (is_text table is, (small-fits place lt, (is_text column.name named, (kind-fits column.kind, tt)))))
 
-pub index-storable : (name table : List ℕ) (place : ℕ) → IsName name → IsName table → place < 2 ^ 32 → IsStorable (row_values (row_of_index name table place))
-index-storable name table place is named lt =
-    storable _ (index_short name table place is named) (small-fits 3 (omega arith), (is_text name is, (is_text table named, (small-fits place lt, (small-fits 0 (omega arith), (small-fits 0 (omega arith), tt))))))
+pub index-storable : (name table : List ℕ) (place root : ℕ) → IsName name → IsName table → place < 2 ^ 32 → root < 2 ^ 32 → IsStorable (row_values (row_of_index name table place root))
+index-storable name table place root is named lt small =
+    storable _ (index_short name table place root is named) (small-fits 3 (omega arith), (is_text name is, (is_text table named, (small-fits place lt, (small-fits 2 (omega arith), (small-fits root small, tt))))))
 
 abbrev NamesAre : List TableColumn → Type 0
 NamesAre columns = AllByRecursion (λ (column : TableColumn). IsName column.name) columns
@@ -161,21 +160,26 @@ are-columns name columns are = record {
   each = λ place d lt. (place, omega (arith, lt, length-from name 0 columns), λ e. let here = told-from name 0 columns place d e lt in (omega (arith, here.0), here.1));
 }
 
--- no column's row is one of a table that is not there
-pub strangers : (pages : Pages) (names : List (List ℕ)) (name : List ℕ) (rows : List CatalogEntry) (held : List (List ℕ)) → AllByRecursion (λ other. other ≢ name) names → AllZip (λ (row : CatalogEntry) (some : List ℕ). SpeaksOfTable pages names row.row some) rows held → column_rows name rows ≡ []
-strangers pages names name [] held apart kept = refl
-strangers pages names name (row ∷ rows) [] apart kept = absurd kept
-strangers pages names name (row ∷ rows) (some ∷ held) apart kept = go (strangers pages names name rows held apart kept.1) row.row kept.0
+-- no column's row is one of a table that is not there, and no index's
+pub strangers : (names : List (List ℕ)) (name : List ℕ) (rows : List CatalogEntry) → AllByRecursion (λ other. other ≢ name) names → AllByRecursion (λ (row : CatalogEntry). SpeaksOfTable names row.row) rows → (column_rows name rows ≡ []) × (kept_indexes name rows ≡ [])
+strangers names name [] apart kept = (refl, refl)
+strangers names name (row ∷ rows) apart kept = go (strangers names name rows apart kept.1) row.row kept.0
   where
-    go : column_rows name rows ≡ [] → (r : CatalogRow) → SpeaksOfTable pages names r some → cons_option (as_column name r) (column_rows name rows) ≡ []
+    go : (column_rows name rows ≡ []) × (kept_indexes name rows ≡ []) → (r : CatalogRow) → SpeaksOfTable names r → (cons_option (as_column name r) (column_rows name rows) ≡ []) × (cons_option (as_kept name r) (kept_indexes name rows) ≡ [])
     go rest (Table t) k = rest
-    go rest (Column c) k = rw (not-same c.table name (all-at (λ other. other ≢ name) names c.table apart k.0)) rest
-    go rest (Index i) k = rest
+    go rest (Column c) k = (rw (not-same c.table name (all-at (λ other. other ≢ name) names c.table apart k)) rest.0, rest.1)
+    go rest (Index i) k = (rest.0, rw (not-same i.table name (all-at (λ other. other ≢ name) names i.table apart k)) rest.1)
 
--- the rows are kept, with no page of an index
-pub kept-columns : (pages : Pages) (names : List (List ℕ)) (more : List Placed) (name : List ℕ) (place : ℕ) (columns : List TableColumn) → Contains names name
-    → AllZip (λ (row : CatalogEntry) (some : List ℕ). SpeaksOfTable pages names row.row some) (tells more (rows_of_columns name place columns)) (map (λ (row : CatalogEntry). []) (tells more (rows_of_columns name place columns)))
-kept-columns pages names [] name place [] has = tt
-kept-columns pages names [] name place (column ∷ columns) has = tt
-kept-columns pages names (placed ∷ more) name place [] has = tt
-kept-columns pages names (placed ∷ more) name place (column ∷ columns) has = ((has, refl), kept-columns pages names more name (place + 1) columns has)
+-- the columns' rows are kept, and they are no index's
+pub kept-columns : (names : List (List ℕ)) (more : List Placed) (name : List ℕ) (place : ℕ) (columns : List TableColumn) → Contains names name
+    → AllByRecursion (λ (row : CatalogEntry). SpeaksOfTable names row.row) (tells more (rows_of_columns name place columns))
+kept-columns names [] name place [] has = tt
+kept-columns names [] name place (column ∷ columns) has = tt
+kept-columns names (placed ∷ more) name place [] has = tt
+kept-columns names (placed ∷ more) name place (column ∷ columns) has = (has, kept-columns names more name (place + 1) columns has)
+
+pub no-kept : (more : List Placed) (table name : List ℕ) (place : ℕ) (columns : List TableColumn) → kept_indexes table (tells more (rows_of_columns name place columns)) ≡ []
+no-kept [] table name place [] = refl
+no-kept [] table name place (column ∷ columns) = refl
+no-kept (placed ∷ more) table name place [] = refl
+no-kept (placed ∷ more) table name place (column ∷ columns) = no-kept more table name (place + 1) columns

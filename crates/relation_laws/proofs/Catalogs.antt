@@ -22,7 +22,7 @@ use Rattle.relation.specs.declared.row.CatalogRow.{CatalogRow}
 use Rattle.relation.specs.declared.row.CatalogRow.TheVariants.{Table, Column, Index}
 use Rattle.relation.specs.declared.row.ColumnRow.{ColumnRow}
 use Rattle.relation.specs.declared.row.IndexForm.{IndexForm}
-use Rattle.relation.specs.declared.row.IndexForm.TheVariants.{Named, Chain, Tree}
+use Rattle.relation.specs.declared.row.IndexForm.TheVariants.{Named, Tree}
 use Rattle.relation.specs.declared.row.TableRow.{TableRow}
 use Rattle.relation.specs.Catalog.{AreColumns, catalog, catalog_rows, column_rows, index_rows, index_told, table_rows, table_told, row_told}
 use Rattle.relation.specs.CatalogRow.{form_number, kind_number, row_values}
@@ -41,13 +41,8 @@ same-kind kind.Text kind.Text e = refl
 
 same-form : (a b : IndexForm) → form_number a ≡ form_number b → a ≡ b
 same-form Named Named e = refl
-same-form Named Chain e = absurd (omega (arith, e))
 same-form Named Tree e = absurd (omega (arith, e))
-same-form Chain Named e = absurd (omega (arith, e))
 same-form Tree Named e = absurd (omega (arith, e))
-same-form Chain Chain e = refl
-same-form Chain Tree e = absurd (omega (arith, e))
-same-form Tree Chain e = absurd (omega (arith, e))
 same-form Tree Tree e = refl
 
 -- rows with the same values are one row
@@ -118,9 +113,10 @@ columns-one rows a b p q = same_lists a b (sym p.many ∙ q.many) each-same
 table_told-one : (rows : List CatalogEntry) (row : ℕ × TableRow) → IsOne (table_told rows row)
 table_told-one rows row (Ok a) (Ok b) p q =
     let columns : a.columns ≡ b.columns = columns-one (column_rows row.1.name rows) a.columns b.columns p.2 q.2 in
+    let indexes : a.indexes ≡ b.indexes = p.3 ∙ sym q.3 in
     let name : a.name ≡ b.name = p.0 ∙ sym q.0 in
     let first : a.first ≡ b.first = p.1 ∙ sym q.1 in
-    let joined : Same {A = StoredTable} (Ok (record { name = a.name; first = a.first; columns = a.columns })) (Ok (record { name = b.name; first = b.first; columns = b.columns })) = cc (name, first, columns) in
+    let joined : Same {A = StoredTable} (Ok (record { name = a.name; first = a.first; columns = a.columns; indexes = a.indexes })) (Ok (record { name = b.name; first = b.first; columns = b.columns; indexes = b.indexes })) = cc (name, first, columns, indexes) in
     joined
 table_told-one rows row (Ok a) (Err why) p q = absurd (q.1 a.columns p.2)
 table_told-one rows row (Err why) (Ok b) p q = absurd (p.1 b.columns q.2)

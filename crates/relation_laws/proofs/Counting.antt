@@ -1,12 +1,11 @@
 -- Each call takes the pages that it needs.
-use Rattle.std.proofs.Common.{◌≡◌, ◌∙◌, ◌<◌, ◌+◌, cond, ℕ, Bool, true, false, List, [], ◌∷◌, map, Result, Ok, Err, inl, inr, refl, sym, ap, subst, arith}
+use Rattle.std.proofs.Common.{◌≡◌, ◌∙◌, ◌<◌, ◌+◌, cond, ℕ, Bool, true, false, List, [], ◌∷◌, Result, Ok, Err, inl, inr, sym, ap, subst, arith}
 use Rattle.std.specs.List.{AllByRecursion, Contains}
 use Rattle.retro_base.specs.declared.refusal.Refusal.{Refusal}
 use Rattle.values.specs.declared.value.Value.{Value}
 use Rattle.pager.specs.Pages.{Pages}
 use Rattle.heap_file.specs.declared.chain.Placed.{Placed}
 use Rattle.heap_file.specs.declared.page.HeapPage.{HeapPage}
-use Rattle.pager.specs.Allows.{◌>>=◌}
 use Rattle.heap_file.specs.HeapPage.{IsEntry}
 use Rattle.heap_laws.specs.Store.{WellFormed, free_pages}
 use Rattle.heap_laws.specs.Table.{EndsAt, IsStorable, IsTable, Table, with_changed}
@@ -16,20 +15,15 @@ use Rattle.heap_laws.proofs.Orders.{number_of}
 use Rattle.heap_laws.proofs.Reading.{reads, rows-numbered, rows-read as table-read}
 use Rattle.heap_laws.proofs.Rows.{keyed-contains}
 use Rattle.relation.specs.Each.{in_turn}
-use Rattle.relation.specs.Work.{page_of, row_changed, rows_at, updated}
+use Rattle.relation.proofs.Halves.{page_of, row_changed}
 use Rattle.relation.proofs.Steps.{left_pages}
-use Rattle.relation_laws.specs.Laws.{AreChangesOf, IsStoreOf, NeedsLaw}
-use Rattle.relation_laws.specs.Needs.{TakesNeeded, UpdateNeeds, changes_open, has_room_for, moved_to, next_pages, page_under, taken_after}
+use Rattle.relation_laws.specs.Needs.{TakesNeeded, changes_open, has_room_for, moved_to, next_pages, page_under, taken_after}
 use Rattle.relation_laws.specs.Reach.{with_root}
-use Rattle.relation_laws.specs.Tables.{PlainTable, PlainTables}
-use Rattle.relation_laws.proofs.Catalogs.{goes-on}
 use Rattle.relation_laws.proofs.Changed.{Goes, full-both, moves}
-use Rattle.relation_laws.proofs.Deleting.{StillThere, still}
+use Rattle.relation_laws.proofs.Deleting.{StillThere}
 use Rattle.relation_laws.proofs.Drawing.{Draws}
-use Rattle.relation_laws.proofs.Needing.{create-needs, ends-there, index-needs, insert-needs}
 use Rattle.relation_laws.proofs.Reaching.{Touches}
-use Rattle.relation_laws.proofs.Singling.{by-name, firsts_of, has-first, named-here, pages_in, rows-here, rows-read, single}
-use Rattle.relation_laws.proofs.Updating.{changed_at, numbers_of, still-changed, storable-changes}
+use Rattle.relation_laws.proofs.Updating.{changed_at, numbers_of, still-changed}
 use Rattle.relation_laws.proofs.Weighing.{under-one}
 
 -- a change that is made
@@ -107,7 +101,7 @@ opens-behind pages mid last rows change changes to end opens goes draws = go (ha
     go false false goes = at_one (λ place. taken_after pages (1 + place)) 1 (taken_after pages 0) (taken_after pages 0) (next-behind pages mid opens 1 draws goes.2) goes.0 goes.1 goes.2
 
 -- changes take the pages that they open
-needed : (size : ℕ) (pages : Pages) (firsts indexes : List ℕ) (first : ℕ) (rows : List Placed) (table : Table) (changes : List (ℕ × List Value)) (last : ℕ) (tail : HeapPage) (answer : Result (Unit {0} × Pages) Refusal) → WellFormed size pages firsts indexes → Contains firsts first → IsTable size pages first table → AllByRecursion (λ (change : ℕ × List Value). IsStorable change.1) changes → StillThere first rows table (numbers_of changes) → EndsAt size pages first last tail
+pub needed : (size : ℕ) (pages : Pages) (firsts indexes : List ℕ) (first : ℕ) (rows : List Placed) (table : Table) (changes : List (ℕ × List Value)) (last : ℕ) (tail : HeapPage) (answer : Result (Unit {0} × Pages) Refusal) → WellFormed size pages firsts indexes → Contains firsts first → IsTable size pages first table → AllByRecursion (λ (change : ℕ × List Value). IsStorable change.1) changes → StillThere first rows table (numbers_of changes) → EndsAt size pages first last tail
     → in_turn (row_changed size first rows) changes pages answer → TakesNeeded size pages (changes_open (taken_after pages) last table.rows changes) answer
 needed size pages firsts indexes first rows table [] last tail (Ok y) well among is storable there ends h = omega (arith, ap (λ (p : Pages). free_pages size p) (left_pages pages y.1 h))
 needed size pages firsts indexes first rows table [] last tail (Err why) well among is storable there ends h = absurd cc
@@ -136,19 +130,3 @@ needed size pages firsts indexes first rows table (change ∷ changes) last tail
     let rest = needed size h.0.1 firsts indexes first rows (with_changed table (record { number = change.0; page = h.0.0; row = change.1 })) changes step.end step.next (Err why) step.well among step.shows storable.1 (still-changed first rows table (record { number = change.0; page = h.0.0; row = change.1 }) (numbers_of changes) there.1 there.2) step.ends h.2 in
     let count = opens-behind pages h.0.1 last table.rows change changes h.0.0 step.end step.opens step.goes step.draws in
     omega (arith, count, step.takes, rest)
-
-update-needs : (size : ℕ) (pages : Pages) (all : PlainTables) (table : PlainTable) (changes : List (ℕ × List Value)) (answer : Result (Unit {0} × Pages) Refusal)
-    → IsStoreOf size pages all → Contains all.tables table → AreChangesOf table changes
-    → updated size pages table.name changes answer → (needs : ℕ) × UpdateNeeds size pages table.name changes needs × TakesNeeded size pages needs answer
-update-needs size pages all table changes answer is has these work =
-    let one = single size pages all table is has in
-    let before : Table = record { next_number = table.next_number; rows = one.shows.placed } in
-    let there = still one.stored.first before (numbers_of changes) (subst (λ (rows : List (ℕ × List Value)). AllByRecursion (λ (number : ℕ). Contains (map (λ (row : ℕ × List Value). row.0) rows) number) (numbers_of changes)) one.shows.rows these.0.0) these.0.1 in
-    let end = ends-there size pages (firsts_of is.store.found) (pages_in is.store.held) one.stored.first is.store.heap (has-first is.store.found one.stored one.has) in
-    let takes = needed size pages (firsts_of is.store.found) (pages_in is.store.held) one.stored.first one.shows.placed before changes end.0 end.1 answer is.store.heap (has-first is.store.found one.stored one.has) one.shows.is_table (storable-changes table changes these.1) there end.2
-    (goes-on (rows_at size pages one.stored) (λ rows. in_turn (row_changed size one.stored.first rows) changes pages) one.shows.placed (rows-read size pages all table is one) answer
-    (by-name size pages all table is one (λ stored. rows_at size pages stored >>= λ rows. in_turn (row_changed size stored.first rows) changes pages) answer work)) in
-    (changes_open (taken_after pages) end.0 one.shows.placed changes, (one.stored, named-here size pages all table is one, one.shows.placed, rows-here size pages all table is one, end.0, end.1, end.2, refl), takes)
-
-pub needs_law : NeedsLaw
-needs_law = record { insert = insert-needs; update = update-needs; create = create-needs; index = index-needs }

@@ -7,25 +7,22 @@ use Rattle.retro_base.specs.declared.refusal.Refusal.{Refusal}
 use Rattle.values.specs.declared.value.Value.{Value}
 use Rattle.pager.specs.Pages.{Pages}
 use Rattle.heap_file.specs.declared.chain.Placed.{Placed}
-use Rattle.pager.specs.Allows.{◌>>=◌}
 use Rattle.heap_file.specs.Work.{removed}
-use Rattle.heap_laws.specs.Laws.{DoesOrIsFull}
 use Rattle.heap_laws.specs.Store.{WellFormed}
 use Rattle.heap_laws.specs.Table.{IsTable, OthersStay, Table, without_row}
 use Rattle.heap_laws.proofs.Removing.{remove_law}
 use Rattle.relation.specs.declared.catalog.StoredTable.{StoredTable}
 use Rattle.relation.specs.Each.{in_turn}
-use Rattle.relation.specs.Work.{page_of, row_removed, rows_at}
+use Rattle.relation.proofs.Halves.{page_of, row_removed}
 use Rattle.sql_tree.specs.Rows.{fits}
 use Rattle.relation.proofs.Steps.{left_pages}
-use Rattle.relation_laws.specs.Laws.{DeleteLaw, IsStoreOf, with_table, without_rows}
-use Rattle.relation_laws.specs.Reach.{Reaches}
+use Rattle.relation_laws.specs.Laws.{without_rows}
 use Rattle.relation_laws.specs.Tables.{AreDifferent, PlainTable, ShowsTable, numbered_row}
 use Rattle.relation_laws.proofs.Catalogs.{goes-on}
 use Rattle.relation_laws.proofs.Lists.{contains-cases, contains-cons, contains-head, contains-of}
-use Rattle.relation_laws.proofs.Reaching.{Spares, removed-spares, spares-none, spares-then}
-use Rattle.relation_laws.proofs.Spared.{reaches}
-use Rattle.relation_laws.proofs.Singling.{Single, by-name, firsts_of, has-first, one-changed, pages_in, rows-read, single}
+use Rattle.heap_laws.specs.Laws.{AreSpared}
+use Rattle.heap_laws.proofs.Staying.{indexes_stay_law}
+use Rattle.relation_laws.proofs.Reaching.{untouched-then, Spares, removed-spares, spares-none, spares-then}
 
 -- a row of another number stays
 kept : (number : ℕ) (placed : Placed) (rows : List Placed) → placed.number ≢ number → Contains rows placed → Contains (filter (λ (p : Placed). not (p.number == number)) rows) placed
@@ -57,9 +54,6 @@ StillThere first rows table (number ∷ numbers) =
     ((found : Placed) × (found.number ≡ number) × Contains table.rows found × (page_of first number rows ≡ Ok found.page))
     × AllByRecursion (λ (other : ℕ). other ≢ number) numbers × StillThere first rows table numbers
 
-number_in : ℕ × List Value → ℕ
-number_in row = row.0
-
 pub still : (first : ℕ) (table : Table) (numbers : List ℕ) → AllByRecursion (λ (number : ℕ). Contains (map (λ (row : ℕ × List Value). row.0) (map numbered_row table.rows)) number) numbers → AreDifferent numbers → StillThere first table.rows table numbers
 still first table [] all apart = tt
 still first table (number ∷ numbers) all apart =
@@ -90,11 +84,12 @@ pub record Shrinks (size : ℕ) (pages : Pages) (firsts indexes : List ℕ) (fir
   pub others : OthersStay size pages after firsts first
   pub well : WellFormed size after firsts indexes
   pub spares : Spares true size pages after firsts first
+  pub spared : AreSpared indexes pages after
 
 pub shrunk : (size : ℕ) (pages after : Pages) (firsts indexes : List ℕ) (first : ℕ) (rows : List Placed) (table : Table) (numbers : List ℕ) → WellFormed size pages firsts indexes → Contains firsts first → IsTable size pages first table → StillThere first rows table numbers → in_turn (row_removed size first rows) numbers pages (Ok (tt, after)) → Shrinks size pages firsts indexes first table numbers after
 shrunk size pages after firsts indexes first rows table [] well among is there h =
     subst (λ (p : Pages). Shrinks size pages firsts indexes first table [] p) (left_pages pages after h)
-    (record { is_table = is; others = λ other c apart t told. told; well = well; spares = spares-none true size pages firsts first })
+    (record { is_table = is; others = λ other c apart t told. told; well = well; spares = spares-none true size pages firsts first; spared = λ page has. (refl, refl) })
 shrunk size pages after firsts indexes first rows table (number ∷ numbers) well among is there h =
     let found = there.0.0 in
     let one = remove_law size pages firsts indexes first table found (Ok h.0) well among is there.0.2 (taken_out size first rows found number pages (Ok h.0) there.0.1 there.0.3 h.1) in
@@ -105,9 +100,10 @@ shrunk size pages after firsts indexes first rows table (number ∷ numbers) wel
       others = λ other c apart t told. rest.others other c apart t (one.others other c apart t told);
       well = rest.well;
       spares = spares-then true size pages h.0.1 after firsts first (removed-spares size pages h.0.1 firsts indexes first table found.page found.number well among one) rest.spares;
+      spared = λ page has. untouched-then pages h.0.1 after page (indexes_stay_law.remove size pages h.0.1 firsts indexes first table found.page found.number well among one page has) (rest.spared page has);
     }
 
-never : (size : ℕ) (pages : Pages) (firsts indexes : List ℕ) (first : ℕ) (rows : List Placed) (table : Table) (numbers : List ℕ) (why : Refusal) → WellFormed size pages firsts indexes → Contains firsts first → IsTable size pages first table → StillThere first rows table numbers → in_turn (row_removed size first rows) numbers pages (Err why) → ⊥
+pub never : (size : ℕ) (pages : Pages) (firsts indexes : List ℕ) (first : ℕ) (rows : List Placed) (table : Table) (numbers : List ℕ) (why : Refusal) → WellFormed size pages firsts indexes → Contains firsts first → IsTable size pages first table → StillThere first rows table numbers → in_turn (row_removed size first rows) numbers pages (Err why) → ⊥
 never size pages firsts indexes first rows table [] why well among is there h = absurd cc
 never size pages firsts indexes first rows table (number ∷ numbers) why well among is there (inl h) =
     let found = there.0.0 in
@@ -152,7 +148,7 @@ fitting-left P test (x ∷ xs) all = go (fitting-left P test xs all.1) (test x)
     go rest true = (all.0, rest)
     go rest false = rest
 
-shorter-shows : (size : ℕ) (pages after : Pages) (firsts indexes : List ℕ) (stored : StoredTable) (table : PlainTable) (numbers : List ℕ) (shows : ShowsTable size pages stored table)
+pub shorter-shows : (size : ℕ) (pages after : Pages) (firsts indexes : List ℕ) (stored : StoredTable) (table : PlainTable) (numbers : List ℕ) (shows : ShowsTable size pages stored table)
     → Shrinks size pages firsts indexes stored.first (record { next_number = table.next_number; rows = shows.placed }) numbers after → ShowsTable size after stored (without_rows numbers table)
 shorter-shows size pages after firsts indexes stored table numbers shows shrinks =
     let before : Table = record { next_number = table.next_number; rows = shows.placed } in
@@ -164,26 +160,3 @@ shorter-shows size pages after firsts indexes stored table numbers shows shrinks
       rows = ap (filter (apart_from numbers)) shows.rows ∙ sym (left-rows numbers before);
       fitting = fitting-left (λ (row : ℕ × List Value). fits table.columns row.1 ≡ true) (apart_from numbers) table.rows shows.fitting;
     }
-
-pub delete_law : DeleteLaw
-delete_law size pages all table numbers answer is has these work = go answer (goes-on (rows_at size pages one.stored) (λ rows. in_turn (row_removed size one.stored.first rows) numbers pages) one.shows.placed (rows-read size pages all table is one) answer
-    (by-name size pages all table is one (λ stored. rows_at size pages stored >>= λ rows. in_turn (row_removed size stored.first rows) numbers pages) answer work))
-  where
-    one : Single size pages all table is
-    one = single size pages all table is has
-
-    before : Table
-    before = record { next_number = table.next_number; rows = one.shows.placed }
-
-    there : StillThere one.stored.first one.shows.placed before numbers
-    there = still one.stored.first before numbers (subst (λ (rows : List (ℕ × List Value)). AllByRecursion (λ (number : ℕ). Contains (map (λ (row : ℕ × List Value). row.0) rows) number) numbers) one.shows.rows these.0) these.1
-
-    go : (answer : Result (Unit {0} × Pages) Refusal) → in_turn (row_removed size one.stored.first one.shows.placed) numbers pages answer
-        → DoesOrIsFull size (λ u after. IsStoreOf size after (with_table (without_rows numbers table) all) × Reaches size pages table.name after) ⊥ answer
-    go (Ok y) h =
-        let shrinks = shrunk size pages y.1 (firsts_of is.store.found) (pages_in is.store.held) one.stored.first one.shows.placed before numbers is.store.heap (has-first is.store.found one.stored one.has) one.shows.is_table there h in (
-          one-changed size pages y.1 all table (without_rows numbers table) is one refl shrinks.others shrinks.well (shorter-shows size pages y.1 (firsts_of is.store.found) (pages_in is.store.held) one.stored table numbers one.shows shrinks),
-          reaches true size pages y.1 all table is one shrinks.spares,
-        )
-    go (Err why) h =
-        absurd (never size pages (firsts_of is.store.found) (pages_in is.store.held) one.stored.first one.shows.placed before numbers why is.store.heap (has-first is.store.found one.stored one.has) one.shows.is_table there h)

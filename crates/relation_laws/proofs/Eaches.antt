@@ -21,6 +21,15 @@ each-weaken step other (x ∷ xs) ys go h =
     let same : h.0 ∷ h.2.0 ≡ ys = cc (h.2.2) in
     (h.0, go x h.0 (subst (λ l. Contains l h.0) same (contains-head h.0 h.2.0)) h.1, (h.2.0, each-weaken step other xs h.2.0 (λ a b has. go a b (subst (λ l. Contains l b) same (contains-cons b h.0 h.2.0 has))) h.2.1, h.2.2))
 
+-- by another step, of which something else is made
+pub each-map : {A B : Type 0} (step other : A → Result B Refusal → Type 0) (f : B → B) (xs : List A) (ys : List B) → ((x : A) (y : B) → Contains ys y → step x (Ok y) → other x (Ok (f y))) → each step xs (Ok ys) → each other xs (Ok (map f ys))
+each-map step other f [] ys go h =
+    let same : [] ≡ ys = cc h in
+    ap (λ l. Ok (map f l)) same
+each-map step other f (x ∷ xs) ys go h =
+    let same : h.0 ∷ h.2.0 ≡ ys = cc (h.2.2) in
+    (f h.0, go x h.0 (subst (λ l. Contains l h.0) same (contains-head h.0 h.2.0)) h.1, (map f h.2.0, each-map step other f xs h.2.0 (λ a b has. go a b (subst (λ l. Contains l b) same (contains-cons b h.0 h.2.0 has))) h.2.1, ap (λ l. Ok (map f l)) same))
+
 -- what is found stays found in a longer list
 pub find-append : {A : Type 0} (test : A → Bool) (xs ys : List A) (x : A) → find test xs ≡ Some x → find test (xs ++ ys) ≡ Some x
 find-append test [] ys x e = absurd cc

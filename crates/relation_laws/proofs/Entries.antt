@@ -24,8 +24,8 @@ use Rattle.heap_file.proofs.Ones.{differ}
 use Rattle.relation.specs.declared.catalog.TheConstants.{CATALOG}
 use Rattle.relation.specs.Catalog.{row_told}
 use Rattle.relation.specs.Each.{each}
-use Rattle.relation_laws.specs.Tables.{IsStore}
-use Rattle.relation_laws.proofs.Singling.{firsts_of, has-catalog, pages_in}
+use Rattle.relation_laws.specs.Tables.{IsTableStore}
+use Rattle.relation_laws.proofs.Singling.{firsts_of, has-catalog}
 
 entries-few : (entries : List Entry) → length entries ≤ length (entry_bytes entries)
 entries-few [] = omega arith
@@ -49,14 +49,14 @@ few-rows size pages firsts indexes first table well has is =
     omega (arith, length_permutation (rows_of links) table.rows rows.permutation, rows-few links read.route.sized, read.few, well.small)
 
 -- the catalog's table: what its rows tell, and its next row number, which is their count
-pub record Entries (size : ℕ) (pages : Pages) (store : IsStore size pages) : Type 0 where
+pub record Entries (size : ℕ) (pages : Pages) (store : IsTableStore size pages) : Type 0 where
   pub is_table : IsTable size pages CATALOG (record { next_number = length store.placed; rows = store.placed })
   pub tell : each row_told store.placed (Ok store.told)
 
-pub entries : (size : ℕ) (pages : Pages) (store : IsStore size pages) → Entries size pages store
+pub entries : (size : ℕ) (pages : Pages) (store : IsTableStore size pages) → Entries size pages store
 entries size pages store =
     let rows = store.rows in
-    let same : rows.0 ≡ store.placed = ok-one (read_law.rows_one size pages (firsts_of store.found) (pages_in store.held) CATALOG store.heap (has-catalog store.found) (Ok rows.0) (Ok store.placed) rows.1 store.scan) in
+    let same : rows.0 ≡ store.placed = ok-one (read_law.rows_one size pages (firsts_of store.found) store.held CATALOG store.heap (has-catalog store.found) (Ok rows.0) (Ok store.placed) rows.1 store.scan) in
     let counted = count rows.0 rows.2.0 (rows.2.0 == length rows.0) refl rows.2.2 in
     record {
       is_table = record {

@@ -1,23 +1,13 @@
 -- Lists whose items are told apart by a key.
-use Rattle.std.proofs.Common.{◌≡◌, ◌≢◌, ◌<◌, ◌≤◌, ◌+◌, ◌++◌, ◌∙◌, ℕ, zero, suc, List, [], ◌∷◌, length, map, inl, inr, refl, sym, ap, subst, arith}
+use Rattle.std.proofs.Common.{◌≡◌, ◌≢◌, ◌<◌, ◌≤◌, ◌+◌, ◌++◌, ◌∙◌, ℕ, zero, suc, List, [], ◌∷◌, length, map, inl, inr, sym, ap, subst, arith}
 use Rattle.std.specs.List.{AllByRecursion, AllZip, Contains}
 use Rattle.std.proofs.lemmas.Bool.Decides.{eqb_tells}
 use Rattle.heap_laws.specs.Store.{times}
 use Rattle.heap_laws.proofs.Counts.{keyed, keyed-more, keyed-same, length-others, others, keyed-left}
 use Rattle.heap_laws.proofs.Rows.{keyed-contains}
 use Rattle.heap_laws.proofs.Stores.{all-join}
+pub use Rattle.heap_laws.proofs.Apart.{contains-head, contains-cons, contains-cases}
 use Rattle.relation_laws.specs.Tables.{AreDifferent}
-
-pub contains-head : {A : Type 0} (x : A) (xs : List A) → Contains (x ∷ xs) x
-contains-head x xs = (0, omega arith, refl)
-
-pub contains-cons : {A : Type 0} (x y : A) (xs : List A) → Contains xs x → Contains (y ∷ xs) x
-contains-cons x y xs h = (suc h.0, omega (arith, h.1), h.2)
-
--- an item of a list is its first or one of the rest
-pub contains-cases : {A P : Type 0} (x y : A) (xs : List A) → Contains (x ∷ xs) y → (x ≡ y → P) → (Contains xs y → P) → P
-contains-cases x y xs (zero, lt, is) here there = here is
-contains-cases x y xs (suc k, lt, is) here there = there (k, omega (arith, lt), is)
 
 pub all-at : {A : Type 0} (P : A → Type 0) (xs : List A) (x : A) → AllByRecursion P xs → Contains xs x → P x
 all-at P [] x all has = absurd (omega (arith, has.1))

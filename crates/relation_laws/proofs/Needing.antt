@@ -1,5 +1,5 @@
 -- The pages that added rows take.
-use Rattle.std.proofs.Common.{◌≡◌, ◌∙◌, ◌<◌, ◌≤◌, ◌+◌, ◌-◌, ◌++◌, ◌^◌, ◌||◌, cond, ℕ, suc, pos, Bool, true, false, nat_le, List, [], ◌∷◌, ◌==◌, flat_map, length, map, Result, Ok, Err, inl, inr, refl, sym, ap, subst, arith, length-append, append-nil}
+use Rattle.std.proofs.Common.{◌≡◌, ◌∙◌, ◌<◌, ◌≤◌, ◌+◌, ◌-◌, ◌++◌, ◌^◌, ◌||◌, cond, ℕ, suc, Bool, true, false, nat_le, List, [], ◌∷◌, ◌==◌, length, map, Ok, Err, inl, inr, refl, sym, ap, subst, arith, length-append, append-nil}
 use Rattle.std.specs.List.{AllByRecursion, Contains, list_any}
 use Rattle.std.proofs.lemmas.List.Concat.{flat_map-append, flat_map-cons}
 use Rattle.retro_base.specs.Fields.{field_bytes}
@@ -12,35 +12,30 @@ use Rattle.row_codec.proofs.Codes.{row_size}
 use Rattle.pager.specs.Pages.{Pages}
 use Rattle.heap_file.specs.declared.page.Entry.{Entry}
 use Rattle.heap_file.specs.declared.page.HeapPage.{HeapPage}
-use Rattle.heap_file.specs.Chain.{IsAt, last_page}
+use Rattle.heap_file.specs.declared.chain.Link.{Link}
+use Rattle.heap_file.specs.Chain.{IsAt, IsWay, last_page}
 use Rattle.heap_file.specs.HeapPage.{entry_bytes, entry_code}
 use Rattle.heap_file.specs.Work.{added}
-use Rattle.heap_laws.specs.Store.{WellFormed, free_pages}
+use Rattle.heap_laws.specs.Store.{WellFormed, free_pages, times}
 use Rattle.heap_laws.specs.Table.{AddsRow, EditsExactly, EndsAt, IsAdded, IsStorable, IsTable, MakesTable, Table, has_room, with_row}
 use Rattle.heap_laws.proofs.Adding.{add_law, tail-there}
 use Rattle.heap_laws.proofs.Editing.{edits-as}
-use Rattle.heap_laws.proofs.Making.{make_law}
 use Rattle.heap_laws.proofs.Reading.{reads}
-use Rattle.heap_laws.proofs.Routes.{at-one, at-same}
-use Rattle.relation.specs.declared.catalog.StoredTable.{StoredTable}
+use Rattle.heap_laws.proofs.Routes.{at-one, at-same, pages_on}
 use Rattle.relation.specs.declared.catalog.TheConstants.{CATALOG}
 use Rattle.relation.specs.declared.row.CatalogRow.TheVariants.{Table as TableOf}
 use Rattle.relation.specs.CatalogRow.{row_values}
-use Rattle.relation.specs.Work.{all_added, created, index_added, indexed, inserted, row_of_index, rows_of_columns, rows_of_table}
+use Rattle.relation.specs.Work.{all_added, row_of_index, rows_of_columns, rows_of_table}
 use Rattle.relation.proofs.Steps.{left_pages}
-use Rattle.relation_laws.specs.Laws.{AreTableColumns, EditsLaw, HasColumn, IsNewName, IsRowFor, IsStoreOf}
-use Rattle.relation_laws.specs.Needs.{CreateNeeds, IndexNeeds, InsertNeeds, TakesNeeded, next_pages, pages_opened, entry_size, taken_after}
-use Rattle.relation_laws.specs.Reach.{with_root}
-use Rattle.relation_laws.specs.Tables.{PlainTable, PlainTables}
-use Rattle.relation_laws.proofs.Creating.{ready}
+use Rattle.relation_laws.specs.Needs.{next_pages, pages_opened, entry_size, taken_after}
+use Rattle.relation_laws.specs.Reach.{IsUntouched, with_root}
+use Rattle.relation_laws.specs.Tables.{PlainTables}
 use Rattle.relation_laws.proofs.Drawing.{Draws, draws-pages, draws-still, draws-then, next-first}
 use Rattle.relation_laws.proofs.Drawn.{add-draws, opens_of}
 use Rattle.relation_laws.proofs.Filling.{add-ends, entries_after}
-use Rattle.relation_laws.proofs.Indexing.{IndexReady, index-ready, row-added}
-use Rattle.relation_laws.proofs.Inserting.{storable-rows}
-use Rattle.relation_laws.proofs.Lists.{contains-left}
 use Rattle.relation_laws.proofs.Reaching.{made-spares, own-first, own-last}
-use Rattle.relation_laws.proofs.Singling.{Single, by-name, firsts_of, has-catalog, has-first, named-here, pages_in, single}
+use Rattle.relation_laws.proofs.Singling.{firsts_of, has-catalog}
+use Rattle.relation_laws.proofs.TableStores.{IsTableStoreOf}
 
 pub entry-length : (number : ℕ) (row : List Value) → length (entry_code (record { number = number; row = row })) ≡ entry_size row
 entry-length number row =
@@ -288,80 +283,23 @@ pub opened-same : (taken : ℕ) (name : List ℕ) (first other : ℕ) (columns :
 opened-same taken name first other columns =
     opened-as taken (row_values (TableOf (record { name = name; first = first }))) (row_values (TableOf (record { name = name; first = other }))) (map row_values (rows_of_columns name 0 columns)) refl
 
--- an index's row is as long whatever its column's place is
-pub opened-index : (taken : ℕ) (name table : List ℕ) (place other : ℕ) → pages_opened taken (row_values (row_of_index name table place) ∷ []) ≡ pages_opened taken (row_values (row_of_index name table other) ∷ [])
-opened-index taken name table place other = opened-as taken (row_values (row_of_index name table place)) (row_values (row_of_index name table other)) [] refl
+-- an index's row is as long whatever its column's place and its root page are
+pub opened-index : (taken : ℕ) (name table : List ℕ) (place other root next : ℕ) → pages_opened taken (row_values (row_of_index name table place root) ∷ []) ≡ pages_opened taken (row_values (row_of_index name table other next) ∷ [])
+opened-index taken name table place other root next = opened-as taken (row_values (row_of_index name table place root)) (row_values (row_of_index name table other next)) [] refl
 
-pub insert-needs : (size : ℕ) (pages : Pages) (all : PlainTables) (table : PlainTable) (rows : List (List Value)) (answer : Result (Unit {0} × Pages) Refusal)
-    → IsStoreOf size pages all → Contains all.tables table → AllByRecursion (IsRowFor table) rows → table.next_number + length rows < 2 ^ 64
-    → inserted size pages table.name rows answer → (needs : ℕ) × InsertNeeds size pages table.name rows needs × TakesNeeded size pages needs answer
-insert-needs size pages all table rows answer is has fit room work =
-    let one = single size pages all table is has in
-    let end = ends-there size pages (firsts_of is.store.found) (pages_in is.store.held) one.stored.first is.store.heap (has-first is.store.found one.stored one.has) in
-    (pages_opened (length (entry_bytes end.1.entries)) rows, (one.stored, named-here size pages all table is one, (end.0, end.1, end.2, refl)), go one end.0 end.1 end.2 answer (by-name size pages all table is one (λ stored. all_added size stored.first rows pages) answer work))
-  where
-    go : (one : Single size pages all table is) (last : ℕ) (tail : HeapPage) → EndsAt size pages one.stored.first last tail → (answer : Result (Unit {0} × Pages) Refusal) → all_added size one.stored.first rows pages answer → TakesNeeded size pages (pages_opened (length (entry_bytes tail.entries)) rows) answer
-    go one last tail ends (Ok y) h = rows-take size pages y.1 (firsts_of is.store.found) (pages_in is.store.held) one.stored.first (record { next_number = table.next_number; rows = one.shows.placed }) rows last tail is.store.heap (has-first is.store.found one.stored one.has) one.shows.is_table (storable-rows table rows fit) room ends h
-    go one last tail ends (Err why) h = rows-full size pages (firsts_of is.store.found) (pages_in is.store.held) one.stored.first (record { next_number = table.next_number; rows = one.shows.placed }) rows why last tail is.store.heap (has-first is.store.found one.stored one.has) one.shows.is_table (storable-rows table rows fit) room ends h
-
--- the catalog ends where it did once a table's first page is made
-pub ends-made : {all : PlainTables} (size : ℕ) (pages : Pages) (is : IsStoreOf size pages all) (table : ℕ × Pages) → MakesTable size pages (firsts_of is.store.found) (pages_in is.store.held) table.0 table.1 → (last : ℕ) (tail : HeapPage) → EndsAt size pages CATALOG last tail → EndsAt size table.1 CATALOG last tail
-ends-made size pages is table makes last tail ends =
-    let read = reads size pages (firsts_of is.store.found) (pages_in is.store.held) CATALOG is.store.heap (has-catalog is.store.found) in
-    let same = made-spares size pages table.1 (firsts_of is.store.found) (pages_in is.store.held) table.0 is.store.heap makes CATALOG (has-catalog is.store.found) read.one.chain.links read.route.leads in
+-- a table ends where it did where its pages are left alone
+pub ends-kept : (size : ℕ) (pages after : Pages) (firsts indexes : List ℕ) (first : ℕ) (well : WellFormed size pages firsts indexes) (has : Contains firsts first) → ((links : List Link) → IsWay size pages first links 0 → (p : ℕ) → 0 < times p (pages_on links) → IsUntouched pages after p) → (last : ℕ) (tail : HeapPage) → EndsAt size pages first last tail → EndsAt size after first last tail
+ends-kept size pages after firsts indexes first well has spared last tail ends =
+    let read = reads size pages firsts indexes first well has in
+    let same = spared read.one.chain.links read.route.leads in
     record {
       head = ends.head;
-      at_first = at-same size pages table.1 CATALOG ends.head (same CATALOG (own-first size pages (firsts_of is.store.found) (pages_in is.store.held) CATALOG is.store.heap (has-catalog is.store.found))).0 ends.at_first;
+      at_first = at-same size pages after first ends.head (same first (own-first size pages firsts indexes first well has)).0 ends.at_first;
       named = ends.named;
-      at_last = at-same size pages table.1 last tail (same last (own-last size pages (firsts_of is.store.found) (pages_in is.store.held) CATALOG last tail is.store.heap (has-catalog is.store.found) ends)).0 ends.at_last;
+      at_last = at-same size pages after last tail (same last (own-last size pages firsts indexes first last tail well has ends)).0 ends.at_last;
     }
 
-pub create-needs : (size : ℕ) (pages : Pages) (all : PlainTables) (name : List ℕ) (columns : List TableColumn) (answer : Result (Unit {0} × Pages) Refusal)
-    → IsStoreOf size pages all → IsNewName all name → AreTableColumns columns
-    → created size pages name columns answer → (needs : ℕ) × CreateNeeds size pages name columns needs × TakesNeeded size pages needs answer
-create-needs size pages all name columns answer is new_name are work =
-    let end = ends-there size pages (firsts_of is.store.found) (pages_in is.store.held) CATALOG is.store.heap (has-catalog is.store.found) in
-    let behind = pages_opened (length (entry_bytes end.1.entries)) (map row_values (rows_of_table name 0 columns)) in
-    (1 + behind, (behind, (end.0, end.1, end.2, refl), refl), go end.0 end.1 end.2 answer work)
-  where
-    go : (last : ℕ) (tail : HeapPage) → EndsAt size pages CATALOG last tail → (answer : Result (Unit {0} × Pages) Refusal) → created size pages name columns answer → TakesNeeded size pages (1 + pages_opened (length (entry_bytes tail.entries)) (map row_values (rows_of_table name 0 columns))) answer
-    go last tail ends (Ok y) (table, make, add) =
-        let makes = make_law size pages (firsts_of is.store.found) (pages_in is.store.held) (Ok table) is.store.heap make in
-        let base = ready size pages is.store name columns table.0 table.1 new_name.is_name are makes in
-        let took = rows-take size table.1 y.1 (firsts_of is.store.found ++ table.0 ∷ []) (pages_in is.store.held) CATALOG (record { next_number = length is.store.placed; rows = is.store.placed }) (map row_values (rows_of_table name table.0 columns)) last tail makes.well (contains-left (firsts_of is.store.found) (table.0 ∷ []) CATALOG (has-catalog is.store.found)) base.is_table base.storable base.room (ends-made size pages is table makes last tail ends) add in
-        omega (arith, took, makes.takes.one_less, opened-same (length (entry_bytes tail.entries)) name 0 table.0 columns)
-    go last tail ends (Err why) (inl refused) =
-        let full = make_law size pages (firsts_of is.store.found) (pages_in is.store.held) (Err why) is.store.heap refused in
-        omega (arith, full.1)
-    go last tail ends (Err why) (inr (table, make, add)) =
-        let makes = make_law size pages (firsts_of is.store.found) (pages_in is.store.held) (Ok table) is.store.heap make in
-        let base = ready size pages is.store name columns table.0 table.1 new_name.is_name are makes in
-        let full = rows-full size table.1 (firsts_of is.store.found ++ table.0 ∷ []) (pages_in is.store.held) CATALOG (record { next_number = length is.store.placed; rows = is.store.placed }) (map row_values (rows_of_table name table.0 columns)) why last tail makes.well (contains-left (firsts_of is.store.found) (table.0 ∷ []) CATALOG (has-catalog is.store.found)) base.is_table base.storable base.room (ends-made size pages is table makes last tail ends) add in
-        omega (arith, full, makes.takes.one_less, opened-same (length (entry_bytes tail.entries)) name 0 table.0 columns)
-
--- an index takes the pages that its row opens
-pub index-needs : (size : ℕ) (pages : Pages) (all : PlainTables) (table : PlainTable) (name column : List ℕ) (answer : Result (Unit {0} × Pages) Refusal)
-    → IsStoreOf size pages all → Contains all.tables table → IsNewName all name → HasColumn column table
-    → indexed size pages name table.name column answer → (needs : ℕ) × IndexNeeds size pages name table.name needs × TakesNeeded size pages needs answer
-index-needs size pages all table name column answer is has new there work =
-    let one = single size pages all table is has in
-    let ready = index-ready size pages all table is one name column new.is_name there in
-    let end = ends-there size pages (firsts_of is.store.found) (pages_in is.store.held) CATALOG is.store.heap (has-catalog is.store.found) in
-    let same : pages_opened (length (entry_bytes end.1.entries)) (row_values (row_of_index name one.stored.name ready.at_column.place) ∷ []) ≡ pages_opened (length (entry_bytes end.1.entries)) (row_values (row_of_index name table.name 0) ∷ []) =
-    opened-index (length (entry_bytes end.1.entries)) name one.stored.name ready.at_column.place 0 ∙ ap (λ (n : List ℕ). pages_opened (length (entry_bytes end.1.entries)) (row_values (row_of_index name n 0) ∷ [])) (sym one.shows.name) in (
-      pages_opened (length (entry_bytes end.1.entries)) (row_values (row_of_index name table.name 0) ∷ []),
-      (end.0, end.1, end.2, refl),
-      subst (λ (n : ℕ). TakesNeeded size pages n answer) same (go one.stored ready end.0 end.1 end.2 answer (row-added size pages all table is one name column ready answer work)),
-    )
-  where
-    go : (stored : StoredTable) (ready : IndexReady size pages all is stored name column) (last : ℕ) (tail : HeapPage) → EndsAt size pages CATALOG last tail → (answer : Result (Unit {0} × Pages) Refusal) → index_added size name stored.name ready.at_column.place pages answer → TakesNeeded size pages (pages_opened (length (entry_bytes tail.entries)) (row_values (row_of_index name stored.name ready.at_column.place) ∷ [])) answer
-    go stored ready last tail ends (Ok y) h = rows-take size pages y.1 (firsts_of is.store.found) (pages_in is.store.held) CATALOG (record { next_number = length is.store.placed; rows = is.store.placed }) (row_values (row_of_index name stored.name ready.at_column.place) ∷ []) last tail is.store.heap (has-catalog is.store.found) ready.is_table ready.storable ready.room ends h
-    go stored ready last tail ends (Err why) h = rows-full size pages (firsts_of is.store.found) (pages_in is.store.held) CATALOG (record { next_number = length is.store.placed; rows = is.store.placed }) (row_values (row_of_index name stored.name ready.at_column.place) ∷ []) why last tail is.store.heap (has-catalog is.store.found) ready.is_table ready.storable ready.room ends h
-
-pub edits_law : EditsLaw
-edits_law size pages after all table rows is has fit room some work =
-    let one = single size pages all table is has in
-    let end = ends-there size pages (firsts_of is.store.found) (pages_in is.store.held) one.stored.first is.store.heap (has-first is.store.found one.stored one.has) in
-    let edited = rows-edit size pages after (firsts_of is.store.found) (pages_in is.store.held) one.stored.first (record { next_number = table.next_number; rows = one.shows.placed }) rows end.0 end.1 is.store.heap (has-first is.store.found one.stored one.has) one.shows.is_table (storable-rows table rows fit) room end.2 some
-    (by-name size pages all table is one (λ stored. all_added size stored.first rows pages) (Ok (tt, after)) work) in
-    record { table = one.stored; named = named-here size pages all table is one; last = end.0; tail = end.1; ends = end.2; edits = edited }
+-- the catalog ends where it did once a table's first page is made
+pub ends-made : {all : PlainTables} (size : ℕ) (pages : Pages) (is : IsTableStoreOf size pages all) (table : ℕ × Pages) → MakesTable size pages (firsts_of is.store.found) is.store.held table.0 table.1 → (last : ℕ) (tail : HeapPage) → EndsAt size pages CATALOG last tail → EndsAt size table.1 CATALOG last tail
+ends-made size pages is table makes last tail ends =
+    ends-kept size pages table.1 (firsts_of is.store.found) is.store.held CATALOG is.store.heap (has-catalog is.store.found) (made-spares size pages table.1 (firsts_of is.store.found) is.store.held table.0 is.store.heap makes CATALOG (has-catalog is.store.found)) last tail ends

@@ -1,35 +1,46 @@
 -- Rows that are changed one after the other.
-use Rattle.std.proofs.Common.{◌≡◌, ◌≢◌, ◌∙◌, ◌==◌, cond, ℕ, Bool, true, false, List, [], ◌∷◌, map, Ok, Err, Result, inl, inr, refl, sym, ap, subst}
+use Rattle.std.proofs.Common.{◌≡◌, ◌≢◌, ◌∙◌, ◌==◌, ◌<◌, ◌^◌, cond, ℕ, Bool, true, false, List, [], ◌∷◌, map, Some, Ok, Err, Result, inl, inr, refl, sym, ap, subst}
 use Rattle.std.specs.List.{AllByRecursion, Contains}
-use Rattle.std.proofs.lemmas.Bool.{ne_eqb}
+use Rattle.std.proofs.lemmas.Bool.{eq-eqb, ne_eqb}
 use Rattle.std.proofs.lemmas.List.{map-id}
 use Rattle.retro_base.specs.declared.refusal.Refusal.{Refusal}
 use Rattle.retro_base.specs.declared.refusal.Refusal.TheVariants.{PagesFull}
 use Rattle.values.specs.declared.value.Value.{Value}
 use Rattle.pager.specs.Pages.{Pages}
 use Rattle.heap_file.specs.declared.chain.Placed.{Placed}
-use Rattle.pager.specs.Allows.{◌>>=◌}
 use Rattle.heap_file.specs.Work.{changed}
 use Rattle.heap_laws.specs.Store.{WellFormed}
 use Rattle.heap_laws.specs.Table.{IsStorable, IsTable, OthersStay, Table, with_changed}
+use Rattle.heap_file.specs.HeapPage.{IsEntry}
+use Rattle.heap_laws.specs.Laws.{AreSpared}
 use Rattle.heap_laws.proofs.Changing.{change_law}
+use Rattle.heap_laws.proofs.Reading.{ok-one, rows-numbered}
+use Rattle.heap_laws.proofs.Rows.{entry_of as heap_entry}
+use Rattle.heap_laws.proofs.Staying.{indexes_stay_law}
 use Rattle.relation.specs.Each.{in_turn}
-use Rattle.relation.specs.Work.{page_of, row_changed, rows_at}
+use Rattle.relation.specs.declared.drafting.RowChange.{RowChange}
+use Rattle.relation.specs.declared.listing.Moved.{Moved}
+use Rattle.sql_tree.specs.declared.statement.Column.{Column as TableColumn}
+use Rattle.relation.specs.Work.{all_changed}
+use Rattle.relation.proofs.Halves.{page_of, row_changed}
 use Rattle.sql_tree.specs.Rows.{fits}
-use Rattle.relation.proofs.Steps.{left_pages}
-use Rattle.relation_laws.specs.Laws.{IsRowFor, IsStoreOf, LeavesOrIsFull, UpdateLaw, changed_to, with_changes, with_table}
-use Rattle.relation_laws.specs.Reach.{Reaches}
-use Rattle.relation_laws.specs.Tables.{PlainTable, numbered_row}
+use Rattle.relation_laws.specs.Laws.{IsRowFor, changed_to, numbered_change}
+use Rattle.relation_laws.specs.Turns.{moves}
+use Rattle.relation_laws.specs.Tables.{AreDifferent, PlainTable, numbered_row}
 use Rattle.relation_laws.proofs.Catalogs.{goes-on}
-use Rattle.relation_laws.proofs.Deleting.{StillThere, still}
-use Rattle.relation_laws.proofs.Lists.{contains-map}
-use Rattle.relation_laws.proofs.Reaching.{Spares, spares-none, spares-then}
+use Rattle.relation_laws.proofs.Deleting.{StillThere}
+use Rattle.relation_laws.proofs.ColumnKinds.{row-stands}
+use Rattle.relation_laws.proofs.KeyTurns.{KeyTurn, row_number, some-is}
+use Rattle.relation_laws.proofs.Turning.{RowsTurn}
+use Rattle.relation_laws.proofs.Lists.{contains-map, contains-of, keyed-one}
+use Rattle.relation_laws.proofs.Reaching.{Spares, spares-none, spares-then, untouched-then}
 use Rattle.relation_laws.proofs.Moving.{changed-spares}
-use Rattle.relation_laws.proofs.Spared.{reaches}
-use Rattle.relation_laws.proofs.Singling.{Single, by-name, firsts_of, has-first, one-changed, pages_in, rows-read, single}
 
 abbrev pub numbers_of : List (ℕ × List Value) → List ℕ
 numbers_of changes = map (λ (change : ℕ × List Value). change.0) changes
+
+abbrev pub was_number : RowChange → ℕ
+was_number change = change.was.number
 
 -- a row of another number stays where another row changes
 stays : (table : Table) (to : Placed) (placed : Placed) → placed.number ≢ to.number → Contains table.rows placed → Contains (with_changed table to).rows placed
@@ -67,36 +78,117 @@ changed-next change changes page (row ∷ rows) apart = both (go (row.number == 
     both : {x y : ℕ × List Value} {xs ys : List (ℕ × List Value)} → x ≡ y → xs ≡ ys → x ∷ xs ≡ y ∷ ys
     both e f = cc (e, f)
 
--- rows of the table that begins with a page were changed; the other tables are as they were
-pub record Alters (size : ℕ) (pages : Pages) (firsts indexes : List ℕ) (first : ℕ) (table : Table) (changes : List (ℕ × List Value)) (after : Pages) : Type 0 where
+-- a row has one value of each column's kind, as it was and as it becomes, and stands then
+pub record Stands (columns : List TableColumn) (moved : Moved) : Type 0 where
+  pub was : fits columns moved.was.row ≡ true
+  pub becomes : fits columns moved.becomes.row ≡ true
+  pub is : IsEntry (heap_entry moved.becomes)
+  pub low : moved.becomes.page < 2 ^ 32
+
+abbrev pub BothFit : List TableColumn → RowChange → Type 0
+BothFit columns change = (fits columns change.was.row ≡ true) × (fits columns change.row ≡ true)
+
+-- Rows of the table that begins with a page were changed, and moved so. The other tables are as they were, and so are the
+-- other pages that are held.
+pub record Alters (size : ℕ) (pages : Pages) (firsts indexes : List ℕ) (first : ℕ) (table : Table) (columns : List TableColumn) (told : List RowChange) (moved : List Moved) (after : Pages) : Type 0 where
   pub placed : List Placed
   pub is_table : IsTable size after first (record { next_number = table.next_number; rows = placed })
-  pub rows : map numbered_row placed ≡ map (changed_to changes) (map numbered_row table.rows)
+  pub rows : map numbered_row placed ≡ map (changed_to (map numbered_change told)) (map numbered_row table.rows)
   pub others : OthersStay size pages after firsts first
   pub well : WellFormed size after firsts indexes
   pub spares : Spares false size pages after firsts first
+  pub spared : AreSpared indexes pages after
+  pub turned : RowsTurn table.rows (map moves moved) placed
+  pub stand : AllByRecursion (Stands columns) moved
 
-pub altered : (size : ℕ) (pages after : Pages) (firsts indexes : List ℕ) (first : ℕ) (rows : List Placed) (table : Table) (changes : List (ℕ × List Value)) → WellFormed size pages firsts indexes → Contains firsts first → IsTable size pages first table → AllByRecursion (λ (change : ℕ × List Value). IsStorable change.1) changes → StillThere first rows table (numbers_of changes)
-    → in_turn (row_changed size first rows) changes pages (Ok (tt, after)) → Alters size pages firsts indexes first table changes after
-altered size pages after firsts indexes first rows table [] well among is storable there h =
-    subst (λ (p : Pages). Alters size pages firsts indexes first table [] p) (left_pages pages after h)
-    (record { placed = table.rows; is_table = is; rows = sym (map-id (map numbered_row table.rows)); others = λ other c apart t told. told; well = well; spares = spares-none false size pages firsts first })
-altered size pages after firsts indexes first rows table (change ∷ changes) well among is storable there h =
-    let found = there.0.0 in
-    let one = change_law size pages firsts indexes first table found change.1 (Ok h.0) well among is there.0.2 storable.0 (changed_at size first rows found change pages (Ok h.0) there.0.1 there.0.3 h.1) in
-    let to : Placed = record { number = change.0; page = h.0.0; row = change.1 } in
-    let now_shown : IsTable size h.0.1 first (with_changed table to) = subst (λ (n : ℕ). IsTable size h.0.1 first (with_changed table (record { number = n; page = h.0.0; row = change.1 }))) there.0.1 one.shows in
-    let rest = altered size h.0.1 after firsts indexes first rows (with_changed table to) changes one.well among now_shown storable.1 (still-changed first rows table to (numbers_of changes) there.1 there.2) h.2 in
-    record {
-      placed = rest.placed;
-      is_table = rest.is_table;
-      rows = rest.rows ∙ changed-next change changes h.0.0 table.rows there.1;
-      others = λ other c apart t told. rest.others other c apart t (one.others other c apart t told);
-      well = rest.well;
-      spares = spares-then false size pages h.0.1 after firsts first (changed-spares size pages h.0.1 firsts indexes first table found.page (record { number = found.number; row = change.1 }) h.0.0 well among one) rest.spares;
-    }
+-- the rows of which one turned
+changed-turn : (table : Table) (w to : Placed) → to.number ≡ w.number → Contains table.rows w → KeyTurn row_number w.number table.rows (with_changed table to).rows (Some to)
+changed-turn table w to named has = record {
+  stays = λ x apart there. stays table to x (λ e. apart (e ∙ named)) there;
+  stood = λ x apart there.
+      let it = contains-of (λ (p : Placed). cond (p.number == to.number) to p) table.rows x there in
+      stood-one x apart it.0 it.1 (it.0.number == to.number) it.2;
+  is_own = record {
+    told = λ x there same.
+        let it = contains-of (λ (p : Placed). cond (p.number == to.number) to p) table.rows x there in
+        own-one x same it.0 (it.0.number == to.number) refl it.2;
+    listed = λ x e.
+        let same : to ≡ x = some-is e in
+        (sym (ap row_number same) ∙ named, subst (Contains (with_changed table to).rows) (here ∙ same) (contains-map (λ (p : Placed). cond (p.number == to.number) to p) table.rows w has));
+  };
+}
+  where
+    here : cond (w.number == to.number) to w ≡ to
+    here = rw (eq-eqb w.number to.number (sym named)) refl
 
-full : (size : ℕ) (pages : Pages) (firsts indexes : List ℕ) (first : ℕ) (rows : List Placed) (table : Table) (changes : List (ℕ × List Value)) (why : Refusal) → WellFormed size pages firsts indexes → Contains firsts first → IsTable size pages first table → AllByRecursion (λ (change : ℕ × List Value). IsStorable change.1) changes → StillThere first rows table (numbers_of changes)
+    stood-one : (x : Placed) → x.number ≢ w.number → (y : Placed) → Contains table.rows y → (b : Bool) → cond b to y ≡ x → Contains table.rows x
+    stood-one x apart y also true e = absurd (apart (sym (ap row_number e) ∙ named))
+    stood-one x apart y also false e = subst (Contains table.rows) e also
+
+    own-one : (x : Placed) → x.number ≡ w.number → (y : Placed) → (b : Bool) → (y.number == to.number) ≡ b → cond b to y ≡ x → Some to ≡ Some x
+    own-one x same y true is e = ap (λ (p : Placed). Some p) e
+    own-one x same y false is e = absurd (clash (sym (eq-eqb y.number to.number (ap row_number e ∙ same ∙ sym named)) ∙ is))
+      where
+        clash : true ≡ false → ⊥
+        clash c = cc
+
+-- the rows that changes tell are still there where another one changed
+still-there : (table : Table) (to : Placed) (told : List RowChange) → AllByRecursion (λ (other : ℕ). other ≢ to.number) (map was_number told) → AllByRecursion (λ (change : RowChange). Contains table.rows change.was) told → AllByRecursion (λ (change : RowChange). Contains (with_changed table to).rows change.was) told
+still-there table to [] apart all = tt
+still-there table to (change ∷ told) apart all = (stays table to change.was apart.0 all.0, still-there table to told apart.1 all.1)
+
+pub numbers-told : (told : List RowChange) → numbers_of (map numbered_change told) ≡ map was_number told
+numbers-told [] = refl
+numbers-told (change ∷ told) = ap (λ (l : List ℕ). change.was.number ∷ l) (numbers-told told)
+
+pub altered : (size : ℕ) (pages after : Pages) (firsts indexes : List ℕ) (first : ℕ) (table : Table) (columns : List TableColumn) (told : List RowChange) (moved : List Moved) → WellFormed size pages firsts indexes → Contains firsts first → IsTable size pages first table → AllByRecursion (λ (change : RowChange). IsStorable change.row) told
+    → AllByRecursion (BothFit columns) told → AllByRecursion (λ (change : RowChange). Contains table.rows change.was) told → AreDifferent (map was_number told) → all_changed size first told pages (Ok (moved, after)) → Alters size pages firsts indexes first table columns told moved after
+altered size pages after firsts indexes first table columns [] moved well among is storable fit there apart h =
+    subst (λ (p : List Moved × Pages). Alters size pages firsts indexes first table columns [] p.0 p.1) (ok-one h) (record {
+      placed = table.rows;
+      is_table = is;
+      rows = sym (map-id (map numbered_row table.rows));
+      others = λ other c apart t told. told;
+      well = well;
+      spares = spares-none false size pages firsts first;
+      spared = λ page has. (refl, refl);
+      turned = refl;
+      stand = tt;
+    })
+altered size pages after firsts indexes first table columns (change ∷ told) moved well among is storable fit there apart (next, (page, work, made), (rest, more, joined)) =
+    let w = change.was in
+    let one = change_law size pages firsts indexes first table w change.row (Ok page) well among is there.0 storable.0 work in
+    let to : Placed = record { number = w.number; page = page.0; row = change.row } in
+    let m : Moved = record { was = w; becomes = to } in
+    let here = ok-one made in
+    let behind : all_changed size first told page.1 (Ok rest) = subst (λ (q : Moved × Pages). all_changed size first told q.1 (Ok rest)) (sym here) more in
+    let follow = altered size page.1 rest.1 firsts indexes first (with_changed table to) columns told rest.0 one.well among one.shows storable.1 fit.1 (still-there table to told apart.0 there.1) apart.1 behind in
+    let turn = changed-turn table w to refl there.0 in
+    let stood = row-stands size page.1 firsts indexes first (with_changed table to) to one.well among one.shows (turn.is_own.listed to refl).1 in
+    let numbers = rows-numbered size pages firsts indexes first table well among is w.number in
+    subst (λ (p : List Moved × Pages). Alters size pages firsts indexes first table columns (change ∷ told) p.0 p.1) (ok-one joined)
+    (subst (λ (k : Moved). Alters size pages firsts indexes first table columns (change ∷ told) (k ∷ rest.0) rest.1) (ap (λ (q : Moved × Pages). q.0) here) (record {
+      placed = follow.placed;
+      is_table = follow.is_table;
+      rows = follow.rows ∙ changed-next (numbered_change change) (map numbered_change told) page.0 table.rows (subst (AllByRecursion (λ (other : ℕ). other ≢ w.number)) (sym (numbers-told told)) apart.0);
+      others = λ other c differ t shows. follow.others other c differ t (one.others other c differ t shows);
+      well = follow.well;
+      spares = spares-then false size pages page.1 rest.1 firsts first (changed-spares size pages page.1 firsts indexes first table w.page (record { number = w.number; row = change.row }) page.0 well among one) follow.spares;
+      spared = λ p has. untouched-then pages page.1 rest.1 p (indexes_stay_law.change size pages page.1 firsts indexes first table w.page (record { number = w.number; row = change.row }) page.0 well among one p has) (follow.spared p has);
+      turned = (
+        w.number,
+        (with_changed table to).rows,
+        record {
+          told = λ x has same. ap (λ (p : Placed). Some p) (keyed-one row_number w.number table.rows w x numbers.0 there.0 has refl same);
+          listed = λ x e. let it : w ≡ x = some-is e in (ap row_number (sym it), subst (Contains table.rows) it there.0);
+        },
+        turn,
+        follow.turned,
+      );
+      stand = (record { was = fit.0.0; becomes = fit.0.1; is = stood.0; low = stood.1 }, follow.stand);
+    }))
+
+pub full : (size : ℕ) (pages : Pages) (firsts indexes : List ℕ) (first : ℕ) (rows : List Placed) (table : Table) (changes : List (ℕ × List Value)) (why : Refusal) → WellFormed size pages firsts indexes → Contains firsts first → IsTable size pages first table → AllByRecursion (λ (change : ℕ × List Value). IsStorable change.1) changes → StillThere first rows table (numbers_of changes)
     → in_turn (row_changed size first rows) changes pages (Err why) → why ≡ PagesFull size
 full size pages firsts indexes first rows table [] why well among is storable there h = absurd cc
 full size pages firsts indexes first rows table (change ∷ changes) why well among is storable there (inl h) =
@@ -122,35 +214,6 @@ fitting-change table (change ∷ changes) row all fit = go (fitting-change table
     go rest true = all.0.1
     go rest false = rest
 
-fitting-changes : (table : PlainTable) (changes : List (ℕ × List Value)) (rows : List (ℕ × List Value)) → AllByRecursion (λ (change : ℕ × List Value). IsRowFor table change.1) changes → AllByRecursion (λ (row : ℕ × List Value). fits table.columns row.1 ≡ true) rows → AllByRecursion (λ (row : ℕ × List Value). fits table.columns row.1 ≡ true) (map (changed_to changes) rows)
+pub fitting-changes : (table : PlainTable) (changes : List (ℕ × List Value)) (rows : List (ℕ × List Value)) → AllByRecursion (λ (change : ℕ × List Value). IsRowFor table change.1) changes → AllByRecursion (λ (row : ℕ × List Value). fits table.columns row.1 ≡ true) rows → AllByRecursion (λ (row : ℕ × List Value). fits table.columns row.1 ≡ true) (map (changed_to changes) rows)
 fitting-changes table changes [] all fit = tt
 fitting-changes table changes (row ∷ rows) all fit = (fitting-change table changes row all fit.0, fitting-changes table changes rows all fit.1)
-
-pub update_law : UpdateLaw
-update_law size pages all table changes answer is has these work = go answer (goes-on (rows_at size pages one.stored) (λ rows. in_turn (row_changed size one.stored.first rows) changes pages) one.shows.placed (rows-read size pages all table is one) answer
-    (by-name size pages all table is one (λ stored. rows_at size pages stored >>= λ rows. in_turn (row_changed size stored.first rows) changes pages) answer work))
-  where
-    one : Single size pages all table is
-    one = single size pages all table is has
-
-    before : Table
-    before = record { next_number = table.next_number; rows = one.shows.placed }
-
-    there : StillThere one.stored.first one.shows.placed before (numbers_of changes)
-    there = still one.stored.first before (numbers_of changes) (subst (λ (rows : List (ℕ × List Value)). AllByRecursion (λ (number : ℕ). Contains (map (λ (row : ℕ × List Value). row.0) rows) number) (numbers_of changes)) one.shows.rows these.0.0) these.0.1
-
-    go : (answer : Result (Unit {0} × Pages) Refusal) → in_turn (row_changed size one.stored.first one.shows.placed) changes pages answer
-        → LeavesOrIsFull size (λ after. IsStoreOf size after (with_table (with_changes changes table) all) × Reaches size pages table.name after) answer
-    go (Ok y) h =
-        let alters = altered size pages y.1 (firsts_of is.store.found) (pages_in is.store.held) one.stored.first one.shows.placed before changes is.store.heap (has-first is.store.found one.stored one.has) one.shows.is_table (storable-changes table changes these.1) there h in (
-          one-changed size pages y.1 all table (with_changes changes table) is one refl alters.others alters.well (record {
-            name = one.shows.name;
-            columns = one.shows.columns;
-            placed = alters.placed;
-            is_table = alters.is_table;
-            rows = ap (map (changed_to changes)) one.shows.rows ∙ sym alters.rows;
-            fitting = fitting-changes table changes table.rows these.1 one.shows.fitting;
-          }),
-          reaches false size pages y.1 all table is one alters.spares,
-        )
-    go (Err why) h = full size pages (firsts_of is.store.found) (pages_in is.store.held) one.stored.first one.shows.placed before changes why is.store.heap (has-first is.store.found one.stored one.has) one.shows.is_table (storable-changes table changes these.1) there h

@@ -13,7 +13,7 @@ use Rattle.heap_laws.proofs.Reading.{reads}
 use Rattle.heap_laws.proofs.Removing.{remove_law}
 use Rattle.heap_laws.proofs.Routes.{times-cons}
 use Rattle.relation.specs.Each.{in_turn}
-use Rattle.relation.specs.Work.{row_changed, row_removed}
+use Rattle.relation.proofs.Halves.{row_changed, row_removed}
 use Rattle.relation.proofs.Steps.{left_pages}
 use Rattle.relation_laws.specs.Needs.{changes_open, moved_to, next_pages, page_under, taken_after}
 use Rattle.relation_laws.specs.Reach.{IsPageOf, IsUntouched, with_root}
@@ -21,7 +21,7 @@ use Rattle.relation_laws.specs.Work.{EditsWithin}
 use Rattle.relation_laws.proofs.Changed.{Goes}
 use Rattle.relation_laws.proofs.Counting.{one-change, opens-behind}
 use Rattle.relation_laws.proofs.Deleting.{StillThere, fitting-left, still-without, taken_out}
-use Rattle.relation_laws.proofs.Drawing.{Draws, draws-pages}
+use Rattle.relation_laws.proofs.Drawing.{Draws, draws-pages, draws-still, draws-then}
 use Rattle.relation_laws.proofs.Leaving.{Closed, closed-removed, walk}
 use Rattle.relation_laws.proofs.Lists.{all-at, contains-cases, contains-cons, contains-head}
 use Rattle.relation_laws.proofs.Needing.{next-more}
@@ -156,6 +156,17 @@ changes-within T size pages after firsts indexes first rows table (change ∷ ch
     (within-touches T pages h.0.1 (page_under change.0 table.rows ∷ first ∷ last ∷ with_root (next_pages pages step.opens)) step.touches (here, (at_first, (at_last, parts.0))))
     (changes-within T size h.0.1 after firsts indexes first rows (with_changed table moved) changes step.end step.next step.well among step.shows storable.1 (still-changed first rows table moved (numbers_of changes) there.1 there.2) step.ends
     at_first ways.1 (moved-pages T change h.0.0 table.rows on ways.0) parts.1 h.2)
+
+-- the pages that are taken behind those that changes open
+pub changes-draw : (size : ℕ) (pages after : Pages) (firsts indexes : List ℕ) (first : ℕ) (rows : List Placed) (table : Table) (changes : List (ℕ × List Value)) (last : ℕ) (tail : HeapPage) → WellFormed size pages firsts indexes → Contains firsts first → IsTable size pages first table → AllByRecursion (λ (change : ℕ × List Value). IsStorable change.1) changes → StillThere first rows table (numbers_of changes) → EndsAt size pages first last tail
+    → in_turn (row_changed size first rows) changes pages (Ok (tt, after)) → Draws pages after (changes_open (taken_after pages) last table.rows changes)
+changes-draw size pages after firsts indexes first rows table [] last tail well among is storable there ends h = subst (λ (p : Pages). Draws pages p 0) (left_pages pages after h) (draws-still pages)
+changes-draw size pages after firsts indexes first rows table (change ∷ changes) last tail well among is storable there ends h =
+    let step = one-change size pages firsts indexes first rows table change last tail h.0 well among is storable.0 there.0 ends h.1 in
+    let moved : Placed = record { number = change.0; page = h.0.0; row = change.1 } in
+    let count = opens-behind pages h.0.1 last table.rows change changes h.0.0 step.end step.opens step.goes step.draws in
+    let rest = changes-draw size h.0.1 after firsts indexes first rows (with_changed table moved) changes step.end step.next step.well among step.shows storable.1 (still-changed first rows table moved (numbers_of changes) there.1 there.2) step.ends h.2 in
+    subst (Draws pages after) (sym count) (draws-then pages h.0.1 after step.opens (changes_open (taken_after h.0.1) step.end (moved_to change h.0.0 table.rows) changes) step.draws rest)
 
 -- one row that is taken out edits the pages of its table, and the root page
 removed-within : (T : ℕ → Type 0) (size : ℕ) (pages after : Pages) (firsts indexes : List ℕ) (first : ℕ) (table : Table) (page number : ℕ) (well : WellFormed size pages firsts indexes) → Contains firsts first → Closed T size pages → T first → T page → RemovesRow size pages firsts indexes first table page number after → EditsWithin pages after (λ p. (p ≡ 0) ⊎ T p)

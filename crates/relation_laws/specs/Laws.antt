@@ -1,9 +1,12 @@
 -- What the calls on tables by name do to the tables of well-formed pages.
-use Rattle.std.specs.Prelude.{◌≡◌, ◌≢◌, ◌<◌, ◌≤◌, ◌+◌, ◌++◌, ◌^◌, ◌==◌, not, ℕ, List, [], ◌∷◌, length, map, slice_index_or, true, Result, Ok, Err, if◌then◌else◌}
+use Rattle.std.specs.Prelude.{◌≡◌, ◌≢◌, ◌<◌, ◌≤◌, ◌+◌, ◌++◌, ◌^◌, ◌==◌, ◌&&◌, not, ℕ, Bool, List, [], ◌∷◌, length, map, slice_get, slice_index_or, true, false, Option, Some, None, Result, Ok, Err, if◌then◌else◌}
 use Rattle.std.specs.List.{AllByRecursion, Contains, filter, list_any}
 use Rattle.retro_base.specs.declared.refusal.Refusal.{Refusal}
 use Rattle.retro_base.specs.declared.refusal.Refusal.TheVariants.{PagesFull}
+use Rattle.std.specs.Ordering.{is_gt, is_lt}
+use Rattle.values.specs.Value.{kind_of, value_cmp}
 use Rattle.values.specs.declared.value.Value.{Value}
+use Rattle.pager.specs.Allows.{only}
 use Rattle.values.specs.Name.{IsName, same_name}
 use Rattle.sql_tree.specs.declared.schema.IndexSchema.{IndexSchema}
 use Rattle.sql_tree.specs.declared.schema.Schema.{Schema}
@@ -13,9 +16,12 @@ use Rattle.pager.specs.Pages.{Pages}
 use Rattle.heap_file.specs.declared.chain.Placed.{Placed}
 use Rattle.heap_laws.specs.Laws.{DoesOrIsFull, AreZero}
 use Rattle.heap_laws.specs.Table.{IsStorable}
+use Rattle.relation.specs.declared.catalog.StoredIndex.{StoredIndex}
 use Rattle.relation.specs.declared.catalog.StoredTable.{StoredTable}
-use Rattle.relation.specs.Each.{in_turn}
-use Rattle.relation.specs.Work.{all_changed, all_removed, created, deleted, indexed, inserted, next_in, page_of, row_changed, row_removed, rows_at, rows_in, schema_in, table_in, updated}
+use Rattle.relation.specs.Each.{each}
+use Rattle.tree_index.specs.Work.{added, made, ranged, removed}
+use Rattle.relation.specs.declared.drafting.RowChange.{RowChange}
+use Rattle.relation.specs.Work.{all_placed, change_of, created, deleted, indexed, inserted, next_in, placed_of, ranged_at, rows_at, rows_in, schema_in, table_in, updated}
 use Rattle.sql_tree.specs.Rows.{fits}
 use Rattle.relation_laws.specs.Needs.{CreateNeeds, IndexNeeds, InsertNeeds, TakesNeeded, UpdateNeeds}
 use Rattle.relation_laws.specs.Reach.{EditsEnds, Reaches, ReachesCatalog}
@@ -45,12 +51,14 @@ IsRead is (Err why) = ⊥
 abbrev pub no_tables : PlainTables
 no_tables = record { tables = []; indexes = [] }
 
--- Pages hold one list of tables. Zero pages, as in a store that was never written, hold none.
+-- Pages hold one list of tables, as their bytes tell it. Zero pages, as in a store that was never written, hold none.
 pub record StoreLaw : Type 0 where
   pub one : (size : ℕ) (pages : Pages) (all other : PlainTables) → IsStoreOf size pages all → TablesOf size pages other
       → other ≡ all
   pub fresh : (size : ℕ) (pages : Pages) → AreZero size pages → 2 ≤ size → size < 2 ^ 32
       → IsStoreOf size pages no_tables
+  pub bytes : (size : ℕ) (pages after : Pages) (all : PlainTables) → IsStoreOf size pages all
+      → ((page : ℕ) → after.at page ≡ pages.at page) → IsStoreOf size after all
 
 -- a table without what it holds
 abbrev pub without_contents : PlainTable → TableSchema
@@ -95,18 +103,20 @@ InsertLaw = (size : ℕ) (pages : Pages) (all : PlainTables) (table : PlainTable
     (answer : Result (Unit {0} × Pages) Refusal)
     → IsStoreOf size pages all → Contains all.tables table → AllByRecursion (IsRowFor table) rows
     → table.next_number + length rows < 2 ^ 64
-    → inserted size pages table.name rows answer
+    → inserted added size pages table.name rows answer
     → LeavesOrIsFull size
     (λ after. IsStoreOf size after (with_table (with_rows rows table) all) × Reaches size pages table.name after)
     answer
 
--- An insert edits the first page of its table, the last one, and where its rows open pages, those and the root page;
--- and no other.
+-- Rows that are added to a table edit its first page, the last one, and where they open pages, those and the root page;
+-- and no other. What an insert edits besides is on pages of the table's indexes or was taken for them, and the root page
+-- where some were taken.
 abbrev pub EditsLaw : Type 0
-EditsLaw = (size : ℕ) (pages after : Pages) (all : PlainTables) (table : PlainTable) (rows : List (List Value))
+EditsLaw = (size : ℕ) (pages after : Pages) (all : PlainTables) (table : PlainTable) (stored : StoredTable)
+    (rows : List (List Value)) (placed : List Placed)
     → IsStoreOf size pages all → Contains all.tables table → AllByRecursion (IsRowFor table) rows
     → table.next_number + length rows < 2 ^ 64 → 1 ≤ length rows
-    → inserted size pages table.name rows (Ok (tt, after))
+    → table_in size pages table.name (Ok stored) → all_placed size stored.first rows pages (Ok (placed, after))
     → EditsEnds size pages table.name rows after
 
 -- numbers of rows of the table, no two the same
@@ -125,7 +135,7 @@ abbrev pub DeleteLaw : Type 0
 DeleteLaw = (size : ℕ) (pages : Pages) (all : PlainTables) (table : PlainTable) (numbers : List ℕ)
     (answer : Result (Unit {0} × Pages) Refusal)
     → IsStoreOf size pages all → Contains all.tables table → AreNumbersOf table numbers
-    → deleted size pages table.name numbers answer
+    → deleted removed size pages table.name numbers answer
     → DoesOrIsFull size
     (λ u after. IsStoreOf size after (with_table (without_rows numbers table) all)
     × Reaches size pages table.name after) ⊥ answer
@@ -150,7 +160,7 @@ abbrev pub UpdateLaw : Type 0
 UpdateLaw = (size : ℕ) (pages : Pages) (all : PlainTables) (table : PlainTable) (changes : List (ℕ × List Value))
     (answer : Result (Unit {0} × Pages) Refusal)
     → IsStoreOf size pages all → Contains all.tables table → AreChangesOf table changes
-    → updated size pages table.name changes answer
+    → updated added removed size pages table.name changes answer
     → LeavesOrIsFull size
     (λ after. IsStoreOf size after (with_table (with_changes changes table) all)
     × Reaches size pages table.name after) answer
@@ -199,7 +209,7 @@ abbrev pub IndexLaw : Type 0
 IndexLaw = (size : ℕ) (pages : Pages) (all : PlainTables) (table : PlainTable) (name column : List ℕ)
     (answer : Result (Unit {0} × Pages) Refusal)
     → IsStoreOf size pages all → Contains all.tables table → IsNewName all name → HasColumn column table
-    → indexed size pages name table.name column answer
+    → indexed made added size pages name table.name column answer
     → LeavesOrIsFull size
     (λ after. IsStoreOf size after (with_index (record { name = name; table = table.name; column = column }) all)
     × ReachesCatalog size pages after) answer
@@ -211,12 +221,12 @@ pub record NeedsLaw : Type 0 where
       (answer : Result (Unit {0} × Pages) Refusal)
       → IsStoreOf size pages all → Contains all.tables table → AllByRecursion (IsRowFor table) rows
       → table.next_number + length rows < 2 ^ 64
-      → inserted size pages table.name rows answer
+      → inserted added size pages table.name rows answer
       → (needs : ℕ) × InsertNeeds size pages table.name rows needs × TakesNeeded size pages needs answer
   pub update : (size : ℕ) (pages : Pages) (all : PlainTables) (table : PlainTable) (changes : List (ℕ × List Value))
       (answer : Result (Unit {0} × Pages) Refusal)
       → IsStoreOf size pages all → Contains all.tables table → AreChangesOf table changes
-      → updated size pages table.name changes answer
+      → updated added removed size pages table.name changes answer
       → (needs : ℕ) × UpdateNeeds size pages table.name changes needs × TakesNeeded size pages needs answer
   pub create : (size : ℕ) (pages : Pages) (all : PlainTables) (name : List ℕ) (columns : List TableColumn)
       (answer : Result (Unit {0} × Pages) Refusal)
@@ -226,8 +236,12 @@ pub record NeedsLaw : Type 0 where
   pub index : (size : ℕ) (pages : Pages) (all : PlainTables) (table : PlainTable) (name column : List ℕ)
       (answer : Result (Unit {0} × Pages) Refusal)
       → IsStoreOf size pages all → Contains all.tables table → IsNewName all name → HasColumn column table
-      → indexed size pages name table.name column answer
-      → (needs : ℕ) × IndexNeeds size pages name table.name needs × TakesNeeded size pages needs answer
+      → indexed made added size pages name table.name column answer
+      → (needs : ℕ) × IndexNeeds size pages name table.name column needs × TakesNeeded size pages needs answer
+
+-- a change as it stands in a table, told by its row's number
+abbrev pub numbered_change : RowChange → ℕ × List Value
+numbered_change change = (change.was.number, change.row)
 
 -- Rows that are changed or taken out where they stand, as reading their table told, are so under their numbers.
 pub record PlacedLaw : Type 0 where
@@ -235,13 +249,31 @@ pub record PlacedLaw : Type 0 where
       (rows : List Placed) (placed : Placed)
       → IsStoreOf size pages all → Contains all.tables table → table_in size pages table.name (Ok stored)
       → rows_at size pages stored (Ok rows)
-      → Contains rows placed → page_of stored.first placed.number rows ≡ Ok placed.page
-  pub changes : (size first : ℕ) (rows changes : List Placed) (pages : Pages)
-      (answer : Result (Unit {0} × Pages) Refusal)
-      → AllByRecursion (λ (placed : Placed). page_of first placed.number rows ≡ Ok placed.page) changes
-      → all_changed size first changes pages answer
-      → in_turn (row_changed size first rows) (map numbered_row changes) pages answer
-  pub removes : (size first : ℕ) (rows gone : List Placed) (pages : Pages) (answer : Result (Unit {0} × Pages) Refusal)
-      → AllByRecursion (λ (placed : Placed). page_of first placed.number rows ≡ Ok placed.page) gone
-      → all_removed size first gone pages answer
-      → in_turn (row_removed size first rows) (map (λ (placed : Placed). placed.number) gone) pages answer
+      → Contains rows placed → placed_of stored.first placed.number rows ≡ Ok placed
+  pub changes : (first : ℕ) (rows : List Placed) (changes : List RowChange)
+      → AllByRecursion (λ (change : RowChange). placed_of first change.was.number rows ≡ Ok change.was) changes
+      → each (change_of first rows) (map numbered_change changes) (Ok changes)
+  pub removes : (first : ℕ) (rows gone : List Placed)
+      → AllByRecursion (λ (placed : Placed). placed_of first placed.number rows ≡ Ok placed) gone
+      → each (λ number. only (placed_of first number rows)) (map (λ (placed : Placed). placed.number) gone) (Ok gone)
+
+-- whether a value is there, and at least `low` and at most `high`
+abbrev pub value_between : Value → Value → Option Value → Bool
+value_between low high None = false
+value_between low high (Some value) = not (is_lt (value_cmp value low)) && not (is_gt (value_cmp value high))
+
+-- whether that is so of a row's value in the column at that place
+abbrev pub lies_between : ℕ → Value → Value → Placed → Bool
+lies_between place low high placed = value_between low high (slice_get placed.row place)
+
+-- The rows that an index of a table lists from a value to another of the column's kind are those of the table, in
+-- rising number, whose value in the column lies there. That is never refused.
+abbrev pub RangedLaw : Type 0
+RangedLaw = (size : ℕ) (pages : Pages) (all : PlainTables) (table : PlainTable) (stored : StoredTable)
+    (index : StoredIndex) (column : TableColumn) (low high : Value) (rows : List Placed)
+    (answer : Result (List Placed) Refusal)
+    → IsStoreOf size pages all → Contains all.tables table → table_in size pages table.name (Ok stored)
+    → Contains stored.indexes index → slice_get stored.columns index.place ≡ Some column → kind_of low ≡ column.kind
+    → kind_of high ≡ column.kind
+    → rows_at size pages stored (Ok rows) → ranged_at ranged size pages stored index low high answer
+    → answer ≡ Ok (filter (lies_between index.place low high) rows)

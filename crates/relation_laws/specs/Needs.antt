@@ -1,5 +1,5 @@
 -- The pages that a call takes.
-use Rattle.std.specs.Prelude.{◌≡◌, ◌<◌, ◌+◌, ◌-◌, ◌==◌, not, ℕ, zero, suc, Bool, List, [], ◌∷◌, length, map, nat_le, nat_lt, Result, Ok, Err, if◌then◌else◌}
+use Rattle.std.specs.Prelude.{◌≡◌, ◌⊎◌, ◌<◌, ◌+◌, ◌-◌, ◌==◌, not, ℕ, zero, suc, Bool, List, [], ◌∷◌, length, map, nat_le, nat_lt, Some, Result, Ok, Err, if◌then◌else◌}
 use Rattle.std.specs.List.{filter, range_with_len, sum_by}
 use Rattle.retro_base.specs.Fields.{number_at}
 use Rattle.retro_base.specs.declared.refusal.Refusal.{Refusal}
@@ -12,10 +12,17 @@ use Rattle.heap_file.specs.declared.chain.Placed.{Placed}
 use Rattle.heap_file.specs.HeapPage.{entry_bytes}
 use Rattle.heap_laws.specs.Store.{free_pages, root_at}
 use Rattle.heap_laws.specs.Table.{EndsAt}
+use Rattle.tree_index.specs.Tree.{Lists, Shape, empty, opens, put, without}
+use Rattle.relation.specs.declared.catalog.StoredIndex.{StoredIndex}
 use Rattle.relation.specs.declared.catalog.StoredTable.{StoredTable}
 use Rattle.relation.specs.declared.catalog.TheConstants.{CATALOG}
 use Rattle.relation.specs.CatalogRow.{row_values}
-use Rattle.relation.specs.Work.{row_of_index, rows_at, rows_of_table, table_in}
+use Rattle.relation.specs.declared.drafting.RowChange.{RowChange}
+use Rattle.relation.specs.declared.listing.Moved.{Moved}
+use Rattle.relation.specs.Each.{each}
+use Rattle.relation.specs.Work.{all_changed, all_placed, change_of, row_of_index, rows_at, rows_of_table, table_in}
+use Rattle.sql_tree.specs.Scope.{column_place}
+use Rattle.relation_laws.specs.Turns.{Turn, comes, moves, turns_open}
 
 -- the bytes of a row's entry on a page: its length in two bytes, and its encoding
 abbrev pub entry_size : List Value → ℕ
@@ -50,10 +57,32 @@ RowsNeed size pages first rows needs =
     (last : ℕ) × (tail : HeapPage) × EndsAt size pages first last tail
     × (needs ≡ pages_opened (length (entry_bytes tail.entries)) rows)
 
+-- how many pages indexes open as rows turn, one index after the other, each along what it holds
+abbrev pub IndexesNeed : ℕ → Pages → List StoredIndex → List Turn → ℕ → Type 0
+IndexesNeed size pages [] turns needs = needs ≡ 0
+IndexesNeed size pages (index ∷ indexes) turns needs =
+    (shape : Shape) × (held : List ℕ) × Lists size pages index.root shape held × (more : ℕ)
+    × IndexesNeed size pages indexes turns more × (needs ≡ turns_open put without opens index.place turns shape + more)
+
+-- How many pages a change of a table needs whose rows need so many: where fewer are free, it ends there; else its
+-- indexes need more as the rows turn.
+abbrev pub NeedsThen : ℕ → Pages → StoredTable → ℕ → (List Turn → Type 0) → ℕ → Type 0
+NeedsThen size pages table rows turned needs =
+    ((free_pages size pages < rows) × (needs ≡ rows))
+    ⊎ ((turns : List Turn) × turned turns × (more : ℕ) × IndexesNeed size pages table.indexes turns more
+    × (needs ≡ rows + more))
+
+-- rows come to a table and stand somewhere
+abbrev pub TurnInserted : ℕ → Pages → StoredTable → List (List Value) → List Turn → Type 0
+TurnInserted size pages table rows turns =
+    (placed : List Placed) × (after : Pages) × all_placed size table.first rows pages (Ok (placed, after))
+    × (turns ≡ map comes placed)
+
 -- how many pages an insert into the table of that name needs
 abbrev pub InsertNeeds : ℕ → Pages → List ℕ → List (List Value) → ℕ → Type 0
 InsertNeeds size pages name rows needs = (table : StoredTable) × table_in size pages name (Ok table)
-    × RowsNeed size pages table.first rows needs
+    × (first : ℕ) × RowsNeed size pages table.first rows first
+    × NeedsThen size pages table first (TurnInserted size pages table rows) needs
 
 -- how many pages a new table needs: its first page, and those that its rows open in the catalog, which are as long
 -- whatever that page is
@@ -61,10 +90,15 @@ abbrev pub CreateNeeds : ℕ → Pages → List ℕ → List TableColumn → ℕ
 CreateNeeds size pages name columns needs = (behind : ℕ)
     × RowsNeed size pages CATALOG (map row_values (rows_of_table name 0 columns)) behind × (needs ≡ 1 + behind)
 
--- how many pages an index needs: those that its row opens in the catalog, which is as long whatever the column's place
--- is
-abbrev pub IndexNeeds : ℕ → Pages → List ℕ → List ℕ → ℕ → Type 0
-IndexNeeds size pages name table = RowsNeed size pages CATALOG (row_values (row_of_index name table 0) ∷ [])
+-- How many pages an index over a column of a table needs: its root page, those that its row opens in the catalog, which
+-- is as long whatever the column's place and the root page are, and those that the table's rows open in it.
+abbrev pub IndexNeeds : ℕ → Pages → List ℕ → List ℕ → List ℕ → ℕ → Type 0
+IndexNeeds size pages name table column needs =
+    (found : StoredTable) × table_in size pages table (Ok found)
+    × (place : ℕ) × (column_place column found.columns ≡ Some place)
+    × (rows : List Placed) × rows_at size pages found (Ok rows)
+    × (behind : ℕ) × RowsNeed size pages CATALOG (row_values (row_of_index name table 0 0) ∷ []) behind
+    × (needs ≡ 1 + (behind + turns_open put without opens place (map comes rows) empty))
 
 -- a call that needs so many pages takes them, and is refused exactly where fewer are free
 abbrev pub TakesNeeded : {A : Type 0} → ℕ → Pages → ℕ → Result (A × Pages) Refusal → Type 0
@@ -104,10 +138,18 @@ changes_open next last rows (change ∷ changes) =
     else (if has_room_for change last rows then changes_open next last (moved_to change last rows) changes
     else 1 + changes_open (λ place. next (1 + place)) (next 0) (moved_to change (next 0) rows) changes)
 
+-- rows of a table change, each under its number, and stand somewhere then
+abbrev pub TurnUpdated : ℕ → Pages → StoredTable → List Placed → List (ℕ × List Value) → List Turn → Type 0
+TurnUpdated size pages table rows changes turns =
+    (told : List RowChange) × each (change_of table.first rows) changes (Ok told)
+    × (moved : List Moved) × (after : Pages) × all_changed size table.first told pages (Ok (moved, after))
+    × (turns ≡ map moves moved)
+
 -- how many pages an update of the table of that name needs
 abbrev pub UpdateNeeds : ℕ → Pages → List ℕ → List (ℕ × List Value) → ℕ → Type 0
 UpdateNeeds size pages name changes needs =
     (table : StoredTable) × table_in size pages name (Ok table) × (rows : List Placed)
     × rows_at size pages table (Ok rows)
     × (last : ℕ) × (tail : HeapPage) × EndsAt size pages table.first last tail
-    × (needs ≡ changes_open (taken_after pages) last rows changes)
+    × NeedsThen size pages table (changes_open (taken_after pages) last rows changes)
+    (TurnUpdated size pages table rows changes) needs

@@ -5,19 +5,21 @@ use Rattle.values.specs.declared.value.Value.{Value}
 use Rattle.sql_tree.specs.declared.schema.IndexSchema.{IndexSchema}
 use Rattle.sql_tree.specs.declared.statement.Column.{Column as TableColumn}
 use Rattle.pager.specs.Pages.{Pages}
+use Rattle.pager.specs.declared.index.Found.{Found}
+use Rattle.tree_index.specs.Tree.{Lists, Shape, entries_of as entries_of_shape}
 use Rattle.heap_file.specs.declared.chain.Placed.{Placed}
 use Rattle.heap_file.specs.Chain.{scanned}
 use Rattle.heap_laws.specs.Store.{WellFormed}
 use Rattle.heap_laws.specs.Table.{IsTable}
 use Rattle.relation.specs.declared.catalog.Catalog.{Catalog}
+use Rattle.relation.specs.declared.catalog.StoredIndex.{StoredIndex}
 use Rattle.relation.specs.declared.catalog.StoredTable.{StoredTable}
 use Rattle.relation.specs.declared.catalog.TheConstants.{CATALOG}
 use Rattle.relation.specs.declared.catalog.CatalogEntry.{CatalogEntry}
 use Rattle.relation.specs.declared.row.CatalogRow.{CatalogRow}
 use Rattle.relation.specs.declared.row.CatalogRow.TheVariants.{Table, Column, Index}
-use Rattle.relation.specs.declared.row.IndexForm.{IndexForm}
-use Rattle.relation.specs.declared.row.IndexForm.TheVariants.{Named, Chain, Tree}
 use Rattle.relation.specs.Catalog.{catalog, catalog_rows, catalog_told}
+use Rattle.relation.specs.Entries.{entries_of}
 use Rattle.sql_tree.specs.Rows.{fits}
 
 -- a row under its number, wherever it stands
@@ -66,23 +68,16 @@ AreDifferent (x ∷ xs) = AllByRecursion (λ y. y ≢ x) xs × AreDifferent xs
 abbrev pub names_of : List StoredTable → List (List ℕ)
 names_of tables = map (λ (table : StoredTable). table.name) tables
 
--- the pages that an index of that form holds, from its root page on: none where it is kept by name alone; no index has
--- pages that can be read yet
-abbrev pub HoldsPages : IndexForm → Pages → ℕ → List ℕ → Type 0
-HoldsPages Named pages root held = (root ≡ 0) × (held ≡ [])
-HoldsPages Chain pages root held = ⊥
-HoldsPages Tree pages root held = ⊥
+-- a column's and an index's row speaks of a table that is there
+abbrev pub SpeaksOfTable : List (List ℕ) → CatalogRow → Type 0
+SpeaksOfTable names (Table row) = Unit {0}
+SpeaksOfTable names (Column row) = Contains names row.table
+SpeaksOfTable names (Index row) = Contains names row.table
 
--- a column's and an index's row speaks of a table that is there, and an index holds its pages
-abbrev pub SpeaksOfTable : Pages → List (List ℕ) → CatalogRow → List ℕ → Type 0
-SpeaksOfTable pages names (Table row) held = held ≡ []
-SpeaksOfTable pages names (Column row) held = Contains names row.table × (held ≡ [])
-SpeaksOfTable pages names (Index row) held = Contains names row.table × HoldsPages row.form pages row.root held
-
--- Well-formed pages: the catalog and each table can be read, no page is used twice, the catalog's rows are numbered
--- from 0 on without gaps, the names of tables and indexes differ, the names of a table's columns differ, and each row
--- of the catalog speaks of a table that is there.
-pub record IsStore (size : ℕ) (pages : Pages) : Type 0 where
+-- Pages on which tables stand, with other pages that they leave alone: the catalog and each table can be read, no page
+-- is used twice, the catalog's rows are numbered from 0 on without gaps, the names of tables and indexes differ, the
+-- names of a table's columns differ, and each row of the catalog speaks of a table that is there.
+pub record IsTableStore (size : ℕ) (pages : Pages) : Type 0 where
   pub placed : List Placed
   pub scan : scanned size pages CATALOG (Ok placed)
   pub gapless : map (λ (row : Placed). row.number) placed ≡ range_with_len 0 (length placed)
@@ -90,13 +85,40 @@ pub record IsStore (size : ℕ) (pages : Pages) : Type 0 where
   pub rows : catalog_rows size pages (Ok told)
   pub found : Catalog
   pub read : catalog_told told (Ok found)
-  pub held : List (List ℕ)
-  pub kept : AllZip
-      (λ (row : CatalogEntry) (some : List ℕ). SpeaksOfTable pages (names_of found.tables) row.row some) told held
-  pub heap : WellFormed size pages (CATALOG ∷ map (λ (table : StoredTable). table.first) found.tables)
-      (flat_map (λ (some : List ℕ). some) held)
+  pub kept : AllByRecursion (λ (row : CatalogEntry). SpeaksOfTable (names_of found.tables) row.row) told
+  pub held : List ℕ
+  pub heap : WellFormed size pages (CATALOG ∷ map (λ (table : StoredTable). table.first) found.tables) held
   pub names : AreDifferent (names_of found.tables ++ map (λ (index : IndexSchema). index.name) found.indexes)
   pub columns : AllByRecursion
       (λ (table : StoredTable). AreDifferent (map (λ (column : TableColumn). column.name) table.columns)) found.tables
   pub tables : List PlainTable
   pub shown : AllZip (ShowsTable size pages) found.tables tables
+
+-- these entries are those of the rows in an index over the column at that place: each of a row, and each row's
+pub record AreEntriesOf (place : ℕ) (rows : List Placed) (entries : List Found) : Type 0 where
+  pub told : (entry : Found) → Contains entries entry → Contains (entries_of place rows) entry
+  pub listed : (entry : Found) → Contains (entries_of place rows) entry → Contains entries entry
+
+-- an index on these pages, from its root page on, whose entries are those of the rows
+pub record KeepsIndex (size : ℕ) (pages : Pages) (rows : List Placed) (index : StoredIndex)
+    (held : List ℕ) : Type 0 where
+  pub shape : Shape
+  pub lists : Lists size pages index.root shape held
+  pub entries : AreEntriesOf index.place rows (entries_of_shape shape)
+
+-- the indexes of a table, each on its pages
+pub record KeepsIndexes (size : ℕ) (pages : Pages) (table : StoredTable) (held : List (List ℕ)) : Type 0 where
+  pub rows : List Placed
+  pub scan : scanned size pages table.first (Ok rows)
+  pub each : AllZip (KeepsIndex size pages rows) table.indexes held
+
+-- the pages of indexes, all together
+abbrev pub all_pages : List (List ℕ) → List ℕ
+all_pages held = flat_map (λ (some : List ℕ). some) held
+
+-- Well-formed pages: tables stand on them, and on the other pages that are in use the indexes of the tables.
+pub record IsStore (size : ℕ) (pages : Pages) : Type 0 where
+  pub base : IsTableStore size pages
+  pub held : List (List (List ℕ))
+  pub indexed : AllZip (KeepsIndexes size pages) base.found.tables held
+  pub all : base.held ≡ flat_map all_pages held

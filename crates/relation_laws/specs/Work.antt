@@ -6,6 +6,7 @@ use Rattle.retro_base.specs.declared.refusal.Refusal.TheVariants.{PagesFull}
 use Rattle.values.specs.declared.value.Value.{Value}
 use Rattle.sql_tree.specs.declared.statement.Column.{Column as TableColumn}
 use Rattle.pager.specs.Pages.{Pages}
+use Rattle.tree_index.specs.Work.{added, made, removed}
 use Rattle.heap_laws.specs.Store.{free_pages}
 use Rattle.relation.specs.declared.catalog.StoredTable.{StoredTable}
 use Rattle.relation.specs.declared.catalog.TheConstants.{CATALOG}
@@ -14,7 +15,7 @@ use Rattle.relation.specs.Each.{in_turn}
 use Rattle.relation.specs.Work.{created, deleted, indexed, inserted, table_in, updated}
 use Rattle.relation_laws.specs.Laws.{AreChangesOf, AreNumbersOf, AreTableColumns, HasColumn, IsNewName, IsRowFor, IsStoreOf, empty_table, with_changes, with_index, with_new, with_rows, without_rows}
 use Rattle.relation_laws.specs.Needs.{CreateNeeds, IndexNeeds, InsertNeeds, UpdateNeeds, next_pages}
-use Rattle.relation_laws.specs.Reach.{IsPageOf, IsUntouched, with_root}
+use Rattle.relation_laws.specs.Reach.{IsIndexPage, IsPageOf, IsUntouched, with_root}
 use Rattle.relation_laws.specs.Tables.{PlainTable, PlainTables}
 
 -- a table is made; an index of that name is made over a table's column; rows are inserted; rows are changed, each under
@@ -29,10 +30,10 @@ pub data Work : Type 0 where
 -- what a piece of work does to the pages
 abbrev pub worked : ℕ → Work → Pages → Result (Unit {0} × Pages) Refusal → Type 0
 worked size (Creates name columns) pages = created size pages name columns
-worked size (Indexes name table column) pages = indexed size pages name table column
-worked size (Inserts name rows) pages = inserted size pages name rows
-worked size (Changes name changes) pages = updated size pages name changes
-worked size (Removes name numbers) pages = deleted size pages name numbers
+worked size (Indexes name table column) pages = indexed made added size pages name table column
+worked size (Inserts name rows) pages = inserted added size pages name rows
+worked size (Changes name changes) pages = updated added removed size pages name changes
+worked size (Removes name numbers) pages = deleted removed size pages name numbers
 
 -- what pieces of work do one after the other
 abbrev pub all_worked : ℕ → List Work → Pages → Result (Unit {0} × Pages) Refusal → Type 0
@@ -77,7 +78,7 @@ tables_behind_all (work ∷ works) all = tables_behind_all works (tables_behind 
 -- how many pages a piece of work takes
 abbrev pub Needs : ℕ → Pages → Work → ℕ → Type 0
 Needs size pages (Creates name columns) needs = CreateNeeds size pages name columns needs
-Needs size pages (Indexes name table column) needs = IndexNeeds size pages name table needs
+Needs size pages (Indexes name table column) needs = IndexNeeds size pages name table column needs
 Needs size pages (Inserts name rows) needs = InsertNeeds size pages name rows needs
 Needs size pages (Changes name changes) needs = UpdateNeeds size pages name changes needs
 Needs size pages (Removes name numbers) needs = needs ≡ 0
@@ -90,13 +91,13 @@ LeavesFree (Inserts name rows) needs before after = needs + after ≡ before
 LeavesFree (Changes name changes) needs before after = needs + after ≡ before
 LeavesFree (Removes name numbers) needs before after = before ≤ after
 
--- a page of the table of that name
+-- a page of the table of that name, or of one of its indexes
 abbrev pub IsOfTable : ℕ → Pages → List ℕ → ℕ → Type 0
 IsOfTable size pages name page = (table : StoredTable) × table_in size pages name (Ok table)
-    × IsPageOf size pages table.first page
+    × (IsPageOf size pages table.first page ⊎ IsIndexPage size pages table page)
 
 -- a page that is in use already and that a piece of work may edit: the catalog's for a new table or index, else those
--- of the table that it names, and the root page where rows are taken out, since pages may be freed
+-- of the table that it names and of its indexes, and the root page where rows are taken out, since pages may be freed
 abbrev pub IsInUse : ℕ → Pages → Work → ℕ → Type 0
 IsInUse size pages (Creates name columns) page = IsPageOf size pages CATALOG page
 IsInUse size pages (Indexes name table column) page = IsPageOf size pages CATALOG page

@@ -2,7 +2,7 @@
 #![tactic(auto)]
 
 ghost use Rattle.relation_laws.specs.Work.{WorkLaw};
-ghost use Rattle.relation_laws.specs.Laws.{CreateLaw, DeleteLaw, EditsLaw, IndexLaw, InsertLaw, NeedsLaw, PlacedLaw, ReadLaw, StoreLaw, UpdateLaw};
+ghost use Rattle.relation_laws.specs.Laws.{CreateLaw, DeleteLaw, EditsLaw, IndexLaw, InsertLaw, NeedsLaw, PlacedLaw, RangedLaw, ReadLaw, StoreLaw, UpdateLaw};
 
 /// Well-formed pages hold one list of tables, and zero pages hold none.
 pub fn store_law()
@@ -44,15 +44,16 @@ pub fn index_law()
     ensures { IndexLaw }
 {}
 
-/// An insert edits its table's first page, for the next row number, its last page, and no other, unless its rows open
-/// pages: then also those, and the root page.
+/// Rows that are added to a table edit its first page, for the next row number, its last page, and no other, unless they
+/// open pages: then also those, and the root page.
 pub fn edits_law()
     ensures { EditsLaw }
 {}
 
 /// An insert takes the pages that its rows open at the end of the table, an update those that its rows open where
-/// neither their page nor the last page has room, a new table its first page and those that its rows open in the
-/// catalog, and an index those that its row opens there. Each is refused exactly where fewer are free.
+/// neither their page nor the last page has room, and both those that the table's indexes open as the rows turn. A new
+/// table takes its first page and those that its rows open in the catalog, and an index its root page, those that its
+/// row opens there and those that the table's rows open in it. Each is refused exactly where fewer are free.
 pub fn needs_law()
     ensures { NeedsLaw }
 {}
@@ -66,4 +67,10 @@ pub fn work_law()
 /// Rows that are changed or taken out where they stand, as reading their table told, are so under their numbers.
 pub fn placed_law()
     ensures { PlacedLaw }
+{}
+
+/// The rows that an index lists from a value to another are those of its table, in rising number, whose value in the
+/// column lies there.
+pub fn ranged_law()
+    ensures { RangedLaw }
 {}

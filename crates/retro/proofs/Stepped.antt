@@ -13,6 +13,7 @@ use Rattle.session.specs.Run.{AreKept, IsReady, IsSessionOf, RunsSession, Sessio
 use Rattle.session.specs.declared.kept.Kept.{Kept}
 use Rattle.session.specs.declared.plan.SessionPlan.{SessionPlan}
 use Rattle.retro_base.specs.declared.limits.TheConstants.{SESSIONS}
+use Rattle.store.specs.declared.pace.Worker.{Worker}
 use Rattle.store.specs.WorkerRounds.{IsFreshOrStopped}
 use Rattle.store.proofs.WorkerEnds.{rests_on}
 use Rattle.retro.specs.Working.{AreWorkers, MayWorkOn, WorkedAt, WorkedTwice}
@@ -119,7 +120,7 @@ module _ {S : Type 0} (view : S → View) (old front workers first idle : List (
 module _ {S : Type 0} (view : S → View) (goes : S → S → Type 0) (stays : (s : S) → goes s s) (goes_on : (s t u : S) → goes s t → goes t u → goes s u) (is_honest : S → Type 0) (phase : ℕ) (sessions : List SessionPlan) (few : length sessions ≤ SESSIONS)
     (old front workers first idle mid last new : List (Slot S)) (whole : old ≡ front ++ workers) (long : length front ≡ SESSIONS) (split : front ≡ first ++ idle) (count : length first ≡ length sessions)
     (mid_count : length mid ≡ length first) (last_count : length last ≡ length mid) (same : (n : ℕ) → seat_at last n ≡ seat_at mid n) (names : List (List ℕ)) (ran : AllRan view goes is_honest phase names sessions first mid)
-    (worked : WorkedTwice view goes phase workers new) (seated : AreSeated view old) where
+    {works : ℕ → Worker → S → S → Type 0} (worked : WorkedTwice view goes works phase workers new) (seated : AreSeated view old) where
   abbrev after : List (Slot S)
   after = (last ++ idle) ++ new
 
@@ -158,7 +159,7 @@ module _ {S : Type 0} (view : S → View) (goes : S → S → Type 0) (stays : (
       let later : place < length worked.between = let c = worked.count in omega (arith, inside, c) in
       subst (λ (o : Option S). StayedAt view goes phase (SESSIONS + place) (seat_at old (SESSIONS + place)) o) (sym is)
       (stayed_twice view goes phase (SESSIONS + place) (seat_at old (SESSIONS + place)) (seated (SESSIONS + place) less) goes_on (omega arith) (seat_at worked.between place) (seat_at new place)
-      (subst (λ (o : Option S). WorkedAt view goes phase (SESSIONS + place) o (seat_at worked.between place)) (sym was) (worked.beside place inside)) (worked.again place later))
+      (subst (λ (o : Option S). WorkedAt view goes works phase (SESSIONS + place) o (seat_at worked.between place)) (sym was) (worked.beside place inside)) (worked.again place later))
 
   stayed : (n : ℕ) → length sessions ≤ n → n < length old → (n < SESSIONS) ⊎ (SESSIONS ≤ n) → StayedAt view goes phase n (seat_at old n) (seat_at after n)
   stayed n past less (inl within) = stayed_same view goes phase n (seat_at old n) (seated n less) stays (seat_at after n) (rests_at n past within)

@@ -45,7 +45,7 @@ use Rattle.turn.specs.Seats.{mine, opening, seen}
 use Rattle.turn.specs.Views.{longer}
 use Rattle.store.specs.declared.closing.Closed.{Closed}
 use Rattle.store.specs.declared.start.Start.{Start}
-use Rattle.store.specs.Closing.{AreReady, Closes, ClosesCopied, HasCopiedAt, resting}
+use Rattle.store.specs.Closing.{AreReady, Closes, ClosesCopied, HasCopiedAt, HasNoCopier, HaveMet, resting}
 use Rattle.store.specs.Crashes.{CrashesMap}
 use Rattle.store.specs.Opening.{BeginsWith, disks_of}
 use Rattle.store.specs.Seats.{IsReady, IsWhole, Sat, journal}
@@ -64,7 +64,7 @@ use Rattle.store.proofs.WorkerEnds.{waits_none}
 use Rattle.retro.specs.Working.{MayWorkOn}
 use Rattle.retro.specs.declared.working.TheConstants.{SEATS}
 use Rattle.retro.specs.Steps.{RunsPhases}
-use Rattle.retro.specs.Storing.{AllRest, AreFresh, AreHeld, AreIn, ComeFrom, HasStood, IsAmong, IsHeld, Leaves, MayRest, OpenAs, OpensShowing, last_phase, opening_with, store_of, view_held}
+use Rattle.retro.specs.Storing.{AllRest, AreFresh, AreHeld, AreIn, AreOf, ComeFrom, HasStood, IsAmong, IsHeld, IsUncopied, Leaves, MayRest, OpenAs, OpensShowing, last_phase, opening_with, store_of, view_held}
 use Rattle.retro.specs.declared.slots.Slot.{Slot}
 use Rattle.retro.specs.declared.storing.Ended.{Ended}
 use Rattle.retro.proofs.Chained.{no_doubt_opens, no_doubt_shows, worlds_one}
@@ -193,9 +193,9 @@ module _ {R D : Type 0} (state : D → State) (faults : D → ℕ) (z : TableId)
         (is.seat, sym (ap seat_in there) ∙ is.sits, (come.each k was.1 is.seat was.3 is.sits).store ∙ was.4.store_is, rests_in new k less is.seat is.sits is.number_is is.idle may))
 
     pub all_stood : {E : Type 0} (plan : Plan) (ground : Ground) (new : List (Slot (Held R D))) (left : List (Sat D)) (kept : Result (List (List (List Kept))) E)
-        → AllCome (view_held state faults) (λ (h k : Held R D). GoesOn (store_of h) (store_of k) h.seat k.seat) slots new → ((number : ℕ) → IsAmong new left number)
+        → AllCome (view_held state faults) (λ (h k : Held R D). GoesOn (store_of h) (store_of k) h.seat k.seat) slots new → ((number : ℕ) → IsAmong new left number) → AreOf new left
         → RunsPhases plan ground (length slots) (view_at (view_held state faults) new) kept → ComeFrom state faults plan ground (length seats) left kept
-    all_stood plan ground new left kept come among runs = record {
+    all_stood plan ground new left kept come among of runs = record {
       views = view_at (view_held state faults) new;
       each = λ number less.
           let is = come.seated number (subst (λ (n : ℕ). number < n) (sym (held_long seats slots are) ∙ sym come.count) less) in
@@ -208,6 +208,17 @@ module _ {R D : Type 0} (state : D → State) (faults : D → ℕ) (z : TableId)
             view_is = sees (Held R D) (view_held state faults) new number is.seat is.sits
                 ∙ (idle_view state faults is.seat.who is.seat.asked is.seat.told.items is.seat.seat is.seat.seated is.idle).1;
           };
+      places = λ k s there.
+          let one = of k s there in
+          let less = seat_within new one.0 one.1 one.2 in
+          let is = come.seated one.0 less in
+          let here : is.seat ≡ one.1 = one_seat (Held R D) is.seat one.1 (sym is.sits ∙ one.2) in (
+            one.0,
+            subst (λ (n : ℕ). one.0 < n) (come.count ∙ held_long seats slots are) less,
+            sees (Held R D) (view_held state faults) new one.0 is.seat is.sits
+                ∙ (idle_view state faults is.seat.who is.seat.asked is.seat.told.items is.seat.seat is.seat.seated is.idle).1
+                ∙ ap (λ (h : Held R D). resting state faults h.seat) here ∙ ap (resting state faults) one.3,
+          );
       runs = subst (λ (n : ℕ). RunsPhases plan ground n (view_at (view_held state faults) new) kept) (held_long seats slots are) runs;
     }
 
@@ -221,6 +232,7 @@ none_stood {D = D} state faults plan ground pages seats why fresh each = record 
   each = λ number less.
       let one = there_is seats number less in
       record { seat = one.0; place = number; there = one.1; number_is = (fresh number one.0 one.1).1; view_is = rests number one.0 one.1 };
+  places = λ k s there. (k, slice_get_within seats k s there, rests k s there);
   runs = (1, [], omega arith, (phases_make_runs ground.base.page_count).starts plan ground (length seats) sight (λ k less. record { number_is = refl; ground_is = refl; none = refl; idle = refl }));
 }
   where
@@ -248,6 +260,7 @@ pub record HaveRisen {R D : Type 0} (state : D → State) (faults : D → ℕ) (
   pub ready : AreReady z seats
   pub rest : AllRest state faults seats
   pub among : (number : ℕ) → IsAmong gone seats number
+  pub of : AreOf gone seats
   pub count : length seats ≡ length gone
 
 module _ {R D : Type 0} (state : D → State) (faults : D → ℕ) (z : TableId) where
@@ -257,6 +270,7 @@ module _ {R D : Type 0} (state : D → State) (faults : D → ℕ) (z : TableId)
     ready = λ k s there. absurd (cc there);
     rest = λ k s there. absurd (cc there);
     among = λ number held there. absurd (cc there);
+    of = λ k s there. absurd (cc there);
     count = refl;
   })
 
@@ -268,6 +282,7 @@ module _ {R D : Type 0} (state : D → State) (faults : D → ℕ) (z : TableId)
     ready = λ k s there. by_place k s there (last_or seats held.seat k s there);
     rest = λ k s there. rest_by k s there (last_or seats held.seat k s there);
     among = among;
+    of = λ k s there. of_by k s (last_or seats held.seat k s there);
     count = length-append seats (held.seat ∷ []) ∙ ap (λ (n : ℕ). n + 1) so_far.count ∙ add_one (length gone);
   }
     where
@@ -288,6 +303,10 @@ module _ {R D : Type 0} (state : D → State) (faults : D → ℕ) (z : TableId)
       rest_by k s there (inl before) = so_far.rest k s before
       rest_by k s there (inr it) = subst (MayRest state faults) it rest
 
+      of_by : (k : ℕ) (s : Sat D) → (slice_get seats k ≡ Some s) ⊎ (held.seat ≡ s) → (number : ℕ) × (other : Held R D) × SitsAt (slot ∷ gone) number other × (other.seat ≡ s)
+      of_by k s (inl before) = let one = so_far.of k s before in (suc one.0, one.1, one.2, one.3)
+      of_by k s (inr it) = (0, held, sat, it)
+
       among : (number : ℕ) → IsAmong (slot ∷ gone) (seats ++ held.seat ∷ []) number
       among zero other sits = (length seats, subst (λ (h : Held R D). slice_get (seats ++ held.seat ∷ []) (length seats) ≡ Some h.seat) (one_seat (Held R D) held other (sym sat ∙ sits)) (next_at seats held.seat []))
       among (suc number) other sits = let there = so_far.among number other sits in (there.0, still_at seats (held.seat ∷ []) there.0 other.seat there.1)
@@ -307,12 +326,13 @@ module _ {R D : Type 0} (state : D → State) (faults : D → ℕ) (z : TableId)
       omega (arith, count, whole, one)
 
   -- none is left
-  pub all_risen : (slots left gone : List (Slot (Held R D))) (seats : List (Sat D)) → HaveRisen state faults z slots left gone seats → length left ≡ 0 → (length seats ≡ length slots) × AreReady z seats × AllRest state faults seats × ((number : ℕ) → IsAmong slots seats number)
+  pub all_risen : (slots left gone : List (Slot (Held R D))) (seats : List (Sat D)) → HaveRisen state faults z slots left gone seats → length left ≡ 0 → (length seats ≡ length slots) × AreReady z seats × AllRest state faults seats × ((number : ℕ) → IsAmong slots seats number) × AreOf slots seats
   all_risen slots [] gone seats so_far none = (
     so_far.count ∙ ap length (sym so_far.split),
     so_far.ready,
     so_far.rest,
     λ number. subst (λ (xs : List (Slot (Held R D))). IsAmong xs seats number) (sym so_far.split) (so_far.among number),
+    subst (λ (xs : List (Slot (Held R D))). AreOf xs seats) (sym so_far.split) so_far.of,
   )
   all_risen slots (x ∷ left) gone seats so_far none = absurd (omega (arith, none))
 
@@ -565,6 +585,45 @@ module _ {D : Type 0} (extent faults : D → ℕ) (is_honest : D → Type 0) (re
         counted = subst (λ (j : List Line). AllByRecursion (IsCounted (of_each faults left.disks)) j) (sym Last.lines) Last.counted;
       }
 
+      -- all seats had seen one front
+      stood : (k : Result (List (List (List Kept))) E) → RunsPhases plan Opened SEATS come.views k → (phase : ℕ) × (front : List Line) × StandTogether Opened.base.page_count plan Opened SEATS phase front come.views
+      stood (Ok all) runs = (_, runs.front, runs.together)
+      stood (Err why) runs = (runs.0, runs.1, runs.3)
+
+      of_opening : (o : Option (Start D)) → ground_in state faults o ≡ Opened → IfSome o (λ own. opened_base own ≡ opened_base start)
+      of_opening None is = tt
+      of_opening (Some own) is = ap (λ (g : Ground). g.base) is
+
+      abbrev Stood : (phase : ℕ) × (front : List Line) × StandTogether Opened.base.page_count plan Opened SEATS phase front come.views
+      Stood = stood kept come.runs
+
+      front_of : (k : ℕ) (s : Sat D) → slice_get risen k ≡ Some s → seen s ≡ Stood.1
+      front_of k s there = let p = come.places k s there in ap (λ (v : View). v.front) (sym p.2) ∙ (Stood.2.each p.0 p.1).front_is
+
+      pub met_before : HaveMet start limit risen
+      met_before = record {
+        each = λ number less. let one = come.each number (subst (λ (n : ℕ). number < n) limit_is less) in (one.place, one.seat, one.there, one.number_is);
+        began = λ k s there. let p = come.places k s there in of_opening (opening s) (ap (λ (v : View). v.opened) (sym p.2) ∙ (Stood.2.each p.0 p.1).ground_is);
+        seen = λ k j s t one two copier. ([], append-nil (seen t) ∙ front_of j t two ∙ sym (front_of k s one));
+      }
+
+      -- why not all is copied
+      none_at : (seats : List (Sat D)) (k : ℕ) (s : Sat D) → HasNoCopier seats → slice_get seats k ≡ Some s → s.number ≡ SESSIONS → ⊥
+      none_at [] k s none there is = absurd (cc there)
+      none_at (t ∷ ts) zero s none there is = none.0 (ap (λ (u : Sat D). u.number) (one_seat (Sat D) t s there) ∙ is)
+      none_at (t ∷ ts) (suc k) s none there is = none_at ts k s none.1 there is
+
+      pub uncopied : copied ≡ false → IsUncopied faults is_honest remembers state clock (last_phase plan) left.journal
+      uncopied not_all =
+          let one = come.each SESSIONS (omega arith) in
+          record {
+            z = z;
+            old = risen;
+            new = closes.last;
+            copier = λ none. none_at risen one.place one.seat none one.there one.number_is;
+            cause = closes.pending not_all met_before;
+          }
+
       long : length plan ≤ last_phase plan
       long = omega arith
 
@@ -607,6 +666,14 @@ module _ {D : Type 0} (extent faults : D → ℕ) (is_honest : D → Type 0) (re
     captures_so =
         Last.captures ∙ ap (λ (s : Start D). (base_of (opened_base s) (journal Last.side)).captures) Last.begun
         ∙ ap (λ (j : List Line). (base_of Opened.base j).captures) (sym Last.lines)
+
+    -- why not all of it is copied
+    pub pending_so : length seats ≡ SEATS → (ended : Ended)
+        → ((ground : Ground) → ((k : ℕ) (s : Sat D) → slice_get seats k ≡ Some s → IsHonest is_honest state s × (ground_in state faults (opening s) ≡ ground)) → ComeFrom state faults plan ground (length seats) risen ended.kept)
+        → ended.journal ≡ left.journal → ended.copied ≡ copied → AreHonest is_honest disks → ended.copied ≡ false → IsUncopied faults is_honest remembers state clock (last_phase plan) ended.journal
+    pending_so long ended ran journal_is copied_is honest not_all =
+        let come = subst (λ (n : ℕ). ComeFrom state faults plan Opened n risen ended.kept) long (ran Opened (each_opened honest)) in
+        subst (λ (j : List Line). IsUncopied faults is_honest remembers state clock (last_phase plan) j) (sym journal_is) (uncopied ended.kept come (sym copied_is ∙ not_all))
 
     -- what a run leaves
     pub leaves_so : OpeningShows is_honest state → ClosedShows is_honest state faults → PlanFits plan → length seats ≡ SEATS → (ended : Ended)

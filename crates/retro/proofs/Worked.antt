@@ -25,6 +25,7 @@ use Rattle.session.specs.Plan.{Item, Plan, item_in_phase, item_of, numbered}
 use Rattle.session.specs.Run.{IsReady, OfPhase, SessionLeft}
 use Rattle.session.specs.Sql.{sql}
 use Rattle.session.specs.declared.plan.SessionPlan.{SessionPlan}
+use Rattle.store.specs.declared.pace.Worker.{Worker}
 use Rattle.store.specs.WorkerRounds.{IsFreshOrStopped, TellsFirst, WorkerLeaves, worker}
 use Rattle.store.proofs.WorkerEnds.{all_append, rests_on}
 use Rattle.retro.specs.Slots.{IsSeated, seat_at, view_in}
@@ -211,7 +212,7 @@ module _ {S : Type 0} (view : S → View) (goes : S → S → Type 0) (phase num
   }
 
   -- a worker ran at it, and once more
-  pub stayed_twice : ((s t u : S) → goes s t → goes t u → goes s u) → SESSIONS ≤ number → (mid new : Option S) → WorkedAt view goes phase number old mid → WorkedAt view goes phase number mid new → StayedAt view goes phase number old new
+  pub stayed_twice : {works : ℕ → Worker → S → S → Type 0} → ((s t u : S) → goes s t → goes t u → goes s u) → SESSIONS ≤ number → (mid new : Option S) → WorkedAt view goes works phase number old mid → WorkedAt view goes works phase number mid new → StayedAt view goes phase number old new
   stayed_twice goes_on above mid new one two =
       let here : seated.seat ≡ one.before = one_seat S seated.seat one.before (sym seated.sits ∙ one.was) in
       let number_before : (view one.before).session ≡ number = subst (λ (s : S). (view s).session ≡ number) here seated.number_is in
@@ -237,7 +238,7 @@ module _ {S : Type 0} (view : S → View) (goes : S → S → Type 0) (phase num
         rests = λ rests. rests_worked (view two.before) (view two.behind) phase last (rests_worked (view one.before) (view two.before) phase first rests);
       }
 
-  pub worked_rests : (new : Option S) → WorkedAt view goes phase number old new → IsFreshOrStopped (view_in view old) → IsFreshOrStopped (view_in view new)
+  pub worked_rests : {works : ℕ → Worker → S → S → Type 0} → (new : Option S) → WorkedAt view goes works phase number old new → IsFreshOrStopped (view_in view old) → IsFreshOrStopped (view_in view new)
   worked_rests new one rests =
       let here : seated.seat ≡ one.before = one_seat S seated.seat one.before (sym seated.sits ∙ one.was) in
       let number_before : (view one.before).session ≡ number = subst (λ (s : S). (view s).session ≡ number) here seated.number_is in
@@ -247,7 +248,7 @@ module _ {S : Type 0} (view : S → View) (goes : S → S → Type 0) (phase num
 
 module _ {S : Type 0} (view : S → View) (goes : S → S → Type 0) (phase : ℕ) (old mid : List (Slot S)) (count : length mid ≡ length old) where
   -- workers may run again where they have run
-  pub still_workers : AreWorkers view old → AllWorked view goes phase old mid → AreWorkers view mid
+  pub still_workers : {works : ℕ → Worker → S → S → Type 0} → AreWorkers view old → AllWorked view goes works phase old mid → AreWorkers view mid
   still_workers are worked place less =
       let inside : place < length old = subst (λ (n : ℕ). place < n) count less in
       let one = worked place inside in (

@@ -1,5 +1,5 @@
 -- What a script asks for, or why it asks for nothing.
-use Rattle.std.specs.Prelude.{◌≡◌, ℕ, List, [], Option, Some, IfSome, Result, Ok, Err}
+use Rattle.std.specs.Prelude.{◌≡◌, ℕ, List, [], Option, Some, IfSome, Result, Ok, Err, MatchResult}
 use Rattle.std.specs.Option.{option_map}
 use Rattle.script.specs.Rules.{IsFirstBad, IsToldBy}
 use Rattle.script.specs.Script.{ReadsAs, IsOnlyReading}
@@ -43,6 +43,13 @@ IsAsked source (Ok plan) = AsksFor source.bytes_old plan × ReadToEnd source × 
 IsAsked source (Err SourceFault) = HasFailed source
 IsAsked source (Err (BadScript number)) = IfSome source.bytes_old (IsTheBadLine number) × IsSteady source
 IsAsked source (Err OutOfMemory) = IsSteady source
+
+-- What a script asks for, and what came of it: this of a plan, and that of why there is none.
+pub record RunsAsAsked (Asked : Result Plan NoPlan → Type 0) (Runs : Plan → Type 0) (Refused : NoPlan → Type 0)
+    : Type 0 where
+  pub asked : Result Plan NoPlan
+  pub is_asked : Asked asked
+  pub runs : MatchResult asked Runs Refused
 
 -- A script that asks for nothing: a fault of its source is told with status 4, a bad line with status 3.
 abbrev pub RefusesScript : Seen → NoPlan → ℕ → Type 0

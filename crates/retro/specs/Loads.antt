@@ -1,5 +1,5 @@
 -- A load, and what is written of it.
-use Rattle.std.specs.Prelude.{◌≡◌, ◌==◌, ◌++◌, ◌||◌, ◌∷◌, ℕ, Bool, true, false, not, List, [], length, filter, get_or, codes, Option, Some, None, Result, Ok, Err, MatchResult}
+use Rattle.std.specs.Prelude.{◌≡◌, ◌==◌, ◌++◌, ◌||◌, ◌∷◌, ℕ, Bool, true, false, not, List, [], length, filter, get_or, codes, Option, Some, None, Result, Ok, Err}
 use Rattle.std.specs.Fmt.{decimal}
 use Rattle.std.specs.List.{flat_map, slice_split}
 use Rattle.std.specs.Option.{option_map_or}
@@ -15,12 +15,11 @@ use Rattle.session.specs.Replies.{kept_by_place, text_of}
 use Rattle.session.specs.Wording.{word}
 use Rattle.session.specs.declared.kept.Kept.{Kept}
 use Rattle.workload.specs.Load.{load_lines, script_text, table_numbers}
-use Rattle.retro.specs.Asked.{BytesAsk, RefusesScript}
+use Rattle.retro.specs.Asked.{BytesAsk, RefusesScript, RunsAsAsked}
 use Rattle.retro.specs.Memory.{RunsFrom, memory_opening}
 use Rattle.retro.specs.Says.{Refuses, WritesOne}
 use Rattle.retro.specs.Seen.{Seen}
 use Rattle.retro.specs.Shows.{number_line}
-use Rattle.retro.specs.declared.asking.NoPlan.{NoPlan}
 use Rattle.retro.specs.declared.storing.Ended.{Ended}
 
 -- ---- what the journal tells
@@ -96,10 +95,9 @@ EndsLoad seed rounds sink plan (Ok ended) status = WritesOne sink (IsSummary see
 EndsLoad seed rounds sink plan (Err why) status = Refuses sink why status
 
 -- `load`: so its script asks; so the plan was run over an empty store in memory, and so it ends
-pub record Loads (seed rounds : ℕ) (sink : Seen) (status : ℕ) : Type 0 where
-  pub asked : Result Plan NoPlan
-  pub is_asked : BytesAsk (load_text seed rounds) asked
-  pub runs : MatchResult asked
-      (λ plan. (ended : Result Ended Refusal) × RunsFrom MEMORY_PAGES memory_opening plan ended
-      × EndsLoad seed rounds sink plan ended status)
-      (λ why. RefusesScript sink why status)
+abbrev pub Loads : ℕ → ℕ → Seen → ℕ → Type 0
+Loads seed rounds sink status =
+    RunsAsAsked (BytesAsk (load_text seed rounds))
+    (λ plan. (ended : Result Ended Refusal) × RunsFrom MEMORY_PAGES memory_opening plan ended
+    × EndsLoad seed rounds sink plan ended status)
+    (λ why. RefusesScript sink why status)

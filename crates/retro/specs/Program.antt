@@ -1,5 +1,5 @@
 -- The run of a script that names no folder, and how it ends.
-use Rattle.std.specs.Prelude.{◌≡◌, ◌≢◌, ◌⊎◌, ◌<◌, ◌-◌, ◌^◌, ◌∷◌, ◌==◌, ℕ, IsTrue, List, [], Some, IfSome, Result, Ok, Err, MatchResult}
+use Rattle.std.specs.Prelude.{◌≡◌, ◌≢◌, ◌⊎◌, ◌<◌, ◌-◌, ◌^◌, ◌∷◌, ◌==◌, ℕ, IsTrue, List, [], Some, IfSome, Result, Ok, Err}
 use Rattle.std.specs.List.{list_any}
 use Rattle.retro_base.specs.declared.refusal.Refusal.{Refusal}
 use Rattle.script.specs.Script.{ReadsAs}
@@ -7,12 +7,11 @@ use Rattle.script.specs.declared.structure.Script.{Script}
 use Rattle.journal_law.specs.Lawful.{Opening}
 use Rattle.session.specs.Plan.{Plan}
 use Rattle.session.specs.Sql.{sql}
-use Rattle.retro.specs.Asked.{IsAsked, IsTheBadLine, RefusesScript}
+use Rattle.retro.specs.Asked.{IsAsked, IsTheBadLine, RefusesScript, RunsAsAsked}
 use Rattle.retro.specs.Memory.{RunsFrom}
 use Rattle.retro.specs.Phases.{RanOver}
 use Rattle.retro.specs.Says.{Refuses, WritesOne}
 use Rattle.retro.specs.Seen.{HasFailed, IsSteady, Seen}
-use Rattle.retro.specs.declared.asking.NoPlan.{NoPlan}
 use Rattle.retro.specs.declared.storing.Ended.{Ended}
 
 -- how a run of a plan from an opening ends: the transcript of its journal is written
@@ -23,12 +22,11 @@ EndsFrom size o sink plan (Err why) status = Refuses sink why status
 
 -- The headline: `run`, with this opening. What its script asks for, or why for nothing; the run of that plan, which left
 -- one journal; and how it ended.
-pub record RunsPlainly (size : ℕ) (o : Opening (sql size)) (source sink : Seen) (status : ℕ) : Type 0 where
-  pub asked : Result Plan NoPlan
-  pub is_asked : IsAsked source asked
-  pub runs : MatchResult asked
-      (λ plan. (ended : Result Ended Refusal) × RunsFrom size o plan ended × EndsFrom size o sink plan ended status)
-      (λ why. RefusesScript sink why status)
+abbrev pub RunsPlainly : (size : ℕ) → Opening (sql size) → Seen → Seen → ℕ → Type 0
+RunsPlainly size o source sink status =
+    RunsAsAsked (IsAsked source)
+    (λ plan. (ended : Result Ended Refusal) × RunsFrom size o plan ended × EndsFrom size o sink plan ended status)
+    (λ why. RefusesScript sink why status)
 
 -- What the status of `run` tells. No other comes, and each has its cause. Bytes that are bad at a line are refused, and a
 -- good script and no fault end well, unless memory runs out.

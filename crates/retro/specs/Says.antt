@@ -75,9 +75,9 @@ HoldsFront sink text = (n : ℕ) × (n ≤ length text) × (sink.bytes_new ≡ a
 abbrev pub Says : Seen → List ℕ → Type 0
 Says sink text = (sink.bytes_new ≡ added sink.bytes_old text) ⊎ (HasFailed sink × HoldsFront sink text)
 
--- memory ran out: the status is 8, and the sink holds at most that line more
+-- memory ran out: that line was said, with status 8
 abbrev pub LacksMemory : Seen → ℕ → Type 0
-LacksMemory sink status = (status ≡ 8) × HoldsFront sink out_of_memory_line
+LacksMemory sink status = (status ≡ 8) × Says sink out_of_memory_line
 
 -- the line was said, with that status; or memory ran out
 abbrev pub Tells : Seen → List ℕ → ℕ → ℕ → Type 0

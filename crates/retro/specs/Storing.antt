@@ -1,5 +1,5 @@
 -- The run of a plan over the four devices of a store, at which each session has a seat of its own.
-use Rattle.std.specs.Prelude.{◌≡◌, ◌<◌, ◌≤◌, ℕ, true, List, [], ◌∷◌, length, max, slice_get, Some, None, Result, Ok, IfErr, IfOk}
+use Rattle.std.specs.Prelude.{◌≡◌, ◌<◌, ◌≤◌, ℕ, true, false, List, [], ◌∷◌, length, max, slice_get, Some, None, Result, Ok, IfErr, IfOk}
 use Rattle.std.specs.List.{AllByRecursion}
 use Rattle.atomic_table.specs.Seated.{TableId}
 use Rattle.disk_model.specs.Disk.{State}
@@ -8,6 +8,7 @@ use Rattle.disk_model.specs.declared.four.Four.{Four}
 use Rattle.retro_base.specs.declared.device.Device.{Device}
 use Rattle.retro_base.specs.declared.limits.TheConstants.{SESSIONS}
 use Rattle.retro_base.specs.declared.refusal.Refusal.{Refusal}
+use Rattle.history.specs.declared.journal.Line.{Line}
 use Rattle.history.specs.declared.log.Version.TheVariants.{One}
 use Rattle.history.specs.History.{now}
 use Rattle.history.specs.Lines.{base_of, doubt_in}
@@ -27,7 +28,7 @@ use Rattle.session.specs.Sql.{sql}
 use Rattle.session.specs.declared.kept.Kept.{Kept}
 use Rattle.turn.specs.Seats.{mine, seen}
 use Rattle.turn.specs.Tables.{table_of}
-use Rattle.store.specs.Closing.{resting}
+use Rattle.store.specs.Closing.{HasNoCopier, IsPending, resting}
 use Rattle.store.specs.Crashes.{CrashesMap}
 use Rattle.store.specs.Opening.{AreRefused}
 use Rattle.store.specs.Seats.{IsSized, Sat}
@@ -95,16 +96,29 @@ pub record Leaves {D : Type 0} (faults : D → ℕ) (is_honest : D → Type 0) (
   pub maps : AreHonest is_honest first → ended.copied ≡ true →
       CrashesMap state One (base_of ground.base ended.journal).captures last
 
--- The devices did not open, and nothing was written on them; or a plan was run over their store.
+-- the phase of a run's last copying: the last of its plan, or 1 where it has none
+abbrev pub last_phase : Plan → ℕ
+last_phase plan = max 1 (length plan)
+
+-- Why captures of a run may be in the log alone: the journal tells a fault of a write or a sync; or the rounds of the
+-- last copying, for which the copier had its seat, were refused for want of memory, or because the archive had stopped.
+pub record IsUncopied {D : Type 0} (faults : D → ℕ) (is_honest : D → Type 0) (remembers : Type 0) (state : D → State)
+    (clock : D → Clock) (phase : ℕ) (lines : List Line) : Type 0 where
+  pub z : TableId
+  pub old : List (Sat D)
+  pub new : List (Sat D)
+  pub copier : HasNoCopier old → ⊥
+  pub cause : IsPending is_honest state faults z remembers clock phase old new lines
+
+-- The devices did not open, and nothing was written on them; or a plan was run over their store, whose captures are all
+-- copied but for such a cause.
 pub record RunsOn {D : Type 0} (extent faults : D → ℕ) (is_honest : D → Type 0) (remembers : Type 0) (state : D → State)
     (clock : D → Clock) (plan : Plan) (first last : Four D) (result : Result Ended Refusal) : Type 0 where
   pub unwritten : IfErr result (λ why. AreUnwritten extent is_honest remembers state clock first last)
   pub unopened : IfErr result (λ why. IsUnopened (AreRefused extent is_honest state One first) (of_each faults first) (of_each faults last) why)
   pub leaves : IfOk result (Leaves faults is_honest state plan first last)
-
--- the phase of a run's last copying: the last of its plan, or 1 where it has none
-abbrev pub last_phase : Plan → ℕ
-last_phase plan = max 1 (length plan)
+  pub pending : IfOk result (λ ended. AreHonest is_honest first → ended.copied ≡ false →
+      IsUncopied faults is_honest remembers state clock (last_phase plan) ended.journal)
 
 -- ---- seats in their slots
 
@@ -150,6 +164,11 @@ AreIn {R} {D} state faults z slots =
 abbrev pub IsAmong : {R D : Type 0} → List (Slot (Held R D)) → List (Sat D) → ℕ → Type 0
 IsAmong {R} {D} slots seats number = (held : Held R D) → SitsAt slots number held → (k : ℕ) × (slice_get seats k ≡ Some held.seat)
 
+-- each of these seats is that in the slot of some number
+abbrev pub AreOf : {R D : Type 0} → List (Slot (Held R D)) → List (Sat D) → Type 0
+AreOf {R} {D} slots seats = (k : ℕ) (s : Sat D) → slice_get seats k ≡ Some s →
+    (number : ℕ) × (held : Held R D) × SitsAt slots number held × (held.seat ≡ s)
+
 -- the seat of this number is among these, rests, and sees so
 pub record HasStood {D : Type 0} (state : D → State) (faults : D → ℕ) (seats : List (Sat D)) (number : ℕ)
     (view : View) : Type 0 where
@@ -164,4 +183,6 @@ pub record ComeFrom {D E : Type 0} (state : D → State) (faults : D → ℕ) (p
     (seats : List (Sat D)) (kept : Result (List (List (List Kept))) E) : Type 0 where
   pub views : ℕ → View
   pub each : (number : ℕ) → number < count → HasStood state faults seats number (views number)
+  pub places : (k : ℕ) (s : Sat D) → slice_get seats k ≡ Some s →
+      (number : ℕ) × (number < count) × (views number ≡ resting state faults s)
   pub runs : RunsPhases plan ground count views kept

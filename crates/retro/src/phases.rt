@@ -113,7 +113,7 @@ fn run_and_tell<H: Threads + Sync, S: Seat + Send, R: RunItems + Sync>(
     ensures ran { AllRan S.view S.goes S.is_honest phase names.now sessions.now slots.old slots.new }
 {
     run_all(alloc, rt, threads, slots, runner, phase, names, sessions);
-    done.set();
+    let _told = done.set();
 }
 
 // Runs the sessions of a phase, and the workers beside them. The workers are what waits where no thread can be started:
@@ -139,12 +139,12 @@ fn run_beside<H: Threads + Sync, S: Works + Send, R: RunItems + Sync>(
     ensures count { length slots.new ≡ length slots.old }
     ensures ran { AllRan S.view S.goes S.is_honest phase names.now sessions.now slots.old slots.new }
     ensures workers { length workers.new ≡ length workers.old }
-    ensures worked { AllWorked S.view S.goes phase workers.old workers.new }
+    ensures worked { AllWorked S.view S.goes S.works phase workers.old workers.new }
 {
     let mut work = ||
         requires { IsSync H.row × IsSend S.row × (length workers.now ≡ WORKERS) × AreWorkers S.view workers.now }
         ensures { (length workers.exit.now ≡ length workers.entry.now)
-            × AllWorked S.view S.goes phase workers.entry.now workers.exit.now }
+            × AllWorked S.view S.goes S.works phase workers.entry.now workers.exit.now }
     { work_all(rt, WORKERS, phase, done, workers) };
     let mut run = ||
         requires { IsSync H.row × IsSend S.row × IsSync R.row × (0 < threads) × AreSeated S.view slots.now
@@ -179,7 +179,7 @@ fn run_with_workers<H: Threads + Sync, S: Works + Send, R: RunItems + Sync>(
     requires workers { AreWorkers S.view workers.old }
     ensures count { length slots.new ≡ length slots.old }
     ensures ran { AllRan S.view S.goes S.is_honest phase names.now sessions.now slots.old slots.new }
-    ensures worked { WorkedTwice S.view S.goes phase workers.old workers.new }
+    ensures worked { WorkedTwice S.view S.goes S.works phase workers.old workers.new }
 {
     let done = Done::new();
     run_beside(

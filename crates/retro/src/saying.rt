@@ -2,7 +2,7 @@
 
 ghost use Rattle.std.specs.Prelude.{◌≡◌, ◌≢◌, ◌++◌, ◌∷◌, IfErr, IfOk, OnOk};
 ghost use Rattle.std.specs.Fmt.{decimal};
-ghost use Rattle.retro.specs.Says.{HoldsFront, IsNoStore, IsOfKept, IsOfStores, IsStatus, LacksMemory, Refuses, Says, Writes, device_line, number_of};
+ghost use Rattle.retro.specs.Says.{IsNoStore, IsOfKept, IsOfStores, IsStatus, LacksMemory, Refuses, Says, Writes, device_line, number_of};
 ghost use Rattle.retro.specs.Seen.{seen};
 
 use disk_model::Cabinet;
@@ -40,7 +40,6 @@ impl Status {
 pub fn say<K: Sink>(sink: &mut K, text: &[u8], status: Status) -> Status
     ensures status { result ≡ status }
     ensures said { Says (seen K.held K.faults sink.old sink.new) text.now }
-    ensures front { HoldsFront (seen K.held K.faults sink.old sink.new) text.now }
 {
     match put_all(sink, text) {
         Ok(()) => status,

@@ -1,9 +1,9 @@
 //! Seats of one store, which may meet, and at which a worker may run.
 
-ghost use Rattle.std.specs.Prelude.{◌≡◌};
+ghost use Rattle.std.specs.Prelude.{◌≡◌, ℕ};
 ghost use Rattle.journal_law.specs.Seats.{Idle};
-ghost use Rattle.store.specs.WorkerRounds.{IsFreshOrStopped, WorkerLeaves, worker as worker_name};
-ghost use Rattle.store.specs.Workers.{IsWorker};
+ghost use Rattle.store.specs.declared.pace.Worker.{Worker as WorkerKind};
+ghost use Rattle.store.specs.WorkerRounds.{IsFreshOrStopped, WorkerLeaves, number_of, worker as worker_name};
 ghost use Rattle.retro.specs.Meeting.{HaveMet};
 
 use journal_law::Seat;
@@ -28,12 +28,16 @@ pub trait Meets: Seat {
 
 /// A seat at which a worker may run.
 pub trait Works: Meets {
-    /// Runs a worker in a phase, until its rounds end, unless the store has stopped.
+    // The worker ran at a seat in a phase, unless the store had stopped.
+    ghost works: { ℕ → WorkerKind → Self → Self → Type 0 };
+
+    /// Runs the worker whose seat it is in a phase, until its rounds end, unless the store has stopped.
     fn work(&mut self, worker: Worker, phase: u16, done: &Done)
-        requires worker { IsWorker (Self.view self.old).session }
+        requires worker { (Self.view self.old).session ≡ number_of worker }
         requires idle { (Self.view self.old).work ≡ Idle }
         requires may { IsFreshOrStopped (Self.view self.old) }
         ensures leaves { WorkerLeaves (worker_name phase (Self.view self.old).session) (Self.view self.old)
             (Self.view self.new) }
+        ensures works { Self.works phase worker self.old self.new }
         ensures goes { Self.goes self.old self.new };
 }

@@ -9,7 +9,7 @@ ghost use Rattle.store.specs.Closing.{AreReady};
 ghost use Rattle.store.specs.Seats.{Sat};
 ghost use Rattle.turn.specs.Seats.{opening};
 ghost use Rattle.turn.specs.Tables.{table_of};
-ghost use Rattle.retro.specs.Storing.{AllRest, AreFresh, AreHeld, AreIn, ComeFrom, IsAmong, IsPrinted, RunsOn, last_phase};
+ghost use Rattle.retro.specs.Storing.{AllRest, AreFresh, AreHeld, AreIn, AreOf, ComeFrom, IsAmong, IsPrinted, RunsOn, last_phase};
 
 use crate::phases::run_phases;
 use crate::seats::{Meets, Works};
@@ -52,8 +52,14 @@ impl<'a, R: Wait, D: Disk + Drop> Meets for Held<'a, R, D> {
 }
 
 impl<'a, R: Wait, D: Disk + Drop> Works for Held<'a, R, D> {
+    ghost use Rattle.store.specs.WorkerRounds.{HasRun};
+    ghost use Rattle.turn.specs.Tables.{table_of};
+
+    ghost works = { λ phase worker h k. HasRun D.is_honest D.state D.faults (table_of h.store.now.turn) D.remembers D.clock
+        phase worker h.seat k.seat };
+
     fn work(&mut self, worker: Worker, phase: u16, done: &Done) {
-        Held::work(self, worker, phase, done);
+        let _answer = Held::work(self, worker, phase, done);
     }
 }
 
@@ -92,6 +98,7 @@ fn stand_up<'a, R: Wait, D: Disk + Drop>(
     ensures ready { AreReady (table_of store.now.turn) result.items }
     ensures rest { AllRest D.state D.faults result.items }
     ensures among { (number : ℕ) → IsAmong slots.entry.items result.items number }
+    ensures of { AreOf slots.entry.items result.items }
 {
     let mut slots = slots;
     let mut seats = seats;

@@ -1,9 +1,8 @@
 -- What is kept of the items of a session, one after the other.
-use Rattle.std.proofs.Common.{◌≡◌, ◌⊎◌, ◌<◌, ◌≤◌, ◌+◌, ◌++◌, ℕ, Bool, true, false, cond, List, [], ◌∷◌, length, reverse, Option, Some, None, slice_get, suc, refl, ap, sym, subst, ◌∙◌, inl, inr, arith}
+use Rattle.std.proofs.Common.{◌≡◌, ◌⊎◌, ◌<◌, ◌≤◌, ◌+◌, ◌++◌, ◌||◌, ℕ, Bool, true, false, cond, List, [], ◌∷◌, length, slice_get, suc, refl, ap, sym, subst, ◌∙◌, inl, inr, arith}
 use Rattle.std.specs.Prelude.{option_to_list}
 use Rattle.std.specs.Option.{option_map_or}
 use Rattle.std.specs.Str.{bytes_eq}
-use Rattle.std.proofs.lemmas.List.{reverse-append}
 use Rattle.std.proofs.lemmas.Slice.Eq.{bytes_eq-Decides}
 use Rattle.retro_base.specs.declared.refusal.Refusal.TheVariants as refusal
 use Rattle.retro_base.specs.declared.who.Who.{Who}
@@ -16,8 +15,10 @@ use Rattle.journal_law.specs.Shows.{ShowsAlong}
 use Rattle.journal_law.specs.World.{World}
 use Rattle.session.specs.OneTask.{IsDone, IsToldBy}
 use Rattle.session.specs.Plan.{Item, Plan, item_of}
-use Rattle.session.specs.Replies.{Known, SaysWanting, Standing, is_cut, is_wanting, kept_at, kept_by, kept_of, known_by, left, lineless, standing_behind, starting, who_is}
-use Rattle.session.specs.SoFar.{KeptOf, Says, standing_after, with_done, with_kept}
+use Rattle.session.specs.Held.{GiveAlike, held}
+use Rattle.session.specs.OverSnapshots.{results_asked}
+use Rattle.session.specs.Replies.{Known, SaysWanting, Standing, answer_or_refusal, is_cut, is_wanting, kept_at, kept_by, kept_of, known_by, left, lineless, standing_behind, starting, who_is}
+use Rattle.session.specs.SoFar.{IsBehind, KeptOf, Says, cuts, kept_as, standing_after, with_kept}
 use Rattle.session.specs.Sql.{kind_of, sql}
 use Rattle.session.specs.Wording.{refusal_text}
 use Rattle.session.specs.declared.item.Done.{Done}
@@ -26,7 +27,9 @@ use Rattle.session.specs.declared.kept.Kept.{Kept}
 use Rattle.session.specs.declared.kept.Kept.TheVariants as kept
 use Rattle.session.specs.declared.passing.Progress.{Progress}
 use Rattle.session.specs.declared.plan.Task.{Task}
+use Rattle.session.specs.declared.plan.Task.TheVariants as asking
 use Rattle.session.specs.declared.result_table.ResultTable.{ResultTable}
+use Rattle.session.proofs.ResultTables.{alike_more}
 
 -- ---- behind one task more
 
@@ -67,7 +70,7 @@ pub kept_of_same : (size : ℕ) (names : List (List ℕ)) (tasks : List Task) (a
 kept_of_same size names tasks a b progress same has = record {
   kept = has.kept ∙ kept_within size a b names starting 1 tasks same;
   stopped = ap (λ (s : Standing). s.stopped) (sym (after_within a b starting 1 tasks same)) ∙ has.stopped;
-  results = λ going. ap (λ (s : Standing). s.results) (sym (after_within a b starting 1 tasks same)) ∙ has.results going;
+  results = λ going. subst (λ (s : Standing). GiveAlike s.results (held progress.results)) (after_within a b starting 1 tasks same) (has.results going);
 }
 
 -- ---- one more that is not run
@@ -93,14 +96,6 @@ kept_not_run size names tasks task known progress is has =
     different e = cc
 
 -- ---- one more that is run
-
-abbrev pub kept_as : Done → Kept
-kept_as (done.Told text table) = kept.Told text
-kept_as done.CutShort = kept.CutShort
-
-abbrev pub cuts : Done → Bool
-cuts (done.Told text table) = false
-cuts done.CutShort = true
 
 -- the result table that it leaves, where it was not cut short
 abbrev pub Leaves : Item → Known → Done → Type 0
@@ -152,9 +147,19 @@ module _ (size : ℕ) (plan : Plan) (who : Who) (item : Item) (results : List Re
         record { kept = told.0; cut = told.1; leaves = is.1 tables along }
     done_kept done.CutShort is along says = record { kept = cut_kept (kind_of item.task) is; cut = is; leaves = tt }
 
-pub kept_run : (size : ℕ) (names : List (List ℕ)) (tasks : List Task) (task : Task) (known : ℕ → Known) (progress : Progress) (one : Done) → progress.stopped ≡ false → KeptOf size names tasks known progress
-    → IsKeptAs size (record { names = names; task = task }) (reverse progress.results) (known (1 + length tasks)) one → KeptOf size names (tasks ++ task ∷ []) known (with_done one progress)
-kept_run size names tasks task known progress one going has is = by_done one is
+-- of result tables that give alike an item keeps the same
+lineless_alike : (one other : List ResultTable) (task : Task) → GiveAlike one other → lineless one task ≡ lineless other task
+lineless_alike one other (asking.Results query) alike = ap answer_or_refusal (alike query)
+lineless_alike one other task alike = refl
+
+kept_alike : (size : ℕ) (known : Known) (one other : List ResultTable) (item : Item) (kind : Kind) → GiveAlike one other → kept_of size known one item kind ≡ kept_of size known other item kind
+kept_alike size known one other item law.Lineless alike =
+    ap (λ (text : List ℕ). kept.Told (cond known.wanting (refusal_text item.names refusal.OutOfMemory) text)) (lineless_alike one other item.task alike)
+kept_alike size known one other item kind alike = refl
+
+pub kept_run : (size : ℕ) (names : List (List ℕ)) (tasks : List Task) (task : Task) (known : ℕ → Known) (progress after : Progress) (one : Done) → progress.stopped ≡ false → KeptOf size names tasks known progress
+    → IsKeptAs size (record { names = names; task = task }) (held progress.results) (known (1 + length tasks)) one → IsBehind one progress after → KeptOf size names (tasks ++ task ∷ []) known after
+kept_run size names tasks task known progress after one going has is behind = by_done one is behind
   where
     before : Standing
     before = standing_after known starting 1 tasks
@@ -162,46 +167,45 @@ kept_run size names tasks task known progress one going has is = by_done one is
     still : before.stopped ≡ false
     still = has.stopped ∙ going
 
-    here : before.results ≡ reverse progress.results
+    here : GiveAlike before.results (held progress.results)
     here = has.results going
 
     item : Item
     item = record { names = names; task = task }
 
-    after : standing_after known starting 1 (tasks ++ task ∷ []) ≡ standing_behind (known (1 + length tasks)) before task
-    after = after_more known starting 1 tasks task (1 + length tasks) refl
+    then_is : standing_after known starting 1 (tasks ++ task ∷ []) ≡ standing_behind (known (1 + length tasks)) before task
+    then_is = after_more known starting 1 tasks task (1 + length tasks) refl
 
-    kept_then : (k : Kept) → kept_of size (known (1 + length tasks)) (reverse progress.results) item (kind_of task) ≡ k → progress.kept ++ k ∷ [] ≡ kept_by size known names starting 1 (tasks ++ task ∷ [])
+    kept_then : (k : Kept) → kept_of size (known (1 + length tasks)) (held progress.results) item (kind_of task) ≡ k → progress.kept ++ k ∷ [] ≡ kept_by size known names starting 1 (tasks ++ task ∷ [])
     kept_then k e =
-        let there : kept_at size (known (1 + length tasks)) before item ≡ k = rw (still, here) e in
+        let same = kept_alike size (known (1 + length tasks)) before.results (held progress.results) item (kind_of task) here in
+        let there : kept_at size (known (1 + length tasks)) before item ≡ k = rw still (same ∙ e) in
         ap (λ (ks : List Kept). ks ++ k ∷ []) has.kept
         ∙ ap (λ (one : Kept). kept_by size known names starting 1 tasks ++ one ∷ []) (sym there)
         ∙ sym (kept_more size known names starting 1 tasks task (1 + length tasks) refl)
 
-    turned : (table : Option ResultTable) → option_to_list table ++ reverse progress.results ≡ reverse (progress.results ++ option_to_list table)
-    turned None = sym (reverse-append progress.results [])
-    turned (Some table) = sym (reverse-append progress.results (table ∷ []))
-
-    by_done : (one : Done) → IsKeptAs size item (reverse progress.results) (known (1 + length tasks)) one → KeptOf size names (tasks ++ task ∷ []) known (with_done one progress)
-    by_done (done.Told text table) is =
+    by_done : (one : Done) → IsKeptAs size item (held progress.results) (known (1 + length tasks)) one → IsBehind one progress after → KeptOf size names (tasks ++ task ∷ []) known after
+    by_done (done.Told text table) is behind =
         let whole : is_cut (kind_of task) (known (1 + length tasks)).whats ≡ false = is.cut in
         let now : (standing_behind (known (1 + length tasks)) before task).stopped ≡ false = rw (still, whole) refl in
+        let goes : after.stopped ≡ false = behind.stopped ∙ ap (λ (b : Bool). b || false) going in
         record {
-          kept = kept_then (kept.Told text) is.kept;
-          stopped = ap (λ (s : Standing). s.stopped) after ∙ now ∙ sym going;
-          results = λ _.
-              ap (λ (s : Standing). s.results) after
-              ∙ ap (λ (rs : List ResultTable). rs ++ before.results) (sym is.leaves)
-              ∙ ap (λ (rs : List ResultTable). option_to_list table ++ rs) here
-              ∙ turned table;
+          kept = behind.kept ∙ kept_then (kept.Told text) is.kept;
+          stopped = ap (λ (s : Standing). s.stopped) then_is ∙ now ∙ sym goes;
+          results = λ _ query.
+              ap (λ (s : Standing). results_asked query s.results) then_is
+              ∙ ap (λ (rs : List ResultTable). results_asked query (rs ++ before.results)) (sym is.leaves)
+              ∙ alike_more (option_to_list table) before.results (held progress.results) here query
+              ∙ sym (behind.results query);
         }
-    by_done done.CutShort is =
+    by_done done.CutShort is behind =
         let cut : is_cut (kind_of task) (known (1 + length tasks)).whats ≡ true = is.cut in
         let now : (standing_behind (known (1 + length tasks)) before task).stopped ≡ true = rw (still, cut) refl in
+        let stops : after.stopped ≡ true = behind.stopped ∙ ap (λ (b : Bool). b || true) going in
         record {
-          kept = kept_then kept.CutShort is.kept;
-          stopped = ap (λ (s : Standing). s.stopped) after ∙ now;
-          results = λ f. absurd (different f);
+          kept = behind.kept ∙ kept_then kept.CutShort is.kept;
+          stopped = ap (λ (s : Standing). s.stopped) then_is ∙ now ∙ sym stops;
+          results = λ f. absurd (different (sym stops ∙ f));
         }
       where
         different : true ≡ false → ⊥

@@ -32,3 +32,4 @@ pub mod Transacted
 pub mod Trying
 pub mod Unmarked
 pub mod ItemReplies
+pub mod Found

@@ -1,7 +1,13 @@
 -- Queries of a table beside those of the store.
-use Rattle.std.proofs.Common.{◌≡◌, ◌∙◌, ◌++◌, ◌≤◌, Bor, ℕ, Bool, true, false, cond, length, take, take_all, List, [], ◌∷◌, map, reverse, Option, Some, None, Result, Ok, Err, refl, sym, ap, subst}
-use Rattle.std.proofs.lemmas.List.{map-append, map-id, reverse-append}
-use Rattle.std.specs.Option.{option_copied, option_map}
+use Rattle.std.proofs.Common.{◌≡◌, ◌∙◌, ◌++◌, Bor, ℕ, Bool, true, false, cond, List, [], ◌∷◌, map, Option, Some, None, Result, Ok, Err, refl, sym, ap, subst}
+use Rattle.std.proofs.lemmas.List.{map-id}
+use Rattle.std.proofs.lemmas.Slice.Eq.{bytes_eq-Decides}
+use Rattle.std.specs.BTreeMap.{BTreeMap, get, is_at}
+use Rattle.std.specs.Cmp.Lexicographic.{slice_cmp}
+use Rattle.std.specs.Map.{lookup}
+use Rattle.std.specs.Option.{option_copied}
+use Rattle.std.specs.Ordering.{nat_cmp}
+use Rattle.relation.proofs.Naming.{at_name, name_is}
 use Rattle.retro_base.specs.Gives.{◌>>=◌, Gives}
 use Rattle.retro_base.specs.declared.refusal.Refusal.{Refusal}
 use Rattle.retro_base.specs.declared.refusal.Refusal.TheVariants.{UnknownName}
@@ -14,6 +20,7 @@ use Rattle.sql_check.specs.Outputs.{answer_columns}
 use Rattle.sql_select.specs.Select.{answer as answer_over}
 use Rattle.sql_select.specs.declared.answer.Answer.{Answer}
 use Rattle.sql_check.specs.Check.{checked_beside}
+use Rattle.session.specs.Held.{GiveAlike, held}
 use Rattle.session.specs.OverSnapshots.{asked_of, results_asked}
 use Rattle.session.specs.declared.result_table.ResultTable.{ResultTable}
 
@@ -33,38 +40,82 @@ asked-gives result query table rows scope columns e is_scope is_columns gives =
     ∙ ap (λ (s : List TableSchema). answer_over query s (answer_columns s query.list) None rows None) is_scope
     ∙ sym (asked-checked query table rows e)) gives
 
--- the first of this name
-abbrev pub named : List ℕ → List ResultTable → Option ResultTable
-named name [] = None
-named name (result ∷ results) = cond (same_name name result.name) (Some result) (named name results)
+-- the same of what is equal
+pub asked_as : (result : Result Answer Refusal) (query : Select) (name other : List ℕ) (columns same : List Column) (rows these : List (List Value)) → name ≡ other → columns ≡ same → rows ≡ these
+    → Gives (λ (answer : Answer). answer) result (asked_of query (record { name = name; columns = columns }) rows) → Gives (λ (answer : Answer). answer) result (asked_of query (record { name = other; columns = same }) these)
+asked_as result query name other columns same rows these names are_same are gives =
+    subst (Gives (λ (answer : Answer). answer) result) (λ i. asked_of query (record { name = names i; columns = are_same i }) (are i)) gives
 
-abbrev pub named_asked : Select → Option ResultTable → Result Answer Refusal
-named_asked query None = Err UnknownName
-named_asked query (Some result) = asked_of query (record { name = result.name; columns = result.answer.columns }) result.answer.rows
+-- ---- what a session holds
 
-pub results_named : (query : Select) (results : List ResultTable) → results_asked query results ≡ named_asked query (named query.table results)
-results_named query [] = refl
-results_named query (result ∷ results) = by_test (same_name query.table result.name) (results_named query results)
+same_turned : (a b : List ℕ) → same_name a b ≡ same_name b a
+same_turned a b = by_tests (same_name a b) (same_name b a) refl refl
   where
-    by_test : (same : Bool) → results_asked query results ≡ named_asked query (named query.table results)
-        → cond same (named_asked query (Some result)) (results_asked query results) ≡ named_asked query (cond same (Some result) (named query.table results))
-    by_test true rest = refl
-    by_test false rest = rest
+    itself : (name : List ℕ) → same_name name name ≡ true
+    itself name = (bytes_eq-Decides name name).1 refl
 
--- the table of a name that calls left last, found along all of them
-pub last-named : (query : Select) (kept : List ResultTable) (index : ℕ) (last : Option (Bor ResultTable)) → length kept ≤ index
-    → option_copied last ≡ named query.table (reverse (take index kept)) → named_asked query (option_copied last) ≡ results_asked query (reverse kept)
-last-named query kept index last past e =
-    ap (named_asked query) (e ∙ ap (λ (ks : List ResultTable). named query.table (reverse ks)) (take_all index kept past)) ∙ sym (results_named query (reverse kept))
+    by_tests : (one other : Bool) → same_name a b ≡ one → same_name b a ≡ other → one ≡ other
+    by_tests true true e f = refl
+    by_tests false false e f = refl
+    by_tests true false e f =
+        let is : a ≡ b = name_is a b e in
+        sym (itself b) ∙ ap (λ (n : List ℕ). same_name b n) (sym is) ∙ f
+    by_tests false true e f =
+        let is : b ≡ a = name_is b a f in
+        sym e ∙ ap (λ (n : List ℕ). same_name a n) is ∙ itself a
 
-pub last-gives : (result : Result Answer Refusal) (query : Select) (kept : List ResultTable) (index : ℕ) (last : Option (Bor ResultTable)) (one : Bor ResultTable) → length kept ≤ index
-    → option_copied last ≡ named query.table (reverse (take index kept)) → last ≡ Some one
-    → Gives (λ (answer : Answer). answer) result (named_asked query (Some one.now)) → Gives (λ (answer : Answer). answer) result (results_asked query (reverse kept))
-last-gives result query kept index last one past e is gives =
-    subst (Gives (λ (answer : Answer). answer) result)
-    (sym (ap (λ (o : Option (Bor ResultTable)). named_asked query (option_copied o)) is) ∙ last-named query kept index last past e) gives
+-- the answer of a query of what is held under its name
+abbrev pub found_asked : Select → Option Answer → Result Answer Refusal
+found_asked query None = Err UnknownName
+found_asked query (Some answer) = asked_of query (record { name = query.table; columns = answer.columns }) answer.rows
 
-pub last-none : (query : Select) (kept : List ResultTable) (index : ℕ) (last : Option (Bor ResultTable)) → length kept ≤ index
-    → option_copied last ≡ named query.table (reverse (take index kept)) → last ≡ None → results_asked query (reverse kept) ≡ Err UnknownName
-last-none query kept index last past e is =
-    sym (last-named query kept index last past e) ∙ ap (λ (o : Option (Bor ResultTable)). named_asked query (option_copied o)) is
+one_asked : (query : Select) (name : List ℕ) (answer : Answer) (rest : Result Answer Refusal) (more : Option Answer) (same : Bool)
+    → same_name query.table name ≡ same → rest ≡ found_asked query more
+    → cond same (asked_of query (record { name = name; columns = answer.columns }) answer.rows) rest ≡ found_asked query (cond same (Some answer) more)
+one_asked query name answer rest more true is e =
+    ap (λ (n : List ℕ). asked_of query (record { name = n; columns = answer.columns }) answer.rows) (sym (name_is query.table name is))
+one_asked query name answer rest more false is e = e
+
+entries_asked : (query : Select) (entries : List (List ℕ × Answer))
+    → results_asked query (map (λ (entry : List ℕ × Answer). record { name = entry.0; answer = entry.1 }) entries) ≡ found_asked query (lookup (is_at (slice_cmp nat_cmp query.table)) entries)
+entries_asked query [] = refl
+entries_asked query (e ∷ entries) =
+    let more = lookup (is_at (slice_cmp nat_cmp query.table)) entries in
+    one_asked query e.0 e.1 (results_asked query (map (λ (entry : List ℕ × Answer). record { name = entry.0; answer = entry.1 }) entries)) more (same_name query.table e.0) refl (entries_asked query entries)
+    ∙ ap (λ (b : Bool). found_asked query (cond b (Some e.1) more)) (sym (at_name query.table e.0))
+
+pub held_asked : (query : Select) (tables : BTreeMap (List ℕ) Answer) → results_asked query (held tables) ≡ found_asked query (get (slice_cmp nat_cmp) tables query.table)
+held_asked query tables = entries_asked query tables.entries
+
+-- one more, in place of an older one of its name
+pub held_more : (old new : BTreeMap (List ℕ) Answer) (table : ResultTable)
+    → ((name : List ℕ) → get (slice_cmp nat_cmp) new name ≡ cond (is_at (slice_cmp nat_cmp table.name) name) (Some table.answer) (get (slice_cmp nat_cmp) old name))
+    → GiveAlike (held new) (table ∷ held old)
+held_more old new table updates query =
+    let more = get (slice_cmp nat_cmp) old query.table in
+    held_asked query new
+    ∙ ap (found_asked query) (updates query.table)
+    ∙ ap (λ (b : Bool). found_asked query (cond b (Some table.answer) more)) (at_name table.name query.table ∙ same_turned table.name query.table)
+    ∙ sym (one_asked query table.name table.answer (results_asked query (held old)) more (same_name query.table table.name) refl (held_asked query old))
+
+pub asked_found : (result : Result Answer Refusal) (query : Select) (tables : BTreeMap (List ℕ) Answer) (found : Option (Bor Answer)) (answer : Bor Answer)
+    → option_copied found ≡ get (slice_cmp nat_cmp) tables query.table → found ≡ Some answer
+    → Gives (λ (a : Answer). a) result (found_asked query (Some answer.now)) → Gives (λ (a : Answer). a) result (results_asked query (held tables))
+asked_found result query tables found answer got is gives =
+    subst (Gives (λ (a : Answer). a) result)
+    (ap (λ (o : Option (Bor Answer)). found_asked query (option_copied o)) (sym is) ∙ ap (found_asked query) got ∙ sym (held_asked query tables)) gives
+
+pub none_found : (query : Select) (tables : BTreeMap (List ℕ) Answer) (found : Option (Bor Answer))
+    → option_copied found ≡ get (slice_cmp nat_cmp) tables query.table → found ≡ None → results_asked query (held tables) ≡ Err UnknownName
+none_found query tables found got is =
+    held_asked query tables ∙ ap (found_asked query) (sym got) ∙ ap (λ (o : Option (Bor Answer)). found_asked query (option_copied o)) is
+
+-- ---- what gives alike
+
+pub alike_sym : (one other : List ResultTable) → GiveAlike one other → GiveAlike other one
+alike_sym one other alike query = sym (alike query)
+
+-- behind the same table
+pub alike_more : (front one other : List ResultTable) → GiveAlike one other → GiveAlike (front ++ one) (front ++ other)
+alike_more [] one other alike query = alike query
+alike_more (table ∷ front) one other alike query = ap (λ (rest : Result Answer Refusal). cond (same_name query.table table.name) (asked_of query (record { name = table.name; columns = table.answer.columns }) table.answer.rows) rest) (alike_more front one other alike query)

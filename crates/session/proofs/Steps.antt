@@ -1,5 +1,5 @@
 -- A session's items, one step after the other.
-use Rattle.std.proofs.Common.{◌≡◌, ◌⊎◌, ◌<◌, ◌≤◌, ◌+◌, ◌++◌, ◌==◌, ℕ, Bool, true, false, List, [], ◌∷◌, length, Option, Some, None, Result, Ok, Err, OnOk, reverse, slice_get, get_or, take, refl, ap, sym, subst, ◌∙◌, inl, inr, append-nil, append_assoc, length-append, add-one, zero, suc, arith}
+use Rattle.std.proofs.Common.{◌≡◌, ◌⊎◌, ◌<◌, ◌≤◌, ◌+◌, ◌++◌, ◌==◌, ◌||◌, ℕ, Bool, true, false, List, [], ◌∷◌, length, Option, Some, None, Result, Ok, Err, OnOk, slice_get, get_or, take, refl, ap, sym, subst, ◌∙◌, inl, inr, append-nil, append_assoc, length-append, add-one, zero, suc, arith}
 use Rattle.std.specs.List.{AllByRecursion}
 use Rattle.std.specs.Result.{is_err}
 use Rattle.std.proofs.lemmas.List.{length-take-le, take_more}
@@ -17,12 +17,14 @@ use Rattle.journal_law.specs.Seats.{Idle, View}
 use Rattle.journal_law.specs.Shows.{ShowsAlong}
 use Rattle.journal_law.specs.World.{World}
 use Rattle.journal_law.proofs.Journal.{along_front, own_append}
+use Rattle.session.specs.Held.{held}
 use Rattle.session.specs.OneItem.{ItemRan, MayRun, OfItem}
 use Rattle.session.specs.OneTask.{AnswersItem, IsDone}
+use Rattle.session.specs.OverSnapshots.{results_asked}
 use Rattle.session.specs.Plan.{Item, Plan, item_in_phase, item_of, names_at, names_of, numbered, tasks_at}
 use Rattle.session.specs.Replies.{SaysWanting, is_cut, is_wanting, kept_by, known_by, starting, who_is}
 use Rattle.session.specs.Run.{AreKept, IsBefore, IsReady, IsSessionOf, OfPhase, SessionLeft}
-use Rattle.session.specs.SoFar.{GoesOn, IsEarlier, KeptOf, Says, SoFar, Stepped, StepsOn, with_done, with_kept}
+use Rattle.session.specs.SoFar.{GoesOn, IsBehind, IsEarlier, IsNew, KeptOf, Says, SoFar, Stepped, StepsOn, cuts, kept_as, with_kept}
 use Rattle.session.specs.Sql.{kind_of, sql}
 use Rattle.session.specs.declared.item.Done.{Done}
 use Rattle.session.specs.declared.item.Done.TheVariants as done
@@ -31,7 +33,7 @@ use Rattle.session.specs.declared.kept.Kept.TheVariants as kept
 use Rattle.session.specs.declared.passing.Progress.{Progress}
 use Rattle.session.specs.declared.plan.SessionPlan.{SessionPlan}
 use Rattle.session.specs.declared.plan.Task.{Task}
-use Rattle.session.proofs.Keeping.{IsKeptAs, done_kept, kept_as, kept_not_run, kept_of_same, kept_run, says_all, says_more, told_whole}
+use Rattle.session.proofs.Keeping.{IsKeptAs, done_kept, kept_not_run, kept_of_same, kept_run, says_all, says_more, told_whole}
 use Rattle.session.proofs.Order.{all_append, all_map, cut_is, none_yet, own_apart, runs_on, same_is}
 use Rattle.session.proofs.Runs.{known_stays}
 
@@ -51,8 +53,8 @@ no_item_zero plan who item is less =
         by_session (Some s) e = cc
 
 pub starts : (size : ℕ) (plan : Plan) (phase : ℕ) (names : List (List ℕ)) (start : View) → start.opened.base.page_count ≡ size → IsReady size plan phase start
-    → SoFar size plan phase names start start [] (record { stopped = false; results = []; kept = [] })
-starts size plan phase names start sized ready = record {
+    → (progress : Progress) → IsNew progress → SoFar size plan phase names start start [] progress
+starts size plan phase names start sized ready progress new = record {
   sized = sized;
   left = record {
     session = refl;
@@ -68,8 +70,12 @@ starts size plan phase names start sized ready = record {
     earlier = all_map (IsBefore phase start.session) (IsEarlier phase start.session (0 + 1)) start.front (λ l before mine. inl (before mine)) ready.earlier;
     whole = λ who item here mine less is cut. no_item_zero plan who item is less;
   };
-  counted = refl;
-  kept = λ wanting says tables along. record { kept = refl; stopped = refl; results = λ _. refl };
+  counted = ap (λ (ks : List Kept). length ks) new.kept;
+  kept = λ wanting says tables along. record {
+    kept = new.kept;
+    stopped = sym new.stopped;
+    results = λ _ query. ap (results_asked query) (sym new.results);
+  };
 }
 
 -- ---- one step
@@ -192,13 +198,13 @@ module _ (size : ℕ) (plan : Plan) (start old : View) (tasks : List Task) (befo
           ∙ ap (λ (whats : List What). own other old.front ++ whats) (own_apart who other ran.more mine2 (λ f. apart (ap (λ (w : Who). w.item) f)) ran.of_item) ∙ append-nil (own other old.front) in
           goes_on.whole other one here there (omega (arith, at, less, apart)) known (subst (IsCut (kind_of one.task)) same cut)
 
-      goes_then : (one : Done) → IsDone size plan who item (reverse before.results) new one → (with_done one before).stopped ≡ false → GoesOn plan who.phase start.session (length (tasks ++ item.task ∷ []) + 1) new.front
+      goes_then : (one : Done) → IsDone size plan who item (held before.results) new one → cuts one ≡ false → GoesOn plan who.phase start.session (length (tasks ++ item.task ∷ []) + 1) new.front
       goes_then done.CutShort told still = absurd (different still)
         where
           different : true ≡ false → ⊥
           different e = cc
       goes_then (done.Told text table) told still =
-          let whole = told_whole size plan who item (reverse before.results) new (kind_of item.task) text refl told.0 in
+          let whole = told_whole size plan who item (held before.results) new (kind_of item.task) text refl told.0 in
           record {
             earlier = rw (counts, ran.front) (all_append (IsEarlier who.phase start.session (who.item + 1)) old.front ran.more
                 (all_map (IsEarlier who.phase start.session (length tasks + 1)) (IsEarlier who.phase start.session (who.item + 1)) old.front further goes_on.earlier)
@@ -219,36 +225,31 @@ module _ (size : ℕ) (plan : Plan) (start old : View) (tasks : List Task) (befo
               let item_is : l.who.item ≡ who.item = ap (λ (w : Who). w.item) same in
               inr (ap (λ (w : Who). w.phase) same, omega (arith, item_is))
 
-      kept_is : (one : Done) → (with_done one before).kept ≡ before.kept ++ kept_as one ∷ []
-      kept_is (done.Told text table) = refl
-      kept_is done.CutShort = refl
-
-      kept_then : (one : Done) → IsDone size plan who item (reverse before.results) new one → (wanting : Who → Bool) → Says wanting who.phase start.session 1 (with_done one before).kept → (tables : World Tables)
-          → ShowsAlong (sql size) (item_of plan) new.opened.pages tables new.front → KeptOf size item.names (tasks ++ item.task ∷ []) (λ (number : ℕ). known_by size plan wanting tables new.front (who_is who.phase start.session number)) (with_done one before)
-      kept_then one told wanting says tables along =
-          let parts = says_more wanting who.phase start.session 1 before.kept (kept_as one) (1 + length tasks) (ap (λ (n : ℕ). 1 + n) (sym so.counted)) (subst (Says wanting who.phase start.session 1) (kept_is one) says) in
+      kept_then : (one : Done) (after : Progress) → IsBehind one before after → IsDone size plan who item (held before.results) new one → (wanting : Who → Bool) → Says wanting who.phase start.session 1 after.kept → (tables : World Tables)
+          → ShowsAlong (sql size) (item_of plan) new.opened.pages tables new.front → KeptOf size item.names (tasks ++ item.task ∷ []) (λ (number : ℕ). known_by size plan wanting tables new.front (who_is who.phase start.session number)) after
+      kept_then one after behind told wanting says tables along =
+          let parts = says_more wanting who.phase start.session 1 before.kept (kept_as one) (1 + length tasks) (ap (λ (n : ℕ). 1 + n) (sym so.counted)) (subst (Says wanting who.phase start.session 1) behind.kept says) in
           let says_one : wanting who ≡ is_wanting (kept_as one) = subst (λ (w : Who). wanting w ≡ is_wanting (kept_as one)) is_itself parts.1 in
           let now = kept_of_same size item.names tasks (λ (number : ℕ). known_by size plan wanting tables old.front (who_is who.phase start.session number))
           (λ (number : ℕ). known_by size plan wanting tables new.front (who_is who.phase start.session number)) before (stays wanting tables) (so.kept wanting parts.0 tables (along_old tables along)) in
-          let facts : IsKeptAs size item (reverse before.results) (known_by size plan wanting tables new.front who) one = done_kept size plan who item (reverse before.results) new wanting tables one told along says_one in
-          kept_run size item.names tasks item.task (λ (number : ℕ). known_by size plan wanting tables new.front (who_is who.phase start.session number)) before one going now
-          (subst (λ (w : Who). IsKeptAs size item (reverse before.results) (known_by size plan wanting tables new.front w) one) (sym is_itself) facts)
+          let facts : IsKeptAs size item (held before.results) (known_by size plan wanting tables new.front who) one = done_kept size plan who item (held before.results) new wanting tables one told along says_one in
+          kept_run size item.names tasks item.task (λ (number : ℕ). known_by size plan wanting tables new.front (who_is who.phase start.session number)) before after one going now
+          (subst (λ (w : Who). IsKeptAs size item (held before.results) (known_by size plan wanting tables new.front w) one) (sym is_itself) facts) behind
 
       -- an item that is run
-      pub steps_on : (one : Done) → IsDone size plan who item (reverse before.results) new one → SoFar size plan who.phase item.names start new (tasks ++ item.task ∷ []) (with_done one before)
-      steps_on one told = record {
+      pub steps_on : (one : Done) (after : Progress) → IsBehind one before after → IsDone size plan who item (held before.results) new one → SoFar size plan who.phase item.names start new (tasks ++ item.task ∷ []) after
+      steps_on one after behind told = record {
         sized = ap (λ (g : Ground). g.base.page_count) ran.opened ∙ so.sized;
         left = left_on;
-        goes = goes_then one told;
-        counted = ap (λ (ks : List Kept). length ks) (kept_is one) ∙ length-append before.kept (kept_as one ∷ []) ∙ ap (λ (n : ℕ). n + 1) so.counted ∙ sym (length-append tasks (item.task ∷ []));
-        kept = kept_then one told;
+        goes = λ still. goes_then one told (sym (behind.stopped ∙ ap (λ (b : Bool). b || cuts one) going) ∙ still);
+        counted = ap (λ (ks : List Kept). length ks) behind.kept ∙ length-append before.kept (kept_as one ∷ []) ∙ ap (λ (n : ℕ). n + 1) so.counted ∙ sym (length-append tasks (item.task ∷ []));
+        kept = kept_then one after behind told;
       }
 
-      pub run_on : {E F : Type 0} (answered : Result Done E) (one : Done) (after : Progress) (r : Result (Unit {0}) F) → AnswersItem size plan who item (reverse before.results) new answered → answered ≡ Ok one → OnOk r (after ≡ with_done one before)
+      pub run_on : {E F : Type 0} (answered : Result Done E) (one : Done) (after : Progress) (r : Result (Unit {0}) F) → AnswersItem size plan who item (held before.results) new answered → answered ≡ Ok one → OnOk r (IsBehind one before after)
           → Stepped size plan who.phase item.names start new (tasks ++ item.task ∷ []) after r
-      run_on {E} answered one after r told is kept =
-          stepped size plan who.phase item.names start new (tasks ++ item.task ∷ []) after (with_done one before) r kept
-          (steps_on one (subst (λ (a : Result Done E). AnswersItem size plan who item (reverse before.results) new a) is told)) left_on
+      run_on {E} answered one after (Ok u) told is behind = steps_on one after behind (subst (λ (a : Result Done E). AnswersItem size plan who item (held before.results) new a) is told)
+      run_on answered one after (Err why) told is behind = left_on
 
 -- ---- the end
 

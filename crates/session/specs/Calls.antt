@@ -1,7 +1,9 @@
 -- Calls over many snapshots, as a session runs them.
-use Rattle.std.specs.Prelude.{◌≡◌, ◌&&◌, ◌==◌, ℕ, Bool, not, List, [], map, flat_map, Option, Some, None, option_map, option_to_list, Result, Ok, Err, IfOk, nat_le}
+use Rattle.std.specs.Prelude.{◌≡◌, ◌&&◌, ◌==◌, ℕ, Bool, not, List, [], map, flat_map, Option, Some, None, option_to_list, Result, Ok, Err, IfOk, nat_le}
 use Rattle.retro_base.specs.Gives.{◌>>=◌}
 use Rattle.std.specs.List.{list_any}
+use Rattle.std.specs.List.Sorted.{IsSortedByKey}
+use Rattle.std.specs.Ordering.{nat_cmp}
 use Rattle.history.specs.Marks.{newest}
 use Rattle.history.specs.declared.entry.Mark.{Mark as MarkOf}
 use Rattle.pager.specs.declared.stop.Stop.{Stop}
@@ -37,6 +39,10 @@ item_call names call = record { names = names; task = Call call }
 
 abbrev pub has_number : ℕ → List MarkOf → Bool
 has_number number marks = list_any (λ (mark : MarkOf). mark.number == number) marks
+
+-- the numbers of these marks rise
+abbrev pub AreRising : List MarkOf → Type 0
+AreRising marks = IsSortedByKey (λ (mark : MarkOf). mark.number) nat_cmp marks
 
 -- the number is that of a retained snapshot
 abbrev pub is_retained : ℕ → List MarkOf → Bool

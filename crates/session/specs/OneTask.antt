@@ -23,7 +23,7 @@ abbrev pub IsLeft : ℕ → Plan → Who → Item → View → Option ResultTabl
 IsLeft size plan who item new table =
     (tables : World Tables) → ShowsAlong (sql size) (item_of plan) new.opened.pages tables new.front → option_to_list table ≡ left item.task (fate (sql size) (item_of plan) who tables new.front)
 
--- That is the reply of an item of this kind. Of one without lines it follows from the result tables before it, of which the last is the first; or it says that memory was wanting.
+-- That is the reply of an item of this kind. Of one without lines it follows from the result tables before it; or it says that memory was wanting.
 abbrev pub IsToldBy : ℕ → Plan → Who → Item → List ResultTable → View → Kind → List ℕ → Type 0
 IsToldBy size plan who item results new law.Lineless text = (text ≡ refusal_text item.names refusal.OutOfMemory) ⊎ (text ≡ lineless results item.task)
 IsToldBy size plan who item results new kind text = IsTold size plan who item new (Some text)

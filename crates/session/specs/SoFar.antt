@@ -1,5 +1,5 @@
 -- What stands while a session runs its items of a phase, one after the other.
-use Rattle.std.specs.Prelude.{◌≡◌, ◌⊎◌, ◌<◌, ◌+◌, ◌++◌, ℕ, Bool, true, false, List, [], ◌∷◌, length, option_to_list, reverse, Some, Result, Ok, Err}
+use Rattle.std.specs.Prelude.{◌≡◌, ◌⊎◌, ◌<◌, ◌+◌, ◌++◌, ◌||◌, ℕ, Bool, true, false, List, [], ◌∷◌, length, option_to_list, Some, Result, Ok, Err}
 use Rattle.std.specs.List.{AllByRecursion}
 use Rattle.retro_base.specs.declared.who.Who.{Who}
 use Rattle.tables.specs.Tables.{Tables}
@@ -9,6 +9,7 @@ use Rattle.journal_law.specs.Own.{own}
 use Rattle.journal_law.specs.Seats.{View}
 use Rattle.journal_law.specs.Shows.{ShowsAlong}
 use Rattle.journal_law.specs.World.{World}
+use Rattle.session.specs.Held.{GiveAlike, held}
 use Rattle.session.specs.Plan.{Item, Plan, item_of}
 use Rattle.session.specs.Replies.{Known, Standing, is_wanting, kept_by, known_by, standing_behind, starting, who_is}
 use Rattle.session.specs.Run.{SessionLeft}
@@ -19,16 +20,39 @@ use Rattle.session.specs.declared.kept.Kept.{Kept}
 use Rattle.session.specs.declared.kept.Kept.TheVariants as kept
 use Rattle.session.specs.declared.passing.Progress.{Progress}
 use Rattle.session.specs.declared.plan.Task.{Task}
+use Rattle.session.specs.declared.result_table.ResultTable.{ResultTable}
 
 -- ---- what is kept
 
 abbrev pub with_kept : Kept → Progress → Progress
 with_kept one progress = record progress { kept = progress.kept ++ one ∷ [] }
 
--- behind an item that was run
-abbrev pub with_done : Done → Progress → Progress
-with_done (done.Told text table) progress = record progress { results = progress.results ++ option_to_list table; kept = progress.kept ++ kept.Told text ∷ [] }
-with_done done.CutShort progress = record progress { stopped = true; kept = progress.kept ++ kept.CutShort ∷ [] }
+-- before the first item
+pub record IsNew (progress : Progress) : Type 0 where
+  pub stopped : progress.stopped ≡ false
+  pub kept : progress.kept ≡ []
+  pub results : held progress.results ≡ []
+
+-- what is kept of an item that was run
+abbrev pub kept_as : Done → Kept
+kept_as (done.Told text table) = kept.Told text
+kept_as done.CutShort = kept.CutShort
+
+-- it was cut short
+abbrev pub cuts : Done → Bool
+cuts (done.Told text table) = false
+cuts done.CutShort = true
+
+-- the result table that it left, if any
+abbrev pub tables_of : Done → List ResultTable
+tables_of (done.Told text table) = option_to_list table
+tables_of done.CutShort = []
+
+-- behind an item that was run: its result table stands before those of before
+pub record IsBehind (one : Done) (before after : Progress) : Type 0 where
+  pub stopped : after.stopped ≡ (before.stopped || cuts one)
+  pub kept : after.kept ≡ before.kept ++ kept_as one ∷ []
+  pub results : GiveAlike (held after.results) (tables_of one ++ held before.results)
 
 -- the replies of a session's items, the first having this number, say for which memory was wanting
 abbrev pub Says : (Who → Bool) → ℕ → ℕ → ℕ → List Kept → Type 0
@@ -44,7 +68,7 @@ standing_after known standing number (task ∷ tasks) = standing_after known (st
 pub record KeptOf (size : ℕ) (names : List (List ℕ)) (tasks : List Task) (known : ℕ → Known) (progress : Progress) : Type 0 where
   pub kept : progress.kept ≡ kept_by size known names starting 1 tasks
   pub stopped : (standing_after known starting 1 tasks).stopped ≡ progress.stopped
-  pub results : progress.stopped ≡ false → (standing_after known starting 1 tasks).results ≡ reverse progress.results
+  pub results : progress.stopped ≡ false → GiveAlike (standing_after known starting 1 tasks).results (held progress.results)
 
 -- ---- the lines
 

@@ -1,11 +1,10 @@
 //! Queries of tables beside those of the store.
 
-ghost use Rattle.std.specs.Prelude.{◌≡◌, find, reverse};
-ghost use Rattle.std.specs.Option.{option_copied};
 ghost use Rattle.retro_base.specs.Gives.{Gives};
+ghost use Rattle.session.specs.Held.{held};
 ghost use Rattle.session.specs.OverSnapshots.{asked_of, results_asked};
 
-use crate::result_table::ResultTable;
+use crate::result_table::ResultTables;
 use retro_base::Refusal;
 use sql_check::{answer_columns, check_beside};
 use sql_select::{Answer, select};
@@ -28,29 +27,27 @@ pub fn asked_of(
     select(alloc, query, &scope, columns, None, rows, None)
 }
 
-// The answer of a query of what a call left.
-fn kept_asked(alloc: Global, query: &Select, kept: &ResultTable) -> Result<Answer, Refusal>
+// The answer of a query of the result table of the name that it asks for.
+fn kept_asked(alloc: Global, query: &Select, answer: &Answer) -> Result<Answer, Refusal>
     ensures { Gives (λ answer. answer) result
-        (asked_of query.now (record { name = kept.now.name; columns = kept.now.answer.columns }) kept.now.answer.rows) }
+        (asked_of query.now (record { name = query.now.table; columns = answer.now.columns }) answer.now.rows) }
 {
-    let name = kept.name.copy(alloc)?;
-    let columns = kept.answer.columns.copy(alloc)?;
+    let name = query.table.copy(alloc)?;
+    let columns = answer.columns.copy(alloc)?;
     let table = TableSchema { name, columns };
-    asked_of(alloc, query, &table, kept.answer.rows.as_slice())
+    asked_of(alloc, query, &table, answer.rows.as_slice())
 }
 
-/// The answer of a query of the last result table of its name among these, in the order in which calls left them.
-pub fn results_asked(alloc: Global, query: &Select, kept: &[ResultTable]) -> Result<Answer, Refusal>
-    ensures { Gives (λ answer. answer) result (results_asked query.now (reverse kept.now)) }
+/// The answer of a query of the result table of its name among these.
+pub fn results_asked(
+    alloc: Global,
+    query: &Select,
+    tables: &ResultTables,
+) -> Result<Answer, Refusal>
+    ensures { Gives (λ answer. answer) result (results_asked query.now (held tables.now)) }
 {
-    let mut last = None;
-    for table in kept {
-        if query.table == table.name {
-            last = Some(table);
-        }
-    }
-    match last {
-        Some(table) => kept_asked(alloc, query, table),
+    match tables.get(&query.table) {
+        Some(answer) => kept_asked(alloc, query, answer),
         None => Err(Refusal::UnknownName),
     }
 }

@@ -1,12 +1,13 @@
 //! The run of one item, whatever it asks for.
 
-ghost use Rattle.std.specs.Prelude.{◌≡◌, reverse};
+ghost use Rattle.std.specs.Prelude.{◌≡◌};
 ghost use Rattle.journal_law.specs.Seats.{Idle};
+ghost use Rattle.session.specs.Held.{held};
 ghost use Rattle.session.specs.OneTask.{RunsTask};
 ghost use Rattle.session.specs.Plan.{TaskFits};
 
 use crate::plan::Task;
-use crate::result_table::ResultTable;
+use crate::result_table::{ResultTable, ResultTables};
 use journal_law::Seat;
 use retro_base::Who;
 use script::SessionName;
@@ -27,8 +28,8 @@ pub enum Done {
 
 /// What runs the items of sessions.
 pub trait RunItems {
-    /// Runs an item, in a phase whose sessions have these names, with the result tables that calls of the session left, in
-    /// order. Where memory is wanting for its reply it has been run none the less.
+    /// Runs an item, in a phase whose sessions have these names, with the result tables that calls of the session left.
+    /// Where memory is wanting for its reply it has been run none the less.
     fn run_item<S: Seat>(
         &self,
         alloc: Global,
@@ -36,7 +37,7 @@ pub trait RunItems {
         who: Who,
         names: &[SessionName],
         task: &Task,
-        results: &[ResultTable],
+        results: &ResultTables,
     ) -> (S, Result<Done, AllocError>)
         requires idle { (S.view seat).work ≡ Idle }
         requires own { who.session ≡ (S.view seat).session }
@@ -45,5 +46,5 @@ pub trait RunItems {
         ensures session { (S.view result.0).session ≡ (S.view seat).session }
         ensures goes { S.goes seat result.0 }
         ensures runs { S.is_honest seat → RunsTask who (record { names = names.now; task = task.now })
-            (reverse results.now) (S.view seat) (S.view result.0) result.1 };
+            (held results.now) (S.view seat) (S.view result.0) result.1 };
 }

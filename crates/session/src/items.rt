@@ -1,7 +1,8 @@
 //! What runs the items of a script, one at a time.
 
-ghost use Rattle.std.specs.Prelude.{◌≡◌, ◌⊎◌, [], IfOk, None, Some, reverse};
+ghost use Rattle.std.specs.Prelude.{◌≡◌, ◌⊎◌, [], IfOk, None, Some};
 ghost use Rattle.session.specs.Answered.{as_told, done_by};
+ghost use Rattle.session.specs.Held.{held};
 ghost use Rattle.session.specs.Replies.{answer_or_refusal, lineless};
 ghost use Rattle.session.specs.Wording.{refusal_text};
 
@@ -14,7 +15,7 @@ use crate::item::{Done, RunItems};
 use crate::listing::snap_ids;
 use crate::looking::as_of;
 use crate::plan::Task;
-use crate::result_table::ResultTable;
+use crate::result_table::{ResultTable, ResultTables};
 use crate::texts::write_answer;
 use crate::transacting::transaction;
 use crate::wording::write_refusal;
@@ -69,9 +70,9 @@ fn reply_of(alloc: Global, answered: Result<Answer, Refusal>) -> Told
 }
 
 // The reply of a query of a result table.
-fn reply_of_results(alloc: Global, query: &Select, results: &[ResultTable]) -> Told
+fn reply_of_results(alloc: Global, query: &Select, results: &ResultTables) -> Told
     ensures { IfOk result (λ told. (told ≡ Some (refusal_text [] Refusal.OutOfMemory))
-        ⊎ (told ≡ Some (lineless (reverse results.now) (Task.Results query.now)))) }
+        ⊎ (told ≡ Some (lineless (held results.now) (Task.Results query.now)))) }
 {
     let answered = results_asked(alloc, query, results);
     reply_of(alloc, answered)
@@ -94,7 +95,7 @@ impl<'a, G: Gate, F: Folds> RunItems for Items<'a, G, F> {
         who: Who,
         names: &[SessionName],
         task: &Task,
-        results: &[ResultTable],
+        results: &ResultTables,
     ) -> (S, Result<Done, AllocError>) {
         match task {
             Task::Transaction(asked) => {

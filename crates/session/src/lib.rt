@@ -36,4 +36,4 @@ pub use laws::law_of_runs;
 pub use passing::run_session;
 pub use plan::{Plan, SessionPlan, Task, names_of, plan_of};
 pub use printing::print;
-pub use result_table::ResultTable;
+pub use result_table::{ResultTable, ResultTables};

@@ -13,11 +13,11 @@ use sql_tree::Select;
 pub struct NoSnapshot;
 
 impl AsOf for NoSnapshot {
-    ghost use Rattle.std.specs.Prelude.{true};
+    ghost use Rattle.std.specs.Prelude.{false};
 
     type Fault = Refusal;
 
-    ghost may_ask = { λ _ _. true };
+    ghost may_ask = { λ _ _. false };
 
     ghost told = { λ _ _. Unit {0} };
 
@@ -26,7 +26,7 @@ impl AsOf for NoSnapshot {
     ghost faults = { λ _. 0 };
 
     fn answer(&mut self, _snapshot: u32, _query: &Select) -> Result<Answer, Stop<Refusal>> {
-        Err(Stop::Refused(Refusal::OutOfMemory))
+        unreachable!()
     }
 
     fn faults(&self) -> u64 {

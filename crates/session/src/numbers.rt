@@ -4,7 +4,7 @@ ghost use Rattle.std.specs.Prelude.{◌≡◌, ◌++◌, IfErr, IfOk, OnOk, opti
 ghost use Rattle.std.specs.List.{AllByRecursion, flat_map};
 ghost use Rattle.retro_base.specs.declared.refusal.Refusal.TheVariants.{OutOfMemory};
 ghost use Rattle.session.specs.OverSnapshots.{numbers_of};
-ghost use Rattle.session.specs.Calls.{has_number, is_retained};
+ghost use Rattle.session.specs.Calls.{AreRising, has_number, is_retained};
 
 use history::{Mark, newest};
 use retro_base::Refusal;
@@ -24,21 +24,19 @@ fn number_in(row: &[Value]) -> Option<u64>
     }
 }
 
-// Whether a snapshot has this number. The marks of a store stand in rising number, so that it is then found among them.
+// Whether a snapshot has this number, where the marks stand in rising number, as those of a store do.
 fn has_number(marks: &[Mark], number: u32) -> bool
-    ensures { result ≡ true → has_number number marks.now ≡ true }
+    ensures told { result ≡ true → has_number number marks.now ≡ true }
+    ensures exact { AreRising marks.now → result ≡ has_number number marks.now }
 {
-    match marks.binary_search_by_key(&number, |mark| mark.number) {
-        Ok(place) => match marks.get(place) {
-            Some(mark) => mark.number == number,
-            None => false,
-        },
-        Err(_) => false,
-    }
+    marks
+        .binary_search_by_key(&number, |mark| mark.number)
+        .is_ok()
 }
 
 fn is_retained(marks: &[Mark], number: u32) -> bool
-    ensures { result ≡ true → is_retained number marks.now ≡ true }
+    ensures told { result ≡ true → is_retained number marks.now ≡ true }
+    ensures exact { AreRising marks.now → result ≡ is_retained number marks.now }
 {
     number != 0 && number <= newest(marks) && has_number(marks, number)
 }

@@ -1,38 +1,38 @@
 //! A session's way through the items of a phase, one after the other.
 
-ghost use Rattle.std.specs.Prelude.{◌≡◌, ◌≤◌, [], OnOk, false, length};
+ghost use Rattle.std.specs.Prelude.{◌≡◌, ◌≤◌, OnOk, length};
 ghost use Rattle.std.specs.List.{AllByRecursion};
 ghost use Rattle.journal_law.specs.Seats.{Idle};
 ghost use Rattle.session.specs.Plan.{Plan as PlanOf, TaskFits};
 ghost use Rattle.session.specs.Run.{IsSessionOf, RunsSession};
-ghost use Rattle.session.specs.SoFar.{StepsOn, with_done, with_kept};
+ghost use Rattle.session.specs.SoFar.{IsBehind, IsNew, StepsOn, with_kept};
 
 use crate::item::{Done, RunItems};
 use crate::kept::Kept;
 use crate::plan::Task;
-use crate::result_table::ResultTable;
+use crate::result_table::{ResultTables, hold};
 use journal_law::Seat;
 use retro_base::{ITEMS, Who};
 use script::SessionName;
 use std::alloc::{AllocError, Global};
 use values::Seq;
 
-/// What stands behind the items that are done: whether one was cut short, the result tables that calls left in order,
-/// and what is kept of each.
+/// What stands behind the items that are done: whether one was cut short, the result tables that calls left, and what
+/// is kept of each.
 #[derive(Debug, Drop)]
 pub struct Progress {
     stopped: bool,
-    results: Seq<ResultTable>,
+    results: ResultTables,
     kept: Seq<Kept>,
 }
 
 impl Progress {
     fn new(alloc: Global) -> Progress
-        ensures { result ≡ record { stopped = false; results = []; kept = [] } }
+        ensures { IsNew result }
     {
         Progress {
             stopped: false,
-            results: Seq::new(alloc),
+            results: ResultTables::new(alloc),
             kept: Seq::new(alloc),
         }
     }
@@ -46,12 +46,12 @@ impl Progress {
 
     // Keeps what became of an item that was run.
     fn take(&mut self, done: Done) -> Result<(), AllocError>
-        ensures { OnOk result (self.new ≡ with_done done self.old) }
+        ensures { OnOk result (IsBehind done self.old self.new) }
     {
         match done {
             Done::Told { text, table } => {
                 if let Some(table) = table {
-                    self.results.push(table)?;
+                    hold(&mut self.results, table)?;
                 }
                 self.keep(Kept::Told(text))
             }
@@ -85,8 +85,7 @@ impl Progress {
             let kept = self.keep(Kept::NotRun);
             return (seat, kept);
         }
-        let results = self.results.as_slice();
-        let (seat, answered) = runner.run_item(alloc, seat, who, names, task, results);
+        let (seat, answered) = runner.run_item(alloc, seat, who, names, task, &self.results);
         match answered {
             Ok(done) => {
                 let taken = self.take(done);

@@ -19,7 +19,7 @@ use Rattle.relation.specs.Catalog.{HaveFewColumns, catalog, schema_of, table_nam
 use Rattle.values.specs.Name.{same_name}
 use Rattle.relation.proofs.Steps.{next_step}
 use Rattle.sql_exec.specs.declared.source.Source.{Source}
-use Rattle.sql_exec.specs.Asking.{answered, answered_beside, asked_of, opened, over_two, source_at}
+use Rattle.sql_exec.specs.Asking.{answered, answered_beside, asked_of, opened, over_two, source_at, where_alone}
 use Rattle.sql_exec.specs.Promises.{Asks}
 use Rattle.sql_exec.proofs.Asked.{asked-law}
 
@@ -58,17 +58,17 @@ asked-by size width query snapshot found between tells result same narrows read 
     (λ b h. next_step (opened size (Select query) snapshot shown) (λ (c : Catalog). answered size c query snapshot shown) found (opened-by size (Select query) snapshot shown found (read base shown (narrows base shown told)) passes) b (subst (λ (s : ℕ). answered s found query snapshot shown b) same h)) result (answers base shown told)
 
 -- the answer over two tables
-pub answered-by : (size width : ℕ) (found : Catalog) (query : SelectRecord) (snapshot : Option ℕ) (shown : Pages) (first : Source) (name : List ℕ) → query.second ≡ Some name → width ≡ size → source_at size shown (table_named query.table found.tables) (Ok first) → (b : Result Answer Refusal)
-    → (source_at width shown (table_named name found.tables) >>= (λ (second : Source). only (over_two query snapshot first second))) b → answered size found query snapshot shown b
+pub answered-by : (size width : ℕ) (found : Catalog) (query : SelectRecord) (snapshot : Option ℕ) (shown : Pages) (first : Source) (name : List ℕ) → query.second ≡ Some name → width ≡ size → source_at size shown (table_named query.table found.tables) (where_alone query) (Ok first) → (b : Result Answer Refusal)
+    → (source_at width shown (table_named name found.tables) None >>= (λ (second : Source). only (over_two query snapshot first second))) b → answered size found query snapshot shown b
 answered-by size width found query snapshot shown first name two same read b h =
-    next_step (source_at size shown (table_named query.table found.tables)) (λ (one : Source). answered_beside size found query snapshot shown one query.second) first read b
-    (subst (λ (s : Option (List ℕ)). answered_beside size found query snapshot shown first s b) (sym two) (subst (λ (s : ℕ). (source_at s shown (table_named name found.tables) >>= (λ (second : Source). only (over_two query snapshot first second))) b) same h))
+    next_step (source_at size shown (table_named query.table found.tables) (where_alone query)) (λ (one : Source). answered_beside size found query snapshot shown one query.second) first read b
+    (subst (λ (s : Option (List ℕ)). answered_beside size found query snapshot shown first s b) (sym two) (subst (λ (s : ℕ). (source_at s shown (table_named name found.tables) None >>= (λ (second : Source). only (over_two query snapshot first second))) b) same h))
 
 -- the answer over two tables, once both are read
-pub answered-both : (size width : ℕ) (found : Catalog) (query : SelectRecord) (snapshot : Option ℕ) (shown : Pages) (first second : Source) (name : List ℕ) → query.second ≡ Some name → width ≡ size → source_at size shown (table_named query.table found.tables) (Ok first) → source_at width shown (table_named name found.tables) (Ok second) → (b : Result Answer Refusal)
+pub answered-both : (size width : ℕ) (found : Catalog) (query : SelectRecord) (snapshot : Option ℕ) (shown : Pages) (first second : Source) (name : List ℕ) → query.second ≡ Some name → width ≡ size → source_at size shown (table_named query.table found.tables) (where_alone query) (Ok first) → source_at width shown (table_named name found.tables) None (Ok second) → (b : Result Answer Refusal)
     → over_two query snapshot first second ≡ b → answered size found query snapshot shown b
 answered-both size width found query snapshot shown first second name two same read also b h =
-    answered-by size width found query snapshot shown first name two same read b (next_step (source_at width shown (table_named name found.tables)) (λ (other : Source). only (over_two query snapshot first other)) second also b h)
+    answered-by size width found query snapshot shown first name two same read b (next_step (source_at width shown (table_named name found.tables) None) (λ (other : Source). only (over_two query snapshot first other)) second also b h)
 
 -- a table of the catalog has few columns
 pub few-named : (name : List ℕ) (tables : List StoredTable) (table : StoredTable) → HaveFewColumns tables → table_named name tables ≡ Some table → (1 ≤ length table.columns) × (length table.columns ≤ 16)

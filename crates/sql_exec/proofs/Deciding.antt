@@ -19,8 +19,9 @@ use Rattle.tables.specs.Rows.{rows_of}
 use Rattle.values.specs.Row.{row_bytes}
 use Rattle.sql_tree.specs.Rows.{AllFit}
 use Rattle.heap_file.specs.declared.chain.Placed.{Placed}
+use Rattle.relation.specs.declared.drafting.RowChange.{RowChange}
 use Rattle.sql_exec.specs.Planning.{counted, picked, row_changes, row_numbers, under_numbers}
-use Rattle.sql_exec.specs.Running.{numbered_at, placed_changes, placed_gone, placed_on, values_of}
+use Rattle.sql_exec.specs.Running.{changes_on, numbered_at, placed_changes, placed_gone, values_of}
 use Rattle.sql_exec.specs.Stored.{row_under}
 use Rattle.sql_exec.proofs.Choosing.{chosen_value, number_of, with_value}
 
@@ -135,8 +136,8 @@ module _ (table : TableSchema) (snapshot : Option ℕ) (update : UpdateRecord) w
   abbrev pub value : Placed → List Value
   value placed = value_or (assigned table snapshot placed.row update.assignments placed.row)
 
-  abbrev pub set_at : Placed → Placed
-  set_at placed = record { number = placed.number; page = placed.page; row = value placed }
+  abbrev pub set_at : Placed → RowChange
+  set_at placed = record { was = placed; row = value placed }
 
   abbrev pub after_at : Placed → NumberedRow
   after_at placed = row_under (chosen_value (hits placed) value placed)
@@ -165,20 +166,20 @@ module _ (table : TableSchema) (snapshot : Option ℕ) (update : UpdateRecord) w
       stop : (why : Refusal) → updated_row table snapshot update (numbered_at row) ≡ Err why → SetsNot (row ∷ rows)
       stop why step = record {
         why = why;
-        changes = picked-stops (placed_changes table snapshot update) row rows why (ap (counted (placed_on row.page)) step);
+        changes = picked-stops (placed_changes table snapshot update) row rows why (ap (counted (changes_on row)) step);
         after = rework-stops (updated_row table snapshot update) (numbered_at row) (map numbered_at rows) why step;
       }
 
       end : (made : List NumberedRow) (n : ℕ) → updated_row table snapshot update (numbered_at row) ≡ Ok (made, n) → SetsNot rows → SetsNot (row ∷ rows)
       end made n step rest = record {
         why = rest.why;
-        changes = picked-ends (placed_changes table snapshot update) row rows (cond (n == 0) [] (placed_on row.page made)) rest.why (ap (counted (placed_on row.page)) step) rest.changes;
+        changes = picked-ends (placed_changes table snapshot update) row rows (cond (n == 0) [] (changes_on row made)) rest.why (ap (counted (changes_on row)) step) rest.changes;
         after = rework-ends (updated_row table snapshot update) (numbered_at row) (map numbered_at rows) (made, n) rest.why step rest.after;
       }
 
       stay : holds_at (table ∷ []) snapshot update.condition row.row ≡ Ok false → updated_row table snapshot update (numbered_at row) ≡ Ok (numbered_at row ∷ [], 0) → Sets rows → Sets (row ∷ rows)
       stay e step rest = record {
-        changes = picked-goes (placed_changes table snapshot update) row rows [] (map set_at (filter hits rows)) (ap (counted (placed_on row.page)) step) rest.changes
+        changes = picked-goes (placed_changes table snapshot update) row rows [] (map set_at (filter hits rows)) (ap (counted (changes_on row)) step) rest.changes
             ∙ ap (λ (r : Result Bool Refusal). Ok (map set_at (cond (held r) (row ∷ filter hits rows) (filter hits rows)))) (sym e);
         after = rework-goes (updated_row table snapshot update) (numbered_at row) (map numbered_at rows) (numbered_at row ∷ [], 0) (map after_at rows, length (map set_at (filter hits rows))) step rest.after
             ∙ ap (λ (n : ℕ). Ok (numbered_at row ∷ map after_at rows, n)) (let none : 0 + length (map set_at (filter hits rows)) ≡ length (map set_at (filter hits rows)) = omega arith in none)
@@ -189,8 +190,8 @@ module _ (table : TableSchema) (snapshot : Option ℕ) (update : UpdateRecord) w
 
       change : (values : List Value) → holds_at (table ∷ []) snapshot update.condition row.row ≡ Ok true → assigned table snapshot row.row update.assignments row.row ≡ Ok values → updated_row table snapshot update (numbered_at row) ≡ Ok (record { number = row.number; row = values } ∷ [], 1) → Sets rows → Sets (row ∷ rows)
       change values e a step rest = record {
-        changes = picked-goes (placed_changes table snapshot update) row rows (record { number = row.number; page = row.page; row = values } ∷ []) (map set_at (filter hits rows)) (ap (counted (placed_on row.page)) step) rest.changes
-            ∙ ap (λ (v : Result (List Value) Refusal). Ok (record { number = row.number; page = row.page; row = value_or v } ∷ map set_at (filter hits rows))) (sym a)
+        changes = picked-goes (placed_changes table snapshot update) row rows (record { was = row; row = values } ∷ []) (map set_at (filter hits rows)) (ap (counted (changes_on row)) step) rest.changes
+            ∙ ap (λ (v : Result (List Value) Refusal). Ok (record { was = row; row = value_or v } ∷ map set_at (filter hits rows))) (sym a)
             ∙ ap (λ (r : Result Bool Refusal). Ok (map set_at (cond (held r) (row ∷ filter hits rows) (filter hits rows)))) (sym e);
         after = rework-goes (updated_row table snapshot update) (numbered_at row) (map numbered_at rows) (record { number = row.number; row = values } ∷ [], 1) (map after_at rows, length (map set_at (filter hits rows))) step rest.after
             ∙ ap (λ (n : ℕ). Ok (record { number = row.number; row = values } ∷ map after_at rows, n)) (let one : 1 + length (map set_at (filter hits rows)) ≡ length (set_at row ∷ map set_at (filter hits rows)) = omega arith in one)

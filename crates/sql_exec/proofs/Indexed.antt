@@ -22,7 +22,8 @@ use Rattle.heap_file.proofs.Ones.{differ}
 use Rattle.relation.specs.declared.catalog.Catalog.{Catalog}
 use Rattle.relation.specs.declared.catalog.StoredTable.{StoredTable}
 use Rattle.relation.specs.Catalog.{schema_of, table_named}
-use Rattle.relation.specs.Work.{index_added, or_broken, table_in}
+use Rattle.relation.specs.Work.{or_broken, table_in, table_indexed}
+use Rattle.tree_index.specs.Work as tree
 use Rattle.relation.proofs.Steps.{next_step}
 use Rattle.relation_laws.specs.Laws.{HasColumn, IsStoreOf, with_index}
 use Rattle.relation_laws.specs.Tables.{PlainTables}
@@ -33,7 +34,7 @@ use Rattle.relation_laws.proofs.Indexing.{ColumnAt, column-at, place-found}
 use Rattle.relation_laws.proofs.Lists.{contains-cons, contains-head}
 use Rattle.relation_laws.proofs.Names.{name-is}
 use Rattle.relation_laws.proofs.Working.{work_law}
-use Rattle.sql_exec.specs.Asking.{schema_at}
+use Rattle.sql_exec.specs.Reading.{schema_at}
 use Rattle.sql_exec.specs.Promises.{IsDoneOver, IsRunOver}
 use Rattle.sql_exec.specs.Running.{at_table, given, made_index}
 use Rattle.sql_exec.specs.Stored.{plain}
@@ -69,10 +70,10 @@ missing-in name (first ∷ stored) e = go (same_name first.name name) e (missing
 
 -- an index whose row was added, and one for whose row there was no page
 module _ (size : ℕ) (found : Catalog) (create : IndexRecord) (table : StoredTable) (place : ℕ) (was : Pages) (is : table_named create.table found.tables ≡ Some table) (placed : column_place create.column table.columns ≡ Some place) (named : IsName create.index) where
-  pub indexed-there : (u : Unit {0}) (now : Pages) → index_added size create.index table.name place was (Ok (u, now)) → at_table found create.table (λ (t : StoredTable). made_index size create t was) (Ok (Plain, now))
+  pub indexed-there : (u : Unit {0}) (now : Pages) → table_indexed tree.made tree.added size create.index table place was (Ok (u, now)) → at_table found create.table (λ (t : StoredTable). made_index size create t was) (Ok (Plain, now))
   indexed-there u now h = (table, ap (λ (t : Option StoredTable). known t) is, (place, ap (λ (p : Option ℕ). known p) placed, (tt, named, ((u, now), h, refl))))
 
-  pub indexed-full : (why : Refusal) → index_added size create.index table.name place was (Err why) → at_table found create.table (λ (t : StoredTable). made_index size create t was) (Err why)
+  pub indexed-full : (why : Refusal) → table_indexed tree.made tree.added size create.index table place was (Err why) → at_table found create.table (λ (t : StoredTable). made_index size create t was) (Err why)
   indexed-full why h = inr (table, ap (λ (t : Option StoredTable). known t) is, inr (place, ap (λ (p : Option ℕ). known p) placed, inr (tt, named, inl h)))
 
 -- a table of the store that does not lack the column is there, and has it
@@ -84,31 +85,30 @@ not-lacking name column schema found is e = go (is_reserved name) e
     go false e = subst (λ (f : Option TableSchema). lacks f (λ (table : TableSchema). not (has_column column table.columns)) ≡ false) is e
 
 module _ (size : ℕ) (pages : Pages) (all : PlainTables) (is : IsStoreOf size pages all) (create : IndexRecord) (snapshot : Option ℕ) (passes : checked (CreateIndex create) snapshot (plain all).schema ≡ Ok tt) where
-  lacks-not : (found : Option TableSchema) → named_in create.table (schema_of is.store.found) ≡ found → lacks found (λ (table : TableSchema). not (has_column create.column table.columns)) ≡ false
+  lacks-not : (found : Option TableSchema) → named_in create.table (schema_of is.store.base.found) ≡ found → lacks found (λ (table : TableSchema). not (has_column create.column table.columns)) ≡ false
   lacks-not found named =
       let schema = (plain all).schema in
       let pass = passed (has_unknown_name (CreateIndex create) snapshot schema) (takes_taken_name (CreateIndex create) schema) (has_wrong_type (CreateIndex create) schema) passes in
       not-lacking create.table create.column schema found (ap (λ (s : Schema). named_in create.table s) (sym (schema-same size pages all is)) ∙ named) pass.0
 
-  module _ (here : Here size pages create.table is.store.found.tables all.tables) where
+  module _ (here : Here size pages create.table is.store.base.found.tables all.tables) where
     has-column : Contains (map (λ (column : Column). column.name) here.found.columns) create.column
-    has-column = has-named create.column here.found.columns (not-false (has_column create.column here.found.columns) (lacks-not (Some (schema_at here.found)) (found-in create.table is.store.found.tables here.found here.named)))
+    has-column = has-named create.column here.found.columns (not-false (has_column create.column here.found.columns) (lacks-not (Some (schema_at here.found)) (found-in create.table is.store.base.found.tables here.found here.named)))
 
     at_column : ColumnAt create.column here.found.columns
     at_column = column-at create.column here.found.columns has-column
 
-    worked-as : IsName create.index → (b : Result (Unit {0} × Pages) Refusal) → index_added size create.index here.found.name at_column.place pages b → IsWorked size pages all (Indexes create.index create.table create.column) b
+    worked-as : IsName create.index → (b : Result (Unit {0} × Pages) Refusal) → table_indexed tree.made tree.added size create.index here.found at_column.place pages b → IsWorked size pages all (Indexes create.index create.table create.column) b
     worked-as named b h =
         let schema = (plain all).schema in
         let pass = passed (has_unknown_name (CreateIndex create) snapshot schema) (takes_taken_name (CreateIndex create) schema) (has_wrong_type (CreateIndex create) schema) passes in
         let column : HasColumn create.column here.table = subst (λ (columns : List Column). Contains (map (λ (column : Column). column.name) columns) create.column) (sym here.shows.columns) has-column in
         work_law.single size pages all (Indexes create.index create.table create.column) b is
         (new-name all create.index named pass.1, (here.table, here.has, here.is_name, column))
-        (next_step (table_in size pages create.table) (λ (t : StoredTable). only (or_broken (column_place create.column t.columns)) >>= (λ (place : ℕ). index_added size create.index create.table place pages)) here.found (table-by-name size pages all is create.table here) b
-        (next_step (only (or_broken (column_place create.column here.found.columns))) (λ (place : ℕ). index_added size create.index create.table place pages) at_column.place (ap (λ (p : Option ℕ). or_broken p) (place-found create.column here.found.columns at_column)) b
-        (subst (λ (name : List ℕ). index_added size create.index name at_column.place pages b) (sym here.shows.name ∙ here.is_name) h)))
+        (next_step (table_in size pages create.table) (λ (t : StoredTable). only (or_broken (column_place create.column t.columns)) >>= (λ (place : ℕ). table_indexed tree.made tree.added size create.index t place pages)) here.found (table-by-name size pages all is create.table here) b
+        (next_step (only (or_broken (column_place create.column here.found.columns))) (λ (place : ℕ). table_indexed tree.made tree.added size create.index here.found place pages) at_column.place (ap (λ (p : Option ℕ). or_broken p) (place-found create.column here.found.columns at_column)) b h))
 
-    added-law : IsName create.index → (b : Result (Reply × Pages) Refusal) → (index_added size create.index here.found.name at_column.place pages >>= (λ (done : Unit {0} × Pages). only (Ok (Plain, done.1)))) b → IsRunOver size (CreateIndex create) snapshot pages (plain all) b
+    added-law : IsName create.index → (b : Result (Reply × Pages) Refusal) → (table_indexed tree.made tree.added size create.index here.found at_column.place pages >>= (λ (done : Unit {0} × Pages). only (Ok (Plain, done.1)))) b → IsRunOver size (CreateIndex create) snapshot pages (plain all) b
     added-law named (Ok y) (done, added, e) = subst (λ (r : Result (Reply × Pages) Refusal). IsRunOver size (CreateIndex create) snapshot pages (plain all) r) e made
       where
         leaves : LeavesWorked size pages all (Indexes create.index create.table create.column) done.1
@@ -128,17 +128,17 @@ module _ (size : ℕ) (pages : Pages) (all : PlainTables) (is : IsStoreOf size p
         inr (refused.0, Some (Indexes create.index create.table create.column), refl, refused.1)
     added-law named (Err why) (inr (done, added, e)) = differ _ why e
 
-    made-law : (b : Result (Reply × Pages) Refusal) → (given (IsName create.index) >>= (λ (u : Unit {0}). index_added size create.index here.found.name at_column.place pages >>= (λ (done : Unit {0} × Pages). only (Ok (Plain, done.1))))) b → IsRunOver size (CreateIndex create) snapshot pages (plain all) b
+    made-law : (b : Result (Reply × Pages) Refusal) → (given (IsName create.index) >>= (λ (u : Unit {0}). table_indexed tree.made tree.added size create.index here.found at_column.place pages >>= (λ (done : Unit {0} × Pages). only (Ok (Plain, done.1))))) b → IsRunOver size (CreateIndex create) snapshot pages (plain all) b
     made-law (Ok y) (u, named, h) = added-law named (Ok y) h
     made-law (Err why) (inl none) = absurd none
     made-law (Err why) (inr (u, named, h)) = added-law named (Err why) h
 
-  pub index-law : (b : Result (Reply × Pages) Refusal) → at_table is.store.found create.table (λ (table : StoredTable). made_index size create table pages) b → IsRunOver size (CreateIndex create) snapshot pages (plain all) b
+  pub index-law : (b : Result (Reply × Pages) Refusal) → at_table is.store.base.found create.table (λ (table : StoredTable). made_index size create table pages) b → IsRunOver size (CreateIndex create) snapshot pages (plain all) b
   index-law b h = found (by-name-here size pages all is create.table)
     where
-      found : Missing create.table is.store.found.tables all.tables ⊎ Here size pages create.table is.store.found.tables all.tables → IsRunOver size (CreateIndex create) snapshot pages (plain all) b
-      found (inl none) = clash (lacks-not None (missing-in create.table is.store.found.tables none.named))
+      found : Missing create.table is.store.base.found.tables all.tables ⊎ Here size pages create.table is.store.base.found.tables all.tables → IsRunOver size (CreateIndex create) snapshot pages (plain all) b
+      found (inl none) = clash (lacks-not None (missing-in create.table is.store.base.found.tables none.named))
       found (inr here) = made-law here b
-          (goes-on (only (known (column_place create.column here.found.columns))) (λ (place : ℕ). given (IsName create.index) >>= (λ (u : Unit {0}). index_added size create.index here.found.name place pages >>= (λ (done : Unit {0} × Pages). only (Ok (Plain, done.1))))) (at_column here).place
+          (goes-on (only (known (column_place create.column here.found.columns))) (λ (place : ℕ). given (IsName create.index) >>= (λ (u : Unit {0}). table_indexed tree.made tree.added size create.index here.found place pages >>= (λ (done : Unit {0} × Pages). only (Ok (Plain, done.1))))) (at_column here).place
           (λ (r : Result ℕ Refusal) (e : known (column_place create.column here.found.columns) ≡ r). sym e ∙ ap (λ (p : Option ℕ). known p) (place-found create.column here.found.columns (at_column here))) b
-          (table-there is.store.found create.table here.found (λ (table : StoredTable). made_index size create table pages) here.named b h))
+          (table-there is.store.base.found create.table here.found (λ (table : StoredTable). made_index size create table pages) here.named b h))

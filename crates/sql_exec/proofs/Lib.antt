@@ -1,5 +1,6 @@
 pub mod Answering
 pub mod Asked
+mod Bounding
 pub mod Choosing
 pub mod Created
 pub mod Deciding
@@ -12,6 +13,10 @@ pub mod Meaning
 pub mod Named
 pub mod Picking
 pub mod Ran
+mod Ranged
+mod Readings
 pub mod Shortness
+mod Sifting
 pub mod Steps
 pub mod Updated
+mod Within

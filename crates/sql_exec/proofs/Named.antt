@@ -21,7 +21,8 @@ use Rattle.relation_laws.specs.Work.{where_named}
 use Rattle.relation_laws.proofs.Lists.{contains-cons, contains-head, different-split}
 use Rattle.relation_laws.proofs.Names.{name-is}
 use Rattle.relation_laws.proofs.Singling.{Single, shown-here}
-use Rattle.sql_exec.specs.Asking.{schema_at}
+use Rattle.relation_laws.proofs.TableStores.{tables_of}
+use Rattle.sql_exec.specs.Reading.{schema_at}
 use Rattle.sql_exec.specs.Running.{numbered_at}
 use Rattle.sql_exec.specs.Stored.{contents_of, plain, row_under}
 
@@ -134,10 +135,10 @@ schemas size pages (s ∷ ss) (t ∷ ts) all =
     let columns = all.0.columns in
     cc (rest, name, columns)
 
-pub schema-same : (size : ℕ) (pages : Pages) (all : PlainTables) (is : IsStoreOf size pages all) → schema_of is.store.found ≡ (plain all).schema
+pub schema-same : (size : ℕ) (pages : Pages) (all : PlainTables) (is : IsStoreOf size pages all) → schema_of is.store.base.found ≡ (plain all).schema
 schema-same size pages all is =
-    let here = shown-here size pages all is in
-    let tables = schemas size pages is.store.found.tables all.tables here.0 in
+    let here = shown-here size pages all (tables_of size pages all is) in
+    let tables = schemas size pages is.store.base.found.tables all.tables here.0 in
     let indexes = here.1 in
     cc (tables, indexes)
 
@@ -149,11 +150,11 @@ rows-same (row ∷ rows) = ap (λ (rest : List (List Value)). row.row ∷ rest) 
 pub rows-here : (size : ℕ) (pages : Pages) (found : StoredTable) (table : PlainTable) (shows : ShowsTable size pages found table) → rows_of (contents_of table).rows ≡ map (λ (placed : Placed). placed.row) shows.placed
 rows-here size pages found table shows = ap (λ (rows : List (ℕ × List Value)). rows_of (map row_under rows)) shows.rows ∙ rows-same shows.placed
 
-abbrev pub single-of : (size : ℕ) (pages : Pages) (all : PlainTables) (is : IsStoreOf size pages all) (name : List ℕ) (here : Here size pages name is.store.found.tables all.tables) → Single size pages all here.table is
+abbrev pub single-of : (size : ℕ) (pages : Pages) (all : PlainTables) (is : IsStoreOf size pages all) (name : List ℕ) (here : Here size pages name is.store.base.found.tables all.tables) → Single size pages all here.table (tables_of size pages all is)
 single-of size pages all is name here = record { stored = here.found; has = here.in_catalog; shows = here.shows }
 
-pub by-name-here : (size : ℕ) (pages : Pages) (all : PlainTables) (is : IsStoreOf size pages all) (name : List ℕ) → Missing name is.store.found.tables all.tables ⊎ Here size pages name is.store.found.tables all.tables
-by-name-here size pages all is name = by-name size pages name is.store.found.tables all.tables (different-split (names_of is.store.found.tables) _ is.store.names) (shown-here size pages all is).0
+pub by-name-here : (size : ℕ) (pages : Pages) (all : PlainTables) (is : IsStoreOf size pages all) (name : List ℕ) → Missing name is.store.base.found.tables all.tables ⊎ Here size pages name is.store.base.found.tables all.tables
+by-name-here size pages all is name = by-name size pages name is.store.base.found.tables all.tables (different-split (names_of is.store.base.found.tables) _ is.store.base.names) (shown-here size pages all (tables_of size pages all is)).0
 
 -- the tables, of which that of the name holds something else
 schemas-kept : (name : List ℕ) (becomes : PlainTable → PlainTable) → ((t : PlainTable) → without_contents (becomes t) ≡ without_contents t) → (tables : List PlainTable) → map without_contents tables ≡ map without_contents (map (at_name name becomes) tables)

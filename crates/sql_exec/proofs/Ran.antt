@@ -34,20 +34,20 @@ use Rattle.sql_exec.proofs.Updated.{update-law}
 use Rattle.sql_exec.proofs.Steps.{ends-there}
 
 select-law : (size : ℕ) (pages : Pages) (all : PlainTables) (is : IsStoreOf size pages all) (query : SelectRecord) (snapshot : Option ℕ) → checked (Select query) snapshot (plain all).schema ≡ Ok tt → (b : Result (Reply × Pages) Refusal)
-    → (answered size is.store.found query snapshot pages >>= (λ (answer : Answer). only (Ok (Rows answer, pages)))) b → IsRunOver size (Select query) snapshot pages (plain all) b
+    → (answered size is.store.base.found query snapshot pages >>= (λ (answer : Answer). only (Ok (Rows answer, pages)))) b → IsRunOver size (Select query) snapshot pages (plain all) b
 select-law size pages all is query snapshot passes (Ok y) (answer, told, e) = subst (λ (r : Result (Reply × Pages) Refusal). IsRunOver size (Select query) snapshot pages (plain all) r) e (record {
   behind = plain all;
-  means = does-passed (Select query) snapshot (plain all) passes ∙ selected-ok query snapshot (plain all) answer (answer-law size pages all is query snapshot (Ok answer) told);
+  means = does-passed (Select query) snapshot (plain all) passes ∙ selected-ok query snapshot (plain all) answer (answer-law size pages all is query snapshot passes (Ok answer) told);
   stored = record { all = all; store = is; same = refl };
   work = None;
   is_work = refl;
   edits = refl;
 })
-select-law size pages all is query snapshot passes (Err why) (inl refused) = inl (does-passed (Select query) snapshot (plain all) passes ∙ selected-err query snapshot (plain all) why (answer-law size pages all is query snapshot (Err why) refused))
+select-law size pages all is query snapshot passes (Err why) (inl refused) = inl (does-passed (Select query) snapshot (plain all) passes ∙ selected-err query snapshot (plain all) why (answer-law size pages all is query snapshot passes (Err why) refused))
 select-law size pages all is query snapshot passes (Err why) (inr (answer, told, e)) = differ _ why e
 
 -- a statement that was checked
-done-law : (size : ℕ) (pages : Pages) (all : PlainTables) (is : IsStoreOf size pages all) (statement : Statement) (snapshot : Option ℕ) → IsStatement statement → checked statement snapshot (plain all).schema ≡ Ok tt → (b : Result (Reply × Pages) Refusal) → done_on size is.store.found statement snapshot pages b → IsRunOver size statement snapshot pages (plain all) b
+done-law : (size : ℕ) (pages : Pages) (all : PlainTables) (is : IsStoreOf size pages all) (statement : Statement) (snapshot : Option ℕ) → IsStatement statement → checked statement snapshot (plain all).schema ≡ Ok tt → (b : Result (Reply × Pages) Refusal) → done_on size is.store.base.found statement snapshot pages b → IsRunOver size statement snapshot pages (plain all) b
 done-law size pages all is (CreateTable create) snapshot limits passes b h = create-law size pages all is create snapshot limits passes b h
 done-law size pages all is (CreateIndex create) snapshot limits passes b h = index-law size pages all is create snapshot passes b h
 done-law size pages all is (Insert insert) snapshot limits passes b h = insert-law size pages all is insert snapshot passes b h
@@ -59,7 +59,7 @@ pub ran-law : (size : ℕ) (pages : Pages) (all : PlainTables) (is : IsStoreOf s
 ran-law size pages all is statement snapshot limits b h = go (checked statement snapshot (plain all).schema) refl
   where
     go : (r : Result (Unit {0}) Refusal) → checked statement snapshot (plain all).schema ≡ r → IsRunOver size statement snapshot pages (plain all) b
-    go (Ok tt) passes = done-law size pages all is statement snapshot limits passes b (goes-on (opened size statement snapshot pages) (λ (c : Catalog). done_on size c statement snapshot pages) is.store.found (opened-ok size pages all is statement snapshot passes) b h)
+    go (Ok tt) passes = done-law size pages all is statement snapshot limits passes b (goes-on (opened size statement snapshot pages) (λ (c : Catalog). done_on size c statement snapshot pages) is.store.base.found (opened-ok size pages all is statement snapshot passes) b h)
     go (Err why) refuses = subst (λ (r : Result (Reply × Pages) Refusal). IsRunOver size statement snapshot pages (plain all) r)
         (sym (ends-there (opened size statement snapshot pages) (λ (c : Catalog). done_on size c statement snapshot pages) why (opened-err size pages all is statement snapshot why refuses) b h))
         (inl (does-refused statement snapshot (plain all) why refuses))

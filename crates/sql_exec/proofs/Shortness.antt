@@ -1,16 +1,13 @@
 -- How long encoded rows are.
 use Rattle.std.proofs.Common.{◌≡◌, ◌≤◌, ◌<◌, ◌+◌, ◌*◌, ◌++◌, ◌∷◌, ◌^◌, ℕ, Bool, true, false, List, [], length, map, take, get_or, Ok, Err, refl, arith, sum_by}
-use Rattle.std.specs.Int.{w64, cast_unsigned}
 use Rattle.std.specs.List.{AllByRecursion, flat_map}
 use Rattle.std.specs.Prelude.{nat_le}
 use Rattle.std.proofs.lemmas.Bool.{le-leb, leb-true, lt-leb}
-use Rattle.std.proofs.lemmas.List.{length-append, take_more}
-use Rattle.std.proofs.lemmas.List.Concat.{flat_map-cons, length-flat_map}
+use Rattle.std.proofs.lemmas.List.{take_more}
+use Rattle.std.proofs.lemmas.List.Concat.{flat_map-cons}
 use Rattle.std.proofs.lemmas.List.Elements.{All-from_recursion, recursion_from_All}
 use Rattle.std.proofs.lemmas.List.Sorted.{All-permutation}
 use Rattle.std.proofs.lemmas.List.Sums.{sum_by-cons}
-use Rattle.retro_base.specs.Fields.{field_bytes}
-use Rattle.retro_base.proofs.FieldLaws.{length-field_bytes}
 use Rattle.retro_base.specs.declared.refusal.Refusal.TheVariants.{RowTooLong}
 use Rattle.values.specs.declared.value.Value.{Value}
 use Rattle.values.specs.declared.value.Value.TheVariants.{Int, Text}
@@ -19,6 +16,7 @@ use Rattle.row_codec.proofs.Codes.{row_size}
 use Rattle.pager.specs.Pages.{Pages}
 use Rattle.heap_file.specs.declared.chain.Link.{Link}
 use Rattle.heap_file.specs.declared.chain.Placed.{Placed}
+use Rattle.relation.specs.declared.drafting.RowChange.{RowChange}
 use Rattle.heap_file.specs.declared.page.Entry.{Entry}
 use Rattle.heap_file.specs.Chain.{IsWay, rows_of as chain_rows, rows_on, scanned}
 use Rattle.heap_file.specs.HeapPage.{IsEntry, IsShort}
@@ -70,19 +68,36 @@ all-push P (y ∷ xs) x all one = (all.0, all-push P xs x all.1 one)
 pub all-next : {A : Type 0} (P : A → Type 0) (xs : List A) (i : ℕ) (x : A) → i < length xs → x ≡ get_or xs i x → AllByRecursion P (take i xs) → P x → AllByRecursion P (take (i + 1) xs)
 all-next P xs i x lt is all one = rw (take_more xs i x lt, ← is) (all-push P (take i xs) x all one)
 
--- stored rows are short
-entries-short : (page : ℕ) (entries : List Entry) → AllByRecursion IsEntry entries → AllByRecursion (λ (placed : Placed). row_bytes placed.row ≤ 900) (map (λ (entry : Entry). record { number = entry.number; page = page; row = entry.row }) entries)
-entries-short page [] all = tt
-entries-short page (entry ∷ entries) all = (omega (arith, row_size entry.number entry.row, all.0.short), entries-short page entries all.1)
+-- stored rows are lawful, and short
+abbrev IsKept : Placed → Type 0
+IsKept placed = IsRow placed.row × (row_bytes placed.row ≤ 900)
 
-links-short : (size : ℕ) (pages : Pages) (from to : ℕ) (links : List Link) → IsWay size pages from links to → AllByRecursion (λ (placed : Placed). row_bytes placed.row ≤ 900) (chain_rows links)
-links-short size pages from to [] leads = tt
-links-short size pages from to (link ∷ links) leads = rw (flat_map-cons rows_on link links) (all-join (λ (placed : Placed). row_bytes placed.row ≤ 900) (rows_on link) (flat_map rows_on links) (entries-short link.page link.held.entries leads.1.holds.lawful) (links-short size pages link.held.next to links leads.2))
+entries-kept : (page : ℕ) (entries : List Entry) → AllByRecursion IsEntry entries → AllByRecursion IsKept (map (λ (entry : Entry). record { number = entry.number; page = page; row = entry.row }) entries)
+entries-kept page [] all = tt
+entries-kept page (entry ∷ entries) all = ((all.0.lawful, omega (arith, row_size entry.number entry.row, all.0.short)), entries-kept page entries all.1)
+
+links-kept : (size : ℕ) (pages : Pages) (from to : ℕ) (links : List Link) → IsWay size pages from links to → AllByRecursion IsKept (chain_rows links)
+links-kept size pages from to [] leads = tt
+links-kept size pages from to (link ∷ links) leads = rw (flat_map-cons rows_on link links) (all-join IsKept (rows_on link) (flat_map rows_on links) (entries-kept link.page link.held.entries leads.1.holds.lawful) (links-kept size pages link.held.next to links leads.2))
+
+rows-kept : (size : ℕ) (pages : Pages) (first : ℕ) (rows : List Placed) → scanned size pages first (Ok rows) → AllByRecursion IsKept rows
+rows-kept size pages first rows h =
+    recursion_from_All IsKept rows (All-permutation IsKept (chain_rows h.0) rows h.2.0 (All-from_recursion IsKept (chain_rows h.0) (links-kept size pages first 0 h.0 h.1.2)))
+
+pub rows-lawful : (size : ℕ) (pages : Pages) (first : ℕ) (rows : List Placed) → scanned size pages first (Ok rows) → AllByRecursion (λ (placed : Placed). IsRow placed.row) rows
+rows-lawful size pages first rows h = go rows (rows-kept size pages first rows h)
+  where
+    go : (rows : List Placed) → AllByRecursion IsKept rows → AllByRecursion (λ (placed : Placed). IsRow placed.row) rows
+    go [] all = tt
+    go (row ∷ rows) all = (all.0.0, go rows all.1)
 
 pub rows-short : (size : ℕ) (pages : Pages) (first : ℕ) (rows : List Placed) → scanned size pages first (Ok rows) → AllByRecursion (λ (placed : Placed). row_bytes placed.row ≤ 900) rows
-rows-short size pages first rows h =
-    recursion_from_All (λ (placed : Placed). row_bytes placed.row ≤ 900) rows (All-permutation (λ (placed : Placed). row_bytes placed.row ≤ 900) (chain_rows h.0) rows h.2.0 (All-from_recursion (λ (placed : Placed). row_bytes placed.row ≤ 900) (chain_rows h.0) (links-short size pages first 0 h.0 h.1.2)))
+rows-short size pages first rows h = go rows (rows-kept size pages first rows h)
+  where
+    go : (rows : List Placed) → AllByRecursion IsKept rows → AllByRecursion (λ (placed : Placed). row_bytes placed.row ≤ 900) rows
+    go [] all = tt
+    go (row ∷ rows) all = (all.0.1, go rows all.1)
 
-pub each-row : (P : List Value → Type 0) (rows : List Placed) → AllByRecursion P (values_of rows) → AllByRecursion (λ (placed : Placed). P placed.row) rows
+pub each-row : (P : List Value → Type 0) (changes : List RowChange) → AllByRecursion P (values_of changes) → AllByRecursion (λ (change : RowChange). P change.row) changes
 each-row P [] all = tt
-each-row P (row ∷ rows) all = (all.0, each-row P rows all.1)
+each-row P (change ∷ changes) all = (all.0, each-row P changes all.1)

@@ -1,7 +1,6 @@
 -- What a select reads of the pages, whatever they hold, and what it answers.
 use Rattle.std.specs.Prelude.{ℕ, List, [], ◌∷◌, map, Option, Some, None, Result, Ok}
 use Rattle.retro_base.specs.declared.refusal.Refusal.{Refusal}
-use Rattle.sql_tree.specs.declared.schema.TableSchema.{TableSchema}
 use Rattle.sql_tree.specs.declared.select.Select.{Select as SelectRecord}
 use Rattle.sql_tree.specs.declared.statement.Statement.{Statement}
 use Rattle.sql_tree.specs.declared.statement.Statement.TheVariants.{Select}
@@ -16,7 +15,8 @@ use Rattle.heap_file.specs.declared.chain.Placed.{Placed}
 use Rattle.relation.specs.declared.catalog.Catalog.{Catalog}
 use Rattle.relation.specs.declared.catalog.StoredTable.{StoredTable}
 use Rattle.relation.specs.Catalog.{catalog, schema_of, table_named}
-use Rattle.relation.specs.Work.{rows_at}
+use Rattle.sql_tree.specs.Condition.{ConditionTree}
+use Rattle.sql_exec.specs.Reading.{read_at, schema_at}
 use Rattle.sql_exec.specs.declared.source.Source.{Source}
 
 -- the catalog is read once, and the statement is checked against it
@@ -26,23 +26,27 @@ opened size statement snapshot pages = do
   checked ← only (checked statement snapshot (schema_of catalog))
   only (Ok catalog)
 
--- the name and the columns of a table
-abbrev pub schema_at : StoredTable → TableSchema
-schema_at table = record { name = table.name; columns = table.columns }
-
--- a table's columns, and its rows without their numbers
+-- a table's columns, and rows of it without their numbers
 abbrev pub source_of : StoredTable → List Placed → Source
 source_of table rows = record {
   schema = schema_at table;
   rows = map (λ (placed : Placed). placed.row) rows;
 }
 
--- the columns and rows of a table, if there is one
-abbrev pub source_at : ℕ → Pages → Option StoredTable → Result Source Refusal → Type 0
-source_at size pages found = do
+-- the columns of a table, if there is one, and the rows of it that are read where WHERE is this
+abbrev pub source_at : ℕ → Pages → Option StoredTable → Option ConditionTree → Result Source Refusal → Type 0
+source_at size pages found condition = do
   table ← only (known found)
-  rows ← rows_at size pages table
+  rows ← read_at size pages table condition
   only (Ok (source_of table rows))
+
+-- WHERE, where it speaks of one table alone
+abbrev pub where_beside : Option (List ℕ) → Option ConditionTree → Option ConditionTree
+where_beside None condition = condition
+where_beside (Some second) condition = None
+
+abbrev pub where_alone : SelectRecord → Option ConditionTree
+where_alone select = where_beside select.second select.condition
 
 -- the answer over the rows of one table, and of two
 abbrev pub over_one : SelectRecord → Option ℕ → Source → Result Answer Refusal
@@ -58,13 +62,13 @@ abbrev pub answered_beside : ℕ → Catalog → SelectRecord → Option ℕ →
     → Result Answer Refusal → Type 0
 answered_beside size catalog select snapshot pages first None = only (over_one select snapshot first)
 answered_beside size catalog select snapshot pages first (Some name) = do
-  second ← source_at size pages (table_named name catalog.tables)
+  second ← source_at size pages (table_named name catalog.tables) None
   only (over_two select snapshot first second)
 
 -- the answer of a select that was checked, over tables of that catalog
 abbrev pub answered : ℕ → Catalog → SelectRecord → Option ℕ → Pages → Result Answer Refusal → Type 0
 answered size catalog select snapshot pages = do
-  first ← source_at size pages (table_named select.table catalog.tables)
+  first ← source_at size pages (table_named select.table catalog.tables) (where_alone select)
   answered_beside size catalog select snapshot pages first select.second
 
 -- the answer of a select

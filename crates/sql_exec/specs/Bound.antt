@@ -6,11 +6,12 @@ use Rattle.tables.specs.declared.contents.NumberedRow.{NumberedRow}
 use Rattle.tables.specs.Bound.{remaining_by, updated_by}
 use Rattle.heap_file.specs.declared.chain.Placed.{Placed}
 use Rattle.sql_exec.specs.Planning.{counted}
-use Rattle.sql_exec.specs.Running.{numbered_at, placed_on}
+use Rattle.relation.specs.declared.drafting.RowChange.{RowChange}
+use Rattle.sql_exec.specs.Running.{numbered_at, changes_on}
 
--- what a row becomes that an update counts, where it stands
-abbrev pub placed_changes_by : (List Value → Result Bool Refusal) → (List Value → Result (List Value) Refusal) → Placed → Result (List Placed) Refusal
-placed_changes_by keeps sets placed = counted (placed_on placed.page) (updated_by keeps sets (numbered_at placed))
+-- a row that an update counts, as it stands, and what it becomes
+abbrev pub placed_changes_by : (List Value → Result Bool Refusal) → (List Value → Result (List Value) Refusal) → Placed → Result (List RowChange) Refusal
+placed_changes_by keeps sets placed = counted (changes_on placed) (updated_by keeps sets (numbered_at placed))
 
 -- a row that a delete counts
 abbrev pub placed_gone_by : (List Value → Result Bool Refusal) → Placed → Result (List Placed) Refusal

@@ -1,6 +1,10 @@
 pub mod Asking
 pub mod Bound
+pub mod Bounds
+pub mod Laws
 pub mod Planning
 pub mod Promises
+pub mod Ranges
+pub mod Reading
 pub mod Running
 pub mod Stored

@@ -25,9 +25,12 @@ use Rattle.heap_file.specs.Work.{next_of}
 use Rattle.relation.specs.declared.catalog.Catalog.{Catalog}
 use Rattle.relation.specs.declared.catalog.StoredTable.{StoredTable}
 use Rattle.relation.specs.Catalog.{table_named}
-use Rattle.relation.specs.Work.{all_added, all_changed, all_removed, created, index_added, rows_at}
-use Rattle.sql_exec.specs.Asking.{answered, opened, schema_at}
+use Rattle.relation.specs.declared.drafting.RowChange.{RowChange}
+use Rattle.relation.specs.Work.{created, table_deleted, table_indexed, table_inserted, table_updated}
+use Rattle.tree_index.specs.Work.{added, made, removed}
+use Rattle.sql_exec.specs.Asking.{answered, opened}
 use Rattle.sql_exec.specs.Planning.{counted, picked}
+use Rattle.sql_exec.specs.Reading.{read_at, schema_at}
 
 -- goes on with what the types of what is given say of it
 abbrev pub given : Type 0 → Result (Unit {0}) Refusal → Type 0
@@ -45,35 +48,35 @@ made_table size create pages = do
   done ← created size pages create.table create.columns
   only (Ok (Plain, done.1))
 
--- an index over a column of a table is made
+-- an index over a column of a table is made, with an entry for each of its rows
 abbrev pub made_index : ℕ → IndexRecord → StoredTable → Pages → Result (Reply × Pages) Refusal → Type 0
 made_index size create table pages = do
   place ← only (known (column_place create.column table.columns))
   named ← given (IsName create.index)
-  done ← index_added size create.index table.name place pages
+  done ← table_indexed made added size create.index table place pages
   only (Ok (Plain, done.1))
 
--- tuples are added to a table, as the next row number and their lengths allow
+-- tuples are added to a table and its indexes, as the next row number and their lengths allow
 abbrev pub inserted_into : ℕ → List (List Value) → StoredTable → Pages → Result (Reply × Pages) Refusal → Type 0
 inserted_into size tuples table pages = do
   next ← next_of size pages table.first
   after ← only (inserted tuples (record { next = next; rows = [] }))
   lawful ← given (AllByRecursion IsRow tuples)
-  done ← all_added size table.first tuples pages
+  done ← table_inserted added size table tuples pages
   only (Ok (Count after.1, done.1))
 
 -- a stored row under its number
 abbrev pub numbered_at : Placed → NumberedRow
 numbered_at placed = record { number = placed.number; row = placed.row }
 
--- rows that stand on that page
-abbrev pub placed_on : ℕ → List NumberedRow → List Placed
-placed_on page rows = map (λ (row : NumberedRow). record { number = row.number; page = page; row = row.row }) rows
+-- a row as it stands, and what it becomes
+abbrev pub changes_on : Placed → List NumberedRow → List RowChange
+changes_on placed rows = map (λ (row : NumberedRow). record { was = placed; row = row.row }) rows
 
--- what a row becomes that an update counts, where it stands
-abbrev pub placed_changes : TableSchema → Option ℕ → UpdateRecord → Placed → Result (List Placed) Refusal
+-- a row that an update counts, as it stands, and what it becomes
+abbrev pub placed_changes : TableSchema → Option ℕ → UpdateRecord → Placed → Result (List RowChange) Refusal
 placed_changes table snapshot update placed =
-    counted (placed_on placed.page) (updated_row table snapshot update (numbered_at placed))
+    counted (changes_on placed) (updated_row table snapshot update (numbered_at placed))
 
 -- a row that a delete counts
 abbrev pub placed_gone : TableSchema → Option ℕ → DeleteRecord → Placed → Result (List Placed) Refusal
@@ -85,26 +88,26 @@ placed_gone table snapshot delete placed =
 abbrev pub IsOfWidth : List Value → Type 0
 IsOfWidth row = (1 ≤ length row) × (length row ≤ 16)
 
--- the values of rows
-abbrev pub values_of : List Placed → List (List Value)
-values_of rows = map (λ (placed : Placed). placed.row) rows
+-- what rows become
+abbrev pub values_of : List RowChange → List (List Value)
+values_of changes = map (λ (change : RowChange). change.row) changes
 
--- the rows that an update counts become others, under their numbers
+-- the rows that an update counts, of those that it reads, become others, under their numbers, and the indexes follow
 abbrev pub updated_in : ℕ → Option ℕ → UpdateRecord → StoredTable → Pages → Result (Reply × Pages) Refusal → Type 0
 updated_in size snapshot update table pages = do
-  rows ← rows_at size pages table
+  rows ← read_at size pages table update.condition
   changes ← only (picked (placed_changes (schema_at table) snapshot update) rows)
   short ← only (check_lengths (values_of changes))
   lawful ← given (AllByRecursion IsRow (values_of changes))
-  done ← all_changed size table.first changes pages
+  done ← table_updated added removed size table changes pages
   only (Ok (Count (length changes), done.1))
 
--- the rows that a delete counts are taken out
+-- the rows that a delete counts, of those that it reads, are taken out, and their entries of the indexes
 abbrev pub deleted_from : ℕ → Option ℕ → DeleteRecord → StoredTable → Pages → Result (Reply × Pages) Refusal → Type 0
 deleted_from size snapshot delete table pages = do
-  rows ← rows_at size pages table
+  rows ← read_at size pages table delete.condition
   gone ← only (picked (placed_gone (schema_at table) snapshot delete) rows)
-  done ← all_removed size table.first gone pages
+  done ← table_deleted removed size table gone pages
   only (Ok (Count (length gone), done.1))
 
 -- a table of the catalog

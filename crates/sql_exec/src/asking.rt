@@ -1,10 +1,11 @@
 //! Selects alone.
 
 ghost use Rattle.retro_base.specs.Gives.{Gives};
-ghost use Rattle.std.specs.Prelude.{◌≤◌, length};
+ghost use Rattle.std.specs.Option.{option_copied};
+ghost use Rattle.std.specs.Prelude.{◌≡◌, ◌≤◌, length};
 ghost use Rattle.pager.specs.Stop.{Answers};
 ghost use Rattle.relation.specs.Catalog.{HaveFewColumns};
-ghost use Rattle.sql_exec.specs.Asking.{answered, over_one, over_two};
+ghost use Rattle.sql_exec.specs.Asking.{answered, over_one, over_two, where_alone};
 ghost use Rattle.sql_exec.specs.Promises.{Asks, KeepsReading};
 
 use crate::source::{Source, read_table};
@@ -13,7 +14,7 @@ use relation::{Catalog, open};
 use retro_base::Refusal;
 use sql_check::{answer_columns, check_select};
 use sql_select::{Answer, select};
-use sql_tree::{Scope, Select};
+use sql_tree::{Condition, Scope, Select};
 use std::alloc::Global;
 
 /// The answer of a select over the tables of the pages. `snapshot` is the number of `current_snapshot()`, where there
@@ -46,13 +47,23 @@ pub fn answer<P: Pager>(
         (answered (P.size pager.old) catalog.now query.now snapshot) result }
     ensures reads { KeepsReading P.tells P.goes P.size P.faults pager.old pager.new result }
 {
-    let first = read_table(alloc, pager, catalog, &query.table)?;
+    let first = read_table(alloc, pager, catalog, &query.table, where_alone(query))?;
     match &query.second {
         None => Ok(over_one(alloc, query, snapshot, &first)?),
         Some(name) => {
-            let second = read_table(alloc, pager, catalog, name)?;
+            let second = read_table(alloc, pager, catalog, name, None)?;
             Ok(over_two(alloc, query, snapshot, &first, &second)?)
         }
+    }
+}
+
+// WHERE, where it speaks of one table alone.
+fn where_alone(query: &Select) -> Option<&Condition>
+    ensures { option_copied result ≡ where_alone query.now }
+{
+    match &query.second {
+        None => query.condition.as_ref(),
+        Some(_) => None,
     }
 }
 

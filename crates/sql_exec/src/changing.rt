@@ -14,15 +14,17 @@ ghost use Rattle.sql_exec.specs.Promises.{Keeps};
 ghost use Rattle.sql_exec.specs.Running.{at_table, deleted_from, placed_changes, placed_gone, updated_in};
 
 use crate::lengths::check_changes;
+use crate::reading::read_rows;
 use crate::source::schema_of;
 use evaluation::{JoinedRow, Stack};
 use pager::{EditPager, Stop};
-use relation::{Catalog, Placed, delete, rows, update};
+use relation::{Catalog, Placed, RowChange, delete, update};
 use retro_base::Refusal;
 use sql_select::Filter;
 use sql_tree::{Delete, Scope, TableSchema, Update};
 use std::alloc::Global;
 use tables::{BoundAssignments, Reply};
+use tree_index::TreeIndex;
 
 /// Takes the rows of a table out for which the condition holds.
 pub fn delete_rows<P: EditPager>(
@@ -40,14 +42,14 @@ pub fn delete_rows<P: EditPager>(
     let Some(table) = catalog.table(&query.table) else {
         return Err(Stop::Refused(Refusal::UnknownName));
     };
-    let rows = rows(alloc, pager, table)?;
     let schema = schema_of(alloc, table)?;
+    let rows = read_rows(alloc, pager, table, &schema, query.condition.as_ref())?;
     let gone = gone_of(alloc, &schema, snapshot, query, rows)?;
-    delete(alloc, pager, table, &gone)?;
+    delete::<TreeIndex, P>(alloc, pager, table, &gone)?;
     Ok(Reply::Count(gone.len() as u64))
 }
 
-// The rows of a table for which the condition holds.
+// The rows for which the condition holds.
 fn gone_of(
     alloc: Global,
     table: &TableSchema,
@@ -92,24 +94,25 @@ pub fn update_rows<P: EditPager>(
     let Some(table) = catalog.table(&query.table) else {
         return Err(Stop::Refused(Refusal::UnknownName));
     };
-    let rows = rows(alloc, pager, table)?;
     let schema = schema_of(alloc, table)?;
-    let changes = changes_of(alloc, &schema, snapshot, query, &rows)?;
+    let rows = read_rows(alloc, pager, table, &schema, query.condition.as_ref())?;
+    let changes = changes_of(alloc, &schema, snapshot, query, rows)?;
     check_changes(&changes)?;
-    update(alloc, pager, table, &changes)?;
-    Ok(Reply::Count(changes.len() as u64))
+    let count = changes.len() as u64;
+    update::<TreeIndex, P>(alloc, pager, table, changes)?;
+    Ok(Reply::Count(count))
 }
 
-// The rows of a table for which the condition holds, with their values set.
+// The rows for which the condition holds, and what they become with their values set.
 fn changes_of(
     alloc: Global,
     table: &TableSchema,
     snapshot: Option<u32>,
     query: &Update,
-    rows: &[Placed],
-) -> Result<Vec<Placed>, Refusal>
+    rows: Vec<Placed>,
+) -> Result<Vec<RowChange>, Refusal>
     ensures { Gives (λ changes. changes.items) result
-        (picked (placed_changes table.now snapshot query.now) rows.now) }
+        (picked (placed_changes table.now snapshot query.now) rows.items) }
 {
     let filter = Filter::bind(alloc, &Scope::of_one(table), snapshot, &query.condition)?;
     let assignments = query.assignments.as_slice();
@@ -121,20 +124,18 @@ fn changes_by(
     alloc: Global,
     filter: &Filter,
     assignments: &BoundAssignments,
-    rows: &[Placed],
-) -> Result<Vec<Placed>, Refusal>
+    rows: Vec<Placed>,
+) -> Result<Vec<RowChange>, Refusal>
     ensures { Gives (λ changes. changes.items) result
-        (picked (placed_changes_by (keeps filter.now) (assigns assignments.now)) rows.now) }
+        (picked (placed_changes_by (keeps filter.now) (assigns assignments.now)) rows.items) }
 {
     let mut truths = Stack::new(alloc);
     let mut values = Stack::new(alloc);
     let mut changes = Vec::new(alloc);
-    for placed in rows {
-        if filter.keeps(&JoinedRow::of_one(placed.row.as_slice()), &mut truths)? {
-            let row = assignments.assigned(alloc, &placed.row, &mut values)?;
-            let number = placed.number;
-            let page = placed.page;
-            changes.push(Placed { number, page, row })?;
+    for was in rows {
+        if filter.keeps(&JoinedRow::of_one(was.row.as_slice()), &mut truths)? {
+            let row = assignments.assigned(alloc, &was.row, &mut values)?;
+            changes.push(RowChange { was, row })?;
         }
     }
     Ok(changes)

@@ -6,7 +6,7 @@ ghost use Rattle.row_codec.specs.RowCode.{IsRow};
 ghost use Rattle.tables.specs.Meaning.{check_lengths};
 ghost use Rattle.sql_exec.specs.Running.{IsOfWidth, values_of};
 
-use relation::Placed;
+use relation::RowChange;
 use retro_base::{ROW_BYTES, Refusal};
 use row_codec::encoded_length;
 use values::Row;
@@ -38,13 +38,13 @@ pub fn check_lengths(rows: &[Row]) -> Result<(), Refusal>
 }
 
 /// The same of changed rows.
-pub fn check_changes(changes: &[Placed]) -> Result<(), Refusal>
+pub fn check_changes(changes: &[RowChange]) -> Result<(), Refusal>
     requires { AllByRecursion IsOfWidth (values_of changes.now) }
     ensures checked { result ≡ check_lengths (values_of changes.now) }
     ensures lawful { OnOk result (AllByRecursion IsRow (values_of changes.now)) }
 {
-    for placed in changes {
-        check_length(&placed.row)?;
+    for change in changes {
+        check_length(&change.row)?;
     }
     Ok(())
 }

@@ -2,11 +2,16 @@
 #![tactic(auto)]
 
 mod asking;
+mod bounds;
 mod changing;
+mod laws;
 mod lengths;
 mod making;
+mod ranges;
+mod reading;
 mod running;
 mod source;
 
 pub use asking::ask;
+pub use laws::bounds_hold;
 pub use running::run;

@@ -17,6 +17,7 @@ use retro_base::Refusal;
 use sql_tree::{CreateIndex, CreateTable, Insert, column_place};
 use std::alloc::Global;
 use tables::Reply;
+use tree_index::TreeIndex;
 
 /// Makes a table without rows.
 pub fn make_table<P: EditPager>(
@@ -65,7 +66,7 @@ pub fn make_index<P: EditPager>(
     };
     // The index's name is a name.
     let _name = create.index.bytes();
-    create_index(alloc, pager, &create.index, table, place as u32)?;
+    create_index::<TreeIndex, P>(alloc, pager, &create.index, table, place as u32)?;
     Ok(Reply::Plain)
 }
 
@@ -94,6 +95,6 @@ pub fn insert_tuples<P: EditPager>(
         return Err(Stop::Refused(Refusal::Overflow));
     }
     check_lengths(tuples)?;
-    insert(alloc, pager, table, tuples)?;
+    insert::<TreeIndex, P>(alloc, pager, table, tuples)?;
     Ok(Reply::Count(count))
 }

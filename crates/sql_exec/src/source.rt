@@ -1,5 +1,6 @@
 //! The tables that a select reads.
 
+ghost use Rattle.std.specs.Option.{option_copied};
 ghost use Rattle.std.specs.Prelude.{◌≡◌, ◌≤◌, map, length, IfOk};
 ghost use Rattle.pager.specs.Stop.{Answers};
 ghost use Rattle.heap_file.specs.declared.chain.Placed.{Placed as PlacedOf};
@@ -7,10 +8,11 @@ ghost use Rattle.relation.specs.Catalog.{HaveFewColumns, table_named};
 ghost use Rattle.sql_exec.specs.Asking.{source_at};
 ghost use Rattle.sql_exec.specs.Promises.{KeepsReading};
 
+use crate::reading::read_rows;
 use pager::{Pager, Stop};
-use relation::{Catalog, Placed, StoredTable, rows};
+use relation::{Catalog, Placed, StoredTable};
 use retro_base::Refusal;
-use sql_tree::TableSchema;
+use sql_tree::{Condition, TableSchema};
 use std::alloc::{AllocError, Global};
 use values::{Duplicate, Name, Row, Seq};
 
@@ -21,24 +23,26 @@ pub struct Source {
     pub rows: Seq<Row>,
 }
 
-/// The columns and rows of the table of that name, its rows read once.
+/// The columns of the table of that name, and those of its rows that are read where WHERE is this.
 pub fn read_table<P: Pager>(
     alloc: Global,
     pager: &mut P,
     catalog: &Catalog,
     name: &Name,
+    condition: Option<&Condition>,
 ) -> Result<Source, Stop<P::Fault>>
     requires { HaveFewColumns catalog.now.tables }
     ensures source { Answers (λ source. source) (P.tells pager.new)
-        (λ pages. source_at (P.size pager.old) pages (table_named name.now catalog.now.tables)) result }
+        (λ pages. source_at (P.size pager.old) pages (table_named name.now catalog.now.tables)
+        (option_copied condition.entry)) result }
     ensures few { IfOk result (λ source. length source.schema.columns ≤ 16) }
     ensures reads { KeepsReading P.tells P.goes P.size P.faults pager.old pager.new result }
 {
     let Some(table) = catalog.table(name) else {
         return Err(Stop::Refused(Refusal::UnknownName));
     };
-    let rows = rows(alloc, pager, table)?;
     let schema = schema_of(alloc, table)?;
+    let rows = read_rows(alloc, pager, table, &schema, condition)?;
     let rows = without_numbers(alloc, rows)?;
     Ok(Source { schema, rows })
 }

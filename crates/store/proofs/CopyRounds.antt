@@ -1,5 +1,5 @@
 -- What a copier's rounds leave.
-use Rattle.std.proofs.Common.{◌≡◌, ℕ, Bool, false, List, Result, Ok, subst, sym, [], None, refl}
+use Rattle.std.proofs.Common.{◌≡◌, ◌<◌, ◌+◌, ℕ, Bool, false, List, Result, Ok, IfOk, subst, sym, [], None, refl}
 use Rattle.atomic_table.specs.Seated.{TableId}
 use Rattle.disk_model.specs.Disk.{State}
 use Rattle.disk_model.specs.Moments.{Clock}
@@ -7,12 +7,14 @@ use Rattle.retro_base.specs.declared.refusal.Refusal.{Refusal}
 use Rattle.history.specs.declared.journal.Line.{Line}
 use Rattle.race_model.specs.Vault.{Batch}
 use Rattle.turn.specs.Seats.{seen}
+use Rattle.store.specs.declared.pace.Ended.{Ended}
+use Rattle.store.specs.declared.pace.TheConstants.{IDLE_ROUNDS}
 use Rattle.store.specs.Rounds.{Passes}
 use Rattle.store.specs.Seats.{Sat}
 use Rattle.store.specs.Seen.{view_of}
 use Rattle.store.proofs.Copying.{copy_ends}
 use Rattle.store.proofs.Reaching.{RoundEnds, ends_after}
-use Rattle.store.specs.WorkerRounds.{AreAnswered, Copies, EndsWith, IsHeld, MayWork, WorkerGives, last_answer, worker}
+use Rattle.store.specs.WorkerRounds.{AreAnswered, Copies, EndsWith, IsHeld, MayEnd, MayWork, WorkerGives, last_answer, worker}
 use Rattle.store.proofs.Captures.{front_held, idle_held}
 use Rattle.store.proofs.FaultLeft.{Leaves, leaves}
 use Rattle.store.proofs.Viewed.{gives}
@@ -39,10 +41,10 @@ module _ {D : Type 0} (is_honest : D → Type 0) (state : D → State) (faults :
       let waits = (passes_more false round).waits in
       front_held s2 (seen s0) waits.others (subst (λ (l : List Line). IsHeld s2 l) (sym waits.front) (holds_all round))
 
-  module _ (own : n ≡ s0.number) (result : Result (Unit {0}) Refusal) (round : Round (last_answer result) (b1, s1) (b2, s2)) where
-    pub ends_with : AreAnswered Round (b0, s0) (b1, s1) → EndsWith (Copies is_honest state faults z remembers clock (worker phase s0.number)) (last_answer result) (b0, s0) (b2, s2)
-    ends_with answered = subst (λ (k : ℕ). EndsWith (Copies is_honest state faults z remembers clock (worker phase k)) (last_answer result) (b0, s0) (b2, s2)) own
-        (record { middle = (b1, s1); answered = answered; ends = round })
+  module _ (own : n ≡ s0.number) (result : Result Ended Refusal) (round : Round (last_answer result) (b1, s1) (b2, s2)) where
+    pub ends_with : (flag idle : ℕ) → idle < IDLE_ROUNDS → AreAnswered Round idle (b0, s0) (b1, s1) → IfOk result (MayEnd flag (idle + 1)) → EndsWith (Copies is_honest state faults z remembers clock (worker phase s0.number)) flag result (b0, s0) (b2, s2)
+    ends_with flag idle few answered may_end = subst (λ (k : ℕ). EndsWith (Copies is_honest state faults z remembers clock (worker phase k)) flag result (b0, s0) (b2, s2)) own
+        (record { middle = (b1, s1); idle = idle; few = few; answered = answered; ends = round; may_end = may_end })
 
     pub left : (may : MayWork s0) → Leaves is_honest state faults z (worker phase s0.number) s0 s2 (λ i. s0.number) may result
     left may = leaves is_honest state faults z (worker phase s0.number) s0 s2 (λ i. s0.number) may result

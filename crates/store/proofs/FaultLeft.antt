@@ -20,6 +20,7 @@ use Rattle.txn_set.specs.WorksFit.{Closes}
 use Rattle.turn.specs.declared.view.Holding.{Holding}
 use Rattle.turn.specs.Seats.{mine, seen}
 use Rattle.store.specs.declared.desk_side.DeskSide.{DeskSide}
+use Rattle.store.specs.declared.pace.Ended.{Ended}
 use Rattle.store.specs.Rounds.{MayServe, Passes}
 use Rattle.store.specs.Seats.{IsReady, Sat, Visited, journal, slots_of}
 use Rattle.store.proofs.Meeting.{work_stays}
@@ -87,13 +88,13 @@ module _ {D : Type 0} (is_honest : D → Type 0) (state : D → State) (faults :
 -- ---- all rounds
 
 module _ {D : Type 0} (is_honest : D → Type 0) (state : D → State) (faults : D → ℕ) (z : TableId) (who : Who) (s0 s1 : Sat D) (own : who.session ≡ s0.number) (may : MayWork s0) where
-  pub record Leaves (result : Result (Unit {0}) Refusal) : Type 0 where
+  pub record Leaves (result : Result Ended Refusal) : Type 0 where
     pub cause : IfErr result IsRoundRefusal
     pub lines : (mine s1).lines ≡ (mine s0).lines ++ lines_left who result
     pub idle : (mine s1).work ≡ None
     pub again : lines_left who result ≡ [] → MayWork s1
 
-  quiet : (result : Result (Unit {0}) Refusal) → lines_left who result ≡ [] → IfErr result IsRoundRefusal → Passes z s0 s1 → Leaves result
+  quiet : (result : Result Ended Refusal) → lines_left who result ≡ [] → IfErr result IsRoundRefusal → Passes z s0 s1 → Leaves result
   quiet result none cause passes = record {
     cause = cause;
     lines = passes_lines z s0 s1 passes ∙ (sym (append-nil (mine s0).lines) ∙ ap (λ (l : List Line). (mine s0).lines ++ l) (sym none));
@@ -119,6 +120,6 @@ module _ {D : Type 0} (is_honest : D → Type 0) (state : D → State) (faults :
   refused OutOfMemory e = quiet (Err OutOfMemory) refl tt e
   refused _ e = absurd e
 
-  pub leaves : (result : Result (Unit {0}) Refusal) → RoundEnds is_honest state faults z who (last_answer result) s0 s1 → Leaves result
+  pub leaves : (result : Result Ended Refusal) → RoundEnds is_honest state faults z who (last_answer result) s0 s1 → Leaves result
   leaves (Ok x) ends = quiet (Ok x) refl tt ends
   leaves (Err why) ends = refused why ends

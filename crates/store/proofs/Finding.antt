@@ -242,16 +242,16 @@ module _ {D : Type 0} (is_honest : D → Type 0) (state : D → State) (faults :
     }
 
     -- why it was refused
-    pub cause_in : (fault : Fault) → ((d : Device) (c : ℕ) → fault.why ≡ DiskFault d c → c ≤ LAST) → IsRefusedFind table.covered upto (faults a0.pagelog.disk) (faults a1.pagelog.disk) fault.why fault.wrote → IsPastRefusal s2 table fault
+    pub cause_in : (fault : Fault) → ((d : Device) (c : ℕ) → fault.why ≡ DiskFault d c → c ≤ LAST) → IsRefusedFind table.covered upto (faults a0.pagelog.disk) (faults a1.pagelog.disk) fault.why fault.wrote → IsPastRefusal s2 table.covered upto fault
     cause_in fault few refused = at fault.why refl refused where
-      at : (why : Refusal) → fault.why ≡ why → IsRefusedFind table.covered upto (faults a0.pagelog.disk) (faults a1.pagelog.disk) why fault.wrote → (fault.wrote ≡ false) × IsPastCause s2 table.covered fault.why
-      at OutOfMemory e r = (r.1, subst (IsPastCause s2 table.covered) (sym e) (let less = r.0 in let up = v.rises in omega (arith, less, known, up)))
+      at : (why : Refusal) → fault.why ≡ why → IsRefusedFind table.covered upto (faults a0.pagelog.disk) (faults a1.pagelog.disk) why fault.wrote → (fault.wrote ≡ false) × IsPastCause s2 table.covered upto fault.why
+      at OutOfMemory e r = (r.1, subst (IsPastCause s2 table.covered upto) (sym e) r.0)
       at (DiskFault d c) e r =
           let f = r.1 in
           let here = told_pagelog (vault_counts faults a0) (vault_counts faults a1) f.3 (subst (λ (n : ℕ). n ≤ LAST) f.1 (few d c e)) in
           let told : 0 < fault_times d c (vault_faults (vault_counts faults a0) (vault_counts faults a1)) =
           subst (λ (x : Device × ℕ). 0 < fault_times x.0 x.1 (vault_faults (vault_counts faults a0) (vault_counts faults a1))) (λ i. (sym f.0 i, sym f.1 i)) here in
-          (r.0, subst (IsPastCause s2 table.covered) (sym e) (subst (λ (h : Holding Work). 0 < fault_times d c h.faults) (sym v.mine_is) (more_told (mine s0).faults _ d c told)))
+          (r.0, subst (IsPastCause s2 table.covered upto) (sym e) (subst (λ (h : Holding Work). 0 < fault_times d c h.faults) (sym v.mine_is) (more_told (mine s0).faults _ d c told)))
       at _ e r = absurd r.1
 
   module _ (a1 : Running D) (same : a1 ≡ record a0 { pagelog = a1.pagelog }) (file : SameFile is_honest a0.pagelog a1.pagelog) where

@@ -11,7 +11,7 @@ use Rattle.turn.specs.Seats.{IsSame}
 use Rattle.store.specs.Closing.{HasCopiedAt, HaveCopied, resting}
 use Rattle.store.specs.Seats.{Sat}
 use Rattle.store.specs.declared.pace.Worker.TheVariants.{Copier}
-use Rattle.store.specs.WorkerRounds.{HasWorked, WorkerLeaves, worker}
+use Rattle.store.specs.WorkerRounds.{HasRun, WorkerLeaves, worker}
 
 some_is : {A : Type 0} (x y : A) → Some x ≡ Some y → x ≡ y
 some_is x y e = cc
@@ -59,7 +59,7 @@ back_again xs ys n long same =
 
 module _ {D : Type 0} (is_honest : D → Type 0) (state : D → State) (faults : D → ℕ) (z : TableId) (remembers : Type 0) (clock : D → Clock) (phase : ℕ) (seats : List (Sat D)) where
   module _ (place : ℕ) (old new : Sat D) (was : slice_get seats place ≡ Some old) (number : old.number ≡ SESSIONS) (same : IsSame old new) (leaves : WorkerLeaves (worker phase old.number) (resting state faults old) (resting state faults new))
-      (works : HasWorked is_honest state faults z remembers clock (worker phase old.number) Copier old new) where
+      (works : HasRun is_honest state faults z remembers clock phase Copier old new) where
     copied : HasCopiedAt is_honest state faults z remembers clock phase old new
     copied = record { same = same; number = number; leaves = leaves; works = works }
 

@@ -3,6 +3,7 @@ pub mod Agreeing
 pub mod Answering
 pub mod Asking
 pub mod Batches
+pub mod ByTable
 pub mod Calling
 pub mod Captures
 pub mod Coming

@@ -26,6 +26,7 @@ use Rattle.archive.specs.Archive.{Running}
 use Rattle.turn.specs.Seats.{held, mine, opening, seen}
 use Rattle.turn.proofs.Fronts.{prefix_self, prefix_trans}
 use Rattle.store.specs.declared.closing.Closed.{Closed}
+use Rattle.store.specs.declared.pace.Ended.{Ended}
 use Rattle.store.specs.declared.pace.Worker.TheVariants.{Copier}
 use Rattle.store.specs.declared.start.Start.{Start}
 use Rattle.store.specs.Carrying.{IsNotCarried}
@@ -103,9 +104,9 @@ module _ {D : Type 0} (is_honest : D → Type 0) (state : D → State) (faults :
           let cause = last_cause is_honest state faults z remembers clock batch refused.fault refused.carries in
           subst IsRoundRefusal refused.is (not_carried faults batch cause.0 cause.1 refused.fault.why cause.2)
 
-  copier_cause : (s0 s1 : Sat D) → CopierEnds is_honest state faults z remembers clock who (Err why) s0 s1 → IsRoundRefusal why
-  copier_cause s0 s1 (NoBatch is same) = let memory : OutOfMemory ≡ why = cc is in subst IsRoundRefusal memory tt
-  copier_cause s0 s1 (Ran batch rounds all_held) = round_cause rounds.middle.0 batch rounds.middle.1 s1 rounds.ends
+  copier_cause : (flag : ℕ) (s0 s1 : Sat D) → CopierEnds is_honest state faults z remembers clock who flag (Err why) s0 s1 → IsRoundRefusal why
+  copier_cause flag s0 s1 (NoBatch is same) = let memory : OutOfMemory ≡ why = cc is in subst IsRoundRefusal memory tt
+  copier_cause flag s0 s1 (Ran batch rounds all_held) = round_cause rounds.middle.0 batch rounds.middle.1 s1 rounds.ends
 
 -- ---- a store that was closed
 
@@ -198,24 +199,24 @@ module _ {D : Type 0} (is_honest : D → Type 0) (state : D → State) (faults :
         abbrev Cause : Type 0
         Cause = IsPending is_honest state faults z remembers clock phase seats last left.journal
 
-        by_why : (why : Refusal) (asked : Sat D) → Passes z at.before asked → is_some (first_stop (seen asked)) ≡ false → CopierEnds is_honest state faults z remembers clock (worker phase at.before.number) (Err why) asked at.after
-            → (mine at.after).lines ≡ (mine asked).lines ++ lines_left (worker phase at.before.number) (Err why) → Cause
-        by_why OutOfMemory asked asks goes refused lines = NoMemory (record { place = at.place; before = at.before; after = at.after; was = at.was; is = at.is; does = record { asked = asked; asks = asks; goes = goes; ends = refused } })
-        by_why (Stopped d c) asked asks goes refused lines = ArchiveStopped d c (record { place = at.place; before = at.before; after = at.after; was = at.was; is = at.is; does = record { asked = asked; asks = asks; goes = goes; ends = refused } })
+        by_why : (why : Refusal) (asked : Sat D) → Passes z at.before asked → is_some (first_stop (seen asked)) ≡ false → CopierEnds is_honest state faults z remembers clock (worker phase at.before.number) at.does.works.flag (Err why) asked at.after
+            → (mine at.after).lines ≡ (mine asked).lines ++ lines_left {T = Ended} (worker phase at.before.number) (Err why) → Cause
+        by_why OutOfMemory asked asks goes refused lines = NoMemory (record { place = at.place; before = at.before; after = at.after; was = at.was; is = at.is; does = record { asked = asked; asks = asks; goes = goes; flag = at.does.works.flag; ends = refused } })
+        by_why (Stopped d c) asked asks goes refused lines = ArchiveStopped d c (record { place = at.place; before = at.before; after = at.after; was = at.was; is = at.is; does = record { asked = asked; asks = asks; goes = goes; flag = at.does.works.flag; ends = refused } })
         by_why (DiskFault d c) asked asks goes refused lines =
             HasStopped (in_journal at.place at.after at.is (stop_among at.after.number (seen at.after)
             (subst (λ (own : List Line). is_some (first_stop own) ≡ true) (sym lines ∙ (ready at.place at.after at.is).lines) (stop_last (worker phase at.before.number) d c (mine asked).lines))))
-        by_why why asked asks goes refused lines = absurd (copier_cause is_honest state faults z remembers clock (worker phase at.before.number) why asked at.after refused)
+        by_why why asked asks goes refused lines = absurd (copier_cause is_honest state faults z remembers clock (worker phase at.before.number) why at.does.works.flag asked at.after refused)
 
-        by_work : HasWorked is_honest state faults z remembers clock (worker phase at.before.number) Copier at.before at.after → Cause
-        by_work (FoundStopped asks is) = HasStopped (in_journal at.place at.after at.is is)
-        by_work (HasEnded asked (Ok u) asks goes (NoBatch is same) lines) = absurd (cc is)
-        by_work (HasEnded asked (Ok u) asks goes (Ran batch rounds all_held) lines) = let yes = ends.told.1 (all_copied all_held) in absurd (cc (yes, not_all))
-        by_work (HasEnded asked (Err why) asks goes refused lines) = by_why why asked asks goes refused lines
+        by_work : HasWorked is_honest state faults z remembers clock (worker phase at.before.number) at.does.works.flag Copier at.does.works.answer at.before at.after → Cause
+        by_work (FoundStopped none asks is) = HasStopped (in_journal at.place at.after at.is is)
+        by_work (HasEnded asked (Ok u) answers asks goes (NoBatch is same) lines) = absurd (cc is)
+        by_work (HasEnded asked (Ok u) answers asks goes (Ran batch rounds all_held) lines) = let yes = ends.told.1 (all_copied all_held) in absurd (cc (yes, not_all))
+        by_work (HasEnded asked (Err why) answers asks goes refused lines) = by_why why asked asks goes refused lines
 
   pub pends : copied ≡ false → HaveMet start limit seats → IsPending is_honest state faults z remembers clock phase seats last left.journal
   pends not_all met = by_run worked.runs
     where
       by_run : HasNoCopier seats ⊎ RanAt → IsPending is_honest state faults z remembers clock phase seats last left.journal
       by_run (inl none) = NoCopier none
-      by_run (inr at) = by_work at met not_all at.does.works
+      by_run (inr at) = by_work at met not_all at.does.works.works

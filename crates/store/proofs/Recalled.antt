@@ -157,8 +157,8 @@ module _ {D : Type 0} (state : D → State) (faults : D → ℕ) (z : TableId) (
       looks_now : Old.work ≡ seat.Looking L
       looks_now = ap (work_in asked (seen s0)) is
 
-      pub past_keeps : (why : Refusal) (covered : ℕ) → IsPastCause s1 covered why → IsSeated who asked (told_more before why) s1
-      past_keeps (refusal.DiskFault device count) covered cause =
+      pub past_keeps : (why : Refusal) (covered upto : ℕ) → IsPastCause s1 covered upto why → IsSeated who asked (told_more before why) s1
+      past_keeps (refusal.DiskFault device count) covered upto cause =
           keeps (before ++ (let f : ToldFault = record { device = device; count = count } in f) ∷ []) (λ e. absurd (cc (e, is))) (λ t e. absurd (cc (e, is))) told where
             told : (d : Device) (c : ℕ) → Contains (reverse (before ++ (let f : ToldFault = record { device = device; count = count } in f) ∷ [])) (record { device = d; count = c }) → 0 < fault_times d c (mine s1).faults
             told d c in_it = ⊎_elim
@@ -166,17 +166,17 @@ module _ {D : Type 0} (state : D → State) (faults : D → ℕ) (z : TableId) (
                 (λ (x : Contains (reverse before) (record { device = d; count = c })). still_told d c (seated.told_it d c x))
                 (contains_cons (record { device = device; count = count }) (record { device = d; count = c }) (reverse before)
                 (subst (λ (ts : List ToldFault). Contains ts (record { device = d; count = c })) (told_end before (record { device = device; count = count })) in_it))
-      past_keeps _ covered cause = keeps_seated
+      past_keeps _ covered upto cause = keeps_seated
 
-      pub past_err : (honest : Type 0) (n page : ℕ) (out : List ℕ) (why : Refusal) (covered : ℕ) → IsPastCause s1 covered why → ((start : Start D) (d : Device) (c : ℕ) → opening s0 ≡ Some start → why ≡ refusal.DiskFault d c → IsAbove faults start d c)
+      pub past_err : (honest : Type 0) (n page : ℕ) (out : List ℕ) (why : Refusal) (covered upto : ℕ) → IsPastCause s1 covered upto why → ((start : Start D) (d : Device) (c : ℕ) → opening s0 ≡ Some start → why ≡ refusal.DiskFault d c → IsAbove faults start d c)
           → PastGives honest n page out Old (New (told_more before why)) L (Err why)
-      past_err honest n page out (refusal.DiskFault device count) covered cause above = (on (told_more before (refusal.DiskFault device count)), same_in ∙ looks_now, told_end before (record { device = device; count = count }), new) where
+      past_err honest n page out (refusal.DiskFault device count) covered upto cause above = (on (told_more before (refusal.DiskFault device count)), same_in ∙ looks_now, told_end before (record { device = device; count = count }), new) where
         new : seat.IsNew (New (told_more before (refusal.DiskFault device count))) device count
         new less =
             let found = some_there (opening s0) ready.rests.seat.opened in
             subst (λ (x : Option (Start D)). (ground_in state faults x).faults device < count) (sym (stays.same.opening ∙ found.1)) (above found.0 device count found.1 refl less)
-      past_err honest n page out refusal.OutOfMemory covered cause above = (subst (seat.Waits Old (New before)) looks_now waits_seen, refl)
-      past_err honest n page out _ covered cause above = absurd cause
+      past_err honest n page out refusal.OutOfMemory covered upto cause above = (subst (seat.Waits Old (New before)) looks_now waits_seen, refl)
+      past_err honest n page out _ covered upto cause above = absurd cause
 
       pub past_ok : (is_honest : D → Type 0) (n page : ℕ) (out : List ℕ) → IsPastOf is_honest state s1 n page out → IsRetainedBy s1 n → PastGives (IsHonest is_honest state s1) n page out Old (New before) L (Ok tt)
       past_ok is_honest n page out past kept = (subst (seat.Waits Old (New before)) looks_now waits_seen, right) where

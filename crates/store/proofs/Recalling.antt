@@ -127,9 +127,9 @@ module _ {D : Type 0} (is_honest : D → Type 0) (state : D → State) (faults :
   stays_so = stays_glance is_honest state faults z s0 s1 v.before v.after ready v.visited v.does.ledger
 
   -- a fault of the pages' device is told
-  pub cause_so : (covered : ℕ) (why : Refusal) → CountFits result → result ≡ Err why → IsPastCause s1 covered why
-  cause_so covered why few is = at why is (subst (λ (r : Result Peeked Refusal). FaultsAlone Pages (faults v.before.core.desk.pool.file.disk) (faults v.after.core.desk.pool.file.disk) r) is v.does.cause) where
-    at : (w : Refusal) → result ≡ Err w → IsFault Pages (faults v.before.core.desk.pool.file.disk) (faults v.after.core.desk.pool.file.disk) w → IsPastCause s1 covered w
+  pub cause_so : (covered upto : ℕ) (why : Refusal) → CountFits result → result ≡ Err why → IsPastCause s1 covered upto why
+  cause_so covered upto why few is = at why is (subst (λ (r : Result Peeked Refusal). FaultsAlone Pages (faults v.before.core.desk.pool.file.disk) (faults v.after.core.desk.pool.file.disk) r) is v.does.cause) where
+    at : (w : Refusal) → result ≡ Err w → IsFault Pages (faults v.before.core.desk.pool.file.disk) (faults v.after.core.desk.pool.file.disk) w → IsPastCause s1 covered upto w
     at (DiskFault d c) e f = subst (λ (h : Holding Work). 0 < fault_times d c h.faults) (sym mine_so) (more_told (mine s0).faults Told d c (page_told faults v.before.core v.after.core d c (few d c e) f))
     at _ e f = absurd f
 

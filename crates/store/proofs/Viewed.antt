@@ -15,6 +15,7 @@ use Rattle.journal_law.specs.Seats.{Adds, Idle, IsNew, View, one}
 use Rattle.txn_set.specs.Ledger.{faulted}
 use Rattle.txn_set.specs.declared.ledger.Ledger.{Ledger}
 use Rattle.turn.specs.Seats.{mine, seen}
+use Rattle.store.specs.declared.pace.Ended.{Ended}
 use Rattle.store.specs.declared.desk_side.DeskSide.{DeskSide}
 use Rattle.store.specs.Rounds.{Passes}
 use Rattle.store.specs.Seats.{Sat, Visited, journal}
@@ -83,7 +84,7 @@ module _ {D : Type 0} (is_honest : D → Type 0) (state : D → State) (faults :
     is_new since less = let there = v.same.opening ∙ v.opening in subst (λ g. g.faults d < c) (sym (ap (ground_in state faults) there)) (since d0.start there less)
 
   module _ (who : Who) (own : who.session ≡ s0.number) where
-    refused : (why : Refusal) → RoundRefused is_honest state faults z who why s0 s1 → WorkerGives who Old New (Err why)
+    refused : (why : Refusal) → RoundRefused is_honest state faults z who why s0 s1 → WorkerGives {T = Ended} who Old New (Err why)
     refused (DiskFault d c) e =
         let p = e.0.passes in
         let v = e.0.visits in
@@ -96,6 +97,6 @@ module _ {D : Type 0} (is_honest : D → Type 0) (state : D → State) (faults :
     refused OutOfMemory e = waits e
     refused _ e = absurd e
 
-    pub gives : (result : Result (Unit {0}) Refusal) → RoundEnds is_honest state faults z who (last_answer result) s0 s1 → WorkerGives who Old New result
+    pub gives : (result : Result Ended Refusal) → RoundEnds is_honest state faults z who (last_answer result) s0 s1 → WorkerGives who Old New result
     gives (Ok x) ends = waits ends
     gives (Err why) ends = refused why ends

@@ -13,8 +13,11 @@ use Rattle.journal_law.specs.Facts.{AreOthers, HasSeen}
 use Rattle.journal_law.specs.Seats.{Idle, Moves, View, Waits}
 use Rattle.journal_law.proofs.Journal.{lines_of_seen}
 use Rattle.turn.specs.Seats.{mine, seen}
+use Rattle.store.specs.declared.pace.Ended.{Ended}
+use Rattle.store.specs.declared.pace.Worker.{Worker}
+use Rattle.store.specs.declared.pace.Worker.TheVariants.{Copier, Flusher}
 use Rattle.store.specs.Seats.{Sat}
-use Rattle.store.specs.WorkerRounds.{IsFreshOrStopped, MayWork, WorkerGives, WorkerLeaves}
+use Rattle.store.specs.WorkerRounds.{IsFreshOrStopped, MayWork, WorkerGives, WorkerLeaves, number_of}
 use Rattle.store.specs.Workers.{IsWorker, has_fault}
 
 -- ---- lines of others
@@ -76,10 +79,15 @@ was_fresh a b moves goes (inr stopped) = absurd (no (sym (stopped_on a b [] move
     no : true ≡ false → ⊥
     no e = cc
 
+-- the seat of a worker is one of the two
+pub of_worker : (kind : Worker) (number : ℕ) → number ≡ number_of kind → IsWorker number
+of_worker Copier number e = inl e
+of_worker Flusher number e = inr e
+
 pub may_work : {D : Type 0} (s : Sat D) → IsWorker s.number → (mine s).work ≡ None → lines_of s.number (seen s) ≡ [] → MayWork s
 may_work s worker idle fresh = record { idle = idle; fresh = (worker, ap has_fault fresh) }
 
-pub ends : (who : Who) (a b c : View) (result : Result (Unit {0}) Refusal) → a.work ≡ Idle → Waits a b a.work → lines_of a.session a.front ≡ [] → WorkerGives who b c result → WorkerLeaves who a c
+pub ends : (who : Who) (a b c : View) (result : Result Ended Refusal) → a.work ≡ Idle → Waits a b a.work → lines_of a.session a.front ≡ [] → WorkerGives who b c result → WorkerLeaves who a c
 ends who a b c (Err (DiskFault d n)) idle waits fresh gives = inr record {
   first = fresh;
   device = d;

@@ -80,7 +80,7 @@ module _ {D : Type 0} (is_honest : D → Type 0) (state : D → State) (faults :
 
     pub below_ends : (bytes : ℕ) (r : Result Bool Refusal) → Visits is_honest state faults z (CutsBelow is_honest state faults remembers clock who bytes r) s0 s1 → RoundEnds is_honest state faults z who r s0 s1
     below_ends bytes r v = ⊎_elim (λ lt. cut_ends r (record { before = v.before; after = v.after; visited = v.visited; does = v.does.short lt })) (λ le. enough r (v.does.enough le)) (cases_lt (free_bytes v.before.core) bytes) where
-      enough : (r : Result Bool Refusal) → (r ≡ Ok false) × (v.after.core ≡ v.before.core) → RoundEnds is_honest state faults z who r s0 s1
+      enough : (r : Result Bool Refusal) → (r ≡ Ok true) × (v.after.core ≡ v.before.core) → RoundEnds is_honest state faults z who r s0 s1
       enough (Ok x) e = passes_quiet is_honest state faults z s0 s1 v.before v.after ready v.visited (ap (λ (c : Core D). c.ledger) e.1)
       enough (Err why) e = absurd (cc e.0)
 

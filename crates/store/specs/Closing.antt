@@ -28,7 +28,7 @@ use Rattle.store.specs.Seats.{IsReady, IsWhole, Sat, journal, slots_of}
 use Rattle.store.specs.Seen.{view_of}
 use Rattle.store.specs.Sides.{DeskStands, VaultStands}
 use Rattle.store.specs.Start.{Origin, opened_base}
-use Rattle.store.specs.WorkerRounds.{CopierEnds, HasWorked, IsFreshOrStopped, WorkerLeaves, worker}
+use Rattle.store.specs.WorkerRounds.{CopierEnds, HasRun, IsFreshOrStopped, WorkerLeaves, worker}
 
 -- each of these seats may call
 abbrev pub AreReady : {D : Type 0} → TableId → List (Sat D) → Type 0
@@ -107,7 +107,7 @@ module _ {D : Type 0} (is_honest : D → Type 0) (state : D → State) (faults :
     pub same : IsSame old new
     pub number : old.number ≡ SESSIONS
     pub leaves : WorkerLeaves (worker phase old.number) (resting state faults old) (resting state faults new)
-    pub works : HasWorked is_honest state faults z remembers clock (worker phase old.number) Copier old new
+    pub works : HasRun is_honest state faults z remembers clock phase Copier old new
 
   -- These seats are as they were, but that the copier has run at its own, if it is among them.
   pub record HaveCopied (phase : ℕ) (old new : List (Sat D)) : Type 0 where
@@ -121,7 +121,8 @@ module _ {D : Type 0} (is_honest : D → Type 0) (state : D → State) (faults :
     pub asked : Sat D
     pub asks : Passes z old asked
     pub goes : is_some (first_stop (seen asked)) ≡ false
-    pub ends : CopierEnds is_honest state faults z remembers clock (worker phase old.number) (Err why) asked new
+    pub flag : ℕ
+    pub ends : CopierEnds is_honest state faults z remembers clock (worker phase old.number) flag (Err why) asked new
 
   -- Why captures may be in the log alone: no seat of these is the copier's; the journal tells a fault of a write or a
   -- sync; or the copier's rounds were refused for want of memory, or because the archive had stopped.

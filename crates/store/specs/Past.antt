@@ -26,8 +26,9 @@ use Rattle.skippy.specs.Steps.{AddsAtMost}
 use Rattle.archive.specs.Archive.{Running}
 use Rattle.turn.specs.Faults.{fault_times}
 use Rattle.turn.specs.Seats.{held, mine, opening, seen}
+use Rattle.store.specs.declared.desk_side.DeskSide.{DeskSide}
 use Rattle.store.specs.declared.start.Start.{Start}
-use Rattle.store.specs.Seats.{Sat, VisitedVault}
+use Rattle.store.specs.Seats.{Sat, Visited, VisitedVault}
 use Rattle.store.specs.Start.{IsAbove, IsOpenedTo, Origin, opened_base}
 
 -- a look of the seat, or of the one that it helps, pins the snapshot
@@ -103,20 +104,31 @@ module _ {D : Type 0} (is_honest : D → Type 0) (state : D → State) where
     pub found : (start : Start D) (origin : Origin) → opening old ≡ Some start →
         IsOpenedTo is_honest state start origin → FoundIn new start origin table.start upto page before after result
 
--- memory ran out, where the table covered less than is held, or a read of a device failed, of which the seat was told
-abbrev pub IsPastCause : {D : Type 0} → Sat D → ℕ → Refusal → Type 0
-IsPastCause s covered OutOfMemory = covered < held s
-IsPastCause s covered (DiskFault d c) = 0 < fault_times d c (mine s).faults
-IsPastCause s covered why = ⊥
+-- memory ran out, where the table covered fewer captures than were asked for, or a read of a device failed, of which
+-- the seat was told
+abbrev pub IsPastCause : {D : Type 0} → Sat D → ℕ → ℕ → Refusal → Type 0
+IsPastCause s covered upto OutOfMemory = covered < upto
+IsPastCause s covered upto (DiskFault d c) = 0 < fault_times d c (mine s).faults
+IsPastCause s covered upto why = ⊥
 
 -- no write failed
-abbrev pub IsPastRefusal : {D : Type 0} → Sat D → Table → Fault → Type 0
-IsPastRefusal s table fault = (fault.wrote ≡ false) × IsPastCause s table.covered fault.why
+abbrev pub IsPastRefusal : {D : Type 0} → Sat D → ℕ → ℕ → Fault → Type 0
+IsPastRefusal s covered upto fault = (fault.wrote ≡ false) × IsPastCause s covered upto fault.why
 
 -- a fault that it tells is new since the opening
 abbrev pub IsNewFault : {D : Type 0} → (D → ℕ) → Sat D → Fault → Type 0
 IsNewFault {D} faults s fault = (start : Start D) (d : Device) (c : ℕ) → opening s ≡ Some start
     → fault.why ≡ DiskFault d c → IsAbove faults start d c
+
+module _ {D : Type 0} (is_honest : D → Type 0) (state : D → State) (faults : D → ℕ) (z : TableId) (covered : ℕ) where
+  -- A visit to the desk told below which number captures are known to be there, and so the read was refused, by a table
+  -- that covered those below another.
+  pub record RefusesPast (fault : Fault) (old new : Sat D) : Type 0 where
+    pub asked : Sat D
+    pub before : DeskSide D
+    pub after : DeskSide D
+    pub visited : Visited is_honest state faults z old asked before after
+    pub refused : IsPastRefusal new covered before.core.desk.queue.first fault
 
 module _ {D : Type 0} (is_honest : D → Type 0) (state : D → State) (faults : D → ℕ) (z : TableId) (covered before after : ℕ)
   where

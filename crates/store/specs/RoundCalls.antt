@@ -141,9 +141,9 @@ module _ {D : Type 0} (is_honest : D → Type 0) (state : D → State) where
           plain.stopped ≡ false → is_honest old.desk.log.disk →
           LeavesOnly remembers (clock old.desk.log.disk) (clock new.desk.log.disk) (ListsLogOf (cut_failed plain))
 
-    -- It is cut so where fewer bytes than that are free of its half.
+    -- So many bytes are free of its half, or else it is cut so: false where they are not and it may not be cut.
     pub record CutsBelow (who : Who) (bytes : ℕ) (result : Result Bool Refusal) (old new : Core D) : Type 0 where
-      pub enough : bytes ≤ free_bytes old → (result ≡ Ok false) × (new ≡ old)
+      pub enough : bytes ≤ free_bytes old → (result ≡ Ok true) × (new ≡ old)
       pub short : free_bytes old < bytes → CutDoes who result old new
 
     -- The snapshots below a number are dropped, for a session that has nothing open. JournalFull comes first, where

@@ -1,5 +1,5 @@
 -- What rounds leave: a seat goes to the desk and to the vault, over and over, and leaves at most one line.
-use Rattle.std.specs.Prelude.{◌≡◌, ◌<◌, ◌+◌, ◌-◌, ◌/◌, ℕ, Bool, true, false, [], Some, None, Result, Ok, Err, MatchResult}
+use Rattle.std.specs.Prelude.{◌≡◌, ◌<◌, ◌+◌, ◌-◌, ◌/◌, ℕ, Bool, true, false, Some, None, Result, Ok, Err, MatchResult}
 use Rattle.atomic_table.specs.Seated.{TableId}
 use Rattle.disk_model.specs.Disk.{State}
 use Rattle.disk_model.specs.Moments.{Clock}
@@ -20,7 +20,8 @@ use Rattle.store.specs.declared.carrying.Carried.{Carried}
 use Rattle.store.specs.declared.carrying.Carried.TheVariants.{Entered, Laid, There}
 use Rattle.store.specs.declared.start.Start.{Start}
 use Rattle.store.specs.Carrying.{Carries, IsBatchIn}
-use Rattle.store.specs.RoundCalls.{AckDoes, CutDoes, CutsBelow, DropDoes, GivesUpDrop, NoteDoes, Offers, SettleDoes, WriteBackDoes}
+use Rattle.store.specs.RoundCalls.{AckDoes, CutsBelow, DropDoes, GivesUpDrop, NoteDoes, Offers}
+use Rattle.store.specs.RoundCalls.{SettleDoes, WriteBackDoes}
 use Rattle.store.specs.Seats.{IsReady, Sat, StaysIn, VisitedVault, Visits, Waits}
 use Rattle.store.specs.Workers.{IsFreshWorker}
 
@@ -52,10 +53,6 @@ pub record Passes {D : Type 0} (z : TableId) (old new : Sat D) : Type 0 where
   pub ready : IsReady z new
   pub stays : StaysIn old new
   pub waits : Waits old new
-
--- a batch as it is made
-abbrev pub no_batch : Batch
-no_batch = record { first = 0; low = 0; images = [] }
 
 -- the batch is done with, unless it was laid alone
 abbrev pub IsDone : Result Carried Fault → Type 0
@@ -180,33 +177,46 @@ module _ {D : Type 0} (is_honest : D → Type 0) (state : D → State) where
 
       -- ---- a commit and a drop, for which room is made
 
-      -- A copy round was made, then a write round, and then the log was cut, if it could be; the first of them that was
-      -- refused is the last. Where there was no memory for a batch, nothing was done.
-      pub data MakesRoom (result : Result (Unit {0}) Refusal) (old new : Sat D) : Type 0 where
-        NoBatch : result ≡ Err OutOfMemory → new ≡ old → MakesRoom result old new
-        NoCopy : (batch : Batch) (why : Refusal) → result ≡ Err why →
-            CopiesRound who no_batch batch (Err why) old new → MakesRoom result old new
-        NoWrite : (batch : Batch) (more : Bool) (why : Refusal) (copied : Sat D) → result ≡ Err why →
-            CopiesRound who no_batch batch (Ok more) old copied → WritesRound (Err why) copied new
-            → MakesRoom result old new
-        Cut : (batch : Batch) (more wrote : Bool) (copied written : Sat D) (was_cut : Result Bool Refusal) →
-            CopiesRound who no_batch batch (Ok more) old copied → WritesRound (Ok wrote) copied written →
-            Visits is_honest state faults z (CutDoes is_honest state faults remembers clock who was_cut) written new →
-            MatchResult was_cut (λ _. result ≡ Ok tt) (λ why. result ≡ Err why) → MakesRoom result old new
+      -- A round that is to make room for so many bytes: a copy round in some batch, then a write round, and then a
+      -- visit that found them free, or else cut the log, if it could. The first of the three that was refused is last.
+      pub data MakesRound (bytes : ℕ) (result : Result Bool Refusal) (old new : Sat D) : Type 0 where
+        NoCopy : (before batch : Batch) (why : Refusal) → result ≡ Err why →
+            CopiesRound who before batch (Err why) old new → MakesRound bytes result old new
+        NoWrite : (before batch : Batch) (more : Bool) (why : Refusal) (copied : Sat D) → result ≡ Err why →
+            CopiesRound who before batch (Ok more) old copied → WritesRound (Err why) copied new
+            → MakesRound bytes result old new
+        Cut : (before batch : Batch) (more wrote : Bool) (copied written : Sat D) →
+            CopiesRound who before batch (Ok more) old copied → WritesRound (Ok wrote) copied written →
+            Visits is_honest state faults z
+            (CutsBelow is_honest state faults remembers clock who bytes result) written new
+            → MakesRound bytes result old new
 
-      -- The desk was asked. Its answer is the last, unless the log had no room. Then room was made: where that was
-      -- refused, and not since the store has stopped, the refusal is the answer; else the desk was asked again, and so
-      -- on.
+      -- Such rounds came one behind the other as long as fewer bytes were free and the log could not be cut. Behind the
+      -- last there is room; or it was refused so. Where there was no memory for a batch, nothing was done.
+      pub data MakesRoom (bytes : ℕ) (result : Result (Unit {0}) Refusal) : Sat D → Sat D → Type 0 where
+        NoBatch : (s : Sat D) → result ≡ Err OutOfMemory → MakesRoom bytes result s s
+        HasRoom : (old new : Sat D) → result ≡ Ok tt → MakesRound bytes (Ok true) old new →
+            MakesRoom bytes result old new
+        NoRound : (why : Refusal) (old new : Sat D) → result ≡ Err why → MakesRound bytes (Err why) old new →
+            MakesRoom bytes result old new
+        Again : (old middle new : Sat D) → MakesRound bytes (Ok false) old middle → MakesRoom bytes result middle new →
+            MakesRoom bytes result old new
+
+      -- The desk was asked. Its answer is the last, unless the log had no room for so many bytes. Then room was made
+      -- for them: where that was refused, and not since the store has stopped, the refusal is the answer; else the desk
+      -- was asked again, and so on.
       pub data AnswersAtLast {T : Type 0} (Does : Result T Refusal → Core D → Core D → Type 0)
           (result : Result T Refusal) : Sat D → Sat D → Type 0 where
         Answered : (old new : Sat D) → Visits is_honest state faults z (Does result) old new → (IsNoRoom result → ⊥) →
             AnswersAtLast Does result old new
-        NoRoomMade : (full why : Refusal) (old asked new : Sat D) → IsRoom full →
-            Visits is_honest state faults z (Does (Err full)) old asked → MakesRoom (Err why) asked new →
-            (MayAskAgain (Err why) → ⊥) → result ≡ Err why → AnswersAtLast Does result old new
-        AskedAgain : (full : Refusal) (made : Result (Unit {0}) Refusal) (old asked roomy new : Sat D) → IsRoom full →
-            Visits is_honest state faults z (Does (Err full)) old asked → MakesRoom made asked roomy → MayAskAgain made
-            → AnswersAtLast Does result roomy new → AnswersAtLast Does result old new
+        NoRoomMade : (needed free : ℕ) (why : Refusal) (old asked new : Sat D) →
+            Visits is_honest state faults z (Does (Err (NoRoom needed free))) old asked →
+            MakesRoom needed (Err why) asked new → (MayAskAgain (Err why) → ⊥) → result ≡ Err why →
+            AnswersAtLast Does result old new
+        AskedAgain : (needed free : ℕ) (made : Result (Unit {0}) Refusal) (old asked roomy new : Sat D) →
+            Visits is_honest state faults z (Does (Err (NoRoom needed free))) old asked →
+            MakesRoom needed made asked roomy → MayAskAgain made → AnswersAtLast Does result roomy new →
+            AnswersAtLast Does result old new
 
       -- The desk was asked for a drop, whose line it kept while it was asked again. A drop that no line tells gives up
       -- the line that it kept, if any, in one more visit.

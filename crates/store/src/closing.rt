@@ -90,8 +90,8 @@ impl<D: Disk + Drop> Store<D> {
             return;
         };
         let done = Done::new();
-        done.set();
-        run_unless_stopped(
+        let _told = done.set();
+        let _answer = run_unless_stopped(
             self.alloc,
             self,
             rt,

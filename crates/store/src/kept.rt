@@ -1,6 +1,6 @@
 //! The page table that a seat keeps while it looks.
 
-ghost use Rattle.std.specs.Prelude.{◌≡◌, IfSome};
+ghost use Rattle.std.specs.Prelude.{◌≡◌, ◌≢◌, IfNone, IfSome};
 ghost use Rattle.store.specs.Past.{IsTableOf};
 
 use crate::shared::Seat;
@@ -43,7 +43,9 @@ impl<D: Disk + Drop> KeptTable<D> {
 
     /// The table where it is of this snapshot.
     pub(crate) fn of(self, snapshot: u32) -> Option<SnapTable>
-        ensures { IfSome result (IsTableOf D.is_honest D.state self.seat snapshot) }
+        ensures some { IfSome result (λ table. (self.snapshot ≡ snapshot) × (table ≡ self.table)) }
+        ensures none { IfNone result (self.snapshot ≢ snapshot) }
+        ensures table { IfSome result (IsTableOf D.is_honest D.state self.seat snapshot) }
     {
         let KeptTable {
             snapshot: other,

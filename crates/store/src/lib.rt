@@ -32,6 +32,6 @@ pub use fetching::{Shown, show};
 pub use flusher_rounds::flusher;
 pub use held::Held;
 pub use laws::{laws_of_crashes, laws_of_worlds};
-pub use pace::{Done, IDLE_ROUNDS, Worker};
+pub use pace::{Done, Ended, IDLE_ROUNDS, Worker};
 pub use shared::{Seat, Store};
 pub use start::Start;

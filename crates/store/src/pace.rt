@@ -1,9 +1,9 @@
 //! The workers of a store: what tells them that nothing more will come, when they rest, and when they end.
 
-ghost use Rattle.std.specs.Prelude.{◌≡◌, ◌<◌, ◌+◌, ◌==◌, ◌&&◌, ◌||◌, not, if◌then◌else◌};
+ghost use Rattle.std.specs.Prelude.{◌≡◌, ◌<◌, ◌+◌, false, if◌then◌else◌, IfNone, IfSome};
+ghost use Rattle.store.specs.WorkerRounds.{EndsSo};
 
-use std::sync::Wait;
-use std::sync::atomic::{AtomicBool, Ordering};
+use std::sync::{OnceLock, OnceToken, Wait};
 use std::thread::Parker;
 use std::time::Duration;
 
@@ -28,36 +28,54 @@ impl Worker {
 /// What tells the workers of a phase that its sessions have ended.
 #[derive(Drop)]
 pub struct Done {
-    is_set: AtomicBool,
+    pub(crate) flag: OnceLock<()>,
     copier: Parker,
     flusher: Parker,
+}
+
+/// Why a worker ended whose last round found nothing to do.
+#[derive(Drop)]
+pub enum Ended<'a> {
+    /// It was told so, as this shows.
+    Told(OnceToken<'a, ()>),
+    /// As many rounds in a row as a worker makes found nothing.
+    Idled,
 }
 
 impl Done {
     /// Not yet told.
     pub fn new() -> Done {
         Done {
-            is_set: AtomicBool::new(false),
+            flag: OnceLock::new(),
             copier: Parker::new(),
             flusher: Parker::new(),
         }
     }
 
-    /// Tells them: one that rests goes on at once.
-    pub fn set(&self) {
-        self.is_set.store(true, Ordering::SeqCst);
+    /// Tells them: one that rests goes on at once. It answers what shows that they were told, but where another call is
+    /// just telling them.
+    pub fn set(&self) -> Option<OnceToken<'_, ()>>
+        ensures { IfSome result (λ token. token.of ≡ self.now.flag.id) }
+    {
+        let first = self.flag.try_set(());
         self.copier.unpark();
         self.flusher.unpark();
+        match first {
+            Ok(token) => Some(token),
+            Err(()) => self.told(),
+        }
     }
 
-    /// Whether they were told.
-    pub fn is_set(&self) -> bool {
-        self.is_set.load(Ordering::SeqCst)
+    /// What shows that they were told, if they were.
+    pub fn told(&self) -> Option<OnceToken<'_, ()>>
+        ensures { IfSome result (λ token. token.of ≡ self.now.flag.id) }
+    {
+        self.flag.witness()
     }
 
     // Has a worker rest, until it is told.
     pub(crate) fn rest<R: Wait>(&self, rt: &R, worker: Worker) {
-        if self.is_set() {
+        if self.told().is_some() {
             return;
         }
         match worker {
@@ -70,17 +88,29 @@ impl Done {
 /// A worker ends behind so many rounds in a row that found nothing to do.
 pub const IDLE_ROUNDS: u32 = 1_000_000;
 
-// Whether a worker ends behind a round, which found more to do or not, and began when the worker was done or not,
-// behind so many idle ones in a row.
-pub(crate) fn ends_behind(idle: &mut u32, more: bool, is_done: bool) -> bool
+// Why a worker ends behind a round, which found more to do or not, where it does: the round began when the worker was
+// told or not, behind so many idle ones in a row.
+pub(crate) fn ends_behind<'a>(
+    idle: &mut u32,
+    more: bool,
+    told: Option<OnceToken<'a, ()>>,
+) -> Option<Ended<'a>>
     requires few { idle.old < IDLE_ROUNDS }
-    ensures ends { result ≡ (not more && (is_done || (idle.old + 1 == IDLE_ROUNDS))) }
+    ensures goes_on { IfNone result (idle.new < IDLE_ROUNDS) }
     ensures counted { idle.new ≡ (if more then 0 else idle.old + 1) }
+    ensures nothing { IfSome result (λ ended. more ≡ false) }
+    ensures ends { IfSome result (EndsSo told.entry idle.new) }
 {
     if more {
         *idle = 0;
-        return false;
+        return None;
     }
     *idle += 1;
-    is_done || *idle == IDLE_ROUNDS
+    if let Some(token) = told {
+        return Some(Ended::Told(token));
+    }
+    if *idle == IDLE_ROUNDS {
+        return Some(Ended::Idled);
+    }
+    None
 }

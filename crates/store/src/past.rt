@@ -3,7 +3,7 @@
 ghost use Rattle.std.specs.Prelude.{◌≡◌, ◌≤◌, IfErr, IfOk, MatchResult, OnOk};
 ghost use Rattle.store.specs.Calls.{PeekDoes};
 ghost use Rattle.store.specs.Past.{FindsIn, IsNewFault, IsPastOf, IsPastRefusal, IsPinnedBy, IsRetainedBy, IsSeeking};
-ghost use Rattle.store.specs.Past.{IsTableOf, ReadsAtMost, ScansBelow, new_table};
+ghost use Rattle.store.specs.Past.{IsTableOf, ReadsAtMost, RefusesPast, ScansBelow, new_table};
 ghost use Rattle.store.specs.Seats.{CountFits, IsPage, IsReady, IsWhole, StaysIn, Visits, Waits};
 ghost use Rattle.turn.specs.Seats.{held, mine};
 ghost use Rattle.turn.specs.Tables.{table_of};
@@ -82,7 +82,8 @@ impl<D: Disk + Drop> Store<D> {
             out.old out.new result }
         ensures steps { ScansBelow D.is_honest D.state D.faults (table_of self.now.turn) table.old.covered steps.old
             steps.new upto seat.old seat.new }
-        ensures cause { IfErr result (IsPastRefusal seat.new table.old) }
+        ensures grows { table.old.covered ≤ table.new.covered }
+        ensures cause { IfErr result (IsPastRefusal seat.new table.old.covered upto) }
         ensures fault { IfErr result (IsNewFault D.faults seat.old) }
     {
         let mut archive = self.enter_vault(rt, seat);
@@ -94,9 +95,10 @@ impl<D: Disk + Drop> Store<D> {
 
     /// Fills `out` with a page as of a snapshot that an open look of this seat pins, or of the seat that it helps. The
     /// table is kept from one read of the snapshot to the next. It asks the desk, and then the vault below the number
-    /// of captures that the desk knows to be there. Refused for want of memory, not where the table covers all that is
-    /// held; and exactly where a read of a device failed; `out` is then undefined. `steps` counts the entries of the
-    /// Maplog's levels that it reads: none where the table covers all that is held, else what one scan reads at most.
+    /// of captures that the desk knows to be there. Refused for want of memory, not where the table covers these; and
+    /// exactly where a read of a device failed; `out` is then undefined. The table covers no less then. `steps` counts
+    /// the entries of the Maplog's levels that it reads: none where the table covers all that is held, else what one
+    /// scan reads at most.
     pub fn past<R: Wait, L: Ledger>(
         &self,
         rt: &R,
@@ -121,7 +123,9 @@ impl<D: Disk + Drop> Store<D> {
         ensures retained { OnOk result (IsRetainedBy seat.new snapshot) }
         ensures steps { ReadsAtMost D.is_honest D.state D.faults (table_of self.now.turn) table.old.covered steps.old
             steps.new seat.new }
-        ensures cause { IfErr result (IsPastRefusal seat.new table.old) }
+        ensures grows { table.old.covered ≤ table.new.covered }
+        ensures cause { IfErr result (λ fault. RefusesPast D.is_honest D.state D.faults (table_of self.now.turn)
+            table.old.covered fault seat.old seat.new) }
         ensures fault { IfErr result (IsNewFault D.faults seat.old) }
     {
         match self.told(rt, seat, snapshot, page, out) {

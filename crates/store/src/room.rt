@@ -6,7 +6,7 @@ ghost use Rattle.journal_book.specs.declared.work.Transaction.{Transaction};
 ghost use Rattle.journal_book.specs.declared.work.Work.TheVariants.{Open};
 ghost use Rattle.store.specs.Calls.{CommitDoes};
 ghost use Rattle.store.specs.RoundCalls.{DropDoes, GivesUpDrop};
-ghost use Rattle.store.specs.Rounds.{AnswersAtLast, DropAnswers, IsRoom, MakesRoom, MayServe, tells_drop};
+ghost use Rattle.store.specs.Rounds.{AnswersAtLast, DropAnswers, IsRoom, MakesRoom, MakesRound, MayServe, tells_drop};
 ghost use Rattle.store.specs.Seats.{IsOpenIn, IsReady, IsWhole, Visits};
 ghost use Rattle.txn_set.specs.Ledger.{is_closed, keeps_drop};
 ghost use Rattle.turn.specs.Seats.{IsSame, mine};
@@ -35,37 +35,66 @@ fn tells_drop(answer: &Result<(), Refusal>) -> bool
 }
 
 impl<D: Disk + Drop> Store<D> {
-    // Makes a copy round and a write round, and cuts the log where nothing is left to copy or to write back; what is
-    // refused ends it.
-    fn make_room<R: Wait>(&self, rt: &R, seat: &mut Seat<D>, who: Who) -> Result<(), Refusal>
+    // Makes a copy round and a write round, and sees whether the log has room for so many bytes, which it cuts where
+    // nothing is left to copy or to write back; what is refused ends it.
+    fn room_round<R: Wait>(
+        &self,
+        rt: &R,
+        seat: &mut Seat<D>,
+        who: Who,
+        bytes: u64,
+        batch: &mut Batch,
+    ) -> Result<bool, Refusal>
         requires ready { IsReady (table_of self.now.turn) seat.old × IsWhole seat.old }
         requires own { who.session ≡ seat.old.number }
         requires serve { MayServe seat.old who }
         ensures ready { IsReady (table_of self.now.turn) seat.new × IsWhole seat.new }
-        ensures makes { MakesRoom D.is_honest D.state D.faults (table_of self.now.turn) D.remembers D.clock who
-            result seat.old seat.new }
+        ensures makes { MakesRound D.is_honest D.state D.faults (table_of self.now.turn) D.remembers D.clock who
+            bytes result seat.old seat.new }
     {
-        let mut batch = match Batch::new(self.alloc) {
-            Ok(batch) => batch,
-            Err(why) => return Err(why),
-        };
-        if let Err(why) = self.copy_round(rt, seat, who, &mut batch) {
+        if let Err(why) = self.copy_round(rt, seat, who, batch) {
             return Err(why);
         }
         if let Err(why) = self.write_round(rt, seat, who) {
             return Err(why);
         }
-        match self.cut_log(rt, seat, who, u64::MAX) {
-            Ok(_) => Ok(()),
-            Err(why) => Err(why),
+        self.cut_log(rt, seat, who, bytes)
+    }
+
+    // Makes rounds until the log has room for so many bytes, or one is refused.
+    fn make_room<R: Wait>(
+        &self,
+        rt: &R,
+        seat: &mut Seat<D>,
+        who: Who,
+        bytes: u64,
+    ) -> Result<(), Refusal>
+        requires ready { IsReady (table_of self.now.turn) seat.old × IsWhole seat.old }
+        requires own { who.session ≡ seat.old.number }
+        requires serve { MayServe seat.old who }
+        ensures ready { IsReady (table_of self.now.turn) seat.new × IsWhole seat.new }
+        ensures makes { MakesRoom D.is_honest D.state D.faults (table_of self.now.turn) D.remembers D.clock who
+            bytes result seat.old seat.new }
+    {
+        let mut batch = match Batch::new(self.alloc) {
+            Ok(batch) => batch,
+            Err(why) => return Err(why),
+        };
+        'rounds: for _ in rt.forever() {
+            match self.room_round(rt, seat, who, bytes, &mut batch) {
+                Ok(true) => return Ok(()),
+                Ok(false) => {}
+                Err(why) => return Err(why),
+            }
         }
+        unreachable!()
     }
 
     /// Commits the transaction of this item: its edits become public, and where there is a mark a snapshot with that
     /// label is declared, whose number it answers. The refusals are those of `Core::commit`, in that order, but for
-    /// NoRoom: where the log has no room the session makes rounds under its own item, and asks again. Where a round
-    /// is refused for want of memory, so is the commit; where a device failed in it, the commit answers that, and the
-    /// transaction is closed with the line of the fault.
+    /// NoRoom: where the log has no room the session makes rounds under its own item until it has, and asks again. Where
+    /// a round is refused for want of memory, so is the commit; where a device failed in it, the commit answers that, and
+    /// the transaction is closed with the line of the fault.
     pub fn commit<R: Wait>(
         &self,
         rt: &R,
@@ -89,14 +118,13 @@ impl<D: Disk + Drop> Store<D> {
             match self.ask_commit(rt, seat, who, mark) {
                 Ok(number) => return Ok(number),
                 Err(why) => match why {
-                    Refusal::NoRoom { .. } => {}
-                    _ => return Err(why),
-                },
-            }
-            match self.make_room(rt, seat, who) {
-                Ok(()) => {}
-                Err(why) => match why {
-                    Refusal::Stopped { .. } => {}
+                    Refusal::NoRoom { needed, .. } => match self.make_room(rt, seat, who, needed) {
+                        Ok(()) => {}
+                        Err(why) => match why {
+                            Refusal::Stopped { .. } => {}
+                            _ => return Err(why),
+                        },
+                    },
                     _ => return Err(why),
                 },
             }
@@ -149,14 +177,13 @@ impl<D: Disk + Drop> Store<D> {
             match self.ask_drop(rt, seat, who, below) {
                 Ok(()) => return Ok(()),
                 Err(why) => match why {
-                    Refusal::NoRoom { .. } => {}
-                    _ => return Err(why),
-                },
-            }
-            match self.make_room(rt, seat, who) {
-                Ok(()) => {}
-                Err(why) => match why {
-                    Refusal::Stopped { .. } => {}
+                    Refusal::NoRoom { needed, .. } => match self.make_room(rt, seat, who, needed) {
+                        Ok(()) => {}
+                        Err(why) => match why {
+                            Refusal::Stopped { .. } => {}
+                            _ => return Err(why),
+                        },
+                    },
                     _ => return Err(why),
                 },
             }

@@ -174,7 +174,7 @@ impl<D: Disk + Drop> Store<D> {
         answer
     }
 
-    // Has the desk cut its log, where fewer bytes than that are free.
+    // Has the desk see to it that so many bytes of its log are free: true where they are, or it was cut.
     pub(crate) fn cut_log<R: Wait>(
         &self,
         rt: &R,
@@ -192,7 +192,7 @@ impl<D: Disk + Drop> Store<D> {
         let mut side = self.enter(rt, seat);
         if bytes <= side.core.free() {
             self.leave(seat, side);
-            return Ok(false);
+            return Ok(true);
         }
         let answer = side.core.cut_log(self.alloc, who);
         count_fits(&answer);

@@ -6,7 +6,7 @@ ghost use Rattle.turn.specs.Seats.{IsSame};
 ghost use Rattle.turn.specs.Tables.{table_of};
 
 use crate::left::{Left, left_of};
-use crate::plays::{Stop, again, all_open_to, small};
+use crate::plays::{Stop, again, all_open_to, opens_to, small};
 use crate::steps::{Answer, Step, Told, acts};
 use disk_mem::MemDisk;
 use disk_model::{Disk, Four};
@@ -23,35 +23,47 @@ const SEATS: u32 = 17;
 // The phase of the last copying.
 const PHASE: u16 = 3;
 
-// Does what a session does, until a step is refused.
+// Does what a session does, until a step is refused, and counts the steps that were not.
 fn act_all<R: Wait, D: Disk + Drop>(
     rt: &R,
     alloc: Global,
     store: &Store<D>,
     seat: &mut Seat<D>,
     steps: &[Step],
-)
+) -> usize
     requires rests { Rests (table_of store.now.turn) seat.old }
     ensures ready { MayCall (table_of store.now.turn) seat.new }
     ensures same { IsSame seat.old seat.new }
 {
+    let mut done = 0_usize;
     let mut item = 0_u32;
     'steps: for step in steps {
         if acts(rt, alloc, store, seat, item, step).is_err() {
-            return;
+            return done;
         }
+        done = done.saturating_add(1);
         item = item.saturating_add(1);
     }
+    done
 }
 
-// What a store leaves behind what a session did and a last copying, and whether all is copied. None where it is not
-// opened.
+// What a store leaves behind what a session did and a last copying.
+#[derive(Drop)]
+struct LastCopied<D> {
+    /// How many steps of the session were answered.
+    done: usize,
+    closed: Closed<D>,
+    /// Whether all is copied.
+    all: bool,
+}
+
+// None where the store is not opened.
 fn copied<R: Wait, D: Disk + Drop>(
     rt: &R,
     alloc: Global,
     disks: Four<D>,
     steps: &[Step],
-) -> Option<(Closed<D>, bool)> {
+) -> Option<LastCopied<D>> {
     let Ok((store, mut seats)) = Store::fetch(alloc, Version::One, disks, SEATS) else {
         return None;
     };
@@ -61,10 +73,11 @@ fn copied<R: Wait, D: Disk + Drop>(
     let Some(mut session) = seats.pop() else {
         unreachable!()
     };
-    act_all(rt, alloc, &store, &mut session, steps);
+    let done = act_all(rt, alloc, &store, &mut session, steps);
     seats.push_reserved(session);
     seats.push_reserved(copying);
-    Some(store.close_copied(rt, seats, PHASE))
+    let (closed, all) = store.close_copied(rt, seats, PHASE);
+    Some(LastCopied { done, closed, all })
 }
 
 // Page 7 is all 1 as of a snapshot, and then 2.
@@ -186,10 +199,17 @@ fn goes_so<R: Wait>(rt: &R, alloc: Global, made: &Four<MemDisk>, case: &Case) ->
     let Some(disks) = again(alloc, made, case.stop) else {
         return false;
     };
-    let Some((closed, copied)) = copied(rt, alloc, disks, case.steps) else {
+    let Some(
+        LastCopied {
+            done: _,
+            closed,
+            all,
+        },
+    ) = copied(rt, alloc, disks, case.steps)
+    else {
         return false;
     };
-    copied == case.copied
+    all == case.copied
         && left_of(&closed, PHASE) == case.left
         && all_open_to(rt, alloc, &closed.disks, &(&ASKED, case.answers))
 }
@@ -207,5 +227,192 @@ fn first_other<R: Wait>(rt: &R, alloc: Global) -> Option<usize> {
 #[test]
 fn what_is_pending_is_copied_at_last_unless_the_store_stops(rt: HostRuntime) -> Result<(), Fail> {
     assert!(rt; first_other(&rt, rt.alloc()) == None);
+    Ok(())
+}
+
+// Two snapshots behind a change of page 7 each, of which the first is dropped, and one more change.
+const DROPS: [Step; 4] = [
+    Step::Marked(7, 1, 1),
+    Step::Marked(7, 1, 2),
+    Step::Drop(2),
+    Step::Plain(7, 1, 3),
+];
+
+const LEFT: [Step; 4] = [
+    Step::Horizon,
+    Step::Read(7),
+    Step::Past(2, 7),
+    Step::Past(1, 7),
+];
+
+// What a store answers that is opened behind so many of these steps, up to the first refusal.
+const LEFT_BEHIND: [&[Answer]; 5] = [
+    &[
+        Ok(Told::Horizon(1, 0)),
+        Ok(Told::Page(Some(0))),
+        Err(Refusal::NoSuchSnapshot {
+            asked: 2,
+            newest: 0,
+        }),
+    ],
+    &[
+        Ok(Told::Horizon(1, 1)),
+        Ok(Told::Page(Some(1))),
+        Err(Refusal::NoSuchSnapshot {
+            asked: 2,
+            newest: 1,
+        }),
+    ],
+    &[
+        Ok(Told::Horizon(1, 2)),
+        Ok(Told::Page(Some(2))),
+        Ok(Told::Past(1, Some(2))),
+        Ok(Told::Past(0, Some(1))),
+    ],
+    &[
+        Ok(Told::Horizon(2, 2)),
+        Ok(Told::Page(Some(2))),
+        Ok(Told::Past(1, Some(2))),
+        Err(Refusal::Dropped {
+            asked: 1,
+            oldest: 2,
+        }),
+    ],
+    &[
+        Ok(Told::Horizon(2, 2)),
+        Ok(Told::Page(Some(3))),
+        Ok(Told::Past(1, Some(2))),
+        Err(Refusal::Dropped {
+            asked: 1,
+            oldest: 2,
+        }),
+    ],
+];
+
+// What becomes of a store one of whose devices stops: how many steps were answered, and whether all is copied; and
+// behind how many steps stands what a crash leaves with each loose byte 0, 0xA5 or 0xFF.
+type End = (usize, bool, [usize; 3]);
+
+// By the number of calls, from the 8 of the opening on, behind which it stops. Each step makes 4 of the log: it writes a
+// record and syncs, writes 0xA5 over the gate before it and syncs. The second captures the page.
+const OF_LOG: [End; 17] = [
+    (0, true, [0, 0, 0]),
+    (0, true, [0, 0, 0]),
+    (0, true, [0, 0, 0]),
+    (0, true, [0, 1, 0]),
+    (1, true, [1, 1, 1]),
+    (1, true, [1, 1, 1]),
+    (1, true, [1, 1, 1]),
+    (1, true, [1, 2, 1]),
+    (2, false, [2, 2, 2]),
+    (2, false, [2, 2, 2]),
+    (2, false, [2, 2, 2]),
+    (2, false, [2, 3, 2]),
+    (3, false, [3, 3, 3]),
+    (3, false, [3, 3, 3]),
+    (3, false, [3, 3, 3]),
+    (3, false, [3, 4, 3]),
+    (4, true, [4, 4, 4]),
+];
+
+// Behind the sync of the opening the first edit reads.
+const OF_PAGES: [End; 2] = [(0, true, [0, 0, 0]), (4, true, [4, 4, 4])];
+
+// Behind the sync of the opening the last copying writes two images and syncs.
+const OF_PAGELOG: [End; 4] = [
+    (4, false, [4, 4, 4]),
+    (4, false, [4, 4, 4]),
+    (4, false, [4, 4, 4]),
+    (4, true, [4, 4, 4]),
+];
+
+// Behind the 4 calls of the opening it writes and syncs twice.
+const OF_MAPLOG: [End; 5] = [
+    (4, false, [4, 4, 4]),
+    (4, false, [4, 4, 4]),
+    (4, false, [4, 4, 4]),
+    (4, false, [4, 4, 4]),
+    (4, true, [4, 4, 4]),
+];
+
+// Whether what a crash leaves with that fill stands behind so many steps.
+fn stands_behind<R: Wait>(
+    rt: &R,
+    alloc: Global,
+    disks: &Four<MemDisk>,
+    fill: u8,
+    steps: usize,
+) -> bool {
+    match LEFT_BEHIND.get(steps) {
+        Some(answers) => opens_to(rt, alloc, disks, fill, &(&LEFT, answers)),
+        None => false,
+    }
+}
+
+fn ends_so<R: Wait>(rt: &R, alloc: Global, made: &Four<MemDisk>, stop: Stop, end: &End) -> bool {
+    let (steps, copies, [zero, gate, full]) = *end;
+    let Some(disks) = again(alloc, made, Some(stop)) else {
+        return false;
+    };
+    let Some(LastCopied { done, closed, all }) = copied(rt, alloc, disks, &DROPS) else {
+        return false;
+    };
+    (done, all) == (steps, copies)
+        && stands_behind(rt, alloc, &closed.disks, 0, zero)
+        && stands_behind(rt, alloc, &closed.disks, 0xA5, gate)
+        && stands_behind(rt, alloc, &closed.disks, 0xFF, full)
+}
+
+// The first stop, from so many calls on, with which a store does not end so.
+fn other_end<R: Wait>(
+    rt: &R,
+    alloc: Global,
+    made: &Four<MemDisk>,
+    device: Device,
+    opening: u64,
+    ends: &[End],
+) -> Option<u64> {
+    let mut calls = opening;
+    for end in ends {
+        if !ends_so(rt, alloc, made, (device, calls), end) {
+            return Some(calls);
+        }
+        calls = calls.saturating_add(1);
+    }
+    None
+}
+
+// The first of these devices of which a stop ends a store otherwise, and behind how many calls, from those of the opening
+// on.
+fn first_end<R: Wait>(
+    rt: &R,
+    alloc: Global,
+    sweeps: &[(Device, u64, &[End])],
+) -> Option<(usize, u64)> {
+    let Some(made) = small(alloc) else {
+        return Some((0, 0));
+    };
+    sweeps.iter().enumerate().find_map(|(place, (device, opening, ends))| {
+        other_end(rt, alloc, &made, *device, *opening, ends).map(|calls| (place, calls))
+    })
+}
+
+#[test]
+fn a_log_that_stops_in_a_drop_loses_nothing_acknowledged(rt: HostRuntime) -> Result<(), Fail> {
+    let sweeps: [(Device, u64, &[End]); 1] = [(Device::Log, 8, &OF_LOG)];
+    assert!(rt; first_end(&rt, rt.alloc(), &sweeps) == None);
+    Ok(())
+}
+
+#[test]
+fn a_device_that_stops_in_the_last_copying_loses_nothing_acknowledged(
+    rt: HostRuntime,
+) -> Result<(), Fail> {
+    let sweeps: [(Device, u64, &[End]); 3] = [
+        (Device::Pages, 1, &OF_PAGES),
+        (Device::Pagelog, 1, &OF_PAGELOG),
+        (Device::Maplog, 4, &OF_MAPLOG),
+    ];
+    assert!(rt; first_end(&rt, rt.alloc(), &sweeps) == None);
     Ok(())
 }

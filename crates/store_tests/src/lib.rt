@@ -4,6 +4,8 @@
 #[cfg(test)]
 mod copied;
 #[cfg(test)]
+mod cuts;
+#[cfg(test)]
 mod files;
 #[cfg(test)]
 mod full;

@@ -16,13 +16,14 @@ use std::alloc::Global;
 use std::marker::Brand;
 use std::sync::Wait;
 use std::sync::ledger::{Blank, Ledger};
-use store::{Done, Seat, Store, copier, flusher};
+use store::{Done, Ended, Seat, Store, copier, flusher};
 use txn_set::Ending;
 
 /// The phase of all steps.
 pub const PHASE: u16 = 1;
 
 /// What is done at a store. Pages are given by the first and by how many there are.
+#[derive(Drop)]
 pub enum Step {
     /// A transaction fills pages with a byte, and declares a snapshot.
     Marked(u32, u32, u8),
@@ -59,8 +60,10 @@ pub enum Told {
     Horizon(u32, u32),
     /// Whether a round found something to do.
     Round(bool),
-    /// A worker ended.
+    /// A worker ended that had been told to.
     Ended,
+    /// A worker ended that had found nothing often enough.
+    Idled,
     /// The step is not of that seat.
     Nothing,
 }
@@ -341,6 +344,13 @@ fn writes_back<R: Wait, D: Disk + Drop>(rt: &R, store: &Store<D>, seat: &mut Sea
     }
 }
 
+fn why_ended(ended: Ended<'_>) -> Told {
+    match ended {
+        Ended::Told(_) => Told::Ended,
+        Ended::Idled => Told::Idled,
+    }
+}
+
 // The copier runs until a round finds nothing to do.
 fn copies_all<R: Wait, D: Disk + Drop>(
     rt: &R,
@@ -354,9 +364,9 @@ fn copies_all<R: Wait, D: Disk + Drop>(
     ensures same { IsSame seat.old seat.new }
 {
     let done = Done::new();
-    done.set();
+    let _told = done.set();
     match copier(store, rt, seat, PHASE, batch, &done) {
-        Ok(()) => Ok(Told::Ended),
+        Ok(ended) => Ok(why_ended(ended)),
         Err(why) => Err(why),
     }
 }
@@ -369,9 +379,9 @@ fn writes_all_back<R: Wait, D: Disk + Drop>(rt: &R, store: &Store<D>, seat: &mut
     ensures same { IsSame seat.old seat.new }
 {
     let done = Done::new();
-    done.set();
+    let _told = done.set();
     match flusher(store, rt, seat, PHASE, &done) {
-        Ok(()) => Ok(Told::Ended),
+        Ok(ended) => Ok(why_ended(ended)),
         Err(why) => Err(why),
     }
 }

@@ -1,8 +1,14 @@
 mod Decided
 mod Laws
+mod Named
 mod Pinned
 mod Places
+mod Reading
 mod Redrawn
 mod Refusals
 mod Runs
+mod Said
+mod ScriptNames
 mod Text
+mod TextLaws
+mod Told

@@ -1,7 +1,7 @@
-//! What the visible lines of a transcript decide: their text, the tables, and the replies.
+//! What the visible lines of a transcript decide: their text, the tables, and the replies; and what their text decides.
 #![tactic(auto)]
 
-ghost use Rattle.transcript_laws.specs.Laws.{ShownLinesDecideReplies, ShownLinesDecideResults, ShownLinesDecideRollbacks, ShownLinesDecideTables, ShownLinesTellText};
+ghost use Rattle.transcript_laws.specs.Laws.{LawfulIsTold, ScriptsHaveNames, ShownLinesDecideReplies, ShownLinesDecideResults, ShownLinesDecideRollbacks, ShownLinesDecideTables, ShownLinesTellText, TextDecidesReplies, TextDecidesResults, TextDecidesTables, TextTellsShownLines};
 
 /// Whoever has the visible lines has their text.
 pub fn shown_lines_tell_text()
@@ -26,4 +26,34 @@ pub fn shown_lines_decide_rollbacks()
 /// Whoever has the script and all visible lines knows the result table that each item leaves.
 pub fn shown_lines_decide_results()
     ensures { ShownLinesDecideResults }
+{}
+
+/// Whoever has the text of visible lines has the lines.
+pub fn text_tells_shown_lines()
+    ensures { TextTellsShownLines }
+{}
+
+/// The plan of a script has names that are told apart.
+pub fn scripts_have_names()
+    ensures { ScriptsHaveNames }
+{}
+
+/// Whose a line of a lawful journal is has a name.
+pub fn lawful_is_told()
+    ensures { LawfulIsTold }
+{}
+
+/// Whoever has the script and the text up to a place knows every table there, now and at each snapshot.
+pub fn text_decides_tables()
+    ensures { TextDecidesTables }
+{}
+
+/// Whoever has the script and the whole text knows the reply of each item that has a visible line which tells it.
+pub fn text_decides_replies()
+    ensures { TextDecidesReplies }
+{}
+
+/// Whoever has the script and the whole text knows the result table that each item leaves.
+pub fn text_decides_results()
+    ensures { TextDecidesResults }
 {}

@@ -1,4 +1,4 @@
-use Rattle.relation_laws.proofs.Creating.{create_law}
+use Rattle.relation_laws.proofs.Created.{create_law}
 use Rattle.relation_laws.proofs.create_law.Goals as goal
 
 pub returns : goal.returns

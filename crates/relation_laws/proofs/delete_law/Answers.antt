@@ -1,4 +1,4 @@
-use Rattle.relation_laws.proofs.Deleting.{delete_law}
+use Rattle.relation_laws.proofs.Deleted.{delete_law}
 use Rattle.relation_laws.proofs.delete_law.Goals as goal
 
 pub returns : goal.returns

@@ -1,4 +1,4 @@
-use Rattle.relation_laws.proofs.Needing.{edits_law}
+use Rattle.relation_laws.proofs.Needed.{edits_law}
 use Rattle.relation_laws.proofs.edits_law.Goals as goal
 
 pub returns : goal.returns

@@ -1,4 +1,4 @@
-use Rattle.relation_laws.proofs.Indexing.{index_law}
+use Rattle.relation_laws.proofs.Indexed.{index_law}
 use Rattle.relation_laws.proofs.index_law.Goals as goal
 
 pub returns : goal.returns

@@ -1,4 +1,4 @@
-use Rattle.relation_laws.proofs.Counting.{needs_law}
+use Rattle.relation_laws.proofs.Needed.{needs_law}
 use Rattle.relation_laws.proofs.needs_law.Goals as goal
 
 pub returns : goal.returns

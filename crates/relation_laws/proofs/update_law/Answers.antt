@@ -1,4 +1,4 @@
-use Rattle.relation_laws.proofs.Updating.{update_law}
+use Rattle.relation_laws.proofs.Updated.{update_law}
 use Rattle.relation_laws.proofs.update_law.Goals as goal
 
 pub returns : goal.returns

@@ -1,25 +1,25 @@
 use Rattle.std.proofs.lemmas.Result.{err_from_is_err_and}
 use Rattle.pager.proofs.Makings.{makes-all, makes-none, makes-part}
-use Rattle.relation.specs.Work.{all_added}
+use Rattle.relation.specs.Work.{table_inserted}
 use Rattle.relation.proofs.calls.insert.Goals as goal
 
-pub returns-in_err-insert-clause-added : goal.returns-in_err-insert-clause-added
-returns-in_err-insert-clause-added g c =
+pub returns-in_err-insert-clause-inserted : goal.returns-in_err-insert-clause-inserted
+returns-in_err-insert-clause-inserted g c =
     let p = err_from_is_err_and c.from_residual.result c.from_residual.ensures.1 in
     rw (p.1, p.2)
-    (makes-none (λ (u : Unit {0}). u) _ _ (all_added (g.P.Pager.size c.args.pager.now) c.args.table.now.first c.args.rows.now) c.in_err-insert.field-0.0 c.in_err-insert.ensures.only_drafts.narrows
-    (λ base shown told. rw (c.new-draft.ensures, c.size.ensures) at (c.in_err-insert.ensures.added base shown told)))
+    (makes-none (λ (u : Unit {0}). u) _ _ (table_inserted g.I.Index.added (g.P.Pager.size c.args.pager.now) c.args.table.now c.args.rows.now) c.in_err-insert.field-0.0 c.in_err-insert.ensures.only_drafts.narrows
+    (λ base shown told. rw (c.new-draft.ensures, c.size.ensures) at (c.in_err-insert.ensures.inserted base shown told)))
 
-pub returns-in_err-write-clause-added : goal.returns-in_err-write-clause-added
-returns-in_err-write-clause-added g c =
+pub returns-in_err-write-clause-inserted : goal.returns-in_err-write-clause-inserted
+returns-in_err-write-clause-inserted g c =
     let p = err_from_is_err_and c.from_residual-in_err-write.result c.from_residual-in_err-write.ensures.1 in
     rw (p.1, p.2)
-    (makes-part (λ (u : Unit {0}). u) _ _ _ c.insert.new.draft.list (all_added (g.P.Pager.size c.args.pager.now) c.args.table.now.first c.args.rows.now) tt c.in_ok-insert.ensures.only_drafts.narrows
-    (λ base shown told. rw (c.new-draft.ensures, c.size.ensures) at (c.in_ok-insert.ensures.added base shown told))
+    (makes-part (λ (u : Unit {0}). u) _ _ _ c.insert.new.draft.list (table_inserted g.I.Index.added (g.P.Pager.size c.args.pager.now) c.args.table.now c.args.rows.now) tt c.in_ok-insert.ensures.only_drafts.narrows
+    (λ base shown told. rw (c.new-draft.ensures, c.size.ensures) at (c.in_ok-insert.ensures.inserted base shown told))
     c.in_err-write.field-0.0 c.in_err-write.ensures.writes)
 
-pub returns-clause-added : goal.returns-clause-added
-returns-clause-added g c =
-    makes-all (λ (u : Unit {0}). u) _ _ _ c.insert.new.draft.list (all_added (g.P.Pager.size c.args.pager.now) c.args.table.now.first c.args.rows.now) tt c.in_ok-insert.ensures.only_drafts.narrows
-    (λ base shown told. rw (c.new-draft.ensures, c.size.ensures) at (c.in_ok-insert.ensures.added base shown told))
+pub returns-clause-inserted : goal.returns-clause-inserted
+returns-clause-inserted g c =
+    makes-all (λ (u : Unit {0}). u) _ _ _ c.insert.new.draft.list (table_inserted g.I.Index.added (g.P.Pager.size c.args.pager.now) c.args.table.now c.args.rows.now) tt c.in_ok-insert.ensures.only_drafts.narrows
+    (λ base shown told. rw (c.new-draft.ensures, c.size.ensures) at (c.in_ok-insert.ensures.inserted base shown told))
     c.in_ok-write.ensures.writes

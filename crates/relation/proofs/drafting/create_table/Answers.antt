@@ -16,7 +16,7 @@ returns-clause-created g c = λ base shown told.
     let first = c.in_ok-first.first in
     let name = c.args.name.now in
     let columns = c.args.columns.now in
-    allowed_on (λ u. (u, drafted shown c.insert.new.draft.list)) (all_added c.make.new.draft.size CATALOG c.deref.result.now after) (created size pages name columns) c.insert.result
-    (λ a h. next_step (made size pages) (λ table. all_added size CATALOG (map row_values (rows_of_table name table.0 columns)) table.1) (first, after) (c.in_ok-first.ensures.made base shown (c.insert.ensures.only_drafts.narrows base shown told)) a
+    allowed_on (λ u. (u, drafted shown c.add_to_catalog.new.draft.list)) (all_added c.make.new.draft.size CATALOG c.deref.result.now after) (created size pages name columns) c.add_to_catalog.result
+    (λ a h. next_step (made size pages) (λ table. all_added size CATALOG (map row_values (rows_of_table name table.0 columns)) table.1) (first, after) (c.in_ok-first.ensures.made base shown (c.add_to_catalog.ensures.only_drafts.narrows base shown told)) a
     (added_at size c.make.new.draft.size CATALOG (map row_values (rows_of_table name first columns)) c.deref.result.now after a c.in_ok-first.ensures.size (c.deref.ensures.value ∙ c.in_ok-rows.ensures.rows) h))
-    (c.insert.ensures.added base shown told)
+    (c.add_to_catalog.ensures.added base shown told)

@@ -11,7 +11,7 @@ use Rattle.retro.specs.Slots.{AllCome, AreHonest, AreSeated, AreTogether, view_a
 use Rattle.retro.specs.Steps.{RunsPhases}
 use Rattle.retro.specs.Working.{MayWorkOn}
 use Rattle.retro.specs.declared.slots.Slot.{Slot}
-use Rattle.retro.specs.Storing.{AreIn, IsAmong, store_of, view_held}
+use Rattle.retro.specs.Storing.{AreIn, AreOf, IsAmong, store_of, view_held}
 use Rattle.retro.proofs.Crossing.{held_send}
 use Rattle.retro.proofs.Stored.{all_begin, all_fresh, all_honest, all_in, all_seated, all_stood, all_together, fresh_rest, held_long, none_stood}
 use Rattle.store.proofs.LastCopied.{back_again}
@@ -93,4 +93,4 @@ returns-clause-ran g c = λ opened each.
     → RunsPhases c.args.plan.now opened (length xs) (view_at (view_held g.D.Disk.state g.D.Disk.faults) c.run_phases-kept.new.slots) c.run_phases-kept.result) value
     (λ all stand. c.run_phases-kept.ensures.ran all opened [] stand) in
     all_stood g.D.Disk.state g.D.Disk.faults z c.args.store.now.pages c.args.seats.items c.sit_down-slots.result.items c.sit_down-slots.ensures c.requires.fresh c.args.plan.now opened c.run_phases-kept.new.slots c.stand_up.result.items
-    c.run_phases-kept.result come (λ number. subst (λ (xs : List (Slot (Held g.row.R.Denot g.row.D.Denot))). IsAmong xs c.stand_up.result.items number) back (c.stand_up.ensures.among number)) (ran honest begin)
+    c.run_phases-kept.result come (λ number. subst (λ (xs : List (Slot (Held g.row.R.Denot g.row.D.Denot))). IsAmong xs c.stand_up.result.items number) back (c.stand_up.ensures.among number)) (subst (λ (xs : List (Slot (Held g.row.R.Denot g.row.D.Denot))). AreOf xs c.stand_up.result.items) back c.stand_up.ensures.of) (ran honest begin)

@@ -48,4 +48,4 @@ returns g c =
     let len : vec_len c.loop-slots.slots ≡ length c.loop-slots.slots.items = c.loop-slots.slots.ok.0 in
     let none : vec_len c.loop-slots.slots ≡ 0 = grind (arith, nat_tests, sym c.is_empty.ensures ∙ c.loop-slots-test.false) in
     let all = all_risen g.D.Disk.state g.D.Disk.faults (table_of c.args.store.now.turn) c.args.slots.items c.loop-slots.slots.items before.risen.0 c.loop-slots.seats.items before.risen.1 (sym len ∙ none) in
-    record { count = all.0; ready = all.1; rest = all.2; among = all.3 }
+    record { count = all.0; ready = all.1; rest = all.2; among = all.3; of = all.4 }

@@ -1,4 +1,4 @@
-use Rattle.std.proofs.Common.{◌+◌, [], refl, sym, subst, take, ◌∙◌}
+use Rattle.std.proofs.Common.{◌+◌, refl, subst, take, ◌∙◌}
 use Rattle.std.proofs.lemmas.List.{take_all}
 use Rattle.session.specs.SoFar.{SoFar}
 use Rattle.session.proofs.Steps.{done_of, ends, left_of, one_more, starts}
@@ -13,7 +13,7 @@ loop-index-init g c =
       session = refl;
       goes = g.S.Seat.stays c.args.seat;
       so_far = λ honest plan of ready.
-          subst (SoFar size plan c.args.phase c.args.names.now start start []) (sym c.new-progress.ensures) (starts size plan c.args.phase c.args.names.now start refl ready);
+          starts size plan c.args.phase c.args.names.now start refl ready _ c.new-progress.ensures;
     }
 
 pub returns-then-is_err-clause-ran : goal.returns-then-is_err-clause-ran

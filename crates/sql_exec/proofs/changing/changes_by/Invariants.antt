@@ -1,4 +1,4 @@
-use Rattle.std.proofs.Common.{◌≡◌, drop}
+use Rattle.std.proofs.Common.{◌≡◌}
 use Rattle.sql_select.specs.Bound.{keeps}
 use Rattle.tables.specs.Bound.{assigns}
 use Rattle.sql_exec.specs.Bound.{placed_changes_by}
@@ -6,7 +6,7 @@ use Rattle.sql_exec.specs.Planning.{picked}
 use Rattle.sql_exec.proofs.Picking.{behind}
 use Rattle.sql_exec.proofs.changing.changes_by.Given as goal
 
-abbrev pub invariant-loop-placed : goal.invariant-loop-placed
-invariant-loop-placed l =
+abbrev pub invariant-loop-was : goal.invariant-loop-was
+invariant-loop-was l =
     let step = placed_changes_by (keeps l.filter) (assigns l.assignments) in
-    picked step l.rows ≡ behind l.changes.items (picked step (drop l.placed-index l.rows))
+    picked step l.fn.rows.items ≡ behind l.changes.items (picked step l.was-iterator.rest.items)

@@ -4,7 +4,8 @@ use Rattle.tables.specs.declared.reply.Reply.{Reply}
 use Rattle.tables.specs.declared.reply.Reply.TheVariants.{Count}
 use Rattle.pager.proofs.Makings.{makes-none}
 use Rattle.pager.specs.declared.stop.Stop.TheVariants as stop
-use Rattle.relation.specs.Work.{all_removed}
+use Rattle.relation.specs.Work.{table_deleted}
+use Rattle.tree_index.specs.Work.{removed}
 use Rattle.relation.specs.declared.catalog.StoredTable.{StoredTable}
 use Rattle.sql_exec.specs.Running.{at_table, deleted_from}
 use Rattle.sql_exec.proofs.Answering.{handed}
@@ -17,15 +18,15 @@ returns-in_err-gone-clause-deleted g c =
     let p = err_from_is_err_and c.from_residual-in_err-gone.result c.from_residual-in_err-gone.ensures.1 in
     rw (p.1, p.2)
     (makes-none {F = g.row.P-Fault.Denot} (λ (reply : Reply). reply) _ _ (λ pages. at_table c.args.catalog.now c.args.query.now.table (λ (table : StoredTable). deleted_from (g.P.Pager.size c.args.pager.now) c.args.snapshot c.args.query.now table pages)) (stop.Refused c.in_err-gone.field-0.0) c.in_ok-rows.ensures.only_reads.narrows
-    (λ base shown told. handed (λ h. deleted-not (g.P.Pager.size c.args.pager.now) c.args.catalog.now c.args.query.now c.args.snapshot c.in-Some.table.now c.in_ok-schema.schema c.in_ok-rows.rows.items shown _ c.in-Some.ensures c.in_ok-schema.ensures (c.in_ok-rows.ensures.rows base shown told) h) c.in_err-gone.ensures))
+    (λ base shown told. handed (λ h. deleted-not (g.P.Pager.size c.args.pager.now) c.args.catalog.now c.args.query.now c.args.snapshot c.in-Some.table.now c.in_ok-schema.schema c.in_ok-rows.rows.items shown _ c.in-Some.ensures c.in_ok-schema.ensures (rw c.as_ref.ensures.value at (c.in_ok-rows.ensures.rows base shown told)) h) c.in_err-gone.ensures))
 
 pub returns-in_err-delete-clause-deleted : goal.returns-in_err-delete-clause-deleted
 returns-in_err-delete-clause-deleted g c =
     let p = err_from_is_err_and c.from_residual-in_err-delete.result c.from_residual-in_err-delete.ensures.1 in
     rw (p.1, p.2)
-    (stops (g.P.Pager.tells c.args.pager.now) (g.P.Pager.tells c.rows.new.pager) (g.P.Pager.tells c.delete.new.pager)
-    (all_removed (g.P.Pager.size c.rows.new.pager) c.in-Some.table.now.first c.in_ok-gone.gone.items)
+    (stops (g.P.Pager.tells c.args.pager.now) (g.P.Pager.tells c.read_rows.new.pager) (g.P.Pager.tells c.delete.new.pager)
+    (table_deleted removed (g.P.Pager.size c.read_rows.new.pager) c.in-Some.table.now c.in_ok-gone.gone.items)
     (λ pages. at_table c.args.catalog.now c.args.query.now.table (λ (table : StoredTable). deleted_from (g.P.Pager.size c.args.pager.now) c.args.snapshot c.args.query.now table pages)) (λ (u : Unit {0}). Count (length c.in_ok-gone.gone.items)) c.in_ok-rows.ensures.only_reads.narrows
-    (λ base was now u told h. deleted-there (g.P.Pager.size c.args.pager.now) (g.P.Pager.size c.rows.new.pager) c.args.catalog.now c.args.query.now c.args.snapshot c.in-Some.table.now c.in_ok-schema.schema c.in_ok-rows.rows.items c.in_ok-gone.gone.items was now u c.in-Some.ensures c.in_ok-schema.ensures (c.in_ok-rows.ensures.rows base was told) c.in_ok-gone.ensures c.in_ok-rows.ensures.only_reads.size_stays h)
-    (λ base was why told h. deleted-full (g.P.Pager.size c.args.pager.now) (g.P.Pager.size c.rows.new.pager) c.args.catalog.now c.args.query.now c.args.snapshot c.in-Some.table.now c.in_ok-schema.schema c.in_ok-rows.rows.items c.in_ok-gone.gone.items was why c.in-Some.ensures c.in_ok-schema.ensures (c.in_ok-rows.ensures.rows base was told) c.in_ok-gone.ensures c.in_ok-rows.ensures.only_reads.size_stays h)
-    c.in_err-delete.field-0.0 (rw c.deref.ensures.value at c.in_err-delete.ensures.removed))
+    (λ base was now u told h. deleted-there (g.P.Pager.size c.args.pager.now) (g.P.Pager.size c.read_rows.new.pager) c.args.catalog.now c.args.query.now c.args.snapshot c.in-Some.table.now c.in_ok-schema.schema c.in_ok-rows.rows.items c.in_ok-gone.gone.items was now u c.in-Some.ensures c.in_ok-schema.ensures (rw c.as_ref.ensures.value at (c.in_ok-rows.ensures.rows base was told)) c.in_ok-gone.ensures c.in_ok-rows.ensures.only_reads.size_stays h)
+    (λ base was why told h. deleted-full (g.P.Pager.size c.args.pager.now) (g.P.Pager.size c.read_rows.new.pager) c.args.catalog.now c.args.query.now c.args.snapshot c.in-Some.table.now c.in_ok-schema.schema c.in_ok-rows.rows.items c.in_ok-gone.gone.items was why c.in-Some.ensures c.in_ok-schema.ensures (rw c.as_ref.ensures.value at (c.in_ok-rows.ensures.rows base was told)) c.in_ok-gone.ensures c.in_ok-rows.ensures.only_reads.size_stays h)
+    c.in_err-delete.field-0.0 (rw c.deref.ensures.value at c.in_err-delete.ensures.deleted))

@@ -1,4 +1,4 @@
-use Rattle.std.proofs.Common.{◌≡◌, ◌∙◌, ◌∷◌, [], Bool, List, Result, Vec, Global, ap, subst}
+use Rattle.std.proofs.Common.{◌∙◌, Bool, List, Result, Vec, Global, ap, subst}
 use Rattle.retro_base.specs.Gives.{Gives}
 use Rattle.retro_base.specs.declared.refusal.Refusal.{Refusal}
 use Rattle.values.specs.declared.value.Value.{Value}

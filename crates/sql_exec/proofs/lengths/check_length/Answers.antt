@@ -1,4 +1,4 @@
-use Rattle.std.proofs.Common.{◌≡◌, ◌≤◌, ◌<◌, ◌∙◌, Err, sym, ap, arith}
+use Rattle.std.proofs.Common.{◌≤◌, ◌<◌, ◌∙◌, Err, sym, ap, arith}
 use Rattle.retro_base.specs.declared.refusal.Refusal.TheVariants.{RowTooLong}
 use Rattle.values.specs.Row.{row_bytes}
 use Rattle.sql_exec.proofs.Shortness.{one-passes, one-told, row-bound}

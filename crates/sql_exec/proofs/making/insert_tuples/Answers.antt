@@ -4,7 +4,8 @@ use Rattle.std.proofs.lemmas.List.Elements.{All-from_recursion}
 use Rattle.heap_file.specs.HeapPage.{IsShort}
 use Rattle.tables.specs.Meaning.{check_lengths}
 use Rattle.tables.specs.declared.reply.Reply.TheVariants.{Count}
-use Rattle.relation.specs.Work.{all_added}
+use Rattle.relation.specs.Work.{table_inserted}
+use Rattle.tree_index.specs.Work.{added}
 use Rattle.relation.specs.declared.catalog.StoredTable.{StoredTable}
 use Rattle.sql_exec.specs.Running.{at_table, inserted_into}
 use Rattle.sql_exec.proofs.Answering.{few-named}
@@ -38,11 +39,11 @@ returns-in_err-insert-clause-inserted g c =
     let room : c.in_ok-next.next + length c.args.query.now.tuples ≤ 2 ^ 64 - 1 = rw c.as_slice-tuples.ensures at below in
     rw (p.1, p.2)
     (stops (g.P.Pager.tells c.args.pager.now) (g.P.Pager.tells c.next_number.new.pager) (g.P.Pager.tells c.insert.new.pager)
-    (all_added (g.P.Pager.size c.next_number.new.pager) c.in-Some.table.now.first c.args.query.now.tuples)
+    (table_inserted added (g.P.Pager.size c.next_number.new.pager) c.in-Some.table.now c.args.query.now.tuples)
     (λ pages. at_table c.args.catalog.now c.args.query.now.table (λ (table : StoredTable). inserted_into (g.P.Pager.size c.args.pager.now) c.args.query.now.tuples table pages)) (λ (u : Unit {0}). Count (length c.args.query.now.tuples)) c.in_ok-next.ensures.only_reads.narrows
     (λ base was now u told h. inserted-there (g.P.Pager.size c.args.pager.now) (g.P.Pager.size c.next_number.new.pager) c.args.catalog.now c.args.query.now.table c.args.query.now.tuples c.in-Some.table.now c.in_ok-next.next was now u c.in-Some.ensures (c.in_ok-next.ensures.next base was told) room passes lawful c.in_ok-next.ensures.only_reads.size_stays h)
     (λ base was why told h. inserted-full (g.P.Pager.size c.args.pager.now) (g.P.Pager.size c.next_number.new.pager) c.args.catalog.now c.args.query.now.table c.args.query.now.tuples c.in-Some.table.now c.in_ok-next.next was why c.in-Some.ensures (c.in_ok-next.ensures.next base was told) room passes lawful c.in_ok-next.ensures.only_reads.size_stays h)
-    c.in_err-insert.field-0.0 (rw c.as_slice-tuples.ensures at c.in_err-insert.ensures.added))
+    c.in_err-insert.field-0.0 (rw c.as_slice-tuples.ensures at c.in_err-insert.ensures.inserted))
 
 pub returns-clause-inserted : goal.returns-clause-inserted
 returns-clause-inserted g c =
@@ -52,8 +53,8 @@ returns-clause-inserted g c =
     let room : c.in_ok-next.next + length c.args.query.now.tuples ≤ 2 ^ 64 - 1 = rw c.as_slice-tuples.ensures at below in
     rw c.as_slice-tuples.ensures
     (replies (g.P.Pager.tells c.args.pager.now) (g.P.Pager.tells c.next_number.new.pager) (g.P.Pager.tells c.insert.new.pager)
-    (all_added (g.P.Pager.size c.next_number.new.pager) c.in-Some.table.now.first c.args.query.now.tuples)
+    (table_inserted added (g.P.Pager.size c.next_number.new.pager) c.in-Some.table.now c.args.query.now.tuples)
     (λ pages. at_table c.args.catalog.now c.args.query.now.table (λ (table : StoredTable). inserted_into (g.P.Pager.size c.args.pager.now) c.args.query.now.tuples table pages)) (λ (u : Unit {0}). Count (length c.args.query.now.tuples)) c.in_ok-next.ensures.only_reads.narrows
     (λ base was now u told h. inserted-there (g.P.Pager.size c.args.pager.now) (g.P.Pager.size c.next_number.new.pager) c.args.catalog.now c.args.query.now.table c.args.query.now.tuples c.in-Some.table.now c.in_ok-next.next was now u c.in-Some.ensures (c.in_ok-next.ensures.next base was told) room passes lawful c.in_ok-next.ensures.only_reads.size_stays h)
     (λ base was why told h. inserted-full (g.P.Pager.size c.args.pager.now) (g.P.Pager.size c.next_number.new.pager) c.args.catalog.now c.args.query.now.table c.args.query.now.tuples c.in-Some.table.now c.in_ok-next.next was why c.in-Some.ensures (c.in_ok-next.ensures.next base was told) room passes lawful c.in_ok-next.ensures.only_reads.size_stays h)
-    g.row.P-Fault.Denot tt (rw c.as_slice-tuples.ensures at c.in_ok-insert.ensures.added))
+    g.row.P-Fault.Denot tt (rw c.as_slice-tuples.ensures at c.in_ok-insert.ensures.inserted))

@@ -1,9 +1,9 @@
-use Rattle.std.proofs.Common.{Ok, Err, subst, sym, ◌∙◌, arith}
+use Rattle.std.proofs.Common.{Ok, Err, arith}
 use Rattle.turn.specs.Tables.{table_of}
 use Rattle.store.proofs.Passing.{passes_none}
-use Rattle.store.specs.WorkerRounds.{Copies, NoneYet, OneMore, worker}
-use Rattle.store.proofs.CopyRounds.{ends_with, holds, holds_all, gives_so, left, passes_more}
-use Rattle.store.proofs.Idle.{found_none, still_few}
+use Rattle.store.specs.WorkerRounds.{Copies, NoneYet, worker}
+use Rattle.store.proofs.CopyRounds.{ends_with, gives_so, holds, holds_all, left, passes_more}
+use Rattle.store.proofs.Idle.{ended_so, last_none, one_more}
 use Rattle.store.proofs.copier_rounds.copier.Goals as goal
 
 pub rounds-init : goal.rounds-init
@@ -11,34 +11,35 @@ rounds-init g c = record { few = omega arith; passes = passes_none (table_of c.a
 
 pub rounds-preserved : goal.rounds-preserved
 rounds-preserved g c = record {
-  few = still_few c.rounds.idle 1000000 c.ends_behind.new.idle c.in-Ok.more c.is_set-is_done.result c.ends_behind.result c.rounds.invariant.few c.ends_behind.ensures.ends c.if-ends_behind.false c.ends_behind.ensures.counted;
+  few = c.in_default.ensures.goes_on;
   passes = passes_more g.D.Disk.is_honest g.D.Disk.state g.D.Disk.faults (table_of c.args.store.now.turn) g.D.Disk.remembers g.D.Disk.clock c.args.phase c.number.result c.args.batch.now c.rounds.batch c.copy_round.new.batch c.args.seat.now c.rounds.seat c.copy_round.new.seat c.rounds.invariant.passes c.in-Ok.more c.in-Ok.ensures.round;
-  answered = OneMore c.in-Ok.more (c.args.batch.now, c.args.seat.now) (c.rounds.batch, c.rounds.seat) (c.copy_round.new.batch, c.copy_round.new.seat) c.rounds.invariant.answered c.in-Ok.ensures.round;
+  answered = one_more (Copies g.D.Disk.is_honest g.D.Disk.state g.D.Disk.faults (table_of c.args.store.now.turn) g.D.Disk.remembers g.D.Disk.clock (worker c.args.phase c.number.result)) c.rounds.idle c.ends_behind.new.idle c.in-Ok.more (c.args.batch.now, c.args.seat.now) (c.rounds.batch, c.rounds.seat) (c.copy_round.new.batch, c.copy_round.new.seat) c.in_default.ensures.counted c.rounds.invariant.answered c.in-Ok.ensures.round;
 }
 
-pub returns-then-ends_behind-clause-rounds : goal.returns-then-ends_behind-clause-rounds
-returns-then-ends_behind-clause-rounds g c = ends_with g.D.Disk.is_honest g.D.Disk.state g.D.Disk.faults (table_of c.args.store.now.turn) g.D.Disk.remembers g.D.Disk.clock c.args.phase c.number.result c.args.batch.now c.rounds.batch c.copy_round.new.batch c.args.seat.now c.rounds.seat c.copy_round.new.seat c.rounds.invariant.passes c.number.ensures (Ok tt) (subst (λ b. Copies g.D.Disk.is_honest g.D.Disk.state g.D.Disk.faults (table_of c.args.store.now.turn) g.D.Disk.remembers g.D.Disk.clock (worker c.args.phase c.number.result) (Ok b) (c.rounds.batch, c.rounds.seat) (c.copy_round.new.batch, c.copy_round.new.seat)) (found_none c.in-Ok.more _ (sym c.ends_behind.ensures.ends ∙ c.if-ends_behind.true)) c.in-Ok.ensures.round) c.rounds.invariant.answered
+pub returns-in-Some-ends_behind-clause-rounds : goal.returns-in-Some-ends_behind-clause-rounds
+returns-in-Some-ends_behind-clause-rounds g c = ends_with g.D.Disk.is_honest g.D.Disk.state g.D.Disk.faults (table_of c.args.store.now.turn) g.D.Disk.remembers g.D.Disk.clock c.args.phase c.number.result c.args.batch.now c.rounds.batch c.copy_round.new.batch c.args.seat.now c.rounds.seat c.copy_round.new.seat c.rounds.invariant.passes c.number.ensures (Ok c.in-Some-ends_behind.ended) (last_none (Copies g.D.Disk.is_honest g.D.Disk.state g.D.Disk.faults (table_of c.args.store.now.turn) g.D.Disk.remembers g.D.Disk.clock (worker c.args.phase c.number.result)) c.in-Ok.more (c.rounds.batch, c.rounds.seat) (c.copy_round.new.batch, c.copy_round.new.seat) c.in-Some-ends_behind.ensures.nothing c.in-Ok.ensures.round) c.args.done.now.flag.id c.rounds.idle c.rounds.invariant.few c.rounds.invariant.answered
+    (ended_so c.args.done.now.flag.id c.rounds.idle c.ends_behind.new.idle c.in-Ok.more c.told-told.result c.in-Some-ends_behind.ended c.told-told.ensures c.in-Some-ends_behind.ensures.nothing c.in-Some-ends_behind.ensures.counted c.in-Some-ends_behind.ensures.ends)
 
-pub returns-then-ends_behind-clause-lines : goal.returns-then-ends_behind-clause-lines
-returns-then-ends_behind-clause-lines g c = (left g.D.Disk.is_honest g.D.Disk.state g.D.Disk.faults (table_of c.args.store.now.turn) g.D.Disk.remembers g.D.Disk.clock c.args.phase c.number.result c.args.batch.now c.rounds.batch c.copy_round.new.batch c.args.seat.now c.rounds.seat c.copy_round.new.seat c.rounds.invariant.passes c.number.ensures (Ok tt) (subst (λ b. Copies g.D.Disk.is_honest g.D.Disk.state g.D.Disk.faults (table_of c.args.store.now.turn) g.D.Disk.remembers g.D.Disk.clock (worker c.args.phase c.number.result) (Ok b) (c.rounds.batch, c.rounds.seat) (c.copy_round.new.batch, c.copy_round.new.seat)) (found_none c.in-Ok.more _ (sym c.ends_behind.ensures.ends ∙ c.if-ends_behind.true)) c.in-Ok.ensures.round) c.requires.may).lines
+pub returns-in-Some-ends_behind-clause-lines : goal.returns-in-Some-ends_behind-clause-lines
+returns-in-Some-ends_behind-clause-lines g c = (left g.D.Disk.is_honest g.D.Disk.state g.D.Disk.faults (table_of c.args.store.now.turn) g.D.Disk.remembers g.D.Disk.clock c.args.phase c.number.result c.args.batch.now c.rounds.batch c.copy_round.new.batch c.args.seat.now c.rounds.seat c.copy_round.new.seat c.rounds.invariant.passes c.number.ensures (Ok c.in-Some-ends_behind.ended) (last_none (Copies g.D.Disk.is_honest g.D.Disk.state g.D.Disk.faults (table_of c.args.store.now.turn) g.D.Disk.remembers g.D.Disk.clock (worker c.args.phase c.number.result)) c.in-Ok.more (c.rounds.batch, c.rounds.seat) (c.copy_round.new.batch, c.copy_round.new.seat) c.in-Some-ends_behind.ensures.nothing c.in-Ok.ensures.round) c.requires.may).lines
 
-pub returns-then-ends_behind-clause-idle : goal.returns-then-ends_behind-clause-idle
-returns-then-ends_behind-clause-idle g c = (left g.D.Disk.is_honest g.D.Disk.state g.D.Disk.faults (table_of c.args.store.now.turn) g.D.Disk.remembers g.D.Disk.clock c.args.phase c.number.result c.args.batch.now c.rounds.batch c.copy_round.new.batch c.args.seat.now c.rounds.seat c.copy_round.new.seat c.rounds.invariant.passes c.number.ensures (Ok tt) (subst (λ b. Copies g.D.Disk.is_honest g.D.Disk.state g.D.Disk.faults (table_of c.args.store.now.turn) g.D.Disk.remembers g.D.Disk.clock (worker c.args.phase c.number.result) (Ok b) (c.rounds.batch, c.rounds.seat) (c.copy_round.new.batch, c.copy_round.new.seat)) (found_none c.in-Ok.more _ (sym c.ends_behind.ensures.ends ∙ c.if-ends_behind.true)) c.in-Ok.ensures.round) c.requires.may).idle
+pub returns-in-Some-ends_behind-clause-idle : goal.returns-in-Some-ends_behind-clause-idle
+returns-in-Some-ends_behind-clause-idle g c = (left g.D.Disk.is_honest g.D.Disk.state g.D.Disk.faults (table_of c.args.store.now.turn) g.D.Disk.remembers g.D.Disk.clock c.args.phase c.number.result c.args.batch.now c.rounds.batch c.copy_round.new.batch c.args.seat.now c.rounds.seat c.copy_round.new.seat c.rounds.invariant.passes c.number.ensures (Ok c.in-Some-ends_behind.ended) (last_none (Copies g.D.Disk.is_honest g.D.Disk.state g.D.Disk.faults (table_of c.args.store.now.turn) g.D.Disk.remembers g.D.Disk.clock (worker c.args.phase c.number.result)) c.in-Ok.more (c.rounds.batch, c.rounds.seat) (c.copy_round.new.batch, c.copy_round.new.seat) c.in-Some-ends_behind.ensures.nothing c.in-Ok.ensures.round) c.requires.may).idle
 
-pub returns-then-ends_behind-clause-again : goal.returns-then-ends_behind-clause-again
-returns-then-ends_behind-clause-again g c = (left g.D.Disk.is_honest g.D.Disk.state g.D.Disk.faults (table_of c.args.store.now.turn) g.D.Disk.remembers g.D.Disk.clock c.args.phase c.number.result c.args.batch.now c.rounds.batch c.copy_round.new.batch c.args.seat.now c.rounds.seat c.copy_round.new.seat c.rounds.invariant.passes c.number.ensures (Ok tt) (subst (λ b. Copies g.D.Disk.is_honest g.D.Disk.state g.D.Disk.faults (table_of c.args.store.now.turn) g.D.Disk.remembers g.D.Disk.clock (worker c.args.phase c.number.result) (Ok b) (c.rounds.batch, c.rounds.seat) (c.copy_round.new.batch, c.copy_round.new.seat)) (found_none c.in-Ok.more _ (sym c.ends_behind.ensures.ends ∙ c.if-ends_behind.true)) c.in-Ok.ensures.round) c.requires.may).again
+pub returns-in-Some-ends_behind-clause-again : goal.returns-in-Some-ends_behind-clause-again
+returns-in-Some-ends_behind-clause-again g c = (left g.D.Disk.is_honest g.D.Disk.state g.D.Disk.faults (table_of c.args.store.now.turn) g.D.Disk.remembers g.D.Disk.clock c.args.phase c.number.result c.args.batch.now c.rounds.batch c.copy_round.new.batch c.args.seat.now c.rounds.seat c.copy_round.new.seat c.rounds.invariant.passes c.number.ensures (Ok c.in-Some-ends_behind.ended) (last_none (Copies g.D.Disk.is_honest g.D.Disk.state g.D.Disk.faults (table_of c.args.store.now.turn) g.D.Disk.remembers g.D.Disk.clock (worker c.args.phase c.number.result)) c.in-Ok.more (c.rounds.batch, c.rounds.seat) (c.copy_round.new.batch, c.copy_round.new.seat) c.in-Some-ends_behind.ensures.nothing c.in-Ok.ensures.round) c.requires.may).again
 
-pub returns-then-ends_behind-clause-gives : goal.returns-then-ends_behind-clause-gives
-returns-then-ends_behind-clause-gives g c = gives_so g.D.Disk.is_honest g.D.Disk.state g.D.Disk.faults (table_of c.args.store.now.turn) g.D.Disk.remembers g.D.Disk.clock c.args.phase c.number.result c.args.batch.now c.rounds.batch c.copy_round.new.batch c.args.seat.now c.rounds.seat c.copy_round.new.seat c.rounds.invariant.passes c.number.ensures (Ok tt) (subst (λ b. Copies g.D.Disk.is_honest g.D.Disk.state g.D.Disk.faults (table_of c.args.store.now.turn) g.D.Disk.remembers g.D.Disk.clock (worker c.args.phase c.number.result) (Ok b) (c.rounds.batch, c.rounds.seat) (c.copy_round.new.batch, c.copy_round.new.seat)) (found_none c.in-Ok.more _ (sym c.ends_behind.ensures.ends ∙ c.if-ends_behind.true)) c.in-Ok.ensures.round) c.requires.may
+pub returns-in-Some-ends_behind-clause-gives : goal.returns-in-Some-ends_behind-clause-gives
+returns-in-Some-ends_behind-clause-gives g c = gives_so g.D.Disk.is_honest g.D.Disk.state g.D.Disk.faults (table_of c.args.store.now.turn) g.D.Disk.remembers g.D.Disk.clock c.args.phase c.number.result c.args.batch.now c.rounds.batch c.copy_round.new.batch c.args.seat.now c.rounds.seat c.copy_round.new.seat c.rounds.invariant.passes c.number.ensures (Ok c.in-Some-ends_behind.ended) (last_none (Copies g.D.Disk.is_honest g.D.Disk.state g.D.Disk.faults (table_of c.args.store.now.turn) g.D.Disk.remembers g.D.Disk.clock (worker c.args.phase c.number.result)) c.in-Ok.more (c.rounds.batch, c.rounds.seat) (c.copy_round.new.batch, c.copy_round.new.seat) c.in-Some-ends_behind.ensures.nothing c.in-Ok.ensures.round) c.requires.may
 
-pub returns-then-ends_behind-clause-held : goal.returns-then-ends_behind-clause-held
-returns-then-ends_behind-clause-held g c = holds g.D.Disk.is_honest g.D.Disk.state g.D.Disk.faults (table_of c.args.store.now.turn) g.D.Disk.remembers g.D.Disk.clock c.args.phase c.number.result c.args.batch.now c.rounds.batch c.copy_round.new.batch c.args.seat.now c.rounds.seat c.copy_round.new.seat c.rounds.invariant.passes (subst (λ b. Copies g.D.Disk.is_honest g.D.Disk.state g.D.Disk.faults (table_of c.args.store.now.turn) g.D.Disk.remembers g.D.Disk.clock (worker c.args.phase c.number.result) (Ok b) (c.rounds.batch, c.rounds.seat) (c.copy_round.new.batch, c.copy_round.new.seat)) (found_none c.in-Ok.more _ (sym c.ends_behind.ensures.ends ∙ c.if-ends_behind.true)) c.in-Ok.ensures.round)
+pub returns-in-Some-ends_behind-clause-held : goal.returns-in-Some-ends_behind-clause-held
+returns-in-Some-ends_behind-clause-held g c = holds g.D.Disk.is_honest g.D.Disk.state g.D.Disk.faults (table_of c.args.store.now.turn) g.D.Disk.remembers g.D.Disk.clock c.args.phase c.number.result c.args.batch.now c.rounds.batch c.copy_round.new.batch c.args.seat.now c.rounds.seat c.copy_round.new.seat c.rounds.invariant.passes (last_none (Copies g.D.Disk.is_honest g.D.Disk.state g.D.Disk.faults (table_of c.args.store.now.turn) g.D.Disk.remembers g.D.Disk.clock (worker c.args.phase c.number.result)) c.in-Ok.more (c.rounds.batch, c.rounds.seat) (c.copy_round.new.batch, c.copy_round.new.seat) c.in-Some-ends_behind.ensures.nothing c.in-Ok.ensures.round)
 
-pub returns-then-ends_behind-clause-all_held : goal.returns-then-ends_behind-clause-all_held
-returns-then-ends_behind-clause-all_held g c = holds_all g.D.Disk.is_honest g.D.Disk.state g.D.Disk.faults (table_of c.args.store.now.turn) g.D.Disk.remembers g.D.Disk.clock c.args.phase c.number.result c.args.batch.now c.rounds.batch c.copy_round.new.batch c.args.seat.now c.rounds.seat c.copy_round.new.seat c.rounds.invariant.passes (subst (λ b. Copies g.D.Disk.is_honest g.D.Disk.state g.D.Disk.faults (table_of c.args.store.now.turn) g.D.Disk.remembers g.D.Disk.clock (worker c.args.phase c.number.result) (Ok b) (c.rounds.batch, c.rounds.seat) (c.copy_round.new.batch, c.copy_round.new.seat)) (found_none c.in-Ok.more _ (sym c.ends_behind.ensures.ends ∙ c.if-ends_behind.true)) c.in-Ok.ensures.round)
+pub returns-in-Some-ends_behind-clause-all_held : goal.returns-in-Some-ends_behind-clause-all_held
+returns-in-Some-ends_behind-clause-all_held g c = holds_all g.D.Disk.is_honest g.D.Disk.state g.D.Disk.faults (table_of c.args.store.now.turn) g.D.Disk.remembers g.D.Disk.clock c.args.phase c.number.result c.args.batch.now c.rounds.batch c.copy_round.new.batch c.args.seat.now c.rounds.seat c.copy_round.new.seat c.rounds.invariant.passes (last_none (Copies g.D.Disk.is_honest g.D.Disk.state g.D.Disk.faults (table_of c.args.store.now.turn) g.D.Disk.remembers g.D.Disk.clock (worker c.args.phase c.number.result)) c.in-Ok.more (c.rounds.batch, c.rounds.seat) (c.copy_round.new.batch, c.copy_round.new.seat) c.in-Some-ends_behind.ensures.nothing c.in-Ok.ensures.round)
 
 pub returns-in-Err-clause-rounds : goal.returns-in-Err-clause-rounds
-returns-in-Err-clause-rounds g c = ends_with g.D.Disk.is_honest g.D.Disk.state g.D.Disk.faults (table_of c.args.store.now.turn) g.D.Disk.remembers g.D.Disk.clock c.args.phase c.number.result c.args.batch.now c.rounds.batch c.copy_round.new.batch c.args.seat.now c.rounds.seat c.copy_round.new.seat c.rounds.invariant.passes c.number.ensures (Err c.in-Err.why) c.in-Err.ensures.round c.rounds.invariant.answered
+returns-in-Err-clause-rounds g c = ends_with g.D.Disk.is_honest g.D.Disk.state g.D.Disk.faults (table_of c.args.store.now.turn) g.D.Disk.remembers g.D.Disk.clock c.args.phase c.number.result c.args.batch.now c.rounds.batch c.copy_round.new.batch c.args.seat.now c.rounds.seat c.copy_round.new.seat c.rounds.invariant.passes c.number.ensures (Err c.in-Err.why) c.in-Err.ensures.round c.args.done.now.flag.id c.rounds.idle c.rounds.invariant.few c.rounds.invariant.answered tt
 
 pub returns-in-Err-clause-cause : goal.returns-in-Err-clause-cause
 returns-in-Err-clause-cause g c = (left g.D.Disk.is_honest g.D.Disk.state g.D.Disk.faults (table_of c.args.store.now.turn) g.D.Disk.remembers g.D.Disk.clock c.args.phase c.number.result c.args.batch.now c.rounds.batch c.copy_round.new.batch c.args.seat.now c.rounds.seat c.copy_round.new.seat c.rounds.invariant.passes c.number.ensures (Err c.in-Err.why) c.in-Err.ensures.round c.requires.may).cause

@@ -1,4 +1,4 @@
 use Rattle.store.proofs.recall.recall.Given as goal
 
-abbrev pub ghosts-read_by : goal.ghosts-read_by
-ghosts-read_by g a = record { name = a.blank.name; parts = a.blank.parts }
+abbrev pub ghosts-read_uncounted : goal.ghosts-read_uncounted
+ghosts-read_uncounted g a = record { name = a.blank.name; parts = a.blank.parts }

@@ -1,7 +1,4 @@
-use Rattle.std.proofs.Common.{List, subst, reverse}
-use Rattle.session.specs.OneTask.{AnswersItem}
 use Rattle.session.specs.Plan.{Item}
-use Rattle.session.specs.declared.result_table.ResultTable.{ResultTable}
 use Rattle.session.specs.declared.kept.Kept.TheVariants as kept
 use Rattle.session.specs.SoFar.{with_kept}
 use Rattle.session.proofs.Steps.{left_on, may_run, run_on, stepped, steps_past}
@@ -22,9 +19,7 @@ returns-in-Ok-clause-steps g c honest size plan start tasks at is so =
     let before = c.args.self.now in
     let may = may_run size plan start old tasks before c.args.who item at is so c.requires.own c.if-self.false c.requires.idle in
     let ran = c.run_item-seat.ensures.runs honest size plan may in
-    let told : AnswersItem size plan c.args.who item (reverse before.results) new c.run_item-seat.result.1 =
-    subst (λ (rs : List ResultTable). AnswersItem size plan c.args.who item (reverse rs) new c.run_item-seat.result.1) c.as_slice-results.ensures ran.1 in
-    run_on size plan start old tasks before c.args.who item at is so c.requires.own c.if-self.false new ran.0 c.run_item-seat.result.1 c.in-Ok.done _ _ told c.in-Ok.is c.take-taken.ensures
+    run_on size plan start old tasks before c.args.who item at is so c.requires.own c.if-self.false new ran.0 c.run_item-seat.result.1 c.in-Ok.done _ _ ran.1 c.in-Ok.is c.take-taken.ensures
 
 pub returns-in-Err-clause-steps : goal.returns-in-Err-clause-steps
 returns-in-Err-clause-steps g c honest size plan start tasks at is so =

@@ -38,7 +38,7 @@ invariant_of-self-in-Err g c =
       sized = sized_on h.store.now.pages h.seat c.recall.new.seat c.recall.ensures.same.same.opening h.sized;
       tabled = c.recall.ensures.kept;
       seated = subst (λ (ts : List ToldFault). IsSeated h.who h.asked ts c.recall.new.seat) (sym (told_on h.told.items c.reserve.new.self.items c.tell.new.told.items c.in-Err.fault.why c.reserve.ensures.items c.tell.ensures))
-          (past_keeps g.D.Disk.state g.D.Disk.faults _ h.seat c.recall.new.seat h.ready c.recall.ensures.same c.recall.ensures.waits h.who h.asked h.told.items h.seated o.0 o.1 c.in-Err.fault.why c.in-Err.ensures.cause.0 c.in-Err.ensures.cause.1);
+          (past_keeps g.D.Disk.state g.D.Disk.faults _ h.seat c.recall.new.seat h.ready c.recall.ensures.same c.recall.ensures.waits h.who h.asked h.told.items h.seated o.0 o.1 c.in-Err.fault.why c.in-Err.ensures.cause.table.covered c.in-Err.ensures.cause.refuses.before.core.desk.queue.first c.in-Err.ensures.cause.refuses.refused.1);
     }
 
 pub returns-in-Ok-clause-gives : goal.returns-in-Ok-clause-gives
@@ -56,4 +56,4 @@ returns-in-Err-clause-gives g c = λ l e.
     subst (λ x. PastGives (IsHonest g.D.Disk.is_honest g.D.Disk.state c.recall.new.seat) c.args.snapshot c.args.page c.recall.new.out (view_of g.D.Disk.state g.D.Disk.faults h.asked h.told.items h.seat) (view_of g.D.Disk.state g.D.Disk.faults h.asked c.tell.new.told.items c.recall.new.seat) x (Err c.in-Err.fault.why)) o.2
     (subst (λ (ts : List ToldFault). PastGives (IsHonest g.D.Disk.is_honest g.D.Disk.state c.recall.new.seat) c.args.snapshot c.args.page c.recall.new.out (view_of g.D.Disk.state g.D.Disk.faults h.asked h.told.items h.seat) (view_of g.D.Disk.state g.D.Disk.faults h.asked ts c.recall.new.seat) (record { who = o.0.who; since = take o.0.began (seen h.seat); snapshot = h.asked }) (Err c.in-Err.fault.why))
     (sym (told_on h.told.items c.reserve.new.self.items c.tell.new.told.items c.in-Err.fault.why c.reserve.ensures.items c.tell.ensures))
-    (past_err g.D.Disk.state g.D.Disk.faults _ h.seat c.recall.new.seat h.ready c.recall.ensures.same c.recall.ensures.waits h.who h.asked h.told.items h.seated o.0 o.1 (IsHonest g.D.Disk.is_honest g.D.Disk.state c.recall.new.seat) c.args.snapshot c.args.page c.recall.new.out c.in-Err.fault.why c.in-Err.ensures.cause.0 c.in-Err.ensures.cause.1 c.in-Err.ensures.fault))
+    (past_err g.D.Disk.state g.D.Disk.faults _ h.seat c.recall.new.seat h.ready c.recall.ensures.same c.recall.ensures.waits h.who h.asked h.told.items h.seated o.0 o.1 (IsHonest g.D.Disk.is_honest g.D.Disk.state c.recall.new.seat) c.args.snapshot c.args.page c.recall.new.out c.in-Err.fault.why c.in-Err.ensures.cause.table.covered c.in-Err.ensures.cause.refuses.before.core.desk.queue.first c.in-Err.ensures.cause.refuses.refused.1 c.in-Err.ensures.fault))

@@ -36,30 +36,30 @@ make_room-requires-clause-serve g c = kept_serves (table_of c.args.self.now.turn
 
 pub ask-preserved-in-Ok-make_room : goal.ask-preserved-in-Ok-make_room
 ask-preserved-in-Ok-make_room g c =
-    let passes = made_passes g.D.Disk.is_honest g.D.Disk.state g.D.Disk.faults (table_of c.args.self.now.turn) c.args.who (Ok tt) c.ask_drop.new.seat c.make_room.new.seat tt (room_ends g.D.Disk.is_honest g.D.Disk.state g.D.Disk.faults (table_of c.args.self.now.turn) g.D.Disk.remembers g.D.Disk.clock c.args.who (Ok tt) c.ask_drop.new.seat c.make_room.new.seat c.in-Err.ensures.ready.0 c.in-Ok-make_room.ensures.makes) in
+    let passes = made_passes g.D.Disk.is_honest g.D.Disk.state g.D.Disk.faults (table_of c.args.self.now.turn) c.args.who (Ok tt) c.ask_drop.new.seat c.make_room.new.seat tt (room_ends g.D.Disk.is_honest g.D.Disk.state g.D.Disk.faults (table_of c.args.self.now.turn) g.D.Disk.remembers g.D.Disk.clock c.args.who c.in-NoRoom.needed c.in-Ok-make_room.ensures.makes c.in-Err.ensures.ready.0) in
     record {
       ready = c.in-Ok-make_room.ensures.ready;
       is_closed = kept_still c.args.who _ (kept_on (table_of c.args.self.now.turn) c.args.who c.ask_drop.new.seat c.make_room.new.seat passes (c.in-Err.ensures.kept (subst IsRoom (sym c.in-NoRoom.is) tt)));
       same = same_on c.args.seat.now c.ask_drop.new.seat c.make_room.new.seat (same_on c.args.seat.now c.ask.seat c.ask_drop.new.seat c.ask.invariant.same c.in-Err.ensures.visits.visited.same) passes.stays.same;
-      leads = leads_asked g.D.Disk.is_honest g.D.Disk.state g.D.Disk.faults (table_of c.args.self.now.turn) g.D.Disk.remembers g.D.Disk.clock c.args.who _ c.args.seat.now c.ask.seat c.ask_drop.new.seat c.ask.invariant.leads c.in-Err.why (subst IsRoom (sym c.in-NoRoom.is) tt) c.in-Err.ensures.visits c.make_room.new.seat (Ok tt) c.in-Ok-make_room.ensures.makes tt;
+      leads = leads_asked g.D.Disk.is_honest g.D.Disk.state g.D.Disk.faults (table_of c.args.self.now.turn) g.D.Disk.remembers g.D.Disk.clock c.args.who _ c.args.seat.now c.ask.seat c.ask_drop.new.seat c.ask.invariant.leads c.in-Err.why c.in-NoRoom.needed _ c.in-NoRoom.is c.in-Err.ensures.visits c.make_room.new.seat (Ok tt) c.in-Ok-make_room.ensures.makes tt;
     }
 
 pub ask-preserved : goal.ask-preserved
 ask-preserved g c =
-    let passes = made_passes g.D.Disk.is_honest g.D.Disk.state g.D.Disk.faults (table_of c.args.self.now.turn) c.args.who (Err c.in-Err-make_room.why) c.ask_drop.new.seat c.make_room.new.seat (subst (λ why. MayAskAgain (Err why)) (sym c.in-Stopped.is) tt) (room_ends g.D.Disk.is_honest g.D.Disk.state g.D.Disk.faults (table_of c.args.self.now.turn) g.D.Disk.remembers g.D.Disk.clock c.args.who (Err c.in-Err-make_room.why) c.ask_drop.new.seat c.make_room.new.seat c.in-Err.ensures.ready.0 c.in-Err-make_room.ensures.makes) in
+    let passes = made_passes g.D.Disk.is_honest g.D.Disk.state g.D.Disk.faults (table_of c.args.self.now.turn) c.args.who (Err c.in-Err-make_room.why) c.ask_drop.new.seat c.make_room.new.seat (subst (λ why. MayAskAgain (Err why)) (sym c.in-Stopped.is) tt) (room_ends g.D.Disk.is_honest g.D.Disk.state g.D.Disk.faults (table_of c.args.self.now.turn) g.D.Disk.remembers g.D.Disk.clock c.args.who c.in-NoRoom.needed c.in-Err-make_room.ensures.makes c.in-Err.ensures.ready.0) in
     record {
       ready = c.in-Err-make_room.ensures.ready;
       is_closed = kept_still c.args.who _ (kept_on (table_of c.args.self.now.turn) c.args.who c.ask_drop.new.seat c.make_room.new.seat passes (c.in-Err.ensures.kept (subst IsRoom (sym c.in-NoRoom.is) tt)));
       same = same_on c.args.seat.now c.ask_drop.new.seat c.make_room.new.seat (same_on c.args.seat.now c.ask.seat c.ask_drop.new.seat c.ask.invariant.same c.in-Err.ensures.visits.visited.same) passes.stays.same;
-      leads = leads_asked g.D.Disk.is_honest g.D.Disk.state g.D.Disk.faults (table_of c.args.self.now.turn) g.D.Disk.remembers g.D.Disk.clock c.args.who _ c.args.seat.now c.ask.seat c.ask_drop.new.seat c.ask.invariant.leads c.in-Err.why (subst IsRoom (sym c.in-NoRoom.is) tt) c.in-Err.ensures.visits c.make_room.new.seat (Err c.in-Err-make_room.why) c.in-Err-make_room.ensures.makes (subst (λ why. MayAskAgain (Err why)) (sym c.in-Stopped.is) tt);
+      leads = leads_asked g.D.Disk.is_honest g.D.Disk.state g.D.Disk.faults (table_of c.args.self.now.turn) g.D.Disk.remembers g.D.Disk.clock c.args.who _ c.args.seat.now c.ask.seat c.ask_drop.new.seat c.ask.invariant.leads c.in-Err.why c.in-NoRoom.needed _ c.in-NoRoom.is c.in-Err.ensures.visits c.make_room.new.seat (Err c.in-Err-make_room.why) c.in-Err-make_room.ensures.makes (subst (λ why. MayAskAgain (Err why)) (sym c.in-Stopped.is) tt);
     }
 
 pub returns-in_default-why : goal.returns-in_default-why
 returns-in_default-why g c =
-    let refused = room_ends g.D.Disk.is_honest g.D.Disk.state g.D.Disk.faults (table_of c.args.self.now.turn) g.D.Disk.remembers g.D.Disk.clock c.args.who (Err c.in-Err-make_room.why) c.ask_drop.new.seat c.make_room.new.seat c.in-Err.ensures.ready.0 c.in-Err-make_room.ensures.makes in
+    let refused = room_ends g.D.Disk.is_honest g.D.Disk.state g.D.Disk.faults (table_of c.args.self.now.turn) g.D.Disk.remembers g.D.Disk.clock c.args.who c.in-NoRoom.needed c.in-Err-make_room.ensures.makes c.in-Err.ensures.ready.0 in
     record {
       ready = c.in-Err-make_room.ensures.ready;
       is_closed = refused_closed g.D.Disk.is_honest g.D.Disk.state g.D.Disk.faults (table_of c.args.self.now.turn) g.D.Disk.remembers g.D.Disk.clock c.args.who c.args.below c.ask_drop.new.seat c.make_room.new.seat (c.requires.own ∙ sym (same_on c.args.seat.now c.ask.seat c.ask_drop.new.seat c.ask.invariant.same c.in-Err.ensures.visits.visited.same).number) (c.in-Err.ensures.kept (subst IsRoom (sym c.in-NoRoom.is) tt)) c.in-Err-make_room.why refused;
       same = same_on c.args.seat.now c.ask_drop.new.seat c.make_room.new.seat (same_on c.args.seat.now c.ask.seat c.ask_drop.new.seat c.ask.invariant.same c.in-Err.ensures.visits.visited.same) (refused_same g.D.Disk.is_honest g.D.Disk.state g.D.Disk.faults (table_of c.args.self.now.turn) c.args.who c.in-Err-make_room.why c.ask_drop.new.seat c.make_room.new.seat refused);
-      answers = not_made g.D.Disk.is_honest g.D.Disk.state g.D.Disk.faults (table_of c.args.self.now.turn) g.D.Disk.remembers g.D.Disk.clock c.args.who _ c.args.seat.now c.ask.seat c.ask_drop.new.seat c.ask.invariant.leads c.in-Err.why (subst IsRoom (sym c.in-NoRoom.is) tt) c.in-Err.ensures.visits c.make_room.new.seat c.in-Err-make_room.why c.in-Err-make_room.ensures.makes (not_again c.in-Err-make_room.why c.in_default-why.not-Stopped);
+      answers = not_made g.D.Disk.is_honest g.D.Disk.state g.D.Disk.faults (table_of c.args.self.now.turn) g.D.Disk.remembers g.D.Disk.clock c.args.who _ c.args.seat.now c.ask.seat c.ask_drop.new.seat c.ask.invariant.leads c.in-Err.why c.in-NoRoom.needed _ c.in-NoRoom.is c.in-Err.ensures.visits c.make_room.new.seat c.in-Err-make_room.why c.in-Err-make_room.ensures.makes (not_again c.in-Err-make_room.why c.in_default-why.not-Stopped);
     }

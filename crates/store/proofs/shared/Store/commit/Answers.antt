@@ -48,8 +48,8 @@ ask-preserved-in-Ok-make_room g c = record {
   passes =
       let o = c.requires.is_open in
       let p = passes_on (table_of c.args.self.now.turn) c.args.seat.now c.ask.seat c.ask.invariant.passes c.ask_commit.new.seat (room_passes g.D.Disk.is_honest g.D.Disk.state g.D.Disk.faults (table_of c.args.self.now.turn) g.D.Disk.remembers g.D.Disk.clock c.args.who _ o.transaction c.ask.seat c.ask_commit.new.seat c.ask.invariant.passes.ready (c.requires.own ∙ sym c.ask.invariant.passes.stays.same.number) (work_stays c.args.seat.now c.ask.seat c.ask.invariant.passes.stays ∙ o.open_there) c.in-Err.why (subst IsRoom (sym c.in-NoRoom.is) tt) (c.in-Err.ensures.visits o.transaction (work_stays c.args.seat.now c.ask.seat c.ask.invariant.passes.stays ∙ o.open_there))) in
-      passes_on (table_of c.args.self.now.turn) c.args.seat.now c.ask_commit.new.seat p c.make_room.new.seat (made_passes g.D.Disk.is_honest g.D.Disk.state g.D.Disk.faults (table_of c.args.self.now.turn) c.args.who (Ok _) c.ask_commit.new.seat c.make_room.new.seat tt (room_ends g.D.Disk.is_honest g.D.Disk.state g.D.Disk.faults (table_of c.args.self.now.turn) g.D.Disk.remembers g.D.Disk.clock c.args.who (Ok _) c.ask_commit.new.seat c.make_room.new.seat p.ready c.in-Ok-make_room.ensures.makes));
-  leads = λ t is. leads_asked g.D.Disk.is_honest g.D.Disk.state g.D.Disk.faults (table_of c.args.self.now.turn) g.D.Disk.remembers g.D.Disk.clock c.args.who _ c.args.seat.now c.ask.seat c.ask_commit.new.seat (c.ask.invariant.leads t is) c.in-Err.why (subst IsRoom (sym c.in-NoRoom.is) tt) (c.in-Err.ensures.visits t (work_stays c.args.seat.now c.ask.seat c.ask.invariant.passes.stays ∙ is)) c.make_room.new.seat (Ok _) c.in-Ok-make_room.ensures.makes tt;
+      passes_on (table_of c.args.self.now.turn) c.args.seat.now c.ask_commit.new.seat p c.make_room.new.seat (made_passes g.D.Disk.is_honest g.D.Disk.state g.D.Disk.faults (table_of c.args.self.now.turn) c.args.who (Ok _) c.ask_commit.new.seat c.make_room.new.seat tt (room_ends g.D.Disk.is_honest g.D.Disk.state g.D.Disk.faults (table_of c.args.self.now.turn) g.D.Disk.remembers g.D.Disk.clock c.args.who c.in-NoRoom.needed c.in-Ok-make_room.ensures.makes p.ready));
+  leads = λ t is. leads_asked g.D.Disk.is_honest g.D.Disk.state g.D.Disk.faults (table_of c.args.self.now.turn) g.D.Disk.remembers g.D.Disk.clock c.args.who _ c.args.seat.now c.ask.seat c.ask_commit.new.seat (c.ask.invariant.leads t is) c.in-Err.why c.in-NoRoom.needed _ c.in-NoRoom.is (c.in-Err.ensures.visits t (work_stays c.args.seat.now c.ask.seat c.ask.invariant.passes.stays ∙ is)) c.make_room.new.seat (Ok _) c.in-Ok-make_room.ensures.makes tt;
 }
 
 pub ask-preserved : goal.ask-preserved
@@ -57,18 +57,18 @@ ask-preserved g c = record {
   passes =
       let o = c.requires.is_open in
       let p = passes_on (table_of c.args.self.now.turn) c.args.seat.now c.ask.seat c.ask.invariant.passes c.ask_commit.new.seat (room_passes g.D.Disk.is_honest g.D.Disk.state g.D.Disk.faults (table_of c.args.self.now.turn) g.D.Disk.remembers g.D.Disk.clock c.args.who _ o.transaction c.ask.seat c.ask_commit.new.seat c.ask.invariant.passes.ready (c.requires.own ∙ sym c.ask.invariant.passes.stays.same.number) (work_stays c.args.seat.now c.ask.seat c.ask.invariant.passes.stays ∙ o.open_there) c.in-Err.why (subst IsRoom (sym c.in-NoRoom.is) tt) (c.in-Err.ensures.visits o.transaction (work_stays c.args.seat.now c.ask.seat c.ask.invariant.passes.stays ∙ o.open_there))) in
-      passes_on (table_of c.args.self.now.turn) c.args.seat.now c.ask_commit.new.seat p c.make_room.new.seat (made_passes g.D.Disk.is_honest g.D.Disk.state g.D.Disk.faults (table_of c.args.self.now.turn) c.args.who (Err c.in-Err-make_room.why) c.ask_commit.new.seat c.make_room.new.seat (subst (λ why. MayAskAgain (Err why)) (sym c.in-Stopped.is) tt) (room_ends g.D.Disk.is_honest g.D.Disk.state g.D.Disk.faults (table_of c.args.self.now.turn) g.D.Disk.remembers g.D.Disk.clock c.args.who (Err c.in-Err-make_room.why) c.ask_commit.new.seat c.make_room.new.seat p.ready c.in-Err-make_room.ensures.makes));
-  leads = λ t is. leads_asked g.D.Disk.is_honest g.D.Disk.state g.D.Disk.faults (table_of c.args.self.now.turn) g.D.Disk.remembers g.D.Disk.clock c.args.who _ c.args.seat.now c.ask.seat c.ask_commit.new.seat (c.ask.invariant.leads t is) c.in-Err.why (subst IsRoom (sym c.in-NoRoom.is) tt) (c.in-Err.ensures.visits t (work_stays c.args.seat.now c.ask.seat c.ask.invariant.passes.stays ∙ is)) c.make_room.new.seat (Err c.in-Err-make_room.why) c.in-Err-make_room.ensures.makes (subst (λ why. MayAskAgain (Err why)) (sym c.in-Stopped.is) tt);
+      passes_on (table_of c.args.self.now.turn) c.args.seat.now c.ask_commit.new.seat p c.make_room.new.seat (made_passes g.D.Disk.is_honest g.D.Disk.state g.D.Disk.faults (table_of c.args.self.now.turn) c.args.who (Err c.in-Err-make_room.why) c.ask_commit.new.seat c.make_room.new.seat (subst (λ why. MayAskAgain (Err why)) (sym c.in-Stopped.is) tt) (room_ends g.D.Disk.is_honest g.D.Disk.state g.D.Disk.faults (table_of c.args.self.now.turn) g.D.Disk.remembers g.D.Disk.clock c.args.who c.in-NoRoom.needed c.in-Err-make_room.ensures.makes p.ready));
+  leads = λ t is. leads_asked g.D.Disk.is_honest g.D.Disk.state g.D.Disk.faults (table_of c.args.self.now.turn) g.D.Disk.remembers g.D.Disk.clock c.args.who _ c.args.seat.now c.ask.seat c.ask_commit.new.seat (c.ask.invariant.leads t is) c.in-Err.why c.in-NoRoom.needed _ c.in-NoRoom.is (c.in-Err.ensures.visits t (work_stays c.args.seat.now c.ask.seat c.ask.invariant.passes.stays ∙ is)) c.make_room.new.seat (Err c.in-Err-make_room.why) c.in-Err-make_room.ensures.makes (subst (λ why. MayAskAgain (Err why)) (sym c.in-Stopped.is) tt);
 }
 
 pub returns-in_default-why : goal.returns-in_default-why
 returns-in_default-why g c =
     let o = c.requires.is_open in
     let p = passes_on (table_of c.args.self.now.turn) c.args.seat.now c.ask.seat c.ask.invariant.passes c.ask_commit.new.seat (room_passes g.D.Disk.is_honest g.D.Disk.state g.D.Disk.faults (table_of c.args.self.now.turn) g.D.Disk.remembers g.D.Disk.clock c.args.who _ o.transaction c.ask.seat c.ask_commit.new.seat c.ask.invariant.passes.ready (c.requires.own ∙ sym c.ask.invariant.passes.stays.same.number) (work_stays c.args.seat.now c.ask.seat c.ask.invariant.passes.stays ∙ o.open_there) c.in-Err.why (subst IsRoom (sym c.in-NoRoom.is) tt) (c.in-Err.ensures.visits o.transaction (work_stays c.args.seat.now c.ask.seat c.ask.invariant.passes.stays ∙ o.open_there))) in
-    let refused = ends_after g.D.Disk.is_honest g.D.Disk.state g.D.Disk.faults (table_of c.args.self.now.turn) c.args.who {T = Unit {0}} (Err c.in-Err-make_room.why) c.args.seat.now c.ask_commit.new.seat c.make_room.new.seat p (room_ends g.D.Disk.is_honest g.D.Disk.state g.D.Disk.faults (table_of c.args.self.now.turn) g.D.Disk.remembers g.D.Disk.clock c.args.who (Err c.in-Err-make_room.why) c.ask_commit.new.seat c.make_room.new.seat p.ready c.in-Err-make_room.ensures.makes) in
+    let refused = ends_after g.D.Disk.is_honest g.D.Disk.state g.D.Disk.faults (table_of c.args.self.now.turn) c.args.who {T = Unit {0}} (Err c.in-Err-make_room.why) c.args.seat.now c.ask_commit.new.seat c.make_room.new.seat p (room_ends g.D.Disk.is_honest g.D.Disk.state g.D.Disk.faults (table_of c.args.self.now.turn) g.D.Disk.remembers g.D.Disk.clock c.args.who c.in-NoRoom.needed c.in-Err-make_room.ensures.makes p.ready) in
     record {
       ready = c.in-Err-make_room.ensures.ready;
       ended = tt;
       same = refused_same g.D.Disk.is_honest g.D.Disk.state g.D.Disk.faults (table_of c.args.self.now.turn) c.args.who c.in-Err-make_room.why c.args.seat.now c.make_room.new.seat refused;
-      answers = λ t is. not_made g.D.Disk.is_honest g.D.Disk.state g.D.Disk.faults (table_of c.args.self.now.turn) g.D.Disk.remembers g.D.Disk.clock c.args.who _ c.args.seat.now c.ask.seat c.ask_commit.new.seat (c.ask.invariant.leads t is) c.in-Err.why (subst IsRoom (sym c.in-NoRoom.is) tt) (c.in-Err.ensures.visits t (work_stays c.args.seat.now c.ask.seat c.ask.invariant.passes.stays ∙ is)) c.make_room.new.seat c.in-Err-make_room.why c.in-Err-make_room.ensures.makes (not_again c.in-Err-make_room.why c.in_default-why.not-Stopped);
+      answers = λ t is. not_made g.D.Disk.is_honest g.D.Disk.state g.D.Disk.faults (table_of c.args.self.now.turn) g.D.Disk.remembers g.D.Disk.clock c.args.who _ c.args.seat.now c.ask.seat c.ask_commit.new.seat (c.ask.invariant.leads t is) c.in-Err.why c.in-NoRoom.needed _ c.in-NoRoom.is (c.in-Err.ensures.visits t (work_stays c.args.seat.now c.ask.seat c.ask.invariant.passes.stays ∙ is)) c.make_room.new.seat c.in-Err-make_room.why c.in-Err-make_room.ensures.makes (not_again c.in-Err-make_room.why c.in_default-why.not-Stopped);
     }

@@ -5,6 +5,7 @@ use Rattle.std.specs.Prelude.{IfOk}
 use Rattle.retro_base.specs.declared.refusal.Refusal.{Refusal}
 use Rattle.store_core.specs.declared.copying.Peeked.{Peeked}
 use Rattle.turn.specs.Seats.{held}
+use Rattle.store.specs.Past.{IsPastRefusal}
 use Rattle.store.proofs.shared.Store.past.Goals as goal
 
 pub sought-requires-clause-seeking : goal.sought-requires-clause-seeking
@@ -17,7 +18,27 @@ pub returns-in-Err-clause-first_met : goal.returns-in-Err-clause-first_met
 returns-in-Err-clause-first_met g c = table_so g.D.Disk.is_honest g.D.Disk.state g.D.Disk.faults _ c.args.seat.now c.told.new.seat c.args.page c.args.snapshot c.args.out.now c.told.new.out c.told.result c.requires.ready c.told.ensures.visits c.requires.pinned c.args.table.now c.requires.first_met
 
 pub returns-in-Err-clause-cause : goal.returns-in-Err-clause-cause
-returns-in-Err-clause-cause g c = (refl, cause_so g.D.Disk.is_honest g.D.Disk.state g.D.Disk.faults _ c.args.seat.now c.told.new.seat c.args.page c.args.snapshot c.args.out.now c.told.new.out c.told.result c.requires.ready c.told.ensures.visits c.args.table.now.covered c.in-Err.why c.told.ensures.fits c.in-Err.is)
+returns-in-Err-clause-cause g c =
+    let v = c.told.ensures.visits in
+    record {
+      asked = c.told.new.seat;
+      before = v.before;
+      after = v.after;
+      visited = v.visited;
+      refused = (refl, cause_so g.D.Disk.is_honest g.D.Disk.state g.D.Disk.faults _ c.args.seat.now c.told.new.seat c.args.page c.args.snapshot c.args.out.now c.told.new.out c.told.result c.requires.ready v c.args.table.now.covered v.before.core.desk.queue.first c.in-Err.why c.told.ensures.fits c.in-Err.is);
+    }
+
+pub returns-in-Err-sought-clause-cause : goal.returns-in-Err-sought-clause-cause
+returns-in-Err-sought-clause-cause g c =
+    let v = c.told.ensures.visits in
+    let is = subst (λ (r : Result Peeked Refusal). IfOk r (λ p. p.acked ≡ v.before.core.desk.queue.first)) c.in-Ok.is v.does.upto in
+    record {
+      asked = c.told.new.seat;
+      before = v.before;
+      after = v.after;
+      visited = v.visited;
+      refused = subst (λ n. IsPastRefusal c.sought.new.seat c.args.table.now.covered n c.in-Err-sought.fault) is c.in-Err-sought.ensures.cause;
+    }
 
 pub returns-in-Ok-sought-clause-same : goal.returns-in-Ok-sought-clause-same
 returns-in-Ok-sought-clause-same g c = stays_on c.args.seat.now c.told.new.seat c.sought.new.seat (stays_so g.D.Disk.is_honest g.D.Disk.state g.D.Disk.faults _ c.args.seat.now c.told.new.seat c.args.page c.args.snapshot c.args.out.now c.told.new.out c.told.result c.requires.ready c.told.ensures.visits) c.sought.ensures.same

@@ -1,4 +1,4 @@
-use Rattle.std.proofs.Common.{◌∙◌, ap, sym, arith}
+use Rattle.std.proofs.Common.{◌∙◌, ⊎_elim, ap, sym, arith}
 use Rattle.store.proofs.Finding.{all_causes, cause_in, counts_rise, fault_is_new, find_rises, finds_in, met_here, vault_still}
 use Rattle.store.proofs.shared.Store.sought.Goals as goal
 
@@ -53,3 +53,6 @@ returns-clause-steps g c =
       none = covers.no_cost;
       cost = covers.cost;
     }
+
+pub returns-clause-grows : goal.returns-clause-grows
+returns-clause-grows g c = ⊎_elim (λ same. omega (arith, same)) (λ grown. omega (arith, grown)) c.find-found.ensures.covers.covered

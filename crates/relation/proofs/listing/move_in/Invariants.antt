@@ -1,0 +1,16 @@
+use Rattle.std.proofs.Common.{◌≡◌, Ok, take}
+use Rattle.pager.specs.Draft.{drafted}
+use Rattle.pager.specs.Pages.{Pages, Narrows}
+use Rattle.relation.specs.Each.{in_turn}
+use Rattle.relation.specs.Entries.{row_moved}
+use Rattle.relation.proofs.listing.move_in.Given as goal
+
+abbrev pub invariant-loop-moved : goal.invariant-loop-moved
+invariant-loop-moved g l = record {
+  done : (base shown : Pages) → g.P.Pager.tells l.pager base shown → in_turn (row_moved g.I.Index.added g.I.Index.removed l.fn.draft.size l.index) (take l.moved-index l.moves) (drafted shown l.fn.draft.list) (Ok (tt, drafted shown l.draft.list));
+  draft_size : l.draft.size ≡ l.fn.draft.size;
+  narrows : Narrows (g.P.Pager.tells l.fn.pager) (g.P.Pager.tells l.pager);
+  goes : g.P.Pager.goes l.fn.pager l.pager;
+  size : g.P.Pager.size l.pager ≡ g.P.Pager.size l.fn.pager;
+  steady : g.P.Pager.faults l.pager ≡ g.P.Pager.faults l.fn.pager;
+}

@@ -1,0 +1,8 @@
+use Rattle.std.proofs.Common.{rules}
+use Rattle.std.proofs.lemmas.List.Sorted.{IsNonDecreasingBy-from_sort_by_key}
+use Rattle.pager.specs.declared.index.Found.{Found}
+use Rattle.relation.proofs.ranging.by_number.Goals as goal
+
+pub returns-clause-rising : goal.returns-clause-rising
+returns-clause-rising c =
+    IsNonDecreasingBy-from_sort_by_key (λ (entry : Found). entry.number) _ c.in_ok-sort_by_key.ensures.sorted (λ a r q k. search rules)
