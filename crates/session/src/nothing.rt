@@ -13,11 +13,11 @@ use sql_tree::Select;
 pub struct NoSnapshot;
 
 impl AsOf for NoSnapshot {
-    ghost use Rattle.std.specs.Prelude.{false};
+    ghost use Rattle.std.specs.Prelude.{true};
 
     type Fault = Refusal;
 
-    ghost may_ask = { λ _ _. false };
+    ghost may_ask = { λ _ _. true };
 
     ghost told = { λ _ _. Unit {0} };
 
@@ -26,7 +26,7 @@ impl AsOf for NoSnapshot {
     ghost faults = { λ _. 0 };
 
     fn answer(&mut self, _snapshot: u32, _query: &Select) -> Result<Answer, Stop<Refusal>> {
-        unreachable!()
+        Err(Stop::Refused(Refusal::OutOfMemory))
     }
 
     fn faults(&self) -> u64 {
