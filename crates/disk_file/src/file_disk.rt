@@ -8,6 +8,9 @@ use std::fs::File;
 use std::io;
 use std::os::unix::fs::FileExt;
 
+// How many bytes of a new file are written at once.
+const CHUNK: u64 = 16384;
+
 /// A device over an open file, of the length that the file had. Each call that the system refuses is a fault.
 #[derive(Debug, Drop)]
 pub struct FileDisk {
@@ -30,11 +33,12 @@ impl FileDisk {
     }
 
     /// The device of an empty file that is open for reading and writing: that many bytes, all of them 0, which the
-    /// system was told to keep.
+    /// system was told to keep. They are written, so that the file has its room on the system's disk from the start: no
+    /// later write wants more, and a sync has bytes alone to keep.
     pub fn sized(file: File, size: u64) -> io::Result<FileDisk>
         ensures { IfOk result (λ disk. ⟦<FileDisk as Disk>⟧.extent disk ≡ size) }
     {
-        file.set_len(size)?;
+        write_zeros(&file, size)?;
         file.sync_all()?;
         Ok(FileDisk {
             file,
@@ -56,6 +60,16 @@ impl FileDisk {
             }
         }
     }
+}
+
+// Writes that many bytes from the beginning of a file, all of them 0.
+fn write_zeros(file: &File, size: u64) -> io::Result<()> {
+    let zeros = [0; CHUNK as usize];
+    for chunk in 0..size / CHUNK {
+        file.write_all_at(&zeros, chunk * CHUNK)?;
+    }
+    let rest = size % CHUNK;
+    file.write_all_at(&zeros[..rest as usize], size - rest)
 }
 
 impl Disk for FileDisk {
