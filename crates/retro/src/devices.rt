@@ -15,6 +15,8 @@ use std::thread::Threads;
 /// The numbers of the devices.
 pub const LOG: usize = 0;
 
+pub const PAGES: usize = 1;
+
 pub const MAPLOG: usize = 3;
 
 /// Behind so many calls of a kind the next call of that kind of a device fails; with no kind, behind so many calls of
@@ -37,7 +39,7 @@ pub const NO_FAULT: Fault = Fault {
 pub fn device_of(four: &Four<MemDisk>, number: usize) -> &MemDisk {
     match number {
         LOG => &four.log,
-        1 => &four.pages,
+        PAGES => &four.pages,
         2 => &four.pagelog,
         _ => &four.maplog,
     }

@@ -1,7 +1,7 @@
-//! Each call of the log and of the vault's devices failing in turn, and each of these stopping behind each of its calls.
+//! Each call of each device failing in turn, and each device stopping behind each of its calls.
 
 use crate::devices::{
-    Fault, LOG, NO_FAULT, Ran, all_again, calls_of, crashed, device_of, formatted, run_over,
+    Fault, LOG, NO_FAULT, PAGES, Ran, all_again, calls_of, crashed, device_of, formatted, run_over,
 };
 use crate::trial::Outcome;
 use disk_mem::{Call, MemDisk};
@@ -47,6 +47,22 @@ const FOUND: [&[u8]; 4] = [
       1 b 5 looked 3\n1 b 5 unlooked\n1 b 6 done\n",
 ];
 
+// A read that fails writes nothing and so stops nothing: it ends the item that asked for the page, and the items behind
+// it go on. The first item asks for each page that the script needs, and it is read then. So where a read of the pages
+// fails there is no table, and the two commits behind it declare snapshots without one.
+const READ_FAILED: &[u8] =
+    b"phase 1\nsession a\nitem 1\nrefused 2 DiskFault pages 1\nitem 2\nrefused 20 UnknownName\ncommitted as 1\n\
+      item 3\nrefused 20 UnknownName\ncommitted as 2\nitem 4\nrefused 20 UnknownName\n\
+      item 5\nrefused 20 UnknownName\nitem 6\nrefused 20 UnknownName\njournal\n1 a 1 fault pages 1\n\
+      1 a 2 done as 1\n1 a 3 done as 2\n1 a 4 looked 2\n1 a 4 refused 20\n1 a 5 looked all\n1 a 5 refused 20\n";
+
+const FOUND_NO_TABLE: &[u8] =
+    b"phase 1\nsession b\nitem 1\nrefused 20 UnknownName\nitem 2\nrefused 20 UnknownName\n\
+      item 3\nrefused 20 UnknownName\nitem 4\nrefused 20 UnknownName\nitem 5\nrefused 9 NoSuchSnapshot 3 2\n\
+      item 6\nrefused 20 UnknownName\ncommitted\n\
+      journal\n1 b 1 looked all\n1 b 1 refused 20\n1 b 3 looked 1\n1 b 3 refused 20\n1 b 4 looked 2\n\
+      1 b 4 refused 20\n1 b 5 refused 9\n1 b 6 done\n";
+
 // What a run says of a device whose first fault ended the opening, and how a line of its journal ends that tells one.
 const TOLD: [(&[u8], &[u8]); 4] = [
     (b"retro: disk fault on log 1\n", b" fault log 1"),
@@ -83,10 +99,13 @@ fn tells_fault(outcome: &Outcome, device: usize) -> bool {
     outcome.is(6, refused) || (outcome.status == 6 && has_line_with(outcome.text.as_slice(), end))
 }
 
-// Whether a run found so many commits, or, where one may be in doubt, one more.
-fn has_found(outcome: &Outcome, count: usize, is_in_doubt: bool) -> bool {
+// Whether a run found as many commits as one before it told as done, or, where one may be in doubt, one more.
+fn has_found(outcome: &Outcome, told: &[u8], is_in_doubt: bool) -> bool {
+    if told == READ_FAILED {
+        return outcome.is(0, FOUND_NO_TABLE);
+    }
     let most = if is_in_doubt { 2 } else { 1 };
-    for found in FOUND.iter().skip(count).take(most) {
+    for found in FOUND.iter().skip(acknowledged(told)).take(most) {
         if outcome.is(0, found) {
             return true;
         }
@@ -94,16 +113,16 @@ fn has_found(outcome: &Outcome, count: usize, is_in_doubt: bool) -> bool {
     false
 }
 
-// Whether what was acknowledged is read over these devices.
+// Whether what a run acknowledged, which told this, is read over these devices.
 fn is_read<R: Threads + Wait + Sync>(
     rt: &R,
     alloc: Global,
     four: Four<MemDisk>,
-    count: usize,
+    told: &[u8],
     is_in_doubt: bool,
 ) -> bool {
     match run_over(rt, alloc, four, LOOKS) {
-        Some(ran) => has_found(&ran.outcome, count, is_in_doubt),
+        Some(ran) => has_found(&ran.outcome, told, is_in_doubt),
         None => false,
     }
 }
@@ -125,9 +144,9 @@ fn is_read_on<R: Threads + Wait + Sync>(
     fill: Option<u8>,
     is_in_doubt: bool,
 ) -> bool {
-    let count = acknowledged(ran.outcome.text.as_slice());
+    let told = ran.outcome.text.as_slice();
     match image(alloc, &ran.four, fill) {
-        Some(four) => is_read(rt, alloc, four, count, is_in_doubt),
+        Some(four) => is_read(rt, alloc, four, told, is_in_doubt),
         None => false,
     }
 }
@@ -147,12 +166,18 @@ fn is_read_behind<R: Threads + Wait + Sync>(
     true
 }
 
+fn is_read_of_pages(fault: Fault) -> bool {
+    fault.device == PAGES && matches!(fault.kind, Some(Call::Read))
+}
+
 // Whether a run that met a fault, or none, ends as it should.
 fn is_told(ran: &Ran, fault: Fault, is_met: bool) -> bool {
-    if is_met {
-        tells_fault(&ran.outcome, fault.device)
-    } else {
+    if !is_met {
         ran.outcome.is(0, ALL_TOLD)
+    } else if is_read_of_pages(fault) {
+        ran.outcome.is(6, READ_FAILED)
+    } else {
+        tells_fault(&ran.outcome, fault.device)
     }
 }
 
@@ -249,6 +274,15 @@ fn has_at_least(counts: Option<[u64; 4]>, least: [u64; 4]) -> bool {
 fn a_failing_log_loses_nothing_acknowledged(rt: HostRuntime) -> Result<(), Fail> {
     let counts = sweep(&rt, rt.alloc(), 0);
     assert!(rt; has_at_least(counts, [3, 6, 7, 16]), "{counts:?}");
+    Ok(())
+}
+
+// An opening syncs the pages. The first item reads three of them and writes all three, and so each is written back and
+// synced.
+#[test]
+fn failing_pages_lose_nothing_acknowledged(rt: HostRuntime) -> Result<(), Fail> {
+    let counts = sweep(&rt, rt.alloc(), 1);
+    assert!(rt; has_at_least(counts, [3, 3, 2, 8]), "{counts:?}");
     Ok(())
 }
 
