@@ -6,14 +6,22 @@ import meaning
 import rql
 from breaking import break_bytes, break_script, break_tokens
 from grammar import parse
-from refusals import Refused
-from script import Item, class_of, trimmed
+from refusals import BadScript, Refused
+from script import Item, class_of, read, trimmed
 from sentences import RESULT_NAMES, SNAP_SOURCE, Sentences, quoted, spaced
 from transcript import Run
 
 SESSION_NAMES = ("a", "b", "c", "s1", "0", "z" * 16)
 LABELS = ("", "one", "two", "it's", "a,b", 'q"q', "x" * 64)
 NOISE = (b"", b"# a remark", b"-- a remark", b"   ", b"\t", b";", b" ; ", b"--", b"#;")
+
+
+def share_a_phase(lines):
+    """Whether two sessions stand in one phase: then each order of them is lawful, and the model has but one."""
+    try:
+        return any(len(sessions) > 1 for sessions in read(b"\n".join(lines)))
+    except BadScript:
+        return False
 
 
 class Maker:
@@ -244,6 +252,7 @@ class Maker:
     def script(self):
         self.body()
         lines = break_script(self.lines, self.dice) if self.odds(0.05) else self.lines
+        lines = self.lines if share_a_phase(lines) else lines
         end = b"\r\n" if self.odds(0.05) else b"\n"
         text = end.join(lines) + (b"" if self.odds(0.05) else end)
         return text
