@@ -1,7 +1,5 @@
 //! Rows that fit the columns of their table.
 
-ghost use Rattle.std.specs.Prelude.{◌≡◌};
-
 use heap_file::{Placed, Sieve};
 use pager::broken;
 use retro_base::Refusal;
