@@ -5,3 +5,5 @@ pub mod Packing
 pub mod Ways
 pub mod Routes
 pub mod Fronts
+pub mod Sieves
+pub mod Sifts

@@ -10,7 +10,8 @@ use Rattle.heap_file.specs.declared.page.Entry.{Entry}
 use Rattle.heap_file.specs.declared.page.HeapPage.{HeapPage}
 use Rattle.pager.specs.Allows.{◌>>=◌, only, either}
 use Rattle.heap_file.specs.declared.chain.Link.{Link}
-use Rattle.heap_file.specs.Chain.{IsAt, HoldsStill, heap_page, last_page, met}
+use Rattle.heap_file.specs.declared.chain.Placed.{Placed}
+use Rattle.heap_file.specs.Chain.{IsAt, HoldsStill, heap_page, last_page, met, scanned}
 use Rattle.heap_file.specs.HeapPage.{empty_page, have_room, page_bytes}
 
 -- a page is taken for a table without rows
@@ -24,6 +25,13 @@ abbrev pub next_of : ℕ → Pages → ℕ → Result ℕ Refusal → Type 0
 next_of size pages first = do
   head ← heap_page size pages first
   only (Ok head.next_number)
+
+-- the rows of a table, in rising number, and its next row number
+abbrev pub scanned_with_next : ℕ → Pages → ℕ → Result (List Placed × ℕ) Refusal → Type 0
+scanned_with_next size pages first = do
+  rows ← scanned size pages first
+  next ← next_of size pages first
+  only (Ok (rows, next))
 
 -- the place of the first entry of that number, or none where no entry has it
 abbrev pub place_of : ℕ → List Entry → Option ℕ

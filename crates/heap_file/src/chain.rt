@@ -1,14 +1,14 @@
 //! Chains of heap pages.
 
-ghost use Rattle.std.specs.Prelude.{◌≡◌, ◌<◌, ◌++◌, All, IfErr, IfOk, OnOk};
+ghost use Rattle.std.specs.Prelude.{◌≡◌, ◌<◌, IfErr, IfOk, OnOk};
 ghost use Rattle.retro_base.specs.declared.refusal.Refusal.TheVariants.{OutOfMemory};
 ghost use Rattle.heap_file.specs.HeapPage.{IsHeapPage, IsNarrow, page_bytes};
 ghost use Rattle.pager.specs.Draft.{Reads, drafted};
 ghost use Rattle.pager.specs.Pages.{Pages, with_bytes};
 ghost use Rattle.pager.specs.Stop.{OnlyReads};
-ghost use Rattle.heap_file.specs.Chain.{IsWritable, chain, heap_page, rows_of, rows_on};
+ghost use Rattle.heap_file.specs.Chain.{heap_page};
 
-use crate::page::{Entry, HeapPage, held, page_of};
+use crate::page::{HeapPage, held, page_of};
 use pager::{Draft, Pager, Stop, broken};
 use retro_base::Refusal;
 use std::alloc::Global;
@@ -66,57 +66,5 @@ pub fn store(alloc: Global, draft: &mut Draft, page: u32, held: &HeapPage) -> Re
 {
     let bytes = page_of(alloc, held)?;
     draft.put(page, &bytes)?;
-    Ok(())
-}
-
-/// The chain that begins with that page.
-pub fn chain<P: Pager>(
-    alloc: Global,
-    pager: &mut P,
-    draft: &Draft,
-    first: u32,
-) -> Result<Vec<Link>, Stop<P::Fault>>
-    requires { draft.now.size ≡ P.size pager.old }
-    ensures read { Reads (λ links. links.items) (P.tells pager.new) draft.now.list
-        (λ pages. chain draft.now.size pages first) result }
-    ensures only_reads { OnlyReads P.tells P.goes P.size P.faults pager.old pager.new result }
-    ensures writable { IfOk result (λ links. All (IsWritable draft.now.size) links.items) }
-{
-    let mut links = Vec::new(alloc);
-    let mut page = first;
-    'pages: for _ in 0..draft.size() {
-        let held = load(alloc, pager, draft, page)?;
-        let next = held.next;
-        links.push(Link { page, held })?;
-        if next == 0 {
-            return Ok(links);
-        }
-        page = next;
-    }
-    Err(Stop::Refused(broken(page)))
-}
-
-/// The rows of a chain, page by page; none is copied.
-pub fn rows_of(alloc: Global, links: Vec<Link>) -> Result<Vec<Placed>, Refusal>
-    ensures rows { IfOk result (λ rows. rows.items ≡ rows_of links.items) }
-    ensures memory { IfErr result (λ why. why ≡ OutOfMemory) }
-{
-    let mut rows = Vec::new(alloc);
-    for link in links {
-        push_rows(link, &mut rows)?;
-    }
-    Ok(rows)
-}
-
-// Appends the rows of a page.
-fn push_rows(link: Link, rows: &mut Vec<Placed>) -> Result<(), Refusal>
-    ensures rows { OnOk result (rows.new.items ≡ rows.old.items ++ rows_on link) }
-    ensures memory { IfErr result (λ why. why ≡ OutOfMemory) }
-{
-    let Link { page, held } = link;
-    for entry in Vec::from(held.entries) {
-        let Entry { number, row } = entry;
-        rows.push(Placed { number, page, row })?;
-    }
     Ok(())
 }

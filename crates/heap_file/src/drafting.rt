@@ -3,19 +3,20 @@
 ghost use Rattle.std.specs.Prelude.{◌≡◌, ◌≤◌, ◌<◌, ◌==◌, ◌++◌, ◌∷◌, [], not, IsTrue, IfOk, IfSome, length};
 ghost use Rattle.pager.specs.Draft.{Drafts, Reads};
 ghost use Rattle.pager.specs.Stop.{OnlyDrafts, OnlyReads};
-ghost use Rattle.heap_file.specs.Chain.{HoldsStill, InOrder, IsWritable, linked, scanned};
+ghost use Rattle.heap_file.specs.Chain.{HoldsStill, IsWritable, linked};
 ghost use Rattle.heap_file.specs.HeapPage.{IsEntry, IsHeapPage, IsShort, have_room};
 ghost use Rattle.std.specs.List.{insert};
 ghost use Rattle.heap_file.specs.Work.{added, changed, got, made, next_of, on_link, without, place_of};
 
 use crate::appending::{append, append_with_head};
-use crate::chain::{Link, Placed, chain, load, rows_of, store};
+use crate::chain::{Link, load, store};
 pub use crate::filling::add_all;
 use crate::page::{Entry, HeapPage, has_room};
 pub use crate::removing::{Cursor, remove, remove_at};
+pub use crate::scanning::{scan, scan_by, scan_with_next};
 use pager::{Draft, Pager, Stop, broken, take};
 use retro_base::Refusal;
-use std::alloc::{AllocError, AllocFailed, Global};
+use std::alloc::{AllocFailed, Global};
 use values::{Duplicate, Row, Seq};
 
 /// Drafts a table without rows: takes its first page.
@@ -112,33 +113,6 @@ pub(crate) fn place_of(entries: &[Entry], number: u64) -> Option<usize>
     ensures { result ≡ place_of number entries.now }
 {
     entries.iter().position(|entry| entry.number == number)
-}
-
-/// The rows of the table that begins with that page, in rising number.
-pub fn scan<P: Pager>(
-    alloc: Global,
-    pager: &mut P,
-    draft: &Draft,
-    first: u32,
-) -> Result<Vec<Placed>, Stop<P::Fault>>
-    requires { draft.now.size ≡ P.size pager.old }
-    ensures scanned { Reads (λ rows. rows.items) (P.tells pager.new) draft.now.list
-        (λ pages. scanned draft.now.size pages first) result }
-    ensures only_reads { OnlyReads P.tells P.goes P.size P.faults pager.old pager.new result }
-{
-    let links = chain(alloc, pager, draft, first)?;
-    Ok(in_order(rows_of(alloc, links)?)?)
-}
-
-// These rows in rising number: as they stand, where no row that grew went to a later page.
-fn in_order(rows: Vec<Placed>) -> Result<Vec<Placed>, AllocError>
-    ensures { IfOk result (λ sorted. InOrder rows.items sorted.items) }
-{
-    let mut rows = rows;
-    if !rows.is_sorted_by_key(|placed| placed.number) {
-        rows.sort_by_key(|placed| placed.number)?;
-    }
-    Ok(rows)
 }
 
 /// A page without the entry at that place.

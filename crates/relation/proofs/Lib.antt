@@ -7,3 +7,4 @@ pub mod Halves
 pub mod Listed
 pub mod Reached
 pub mod Spots
+pub mod CatalogScan

@@ -1,5 +1,5 @@
 -- What the calls answer, and what they do to the pages.
-use Rattle.std.specs.Prelude.{◌≡◌, ◌+◌, ◌==◌, ℕ, true, List, [], ◌∷◌, map, Option, Some, None, Result, Ok, Err, if◌then◌else◌}
+use Rattle.std.specs.Prelude.{◌≡◌, ◌+◌, ◌==◌, ℕ, Bool, true, List, [], ◌∷◌, map, Option, Some, None, Result, Ok, Err, if◌then◌else◌}
 use Rattle.std.specs.List.{AllByRecursion}
 use Rattle.std.specs.List.Sorted.{IsNonDecreasingBy, IsPermutation}
 use Rattle.retro_base.specs.declared.refusal.Refusal.{Refusal}
@@ -10,7 +10,7 @@ use Rattle.sql_tree.specs.declared.statement.Column.{Column as TableColumn}
 use Rattle.pager.specs.Pages.{Pages, broken}
 use Rattle.heap_file.specs.declared.chain.Placed.{Placed}
 use Rattle.pager.specs.Allows.{◌>>=◌, only}
-use Rattle.heap_file.specs.Chain.{scanned}
+use Rattle.heap_file.specs.Sieving.{sifted}
 use Rattle.heap_file.specs.Work.{added, changed, got, made, next_of, removed}
 use Rattle.pager.specs.declared.index.Found.{Found}
 use Rattle.relation.specs.declared.catalog.StoredIndex.{StoredIndex}
@@ -22,6 +22,7 @@ use Rattle.relation.specs.declared.row.IndexForm.TheVariants.{Tree}
 use Rattle.relation.specs.Catalog.{catalog, schema_of, table_named}
 use Rattle.relation.specs.CatalogRow.{row_values}
 use Rattle.relation.specs.Each.{each, each_in_turn, each_some, in_turn}
+use Rattle.relation.specs.Sieving.{fitting, passing_found}
 use Rattle.relation.specs.Entries.{EditsIndex, entries_edited, entries_of, rows_listed, rows_moved}
 use Rattle.relation.specs.declared.drafting.RowChange.{RowChange}
 use Rattle.relation.specs.declared.listing.Moved.{Moved}
@@ -50,19 +51,17 @@ next_in size pages name = do
   table ← table_in size pages name
   next_of size pages table.first
 
--- a row that fits the columns; one that does not breaks its page
-abbrev pub fitting : List TableColumn → Placed → Result Placed Refusal
-fitting columns placed = if fits columns placed.row then Ok placed else Err (broken placed.page)
-
 -- each row fits the columns
 abbrev pub AllPlacedFit : List TableColumn → List Placed → Type 0
 AllPlacedFit columns rows = AllByRecursion (λ (placed : Placed). fits columns placed.row ≡ true) rows
 
+-- The rows of a table that pass a test, in rising number. Each is to fit the columns.
+abbrev pub rows_by : (Placed → Result Bool Refusal) → ℕ → Pages → StoredTable → Result (List Placed) Refusal → Type 0
+rows_by passes size pages table = sifted (fitting table.columns passes) size pages table.first
+
 -- the rows of a table, in rising number
 abbrev pub rows_at : ℕ → Pages → StoredTable → Result (List Placed) Refusal → Type 0
-rows_at size pages table = do
-  rows ← scanned size pages table.first
-  each (λ placed. only (fitting table.columns placed)) rows
+rows_at size pages table = rows_by (λ placed. Ok true) size pages table
 
 -- the rows of the table of that name, in rising number
 abbrev pub rows_in : ℕ → Pages → List ℕ → Result (List Placed) Refusal → Type 0
@@ -210,24 +209,23 @@ by_number found (Ok sorted) =
     IsPermutation found sorted × IsNonDecreasingBy (λ (entry : Found). entry.number) sorted
 by_number found (Err why) = ⊥
 
--- a row that was found, where it is there; one that does not fit the columns breaks its page
-abbrev pub fitting_found : List TableColumn → Found → Option (List Value) → Result (Option Placed) Refusal
-fitting_found columns entry None = Ok None
-fitting_found columns entry (Some row) =
-    if fits columns row then Ok (Some (record { number = entry.number; page = entry.page; row = row }))
-    else Err (broken entry.page)
-
--- the row of an entry, where its page holds it
-abbrev pub row_found : ℕ → Pages → List TableColumn → Found → Result (Option Placed) Refusal → Type 0
-row_found size pages columns entry = do
+-- the row of an entry, where its page holds it and it passes
+abbrev pub row_found : (Placed → Result Bool Refusal) → ℕ → Pages → Found → Result (Option Placed) Refusal → Type 0
+row_found passes size pages entry = do
   row ← got size pages entry.page entry.number
-  only (fitting_found columns entry row)
+  only (passing_found passes entry row)
 
 -- The rows of a table whose value in the column of an index is at least `low` and at most `high`, in rising number, as
--- the index lists them; an entry whose row is not on its page is passed over.
-abbrev pub ranged_at : (ℕ → ℕ → Value → Value → Pages → Result (List Found) Refusal → Type 0) → ℕ → Pages → StoredTable
-    → StoredIndex → Value → Value → Result (List Placed) Refusal → Type 0
-ranged_at range size pages table index low high = do
+-- the index lists them, and that pass a test; an entry whose row is not on its page is passed over. Each row is to fit
+-- the columns.
+abbrev pub ranged_by : (Placed → Result Bool Refusal) → (ℕ → ℕ → Value → Value → Pages → Result (List Found) Refusal → Type 0)
+    → ℕ → Pages → StoredTable → StoredIndex → Value → Value → Result (List Placed) Refusal → Type 0
+ranged_by passes range size pages table index low high = do
   found ← range size index.root low high pages
   sorted ← by_number found
-  each_some (row_found size pages table.columns) sorted
+  each_some (row_found (fitting table.columns passes) size pages) sorted
+
+-- the same of every row
+abbrev pub ranged_at : (ℕ → ℕ → Value → Value → Pages → Result (List Found) Refusal → Type 0) → ℕ → Pages → StoredTable
+    → StoredIndex → Value → Value → Result (List Placed) Refusal → Type 0
+ranged_at range size pages table index low high = ranged_by (λ placed. Ok true) range size pages table index low high

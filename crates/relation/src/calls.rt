@@ -3,16 +3,17 @@
 ghost use Rattle.std.specs.Prelude.{◌≡◌, ◌≤◌, All, IfOk, length};
 ghost use Rattle.pager.specs.Stop.{Accounts, Answers, Makes, OnlyReads};
 ghost use Rattle.heap_file.specs.HeapPage.{IsShort};
+ghost use Rattle.heap_file.specs.Sieving.{AllPass};
 ghost use Rattle.heap_file.specs.Work.{next_of};
 ghost use Rattle.values.specs.Value.{kind_of};
 ghost use Rattle.relation.specs.Catalog.{HaveFewColumns, catalog};
-ghost use Rattle.relation.specs.Work.{AllPlacedFit, created, ranged_at, rows_at, table_deleted, table_indexed, table_inserted, table_updated};
+ghost use Rattle.relation.specs.Work.{AllPlacedFit, created, ranged_at, ranged_by, rows_at, rows_by, table_deleted, table_indexed, table_inserted, table_updated};
 ghost use Rattle.relation.specs.declared.drafting.RowChange.{RowChange};
 
 use crate::catalog::{Catalog, StoredIndex, StoredTable, read_catalog};
 use crate::drafting::{self, RowChange};
 use crate::ranging;
-use heap_file::Placed;
+use heap_file::{Everything, Placed, Sieve};
 use pager::{Draft, EditPager, Index, Pager, Stop};
 use sql_tree::Column;
 use std::alloc::Global;
@@ -40,8 +41,25 @@ pub fn rows<P: Pager>(
     ensures fitting { IfOk result (λ rows. AllPlacedFit table.now.columns rows.items) }
     ensures only_reads { OnlyReads P.tells P.goes P.size P.faults pager.old pager.new result }
 {
+    rows_by(alloc, pager, table, Everything)
+}
+
+/// The rows of a table that pass, in rising number, each with the page where it stands. No other row is held for longer
+/// than its page. Refused where a row does not fit the columns, passing or not.
+pub fn rows_by<S: Sieve + Drop, P: Pager>(
+    alloc: Global,
+    pager: &mut P,
+    table: &StoredTable,
+    sieve: S,
+) -> Result<Vec<Placed>, Stop<P::Fault>>
+    ensures rows { Answers (λ rows. rows.items) (P.tells pager.new)
+        (λ pages. rows_by (S.passes sieve) (P.size pager.old) pages table.now) result }
+    ensures passed { IfOk result (λ rows. AllPass (S.passes sieve) rows.items) }
+    ensures fitting { IfOk result (λ rows. AllPlacedFit table.now.columns rows.items) }
+    ensures only_reads { OnlyReads P.tells P.goes P.size P.faults pager.old pager.new result }
+{
     let draft = Draft::new(alloc, pager.size());
-    drafting::rows(alloc, pager, &draft, table)
+    drafting::rows_by(alloc, pager, &draft, table, sieve)
 }
 
 /// The rows of a table whose value in the column of one of its indexes is at least `low` and at most `high`, in rising
@@ -60,8 +78,29 @@ pub fn ranged<I: Index, P: Pager>(
     ensures fitting { IfOk result (λ rows. AllPlacedFit table.now.columns rows.items) }
     ensures only_reads { OnlyReads P.tells P.goes P.size P.faults pager.old pager.new result }
 {
+    ranged_by::<I, Everything, P>(alloc, pager, table, index, low, high, Everything)
+}
+
+/// Those of these rows that pass. Refused where a row does not fit the columns, passing or not.
+pub fn ranged_by<I: Index, S: Sieve + Drop, P: Pager>(
+    alloc: Global,
+    pager: &mut P,
+    table: &StoredTable,
+    index: &StoredIndex,
+    low: &Value,
+    high: &Value,
+    sieve: S,
+) -> Result<Vec<Placed>, Stop<P::Fault>>
+    requires { kind_of low.now ≡ kind_of high.now }
+    ensures ranged { Answers (λ rows. rows.items) (P.tells pager.new)
+        (λ pages. ranged_by (S.passes sieve) I.ranged (P.size pager.old) pages table.now index.now low.now high.now)
+        result }
+    ensures passed { IfOk result (λ rows. AllPass (S.passes sieve) rows.items) }
+    ensures fitting { IfOk result (λ rows. AllPlacedFit table.now.columns rows.items) }
+    ensures only_reads { OnlyReads P.tells P.goes P.size P.faults pager.old pager.new result }
+{
     let draft = Draft::new(alloc, pager.size());
-    ranging::ranged::<I, P>(alloc, pager, &draft, table, index, low, high)
+    ranging::ranged_by::<I, S, P>(alloc, pager, &draft, table, index, low, high, sieve)
 }
 
 /// The next row number of a table.

@@ -121,8 +121,7 @@ fn read_rows<P: Pager>(
         (λ pages. catalog_rows draft.now.size pages) result }
     ensures only_reads { OnlyReads P.tells P.goes P.size P.faults pager.old pager.new result }
 {
-    let rows = drafting::scan(alloc, pager, draft, CATALOG)?;
-    let next = drafting::next_number(alloc, pager, draft, CATALOG)?;
+    let (rows, next) = drafting::scan_with_next(alloc, pager, draft, CATALOG)?;
     if next != rows.len() as u64 {
         return Err(Stop::Refused(broken(CATALOG)));
     }

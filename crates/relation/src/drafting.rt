@@ -5,26 +5,24 @@ ghost use Rattle.std.specs.Prelude.{◌≡◌, ◌≤◌, All, IfOk, IfSome, Opt
 ghost use Rattle.pager.specs.Draft.{Drafts, Reads, drafted};
 ghost use Rattle.pager.specs.Pages.{Pages};
 ghost use Rattle.pager.specs.Stop.{OnlyDrafts, OnlyReads};
-ghost use Rattle.pager.specs.Allows.{only};
 ghost use Rattle.heap_file.specs.Chain.{HoldsStill, IsWritable};
 ghost use Rattle.heap_file.specs.HeapPage.{IsShort};
+ghost use Rattle.heap_file.specs.Sieving.{AllPass};
 ghost use Rattle.heap_file.specs.declared.chain.Link.{Link};
 ghost use Rattle.relation.specs.declared.catalog.TheConstants.{CATALOG};
 ghost use Rattle.relation.specs.declared.drafting.RowChange.{RowChange};
 ghost use Rattle.relation.specs.declared.listing.Moved.{Moved};
 ghost use Rattle.relation.specs.CatalogRow.{row_values};
-ghost use Rattle.relation.specs.Each.{TellsPage, each};
-ghost use Rattle.relation.specs.Work.{AllPlacedFit, all_added, all_changed, all_placed, all_removed, created, fitting, row_changes, rows_at, rows_of_table, standing, table_deleted, table_indexed, table_inserted, table_updated};
-ghost use Rattle.sql_tree.specs.Rows.{fits};
+ghost use Rattle.relation.specs.Work.{AllPlacedFit, all_added, all_changed, all_placed, all_removed, created, row_changes, rows_at, rows_by, rows_of_table, standing, table_deleted, table_indexed, table_inserted, table_updated};
 
 use crate::catalog::{CATALOG, StoredIndex, StoredTable};
 use crate::listing::{EntryEdit, Moved, list_in, list_rows, move_rows};
 use crate::row::{column_values, index_values, table_values};
+use crate::sieving::Fitting;
 use heap_file::drafting::{self, Cursor};
-use heap_file::{Link, Placed};
-use pager::{Draft, Index, Pager, Stop, broken};
-use retro_base::Refusal;
-use sql_tree::{Column, fits};
+use heap_file::{Everything, Link, Placed, Sieve};
+use pager::{Draft, Index, Pager, Stop};
+use sql_tree::Column;
 use std::alloc::{AllocError, Global};
 use values::{Duplicate, Name, Row};
 
@@ -48,21 +46,27 @@ pub fn rows<P: Pager>(
     ensures fitting { IfOk result (λ rows. AllPlacedFit table.now.columns rows.items) }
     ensures only_reads { OnlyReads P.tells P.goes P.size P.faults pager.old pager.new result }
 {
-    let rows = drafting::scan(alloc, pager, draft, table.first)?;
-    check_rows(table.columns.as_slice(), &rows)?;
-    Ok(rows)
+    rows_by(alloc, pager, draft, table, Everything)
 }
 
-// Refused where a row does not fit the columns.
-fn check_rows(columns: &[Column], rows: &[Placed]) -> Result<(), Refusal>
-    ensures { TellsPage (λ u. rows.now) (each (λ placed. only (fitting columns.now placed)) rows.now) result }
+/// The rows of a table that pass, in rising number. Refused where a row does not fit the columns, passing or not.
+pub fn rows_by<S: Sieve + Drop, P: Pager>(
+    alloc: Global,
+    pager: &mut P,
+    draft: &Draft,
+    table: &StoredTable,
+    sieve: S,
+) -> Result<Vec<Placed>, Stop<P::Fault>>
+    requires { draft.now.size ≡ P.size pager.old }
+    ensures rows { Reads (λ rows. rows.items) (P.tells pager.new) draft.now.list
+        (λ pages. rows_by (S.passes sieve) draft.now.size pages table.now) result }
+    ensures passed { IfOk result (λ rows. AllPass (S.passes sieve) rows.items) }
+    ensures fitting { IfOk result (λ rows. AllPlacedFit table.now.columns rows.items) }
+    ensures only_reads { OnlyReads P.tells P.goes P.size P.faults pager.old pager.new result }
 {
-    for placed in rows {
-        if !fits(columns, placed.row.as_slice()) {
-            return Err(broken(placed.page));
-        }
-    }
-    Ok(())
+    let columns = table.columns.as_slice();
+    let mut sieve = Fitting { columns, sieve };
+    drafting::scan_by(alloc, pager, draft, table.first, &mut sieve)
 }
 
 /// Drafts a table without rows.

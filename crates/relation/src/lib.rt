@@ -8,10 +8,12 @@ mod listing;
 mod named;
 mod ranging;
 mod row;
+mod sieving;
 
 pub use calls::{
-    create_index, create_table, delete, insert, next_number, open, ranged, rows, update,
+    create_index, create_table, delete, insert, next_number, open, ranged, ranged_by, rows,
+    rows_by, update,
 };
 pub use catalog::{Catalog, StoredIndex, StoredTable};
 pub use drafting::RowChange;
-pub use heap_file::Placed;
+pub use heap_file::{Placed, Sieve};

@@ -1,28 +1,29 @@
 //! The rows that an index finds.
 
-ghost use Rattle.std.specs.Prelude.{◌≡◌, None, Some, MatchOption, IfOk, IfSome};
+ghost use Rattle.std.specs.Prelude.{◌≡◌, None, Ok, Some, true, MatchOption, IfErr, IfOk, IfSome};
+ghost use Rattle.retro_base.specs.Gives.{Gives};
 ghost use Rattle.std.specs.List.Sorted.{IsNonDecreasingBy, IsPermutation};
-ghost use Rattle.sql_tree.specs.Rows.{fits};
 ghost use Rattle.values.specs.Value.{kind_of};
-ghost use Rattle.pager.specs.Allows.{only};
 ghost use Rattle.pager.specs.Draft.{Reads};
-ghost use Rattle.pager.specs.Stop.{OnlyReads};
+ghost use Rattle.pager.specs.Stop.{IsOfReading, OnlyReads};
 ghost use Rattle.pager.specs.declared.index.Found.{Found};
 ghost use Rattle.heap_file.specs.Work.{place_of, row_numbered};
-ghost use Rattle.relation.specs.Each.{TellsPage, each_some};
-ghost use Rattle.relation.specs.Work.{AllPlacedFit, fitting_found, ranged_at, row_found};
+ghost use Rattle.heap_file.specs.Sieving.{AllPass};
+ghost use Rattle.relation.specs.Each.{each_some};
+ghost use Rattle.relation.specs.Sieving.{passing_found};
+ghost use Rattle.relation.specs.Work.{AllPlacedFit, ranged_by, row_found};
 
 use crate::catalog::{StoredIndex, StoredTable};
-use heap_file::{Link, Placed, drafting};
-use pager::{Draft, Found, Index, Pager, Stop, broken};
+use crate::sieving::Fitting;
+use heap_file::{Link, Placed, Sieve, drafting};
+use pager::{Draft, Found, Index, Pager, Stop};
 use retro_base::Refusal;
-use sql_tree::{Column, fits};
 use std::alloc::{AllocError, Global};
 use values::{Duplicate, Row, Value};
 
-/// The rows of a table whose value in the column of an index is at least `low` and at most `high`, in rising number, as
-/// the index lists them.
-pub fn ranged<I: Index, P: Pager>(
+/// The rows of a table that pass and whose value in the column of an index is at least `low` and at most `high`, in
+/// rising number, as the index lists them. Refused where a row does not fit the columns, passing or not.
+pub fn ranged_by<I: Index, S: Sieve + Drop, P: Pager>(
     alloc: Global,
     pager: &mut P,
     draft: &Draft,
@@ -30,17 +31,21 @@ pub fn ranged<I: Index, P: Pager>(
     index: &StoredIndex,
     low: &Value,
     high: &Value,
+    sieve: S,
 ) -> Result<Vec<Placed>, Stop<P::Fault>>
     requires size { draft.now.size ≡ P.size pager.old }
     requires kind { kind_of low.now ≡ kind_of high.now }
     ensures ranged { Reads (λ rows. rows.items) (P.tells pager.new) draft.now.list
-        (λ pages. ranged_at I.ranged draft.now.size pages table.now index.now low.now high.now) result }
+        (λ pages. ranged_by (S.passes sieve) I.ranged draft.now.size pages table.now index.now low.now high.now) result }
+    ensures passed { IfOk result (λ rows. AllPass (S.passes sieve) rows.items) }
     ensures fitting { IfOk result (λ rows. AllPlacedFit table.now.columns rows.items) }
     ensures only_reads { OnlyReads P.tells P.goes P.size P.faults pager.old pager.new result }
 {
     let found = I::at(index.root).range_in(alloc, pager, draft, low, high)?;
     let sorted = by_number(found)?;
-    rows_found(alloc, pager, draft, table.columns.as_slice(), &sorted)
+    let columns = table.columns.as_slice();
+    let mut sieve = Fitting { columns, sieve };
+    rows_found(alloc, pager, draft, &sorted, &mut sieve)
 }
 
 // These entries in rising row number.
@@ -53,26 +58,26 @@ fn by_number(found: Vec<Found>) -> Result<Vec<Found>, AllocError>
     Ok(found)
 }
 
-// The rows of these entries, in order, each where its page holds it. A page that was read for the entry before is not
-// read again.
-fn rows_found<P: Pager>(
+// The rows of these entries that pass, in order, each where its page holds it. A page that was read for the entry before
+// is not read again.
+fn rows_found<S: Sieve, P: Pager>(
     alloc: Global,
     pager: &mut P,
     draft: &Draft,
-    columns: &[Column],
     found: &[Found],
+    sieve: &mut S,
 ) -> Result<Vec<Placed>, Stop<P::Fault>>
     requires size { draft.now.size ≡ P.size pager.old }
     ensures told { Reads (λ rows. rows.items) (P.tells pager.new) draft.now.list
-        (λ pages. each_some (row_found draft.now.size pages columns.now) found.now) result }
-    ensures fitting { IfOk result (λ rows. AllPlacedFit columns.now rows.items) }
+        (λ pages. each_some (row_found (S.passes sieve.old) draft.now.size pages) found.now) result }
+    ensures passed { IfOk result (λ rows. AllPass (S.passes sieve.old) rows.items) }
     ensures only_reads { OnlyReads P.tells P.goes P.size P.faults pager.old pager.new result }
 {
     let mut rows = Vec::new(alloc);
     let mut known = None;
     for entry in found {
         let link = drafting::page_at(alloc, pager, draft, known, entry.page)?;
-        if let Some(placed) = row_on(alloc, columns, &link, entry)? {
+        if let Some(placed) = row_on(alloc, &link, entry, sieve)? {
             rows.push(placed)?;
         }
         known = Some(link);
@@ -80,25 +85,30 @@ fn rows_found<P: Pager>(
     Ok(rows)
 }
 
-// The row of an entry, where the page holds it.
-fn row_on(
+// The row of an entry, where the page holds it and it passes.
+fn row_on<S: Sieve>(
     alloc: Global,
-    columns: &[Column],
     link: &Link,
     entry: &Found,
+    sieve: &mut S,
 ) -> Result<Option<Placed>, Refusal>
-    ensures { TellsPage (λ row. row)
-        (only (fitting_found columns.now entry.now (row_numbered entry.now.number link.now.held.entries))) result }
+    ensures found { Gives (λ row. row) result
+        (passing_found (S.passes sieve.old) entry.now (row_numbered entry.now.number link.now.held.entries)) }
+    ensures passed { IfOk result (λ row. IfSome row (λ placed. S.passes sieve.old placed ≡ Ok true)) }
+    ensures named { IfErr result IsOfReading }
+    ensures stays { S.passes sieve.new ≡ S.passes sieve.old }
 {
     let Found { number, page, .. } = *entry;
     let Some(row) = row_of(link, number) else {
         return Ok(None);
     };
-    if !fits(columns, row.as_slice()) {
-        return Err(broken(page));
-    }
     let row = row.copy(alloc)?;
-    Ok(Some(Placed { number, page, row }))
+    let placed = Placed { number, page, row };
+    if sieve.test(&placed)? {
+        Ok(Some(placed))
+    } else {
+        Ok(None)
+    }
 }
 
 // The row of that number on a page.

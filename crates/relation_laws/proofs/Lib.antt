@@ -36,6 +36,7 @@ pub mod Ranging
 pub mod Reaching
 pub mod Rereading
 pub mod Rising
+pub mod Sifted
 pub mod Singling
 pub mod Sparing
 pub mod TableStores

@@ -28,7 +28,8 @@ use Rattle.heap_laws.proofs.Counts.{keyed, keyed-cons, keyed-other, keyed-same, 
 use Rattle.heap_laws.proofs.Reading.{ok-one, read_law, rows-numbered}
 use Rattle.relation.specs.Each.{each_some}
 use Rattle.relation.specs.Entries.{entry_of}
-use Rattle.relation.specs.Work.{by_number, fitting_found, row_found, rows_at}
+use Rattle.relation.specs.Sieving.{fitting, passing_found}
+use Rattle.relation.specs.Work.{by_number, row_found, rows_at}
 use Rattle.relation.specs.declared.catalog.StoredTable.{StoredTable}
 use Rattle.relation_laws.specs.Laws.{RangedLaw, lies_between, value_between}
 use Rattle.relation_laws.specs.Tables.{AreEntriesOf, KeepsIndex, KeepsIndexes, numbered_row}
@@ -97,10 +98,10 @@ made-entry place placed entry e = go (slice_get placed.row place) refl e
 
 -- each entry's row is found
 module _ (size : ℕ) (pages : Pages) (columns : List TableColumn) (place : ℕ) (rows : List Placed) (there : (p : Placed) → Contains rows p → got size pages p.page p.number (Ok (Some p.row))) (fit : (p : Placed) → Contains rows p → fits columns p.row ≡ true) where
-  one-found : (e : Found) (p : Placed) → RowOf place rows e p → (a : Result (Option Placed) Refusal) → row_found size pages columns e a → a ≡ Ok (Some p)
+  one-found : (e : Found) (p : Placed) → RowOf place rows e p → (a : Result (Option Placed) Refusal) → row_found (fitting columns (λ placed. Ok true)) size pages e a → a ≡ Ok (Some p)
   one-found e p is a h =
       let made = made-entry place p e is.1 in
-      sym (goes-on (got size pages e.page e.number) (λ row. only (fitting_found columns e row)) (Some p.row)
+      sym (goes-on (got size pages e.page e.number) (λ row. only (passing_found (fitting columns (λ placed. Ok true)) e row)) (Some p.row)
       (λ b told. answers_are_one.get size pages e.page e.number b (Ok (Some p.row)) told (subst (λ (n : ℕ). got size pages e.page n (Ok (Some p.row))) (sym made.number) (subst (λ (q : ℕ). got size pages q p.number (Ok (Some p.row))) (sym made.page) (there p is.0)))) a h)
       ∙ (rw (fit p is.0) (λ i. Ok (Some (record { number = made.number i; page = made.page i; row = p.row }))))
 
@@ -109,7 +110,7 @@ module _ (size : ℕ) (pages : Pages) (columns : List TableColumn) (place : ℕ)
     is : answer ≡ Ok found
     zipped : AllZip (RowOf place rows) entries found
 
-  all-found : (entries : List Found) → ((e : Found) → Contains entries e → (p : Placed) × RowOf place rows e p) → (answer : Result (List Placed) Refusal) → each_some (row_found size pages columns) entries answer → AllFound entries answer
+  all-found : (entries : List Found) → ((e : Found) → Contains entries e → (p : Placed) × RowOf place rows e p) → (answer : Result (List Placed) Refusal) → each_some (row_found (fitting columns (λ placed. Ok true)) size pages) entries answer → AllFound entries answer
   all-found [] of answer h = record { found = []; is = sym h; zipped = tt }
   all-found (e ∷ entries) of (Ok y) (o, step, (rest, more, joined)) =
       let row = of e (contains-head e entries) in
@@ -237,8 +238,8 @@ ranged_law size pages all table stored index column low high rows answer store h
     listed_is : (a : Result (List Found) Refusal) → ranged size index.root low high pages a → a ≡ Ok (between low high entries)
     listed_is a h = tree.indexing.range size index.root low high pages kept.1.shape kept.0 a kept.1.lists kinds (kind_high ∙ sym kind_low) h
 
-    listed_work : (by_number (between low high entries) >>= each_some (row_found size pages stored.columns)) answer
-    listed_work = goes-on (ranged size index.root low high pages) (λ found. by_number found >>= each_some (row_found size pages stored.columns)) (between low high entries) listed_is answer work
+    listed_work : (by_number (between low high entries) >>= each_some (row_found (fitting stored.columns (λ placed. Ok true)) size pages)) answer
+    listed_work = goes-on (ranged size index.root low high pages) (λ found. by_number found >>= each_some (row_found (fitting stored.columns (λ placed. Ok true)) size pages)) (between low high entries) listed_is answer work
 
     unique-rows : (x y : Placed) → Contains rows x → Contains rows y → x.number ≡ y.number → x ≡ y
     unique-rows x y in_ also e =
@@ -292,7 +293,7 @@ ranged_law size pages all table stored index column low high rows answer store h
             let row : q.0 ≡ p = unique-rows q.0 p q.2.0 it.0 (sym (entry-named index.place q.0 e.0 q.2.1) ∙ entry-named index.place p e.0 e.1) in
             subst (Contains found.found) row q.1
 
-    by : (answer : Result (List Placed) Refusal) → (by_number (between low high entries) >>= each_some (row_found size pages stored.columns)) answer → answer ≡ Ok (filter (lies_between index.place low high) rows)
+    by : (answer : Result (List Placed) Refusal) → (by_number (between low high entries) >>= each_some (row_found (fitting stored.columns (λ placed. Ok true)) size pages)) answer → answer ≡ Ok (filter (lies_between index.place low high) rows)
     by (Ok y) (sorted, is, found) = finish sorted is (Ok y) (all-found size pages stored.columns index.place rows there fit sorted (row-of sorted is) (Ok y) found)
     by (Err why) (inl refused) = absurd refused
     by (Err why) (inr (sorted, is, found)) = finish sorted is (Err why) (all-found size pages stored.columns index.place rows there fit sorted (row-of sorted is) (Err why) found)

@@ -6,8 +6,10 @@ use Rattle.values.specs.declared.value.Value.{Value}
 use Rattle.sql_tree.specs.declared.statement.Column.{Column as TableColumn}
 use Rattle.pager.specs.Pages.{Pages}
 use Rattle.heap_file.specs.declared.chain.Placed.{Placed}
-use Rattle.pager.specs.Allows.{◌>>=◌, only}
+use Rattle.pager.specs.Allows.{◌>>=◌}
 use Rattle.heap_file.proofs.Ones.{next-one, only-one}
+use Rattle.heap_file.proofs.Sieves.{all-pass}
+use Rattle.heap_file.specs.Sieving.{passing}
 use Rattle.heap_laws.specs.Store.{WellFormed}
 use Rattle.heap_laws.specs.Table.{IsTable, OthersStay, Table as HeapTable}
 use Rattle.heap_laws.proofs.Reading.{ok-one, read_law}
@@ -17,14 +19,15 @@ use Rattle.relation.specs.declared.catalog.TheConstants.{CATALOG}
 use Rattle.relation.specs.declared.catalog.CatalogEntry.{CatalogEntry}
 use Rattle.relation.specs.Catalog.{catalog, catalog_rows, table_named}
 use Rattle.values.specs.Name.{same_name}
-use Rattle.relation.specs.Each.{each}
-use Rattle.relation.specs.Work.{fitting, or_broken, rows_at, table_in}
+use Rattle.relation.specs.Sieving.{fitting}
+use Rattle.relation.specs.Work.{or_broken, rows_at, table_in}
 use Rattle.sql_tree.specs.Rows.{fits}
 use Rattle.relation_laws.specs.Laws.{with_table}
 use Rattle.relation_laws.specs.Tables.{IsTableStore, PlainTable, PlainTables, ShowsTable, names_of, numbered_row}
-use Rattle.relation_laws.proofs.Catalogs.{catalog-one, each-one, goes-on}
+use Rattle.relation_laws.proofs.Catalogs.{catalog-one, goes-on}
 use Rattle.relation_laws.proofs.Lists.{contains-head, contains-cons, contains-map, different-split, one-keyed, zip-left, zip-map}
 use Rattle.relation_laws.proofs.Names.{first-apart, first-one, first_of, name-is, name-same, named-there}
+use Rattle.relation_laws.proofs.Sifted.{sifted-is}
 use Rattle.relation_laws.proofs.TableStores.{HoldsStill, IsTableStoreOf}
 
 -- the first pages of a store
@@ -85,22 +88,24 @@ pub by-name : {B : Type 0} (size : ℕ) (pages : Pages) (all : PlainTables) (tab
 by-name size pages all table is one f b h = goes-on (table_in size pages table.name) f one.stored (named-in size pages all table is one) b h
 
 -- rows that fit are read
-each-fits : (columns : List TableColumn) (rows : List Placed) → AllByRecursion (λ (row : ℕ × List Value). fits columns row.1 ≡ true) (map numbered_row rows) → each (λ placed. only (fitting columns placed)) rows (Ok rows)
-each-fits columns [] all = refl
-each-fits columns (row ∷ rows) all = (row, rw all.0 refl, (rows, each-fits columns rows all.1, refl))
+each-fits : (columns : List TableColumn) (rows : List Placed) → AllByRecursion (λ (row : ℕ × List Value). fits columns row.1 ≡ true) (map numbered_row rows) → AllByRecursion (λ (row : Placed). fitting columns (λ placed. Ok true) row ≡ Ok true) rows
+each-fits columns [] all = tt
+each-fits columns (row ∷ rows) all = (rw all.0 refl, each-fits columns rows all.1)
 
 -- the rows of a table of a store
+rows-fit : (size : ℕ) (pages : Pages) (all : PlainTables) (table : PlainTable) (is : IsTableStoreOf size pages all) (one : Single size pages all table is) → passing (fitting one.stored.columns (λ placed. Ok true)) one.shows.placed ≡ Ok one.shows.placed
+rows-fit size pages all table is one = all-pass (fitting one.stored.columns (λ placed. Ok true)) one.shows.placed (each-fits one.stored.columns one.shows.placed
+    (subst (λ (rows : List (ℕ × List Value)). AllByRecursion (λ (row : ℕ × List Value). fits one.stored.columns row.1 ≡ true) rows) one.shows.rows
+    (subst (λ (columns : List TableColumn). AllByRecursion (λ (row : ℕ × List Value). fits columns row.1 ≡ true) table.rows) one.shows.columns one.shows.fitting)))
+
 pub rows-here : (size : ℕ) (pages : Pages) (all : PlainTables) (table : PlainTable) (is : IsTableStoreOf size pages all) (one : Single size pages all table is) → rows_at size pages one.stored (Ok one.shows.placed)
-rows-here size pages all table is one = (one.shows.placed, one.shows.is_table.rows, each-fits one.stored.columns one.shows.placed fitting_here)
-  where
-    fitting_here : AllByRecursion (λ (row : ℕ × List Value). fits one.stored.columns row.1 ≡ true) (map numbered_row one.shows.placed)
-    fitting_here = subst (λ (rows : List (ℕ × List Value)). AllByRecursion (λ (row : ℕ × List Value). fits one.stored.columns row.1 ≡ true) rows) one.shows.rows
-        (subst (λ (columns : List TableColumn). AllByRecursion (λ (row : ℕ × List Value). fits columns row.1 ≡ true) table.rows) one.shows.columns one.shows.fitting)
+rows-here size pages all table is one = (one.shows.placed, one.shows.is_table.rows, rows-fit size pages all table is one)
 
 pub rows-read : (size : ℕ) (pages : Pages) (all : PlainTables) (table : PlainTable) (is : IsTableStoreOf size pages all) (one : Single size pages all table is) (a : Result (List Placed) Refusal) → rows_at size pages one.stored a → a ≡ Ok one.shows.placed
 rows-read size pages all table is one a told =
-    next-one _ _ (read_law.rows_one size pages (firsts_of is.store.found) is.store.held one.stored.first is.store.heap (has-first is.store.found one.stored one.has))
-    (λ rows. each-one _ (λ placed. only-one _) rows) a (Ok one.shows.placed) told (rows-here size pages all table is one)
+    sifted-is (fitting one.stored.columns (λ placed. Ok true)) size pages one.stored.first one.shows.placed one.shows.placed
+    (read_law.rows_one size pages (firsts_of is.store.found) is.store.held one.stored.first is.store.heap (has-first is.store.found one.stored one.has))
+    one.shows.is_table.rows (rows-fit size pages all table is one) a told
 
 -- what the catalog says goes by its rows alone
 pub rows-stay : (size : ℕ) (pages after : Pages) (told : List CatalogEntry) → ((table : HeapTable) → IsTable size pages CATALOG table → IsTable size after CATALOG table) → catalog_rows size pages (Ok told) → catalog_rows size after (Ok told)

@@ -3,8 +3,8 @@ use Rattle.std.proofs.lemmas.Map.Keys.{le_from_is_le}
 use Rattle.std.proofs.lemmas.List.Sorted.{IsNonDecreasingBy-from_sort_by_key, IsNonDecreasingBy-from_all_adjacent, IsPermutation-refl}
 use Rattle.std.proofs.lemmas.Fn.{always_returns_same}
 use Rattle.heap_file.specs.declared.chain.Placed.{Placed}
-use Rattle.heap_file.proofs.drafting.in_order.Goals as goal
-use Rattle.heap_file.proofs.drafting.in_order.Goals.{then-not-is_sorted_by_key+in_ok-sort_by_key, else-not-is_sorted_by_key}
+use Rattle.heap_file.proofs.scanning.in_order.Goals as goal
+use Rattle.heap_file.proofs.scanning.in_order.Goals.{then-not-is_sorted_by_key+in_ok-sort_by_key, else-not-is_sorted_by_key}
 
 pub returns : goal.returns
 returns c = elim c.if-not-is_sorted_by_key.branch [

@@ -1,5 +1,0 @@
-use Rattle.relation.proofs.calls.rows.Goals as goal
-
-pub returns-clause-rows : goal.returns-clause-rows
-returns-clause-rows g c = λ base shown told.
-    rw (c.new-draft.ensures, c.size.ensures) at (c.rows.ensures.rows base shown told)

@@ -1,0 +1,21 @@
+-- Tests of a table's rows.
+use Rattle.std.specs.Prelude.{Bool, List, Option, Some, None, Result, Ok, Err, if◌then◌else◌}
+use Rattle.retro_base.specs.Gives.{◌>>=◌}
+use Rattle.retro_base.specs.declared.refusal.Refusal.{Refusal}
+use Rattle.values.specs.declared.value.Value.{Value}
+use Rattle.sql_tree.specs.declared.statement.Column.{Column as TableColumn}
+use Rattle.sql_tree.specs.Rows.{fits}
+use Rattle.pager.specs.Pages.{broken}
+use Rattle.pager.specs.declared.index.Found.{Found}
+use Rattle.heap_file.specs.declared.chain.Placed.{Placed}
+
+-- a test after another: whether a row fits the columns; one that does not breaks its page
+abbrev pub fitting : List TableColumn → (Placed → Result Bool Refusal) → Placed → Result Bool Refusal
+fitting columns passes placed = if fits columns placed.row then passes placed else Err (broken placed.page)
+
+-- the row of an entry, where it is there and passes
+abbrev pub passing_found : (Placed → Result Bool Refusal) → Found → Option (List Value) → Result (Option Placed) Refusal
+passing_found passes entry None = Ok None
+passing_found passes entry (Some row) = do
+  stays ← passes (record { number = entry.number; page = entry.page; row = row })
+  Ok (if stays then Some (record { number = entry.number; page = entry.page; row = row }) else None)
