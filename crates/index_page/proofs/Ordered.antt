@@ -2,21 +2,16 @@
 use Rattle.std.proofs.Common.{◌≡◌, ◌<◌, ◌++◌, ◌∙◌, not, ℕ, zero, suc, Bool, true, false, cond, eqb, List, [], ◌∷◌, length, get_or, refl, sym, ap, subst, arith}
 use Rattle.std.specs.List.{AllByRecursion, filter}
 use Rattle.std.specs.List.Sorted.{IsStrictlySortedBy}
-use Rattle.std.specs.Cmp.{IsTotalOrder}
 use Rattle.std.specs.Ordering.{is_gt, is_lt, ordering_reverse}
 use Rattle.std.specs.declared.cmp.Ordering.{Ordering}
 use Rattle.std.specs.declared.cmp.Ordering.TheVariants.{Less, Equal, Greater}
 use Rattle.std.proofs.lemmas.Bool.{or_parts}
-use Rattle.std.proofs.lemmas.Cmp.{nat_cmp_total, on_total, then_total, tied_itself}
+use Rattle.std.proofs.lemmas.Cmp.{tied_itself}
 use Rattle.std.proofs.lemmas.List.Elements.{All-from_recursion}
-use Rattle.values.proofs.Orders.{value_total}
+use Rattle.pager.proofs.Orders.{found_total}
 use Rattle.pager.specs.Index.{IsInOrder, found_cmp, with_found, without_found}
 use Rattle.pager.specs.declared.index.Found.{Found}
 use Rattle.index_page.specs.Entries.{entry_inserted, is_behind, reaches, taken_out}
-
--- comparing entries is a total order
-pub found_total : IsTotalOrder found_cmp
-found_total = then_total (on_total (λ (found : Found). found.value) value_total) (on_total (λ (found : Found). found.number) nat_cmp_total)
 
 -- an entry that is not behind another is below it
 pub below_from : (o : Ordering) → not (is_lt o) ≡ false → o ≡ Less

@@ -1,13 +1,10 @@
 -- The page that is taken, and pages after a write.
-use Rattle.std.proofs.Common.{◌≡◌, ◌<◌, ◌≤◌, ◌+◌, ◌^◌, ◌∙◌, ◌&&◌, ℕ, Bool, true, false, cond, eqb, leb, ltb, List, Result, Ok, Err, inl, inr, refl, sym, ap, subst, arith}
+use Rattle.std.proofs.Common.{◌≡◌, ◌<◌, ◌≤◌, ◌+◌, ◌^◌, ◌∙◌, ◌&&◌, ℕ, Bool, true, false, cond, eqb, leb, ltb, List, Result, Ok, Err, refl, sym, ap, subst, arith}
 use Rattle.std.specs.Prelude.{slice_index}
 use Rattle.std.proofs.lemmas.Bool.{and_parts, eq-eqb, leb-true, ltb-true}
 use Rattle.retro_base.specs.Gives.{◌>>=◌}
 use Rattle.retro_base.specs.declared.refusal.Refusal.{Refusal}
 use Rattle.pager.specs.Pages.{Pages, with_bytes, broken}
-use Rattle.pager.specs.Stop.{AllowedStop}
-use Rattle.pager.specs.declared.stop.Stop.{Stop}
-use Rattle.pager.specs.declared.stop.Stop.TheVariants as stop
 use Rattle.pager.specs.Root.{behind_first, first_free, is_root, never_used, next_page, root_bytes, root_in, root_of, taken}
 use Rattle.pager.specs.declared.root.Root.{Root}
 use Rattle.index_page.specs.IndexPage.{AreWritable, page_bytes}
@@ -94,9 +91,3 @@ at-own size pages page held low there link is = record { low = low; there = ther
 -- another one holds what it held
 pub at-other : (size : ℕ) (pages : Pages) (page other : ℕ) (bytes : List ℕ) (held : IndexPage) → eqb page other ≡ false → IsIndexAt size pages page held → IsIndexAt size (with_bytes pages other bytes) page held
 at-other size pages page other bytes held differ is = record { low = is.low; there = is.there; holds = rw differ is.holds }
-
--- a refusal that is handed on is allowed where it was
-pub allowed_stop : {F : Type 0} {P Q : Refusal → Type 0} (e : Stop F) → ((why : Refusal) → P why → Q why) → AllowedStop P e → AllowedStop Q e
-allowed_stop (stop.Refused why) go (inl memory) = inl memory
-allowed_stop (stop.Refused why) go (inr allowed) = inr (go why allowed)
-allowed_stop (stop.Pager fault) go allowed = tt

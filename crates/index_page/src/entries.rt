@@ -6,31 +6,10 @@ ghost use Rattle.values.specs.Value.{value_cmp};
 ghost use Rattle.pager.specs.Index.{between, found_cmp, same_found};
 ghost use Rattle.index_page.specs.Entries.{entry_inserted, is_behind, is_past, entry_place, taken_out};
 
-use pager::Found;
+use pager::{Found, compare_found, compare_values};
 use std::alloc::{AllocError, AllocFailed, Global};
 use std::cmp::Ordering;
-use values::{Duplicate, Kind, Seq, Value, compare};
-
-// Compares two values of any kinds.
-fn order(a: &Value, b: &Value) -> Ordering
-    ensures { result ≡ value_cmp a.now b.now }
-{
-    match (a.kind(), b.kind()) {
-        (Kind::Int, Kind::Text) => Ordering::Less,
-        (Kind::Text, Kind::Int) => Ordering::Greater,
-        _ => compare(a, b),
-    }
-}
-
-// Compares two entries by value, and then by row number.
-fn compare_found(a: &Found, b: &Found) -> Ordering
-    ensures { result ≡ found_cmp a.now b.now }
-{
-    match order(&a.value, &b.value) {
-        Ordering::Equal => a.number.cmp(&b.number),
-        other => other,
-    }
-}
+use values::{Duplicate, Seq, Value};
 
 /// Whether an entry is below another.
 pub fn is_below(a: &Found, b: &Found) -> bool
@@ -115,7 +94,7 @@ pub fn take_out(entries: Seq<Found>, entry: &Found) -> Seq<Found>
 fn is_above(a: &Value, b: &Value) -> bool
     ensures { result ≡ is_gt (value_cmp a.now b.now) }
 {
-    order(a, b) == Ordering::Greater
+    compare_values(a, b) == Ordering::Greater
 }
 
 // Whether an entry's value is at least `low` and at most `high`.
@@ -123,7 +102,7 @@ fn is_between(found: &Found, low: &Value, high: &Value) -> bool
     ensures { result
         ≡ (not (is_lt (value_cmp found.now.value low.now)) && not (is_gt (value_cmp found.now.value high.now))) }
 {
-    order(&found.value, low) != Ordering::Less && !is_above(&found.value, high)
+    compare_values(&found.value, low) != Ordering::Less && !is_above(&found.value, high)
 }
 
 /// Whether some entry's value is above this one.

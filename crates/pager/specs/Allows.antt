@@ -1,6 +1,7 @@
 -- What may be answered, step by step: a step allows values and refusals, and the next step goes on with the value.
-use Rattle.std.specs.Prelude.{◌≡◌, ◌⊎◌, Bool, true, false, Result, Ok, Err}
+use Rattle.std.specs.Prelude.{◌≡◌, ◌⊎◌, Bool, true, false, List, [], ◌∷◌, Result, Ok, Err}
 use Rattle.retro_base.specs.declared.refusal.Refusal.{Refusal}
+use Rattle.pager.specs.Pages.{Pages}
 
 infixl 10 ◌>>=◌
 -- what a step allows, and then what the next allows of its value; a refusal of either is the answer
@@ -18,3 +19,11 @@ abbrev pub either : {A : Type 0} → Bool → (Result A Refusal → Type 0) → 
     → Type 0
 either true first second = first
 either false first second = second
+
+-- the pages after an edit for each item, each on the pages that the one before it left
+abbrev pub in_turn : {A X : Type 0} → (A → Pages → Result (X × Pages) Refusal → Type 0) → List A → Pages
+    → Result (Unit {0} × Pages) Refusal → Type 0
+in_turn step [] pages = only (Ok (tt, pages))
+in_turn step (x ∷ xs) pages = do
+  next ← step x pages
+  in_turn step xs next.1

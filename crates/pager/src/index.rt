@@ -4,6 +4,7 @@ ghost use Rattle.std.specs.Prelude.{◌≡◌, ℕ, List, Result};
 ghost use Rattle.retro_base.specs.declared.refusal.Refusal.{Refusal};
 ghost use Rattle.values.specs.Value.{kind_of};
 ghost use Rattle.values.specs.declared.value.Value.{Value};
+ghost use Rattle.pager.specs.Allows.{in_turn};
 ghost use Rattle.pager.specs.Draft.{Drafts, Reads};
 ghost use Rattle.pager.specs.Index.{IsIndexing, IsListed, IsShaped};
 ghost use Rattle.pager.specs.Pages.{Pages};
@@ -98,6 +99,26 @@ pub trait Index: Sized + Drop {
             (Self.added draft.old.size (Self.root self.now) entry.now) result }
         ensures only_drafts { OnlyDrafts P.tells P.goes P.size P.faults pager.old pager.new result }
         ensures size { draft.new.size ≡ draft.old.size };
+
+    /// Drafts that these entries are added, in order.
+    fn add_all_in<P: Pager>(
+        &self,
+        alloc: Global,
+        pager: &mut P,
+        draft: &mut Draft,
+        found: &[Found],
+    ) -> Result<(), Stop<P::Fault>>
+        requires { draft.old.size ≡ P.size pager.old }
+        ensures added { Drafts (λ u. u) (P.tells pager.new) draft.old.list draft.new.list
+            (in_turn (Self.added draft.old.size (Self.root self.now)) found.now) result }
+        ensures only_drafts { OnlyDrafts P.tells P.goes P.size P.faults pager.old pager.new result }
+        ensures size { draft.new.size ≡ draft.old.size }
+    {
+        for entry in found {
+            self.add_in(alloc, pager, draft, entry)?;
+        }
+        Ok(())
+    }
 
     /// Drafts that an entry is taken out. That takes no page.
     fn remove_in<P: Pager>(

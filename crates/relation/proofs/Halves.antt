@@ -2,15 +2,16 @@
 use Rattle.std.proofs.Common.{◌≡◌, ◌∙◌, ◌==◌, ℕ, Bool, true, false, List, [], ◌∷◌, Result, Ok, Err, cond, inl, inr, refl, sym, ap, subst, eqb-true}
 use Rattle.retro_base.specs.declared.refusal.Refusal.{Refusal}
 use Rattle.values.specs.declared.value.Value.{Value}
-use Rattle.pager.specs.Allows.{◌>>=◌, only}
+use Rattle.pager.specs.Allows.{◌>>=◌, in_turn, only}
 use Rattle.pager.specs.Pages.{Pages, broken}
 use Rattle.heap_file.specs.declared.chain.Placed.{Placed}
 use Rattle.heap_file.specs.Work.{added, changed, removed}
 use Rattle.relation.specs.declared.drafting.RowChange.{RowChange}
 use Rattle.relation.specs.declared.listing.Moved.{Moved}
-use Rattle.relation.specs.Each.{each, each_in_turn, in_turn}
-use Rattle.relation.proofs.Steps.{left_pages, ok_is, seconds}
+use Rattle.relation.specs.Each.{each, each_in_turn}
+use Rattle.relation.proofs.Steps.{ok_is, seconds}
 use Rattle.relation.specs.Work.{all_added, all_changed, all_placed, all_removed, change_of, placed_of, row_changes, row_placed}
+use Rattle.pager.proofs.Turns.{left_pages}
 
 -- the page where the row of that number stands; where none has it, the table's first page is told as broken
 abbrev pub page_of : ℕ → ℕ → List Placed → Result ℕ Refusal

@@ -1,10 +1,11 @@
-pub mod Fitting
-pub mod Steps
 pub mod Finding
-pub mod Told
-pub mod Naming
+pub mod Fitting
 pub mod Halves
 pub mod Listed
+pub mod Naming
 pub mod Reached
+pub mod Sorted
 pub mod Spots
 pub mod CatalogScan
+pub mod Steps
+pub mod Told

@@ -20,7 +20,8 @@ use Rattle.relation.specs.Sieving.{fitting, passing_found}
 use Rattle.relation.specs.Work.{AllPlacedFit, by_number, ranged_by, row_found}
 use Rattle.relation.specs.declared.catalog.StoredIndex.{StoredIndex}
 use Rattle.relation.specs.declared.catalog.StoredTable.{StoredTable}
-use Rattle.relation.proofs.Steps.{around, ok_is}
+use Rattle.relation.proofs.Steps.{ok_is}
+use Rattle.pager.proofs.Turns.{around}
 
 cons-append : {A : Type 0} (o : Option A) (xs ys : List A) → cons_option o (xs ++ ys) ≡ cons_option o xs ++ ys
 cons-append None xs ys = refl

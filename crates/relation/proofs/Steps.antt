@@ -1,7 +1,7 @@
 -- Steps for each item of a list.
-use Rattle.std.proofs.Common.{◌≡◌, ◌∙◌, ◌<◌, ◌+◌, ◌++◌, ◌⊎◌, ℕ, suc, List, [], ◌∷◌, length, get_or, take, drop, Option, Some, None, Result, Ok, Err, inl, inr, refl, sym, ap, subst, drop-cons}
+use Rattle.std.proofs.Common.{◌≡◌, ◌∙◌, ◌<◌, ◌+◌, ◌++◌, ◌⊎◌, ℕ, suc, List, [], ◌∷◌, length, get_or, take, drop, Option, Some, None, Result, Ok, Err, inl, inr, refl, sym, ap, subst}
 use Rattle.std.specs.List.{cons_option, filter_map}
-use Rattle.std.proofs.lemmas.List.{append-nil, take_more, take-append-drop}
+use Rattle.std.proofs.lemmas.List.{append-nil, take_more}
 use Rattle.std.proofs.lemmas.List.Elements.{filter_map-append}
 use Rattle.retro_base.specs.declared.refusal.Refusal.{Refusal}
 use Rattle.values.specs.declared.value.Value.{Value}
@@ -9,7 +9,8 @@ use Rattle.sql_tree.specs.declared.statement.Column.{Column}
 use Rattle.pager.specs.Draft.{Edits, drafted}
 use Rattle.pager.specs.Pages.{Pages}
 use Rattle.pager.specs.Allows.{◌>>=◌, only}
-use Rattle.relation.specs.Each.{each, each_in_turn, in_turn}
+use Rattle.pager.proofs.Turns.{around}
+use Rattle.relation.specs.Each.{each, each_in_turn}
 use Rattle.relation.specs.Work.{all_added, created}
 
 -- one item more
@@ -24,31 +25,6 @@ pub each-stop : {A B : Type 0} (step : A → Result B Refusal → Type 0) (xs : 
 each-stop step [] ys x behind why h s = inl s
 each-stop step (z ∷ xs) ys x behind why h s = inr (h.0, h.1, inl (each-stop step xs h.2.0 x behind why h.2.1 s))
 
--- a list around one of its items
-pub around : {A : Type 0} (xs : List A) (i : ℕ) (d : A) → i < length xs → take i xs ++ get_or xs i d ∷ drop (suc i) xs ≡ xs
-around xs i d lt = ap (λ l. take i xs ++ l) (sym (drop-cons xs i d lt)) ∙ take-append-drop i xs
-
-abbrev pub pages_in : Pages → Result (Unit {0} × Pages) Refusal → Pages
-pages_in other (Ok done) = done.1
-pages_in other (Err why) = other
-
-pub left_pages : (p q : Pages) → only {A = Unit {0} × Pages} (Ok (tt, p)) (Ok (tt, q)) → p ≡ q
-left_pages p q h = ap (pages_in p) h
-
--- one edit more
-pub in_turn-push : {A X : Type 0} (step : A → Pages → Result (X × Pages) Refusal → Type 0) (xs : List A) (x : A) (v : X) (p q r : Pages) → in_turn step xs p (Ok (tt, q)) → step x q (Ok (v, r)) → in_turn step (xs ++ x ∷ []) p (Ok (tt, r))
-in_turn-push step [] x v p q r h s =
-    let same : q ≡ p = sym (left_pages p q h) in
-    ((v, r), subst (λ (at : Pages). step x at (Ok (v, r))) same s, refl)
-in_turn-push step (z ∷ xs) x v p q r h s = (h.0, h.1, in_turn-push step xs x v h.0.1 q r h.2 s)
-
--- an edit that is refused
-pub in_turn-stop : {A X : Type 0} (step : A → Pages → Result (X × Pages) Refusal → Type 0) (xs : List A) (x : A) (behind : List A) (p q : Pages) (why : Refusal) → in_turn step xs p (Ok (tt, q)) → step x q (Err why) → in_turn step (xs ++ x ∷ behind) p (Err why)
-in_turn-stop step [] x behind p q why h s =
-    let same : q ≡ p = sym (left_pages p q h) in
-    inl (subst (λ (at : Pages). step x at (Err why)) same s)
-in_turn-stop step (z ∷ xs) x behind p q why h s = inr (h.0, h.1, in_turn-stop step xs x behind h.0.1 q why h.2 s)
-
 -- one item more of a list that is read from its front
 pub each-next : {A B : Type 0} (step : A → Result B Refusal → Type 0) (xs : List A) (i : ℕ) (x : A) (ys : List B) (y : B) → i < length xs → x ≡ get_or xs i x → each step (take i xs) (Ok ys) → step x (Ok y) → each step (take (i + 1) xs) (Ok (ys ++ y ∷ []))
 each-next step xs i x ys y lt is h s =
@@ -57,15 +33,6 @@ each-next step xs i x ys y lt is h s =
 pub each-ended : {A B : Type 0} (step : A → Result B Refusal → Type 0) (xs : List A) (i : ℕ) (x : A) (ys : List B) (why : Refusal) → i < length xs → x ≡ get_or xs i x → each step (take i xs) (Ok ys) → step x (Err why) → each step xs (Err why)
 each-ended step xs i x ys why lt is h s =
     subst (λ l. each step l (Err why)) (ap (λ y. take i xs ++ y ∷ drop (suc i) xs) is ∙ around xs i x lt) (each-stop step (take i xs) ys x (drop (suc i) xs) why h s)
-
--- one edit more, and one that is refused, for a list that is read from its front
-pub in_turn-next : {A X : Type 0} (step : A → Pages → Result (X × Pages) Refusal → Type 0) (xs : List A) (i : ℕ) (x : A) (v : X) (p q r : Pages) → i < length xs → x ≡ get_or xs i x → in_turn step (take i xs) p (Ok (tt, q)) → step x q (Ok (v, r)) → in_turn step (take (i + 1) xs) p (Ok (tt, r))
-in_turn-next step xs i x v p q r lt is h s =
-    rw (take_more xs i x lt, ← is) (in_turn-push step (take i xs) x v p q r h s)
-
-pub in_turn-ended : {A X : Type 0} (step : A → Pages → Result (X × Pages) Refusal → Type 0) (xs : List A) (i : ℕ) (x : A) (p q : Pages) (why : Refusal) → i < length xs → x ≡ get_or xs i x → in_turn step (take i xs) p (Ok (tt, q)) → step x q (Err why) → in_turn step xs p (Err why)
-in_turn-ended step xs i x p q why lt is h s =
-    subst (λ l. in_turn step l p (Err why)) (ap (λ y. take i xs ++ y ∷ drop (suc i) xs) is ∙ around xs i x lt) (in_turn-stop step (take i xs) x (drop (suc i) xs) p q why h s)
 
 -- one answer alone is allowed
 abbrev pub left : {A : Type 0} → A → Result A Refusal → A

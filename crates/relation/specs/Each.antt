@@ -14,15 +14,7 @@ each step (x ∷ xs) = do
   ys ← each step xs
   only (Ok (y ∷ ys))
 
--- the pages after an edit for each item, each on the pages that the one before it left
-abbrev pub in_turn : {A X : Type 0} → (A → Pages → Result (X × Pages) Refusal → Type 0) → List A → Pages
-    → Result (Unit {0} × Pages) Refusal → Type 0
-in_turn step [] pages = only (Ok (tt, pages))
-in_turn step (x ∷ xs) pages = do
-  next ← step x pages
-  in_turn step xs next.1
-
--- the same, with what each edit answers
+-- the pages after an edit for each item, each on the pages that the one before it left, with what each edit answers
 abbrev pub each_in_turn : {A B : Type 0} → (A → Pages → Result (B × Pages) Refusal → Type 0) → List A → Pages
     → Result (List B × Pages) Refusal → Type 0
 each_in_turn step [] pages = only (Ok ([], pages))

@@ -1,17 +1,18 @@
 -- The entries that a table's rows have in its indexes, and what becomes of them. An index over pages is known here by how
 -- one entry is added to it and taken out of it.
-use Rattle.std.specs.Prelude.{◌==◌, ◌&&◌, ℕ, Bool, false, List, Option, Some, None, Result, Ok, slice_get, if◌then◌else◌}
+use Rattle.std.specs.Prelude.{◌==◌, ◌&&◌, ℕ, Bool, false, List, Option, Some, None, Result, Ok, Err, slice_get, if◌then◌else◌}
 use Rattle.std.specs.List.{filter_map}
+use Rattle.std.specs.List.Sorted.{IsPermutation, IsSorted}
 use Rattle.std.specs.Option.{option_map}
 use Rattle.std.specs.Ordering.{is_eq}
 use Rattle.retro_base.specs.declared.refusal.Refusal.{Refusal}
 use Rattle.values.specs.Value.{value_cmp}
 use Rattle.values.specs.declared.value.Value.{Value}
-use Rattle.pager.specs.Allows.{◌>>=◌, only}
+use Rattle.pager.specs.Allows.{◌>>=◌, in_turn, only}
+use Rattle.pager.specs.Index.{found_cmp}
 use Rattle.pager.specs.Pages.{Pages}
 use Rattle.pager.specs.declared.index.Found.{Found}
 use Rattle.heap_file.specs.declared.chain.Placed.{Placed}
-use Rattle.relation.specs.Each.{in_turn}
 use Rattle.relation.specs.declared.catalog.StoredIndex.{StoredIndex}
 use Rattle.relation.specs.declared.listing.EntryEdit.{EntryEdit}
 use Rattle.relation.specs.declared.listing.EntryEdit.TheVariants.{Add, Remove}
@@ -35,6 +36,11 @@ entry_of place placed = option_map
 -- the entries of rows, in order
 abbrev pub entries_of : ℕ → List Placed → List Found
 entries_of place rows = filter_map (entry_of place) rows
+
+-- these entries in order of value and then of row number
+abbrev pub in_order : List Found → Result (List Found) Refusal → Type 0
+in_order entries (Ok sorted) = IsPermutation entries sorted × IsSorted found_cmp sorted
+in_order entries (Err why) = ⊥
 
 -- an index is edited by each of these entries, in order
 abbrev pub entries_edited : EditsIndex → ℕ → ℕ → List Found → Pages → Result (Unit {0} × Pages) Refusal → Type 0

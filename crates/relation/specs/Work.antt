@@ -9,7 +9,7 @@ use Rattle.sql_tree.specs.declared.schema.Schema.{Schema}
 use Rattle.sql_tree.specs.declared.statement.Column.{Column as TableColumn}
 use Rattle.pager.specs.Pages.{Pages, broken}
 use Rattle.heap_file.specs.declared.chain.Placed.{Placed}
-use Rattle.pager.specs.Allows.{◌>>=◌, only}
+use Rattle.pager.specs.Allows.{◌>>=◌, in_turn, only}
 use Rattle.heap_file.specs.Sieving.{sifted}
 use Rattle.heap_file.specs.Work.{added, changed, got, made, next_of, removed}
 use Rattle.pager.specs.declared.index.Found.{Found}
@@ -21,9 +21,9 @@ use Rattle.relation.specs.declared.row.CatalogRow.TheVariants.{Table, Column, In
 use Rattle.relation.specs.declared.row.IndexForm.TheVariants.{Tree}
 use Rattle.relation.specs.Catalog.{catalog, schema_of, table_named}
 use Rattle.relation.specs.CatalogRow.{row_values}
-use Rattle.relation.specs.Each.{each, each_in_turn, each_some, in_turn}
+use Rattle.relation.specs.Each.{each, each_in_turn, each_some}
 use Rattle.relation.specs.Sieving.{fitting, passing_found}
-use Rattle.relation.specs.Entries.{EditsIndex, entries_edited, entries_of, rows_listed, rows_moved}
+use Rattle.relation.specs.Entries.{EditsIndex, entries_edited, entries_of, in_order, rows_listed, rows_moved}
 use Rattle.relation.specs.declared.drafting.RowChange.{RowChange}
 use Rattle.relation.specs.declared.listing.Moved.{Moved}
 use Rattle.sql_tree.specs.Rows.{fits}
@@ -130,15 +130,21 @@ abbrev pub row_of_index : List ℕ → List ℕ → ℕ → ℕ → CatalogRow
 row_of_index name table place root =
     Index (record { name = name; table = table; place = place; form = Tree; root = root })
 
--- An index over the column at that place of a table is made: its root page, its row in the catalog, and an entry for each
--- row that the table has.
+-- the entries of a table's rows in an index over the column at that place, in order of value and then of row number
+abbrev pub entries_at : ℕ → Pages → StoredTable → ℕ → Result (List Found) Refusal → Type 0
+entries_at size pages table place = do
+  rows ← rows_at size pages table
+  in_order (entries_of place rows)
+
+-- An index over the column at that place of a table is made: its root page, its row in the catalog, and the entries of
+-- the table's rows, in order.
 abbrev pub table_indexed : (ℕ → Pages → Result (ℕ × Pages) Refusal → Type 0) → EditsIndex → ℕ → List ℕ → StoredTable → ℕ
     → Pages → Result (Unit {0} × Pages) Refusal → Type 0
 table_indexed make add size name table place pages = do
-  rows ← rows_at size pages table
+  entries ← entries_at size pages table place
   root ← make size pages
   told ← all_added size CATALOG (row_values (row_of_index name table.name place root.0) ∷ []) root.1
-  entries_edited add size root.0 (entries_of place rows) told.1
+  entries_edited add size root.0 entries told.1
 
 -- the same of the column of that name of the table of that name
 abbrev pub indexed : (ℕ → Pages → Result (ℕ × Pages) Refusal → Type 0) → EditsIndex → ℕ → Pages → List ℕ → List ℕ

@@ -1,6 +1,6 @@
 //! The calls: each that edits drafts what it does, and then makes the edits.
 
-ghost use Rattle.std.specs.Prelude.{◌≡◌, ◌≤◌, All, IfOk, length};
+ghost use Rattle.std.specs.Prelude.{◌≡◌, ◌<◌, ◌≤◌, All, IfOk, length};
 ghost use Rattle.pager.specs.Stop.{Accounts, Answers, Makes, OnlyReads};
 ghost use Rattle.heap_file.specs.HeapPage.{IsShort};
 ghost use Rattle.heap_file.specs.Sieving.{AllPass};
@@ -137,8 +137,7 @@ pub fn create_table<P: EditPager>(
 }
 
 /// Makes an index over the column at that place of a table, with an entry for each row that the table has. Its name is
-/// to be a new one, and the table is to have that column. Refused before the first edit where more pages are needed than
-/// are free.
+/// to be a new one. Refused before the first edit where more pages are needed than are free.
 pub fn create_index<I: Index, P: EditPager>(
     alloc: Global,
     pager: &mut P,
@@ -146,6 +145,7 @@ pub fn create_index<I: Index, P: EditPager>(
     table: &StoredTable,
     place: u32,
 ) -> Result<(), Stop<P::Fault>>
+    requires { place < length table.now.columns }
     ensures indexed { Makes (λ u. u) (P.tells pager.old) (P.tells pager.new)
         (table_indexed I.made I.added (P.size pager.old) name.now table.now place) result }
     ensures accounts { Accounts P.goes P.size P.faults pager.old pager.new result }

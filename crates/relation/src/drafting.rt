@@ -1,7 +1,7 @@
 //! The calls on a draft: no page is edited before the draft is written.
 
 ghost use Rattle.std.specs.List.{zip};
-ghost use Rattle.std.specs.Prelude.{◌≡◌, ◌≤◌, All, IfOk, IfSome, Option, length, map};
+ghost use Rattle.std.specs.Prelude.{◌≡◌, ◌<◌, ◌≤◌, All, IfOk, IfSome, Option, length, map};
 ghost use Rattle.pager.specs.Draft.{Drafts, Reads, drafted};
 ghost use Rattle.pager.specs.Pages.{Pages};
 ghost use Rattle.pager.specs.Stop.{OnlyDrafts, OnlyReads};
@@ -13,15 +13,15 @@ ghost use Rattle.relation.specs.declared.catalog.TheConstants.{CATALOG};
 ghost use Rattle.relation.specs.declared.drafting.RowChange.{RowChange};
 ghost use Rattle.relation.specs.declared.listing.Moved.{Moved};
 ghost use Rattle.relation.specs.CatalogRow.{row_values};
-ghost use Rattle.relation.specs.Work.{AllPlacedFit, all_added, all_changed, all_placed, all_removed, created, row_changes, rows_at, rows_by, rows_of_table, standing, table_deleted, table_indexed, table_inserted, table_updated};
+ghost use Rattle.relation.specs.Work.{AllPlacedFit, all_added, all_changed, all_placed, all_removed, created, entries_at, row_changes, rows_at, rows_by, rows_of_table, standing, table_deleted, table_indexed, table_inserted, table_updated};
 
-use crate::catalog::{CATALOG, StoredIndex, StoredTable};
-use crate::listing::{EntryEdit, Moved, list_in, list_rows, move_rows};
+use crate::catalog::{CATALOG, StoredTable};
+use crate::listing::{EntryEdit, Moved, edit_entries, entries_of, in_order, list_rows, move_rows};
 use crate::row::{column_values, index_values, table_values};
 use crate::sieving::Fitting;
 use heap_file::drafting::{self, Cursor};
 use heap_file::{Everything, Link, Placed, Sieve};
-use pager::{Draft, Index, Pager, Stop};
+use pager::{Draft, Found, Index, Pager, Stop};
 use sql_tree::Column;
 use std::alloc::{AllocError, Global};
 use values::{Duplicate, Name, Row};
@@ -118,18 +118,35 @@ pub fn create_index<I: Index, P: Pager>(
     table: &StoredTable,
     place: u32,
 ) -> Result<(), Stop<P::Fault>>
-    requires { draft.old.size ≡ P.size pager.old }
+    requires size { draft.old.size ≡ P.size pager.old }
+    requires place { place < length table.now.columns }
     ensures indexed { Drafts (λ u. u) (P.tells pager.new) draft.old.list draft.new.list
         (table_indexed I.made I.added draft.old.size name.now table.now place) result }
     ensures only_drafts { OnlyDrafts P.tells P.goes P.size P.faults pager.old pager.new result }
     ensures size { draft.new.size ≡ draft.old.size }
 {
-    let rows = rows(alloc, pager, draft, table)?;
+    let entries = entries_at(alloc, pager, draft, table, place)?;
     let root = make_root::<I, P>(alloc, pager, draft)?;
     let row = index_values(alloc, name, &table.name, place, root)?;
     add_to_catalog(alloc, pager, draft, &[row])?;
-    let index = StoredIndex { place, root };
-    list_in::<I, P>(alloc, pager, draft, EntryEdit::Add, index, &rows)
+    edit_entries::<I, P>(alloc, pager, draft, EntryEdit::Add, root, &entries)
+}
+
+// The entries of a table's rows in an index over the column at that place, in order of value and then of row number.
+fn entries_at<P: Pager>(
+    alloc: Global,
+    pager: &mut P,
+    draft: &Draft,
+    table: &StoredTable,
+    place: u32,
+) -> Result<Vec<Found>, Stop<P::Fault>>
+    requires { draft.now.size ≡ P.size pager.old }
+    ensures entries { Reads (λ entries. entries.items) (P.tells pager.new) draft.now.list
+        (λ pages. entries_at draft.now.size pages table.now place) result }
+    ensures only_reads { OnlyReads P.tells P.goes P.size P.faults pager.old pager.new result }
+{
+    let rows = rows(alloc, pager, draft, table)?;
+    Ok(in_order(entries_of(alloc, place, &rows)?)?)
 }
 
 // Drafts rows at the end of the catalog, in order.

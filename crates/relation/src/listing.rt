@@ -1,16 +1,16 @@
 //! The entries of rows in the indexes that a table keeps, drafted.
 
-ghost use Rattle.std.specs.Prelude.{◌≡◌, IfOk};
+ghost use Rattle.std.specs.Prelude.{◌≡◌, IfOk, Ok};
 ghost use Rattle.std.specs.Ordering.{is_eq};
 ghost use Rattle.pager.specs.Draft.{Drafts};
 ghost use Rattle.pager.specs.Stop.{OnlyDrafts};
 ghost use Rattle.values.specs.Value.{value_cmp};
-ghost use Rattle.relation.specs.Each.{in_turn};
-ghost use Rattle.relation.specs.Entries.{edit_of, entries_edited, entries_of, entry_edited, entry_in, entry_of, entry_out, row_moved, rows_listed, rows_moved, value_stays};
+ghost use Rattle.pager.specs.Allows.{in_turn};
+ghost use Rattle.relation.specs.Entries.{edit_of, entries_edited, entries_of, entry_edited, entry_in, entry_of, entry_out, in_order, row_moved, rows_listed, rows_moved, value_stays};
 
 use crate::catalog::StoredIndex;
 use heap_file::Placed;
-use pager::{Draft, Found, Index, Pager, Stop};
+use pager::{Draft, Found, Index, Pager, Stop, compare_found};
 use std::alloc::{AllocError, Global};
 use values::{Duplicate, Value, compare};
 
@@ -42,6 +42,19 @@ fn entry_of(alloc: Global, place: u32, placed: &Placed) -> Result<Option<Found>,
     }
 }
 
+/// The entries of rows in an index over the column at that place, in order of the rows.
+pub fn entries_of(alloc: Global, place: u32, rows: &[Placed]) -> Result<Vec<Found>, AllocError>
+    ensures { IfOk result (λ entries. entries.items ≡ entries_of place rows.now) }
+{
+    let mut entries = Vec::with_capacity(alloc, rows.len())?;
+    for placed in rows {
+        if let Some(entry) = entry_of(alloc, place, placed)? {
+            entries.push(entry)?;
+        }
+    }
+    Ok(entries)
+}
+
 // Drafts an edit of the index with that root page by an entry, where there is one.
 fn edit_entry<I: Index, P: Pager>(
     alloc: Global,
@@ -67,8 +80,59 @@ fn edit_entry<I: Index, P: Pager>(
     }
 }
 
-/// Drafts that an index is edited by the entries of these rows, in order.
-pub fn list_in<I: Index, P: Pager>(
+/// Entries in order of value and then of row number.
+pub fn in_order(entries: Vec<Found>) -> Result<Vec<Found>, AllocError>
+    ensures { IfOk result (λ sorted. in_order entries.items (Ok sorted.items)) }
+{
+    let mut entries = entries;
+    entries.sort_by(|a, b| compare_found(a, b))?;
+    Ok(entries)
+}
+
+/// Drafts that an index is edited by these entries, in order.
+pub fn edit_entries<I: Index, P: Pager>(
+    alloc: Global,
+    pager: &mut P,
+    draft: &mut Draft,
+    edit: EntryEdit,
+    root: u32,
+    entries: &[Found],
+) -> Result<(), Stop<P::Fault>>
+    requires { draft.old.size ≡ P.size pager.old }
+    ensures edited { Drafts (λ u. u) (P.tells pager.new) draft.old.list draft.new.list
+        (entries_edited (edit_of I.added I.removed edit) draft.old.size root entries.now) result }
+    ensures only_drafts { OnlyDrafts P.tells P.goes P.size P.faults pager.old pager.new result }
+    ensures size { draft.new.size ≡ draft.old.size }
+{
+    match edit {
+        EntryEdit::Add => I::at(root).add_all_in(alloc, pager, draft, entries),
+        EntryEdit::Remove => remove_entries::<I, P>(alloc, pager, draft, root, entries),
+    }
+}
+
+// Drafts that these entries are taken out of an index, in order.
+fn remove_entries<I: Index, P: Pager>(
+    alloc: Global,
+    pager: &mut P,
+    draft: &mut Draft,
+    root: u32,
+    entries: &[Found],
+) -> Result<(), Stop<P::Fault>>
+    requires { draft.old.size ≡ P.size pager.old }
+    ensures removed { Drafts (λ u. u) (P.tells pager.new) draft.old.list draft.new.list
+        (entries_edited I.removed draft.old.size root entries.now) result }
+    ensures only_drafts { OnlyDrafts P.tells P.goes P.size P.faults pager.old pager.new result }
+    ensures size { draft.new.size ≡ draft.old.size }
+{
+    let index = I::at(root);
+    for entry in entries {
+        index.remove_in(alloc, pager, draft, entry)?;
+    }
+    Ok(())
+}
+
+// Drafts that an index is edited by the entries of these rows, in order.
+fn list_in<I: Index, P: Pager>(
     alloc: Global,
     pager: &mut P,
     draft: &mut Draft,
@@ -83,11 +147,8 @@ pub fn list_in<I: Index, P: Pager>(
     ensures only_drafts { OnlyDrafts P.tells P.goes P.size P.faults pager.old pager.new result }
     ensures size { draft.new.size ≡ draft.old.size }
 {
-    for placed in rows {
-        let entry = entry_of(alloc, index.place, placed)?;
-        edit_entry::<I, P>(alloc, pager, draft, edit, index.root, entry)?;
-    }
-    Ok(())
+    let entries = entries_of(alloc, index.place, rows)?;
+    edit_entries::<I, P>(alloc, pager, draft, edit, index.root, &entries)
 }
 
 /// Drafts that each of these indexes is edited by the entries of these rows, in order.

@@ -10,10 +10,7 @@ use Rattle.values.specs.declared.value.Value.{Value}
 use Rattle.pager.specs.Draft.{drafted}
 use Rattle.pager.specs.Index.{between}
 use Rattle.pager.specs.Pages.{Pages}
-use Rattle.pager.specs.Stop.{Allowed, AllowedStop}
 use Rattle.pager.specs.declared.index.Found.{Found}
-use Rattle.pager.specs.declared.stop.Stop.{Stop}
-use Rattle.pager.specs.declared.stop.Stop.TheVariants as stop
 use Rattle.index_page.specs.Entries.{entry_inserted, reaches}
 use Rattle.index_page.specs.declared.page.IndexPage.{IndexPage}
 use Rattle.run_index.specs.declared.walk.Met.{Met}
@@ -32,17 +29,6 @@ pub passes-more : (test : List Found → Bool) (kind : Kind) (size : ℕ) (pages
 passes-more test kind size pages from page held [] way run on = (way, run, on, refl)
 passes-more test kind size pages from page held (met ∷ passed) way run on =
     (way.0, way.1, way.2, passes-more test kind size pages met.held.link page held passed way.3 run on)
-
--- a refusal that is handed on is allowed where it was
-pub allowed_stop : {F : Type 0} {P Q : Refusal → Type 0} (e : Stop F) → ((why : Refusal) → P why → Q why) → AllowedStop P e → AllowedStop Q e
-allowed_stop (stop.Refused why) go (inl memory) = inl memory
-allowed_stop (stop.Refused why) go (inr allowed) = inr (go why allowed)
-allowed_stop (stop.Pager fault) go allowed = tt
-
--- an answer that is handed on is allowed where it was
-pub allowed_on : {X Y F : Type 0} (view : X → Y) (P Q : Result Y Refusal → Type 0) (r : Result X (Stop F)) → ((a : Result Y Refusal) → P a → Q a) → Allowed view P r → Allowed view Q r
-allowed_on view P Q (Ok x) go allowed = go (Ok (view x)) allowed
-allowed_on view P Q (Err e) go allowed = allowed_stop e (λ why h. go (Err why) h) allowed
 
 -- what is found on one page more
 pub collected : (low high : Value) (passed : List Met) (met : Met) (before after : List Found) → before ≡ flat_map (λ (m : Met). between low high m.held.entries) passed → after ≡ before ++ between low high met.held.entries → after ≡ flat_map (λ (m : Met). between low high m.held.entries) (passed ++ met ∷ [])

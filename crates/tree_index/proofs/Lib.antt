@@ -1,2 +1,4 @@
 pub mod Climbed
+pub mod Following
+pub mod OnLeaf
 pub mod Walking

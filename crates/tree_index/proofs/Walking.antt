@@ -1,22 +1,13 @@
 -- On the way down a tree.
-use Rattle.std.proofs.Common.{◌≡◌, ◌++◌, ◌<◌, ℕ, List, [], ◌∷◌, length, get_or, Result, Err, Ok, refl, sym, ap, arith}
+use Rattle.std.proofs.Common.{◌≡◌, ◌++◌, ◌<◌, ℕ, List, [], ◌∷◌, length, get_or, refl, sym, ap, arith}
 use Rattle.std.specs.List.{remove}
-use Rattle.retro_base.specs.declared.refusal.Refusal.{Refusal}
 use Rattle.values.specs.declared.value.Kind.{Kind}
 use Rattle.pager.specs.Draft.{drafted}
 use Rattle.pager.specs.Pages.{Pages}
-use Rattle.pager.specs.Stop.{Allowed}
 use Rattle.pager.specs.declared.index.Found.{Found}
-use Rattle.pager.specs.declared.stop.Stop.{Stop}
 use Rattle.index_page.specs.declared.page.IndexPage.{IndexPage}
-use Rattle.index_page.proofs.Taking.{allowed_stop}
 use Rattle.tree_index.specs.declared.walk.Met.{Met}
 use Rattle.tree_index.specs.Walk.{IsTree, Meets, children}
-
--- an answer that is handed on is allowed where it was
-pub allowed_on : {X Y F : Type 0} (view : X → Y) (P Q : Result Y Refusal → Type 0) (r : Result X (Stop F)) → ((a : Result Y Refusal) → P a → Q a) → Allowed view P r → Allowed view Q r
-allowed_on view P Q (Ok x) go allowed = go (Ok (view x)) allowed
-allowed_on view P Q (Err e) go allowed = allowed_stop e (λ why h. go (Err why) h) allowed
 
 -- the first that is to be met
 pub first-rest : (todo : List ℕ) (page : ℕ) → 0 < length todo → page ≡ get_or todo 0 page → todo ≡ page ∷ remove todo 0

@@ -13,11 +13,12 @@ use Rattle.pager.specs.Root.{all_taken}
 use Rattle.pager.specs.declared.index.Found.{Found}
 use Rattle.index_page.specs.Entries.{entry_inserted}
 use Rattle.index_page.specs.IndexPage.{AreWritable}
-use Rattle.index_page.proofs.Ordered.{found_total, inserted-one}
+use Rattle.index_page.proofs.Ordered.{inserted-one}
 use Rattle.tree_index.specs.declared.walk.Met.{Met}
 use Rattle.tree_index.specs.Marking.{all-join, all-left, all-right, rising-behind, rising-right}
 use Rattle.tree_index.specs.Tree.{Body, IsRising, Key, Mark, Precedes, Row, Tree, at_key, bare, changed, marks, named, nodes, numbers, row_marks, row_nodes}
 use Rattle.tree_index.specs.declared.climb.Climb.{Climb}
+use Rattle.pager.proofs.Orders.{found_total}
 
 -- lists in other orders
 pub perm-eq : {X : Type 0} (a b : List X) → a ≡ b → IsPermutation a b

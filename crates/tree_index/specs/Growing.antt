@@ -12,12 +12,13 @@ use Rattle.pager.specs.declared.index.Found.{Found}
 use Rattle.index_page.specs.Entries.{entry_inserted, taken_out}
 use Rattle.index_page.specs.IndexPage.{AreOneMore, HaveRoom, AreWritable, entry_code, have_room, half, more_for_half, width}
 use Rattle.index_page.proofs.Halving.{halves_fit}
-use Rattle.index_page.proofs.Ordered.{found_total, inserted-all, inserted-skip}
+use Rattle.index_page.proofs.Ordered.{inserted-all, inserted-skip}
 use Rattle.index_page.proofs.Packing.{entry-short, width-cons}
 use Rattle.index_page.proofs.Placing.{inserted-width}
 use Rattle.tree_index.specs.Marking.{added-rises, entries-append, entries-map, key-rises}
 use Rattle.tree_index.specs.Shaping.{changed-all, changed-entries, changed-keys, changed-rises, row-more, row-one}
 use Rattle.tree_index.specs.Tree.{Fits, IsRising, Key, Mark, Precedes, Row, Tree, at_entry, at_key, changed, entries_in, grown, inners, key_of, leaves, marks, named, next_inner, next_leaf, row_keys, row_marks}
+use Rattle.pager.proofs.Orders.{found_total}
 
 pub all-take : {X : Type 0} (P : X → Type 0) (n : ℕ) (xs : List X) → AllByRecursion P xs → AllByRecursion P (take n xs)
 all-take P n xs all = recursion_from_All P (take n xs) (All-take P n xs (All-from_recursion P xs all))

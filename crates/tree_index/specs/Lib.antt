@@ -2,6 +2,7 @@ pub mod Adding
 pub mod Climbing
 pub mod Counting
 pub mod Descending
+pub mod Filling
 pub mod Growing
 pub mod Laws
 pub mod Listing

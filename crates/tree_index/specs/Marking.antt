@@ -9,8 +9,9 @@ use Rattle.std.proofs.lemmas.List.{map-append}
 use Rattle.pager.specs.Index.{found_cmp}
 use Rattle.pager.specs.declared.index.Found.{Found}
 use Rattle.index_page.specs.Entries.{entry_inserted, taken_out}
-use Rattle.index_page.proofs.Ordered.{found_total, rises}
+use Rattle.index_page.proofs.Ordered.{rises}
 use Rattle.tree_index.specs.Tree.{IsRising, Key, Mark, Precedes, at_entry, at_key, entries_in, key_of, named}
+use Rattle.pager.proofs.Orders.{found_total}
 
 -- what holds of each of some, and of others
 pub all-join : {X : Type 0} (P : X → Type 0) (a b : List X) → AllByRecursion P a → AllByRecursion P b → AllByRecursion P (a ++ b)

@@ -2,6 +2,7 @@
 #![tactic(auto)]
 
 mod climb;
+mod filling;
 mod index;
 mod laws;
 mod walk;

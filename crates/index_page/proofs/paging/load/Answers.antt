@@ -4,7 +4,7 @@ use Rattle.pager.specs.Index.{AreOfKind}
 use Rattle.pager.specs.Draft.{drafted}
 use Rattle.index_page.specs.declared.page.IndexPage.{IndexPage}
 use Rattle.index_page.proofs.Packing.{holds_one}
-use Rattle.index_page.proofs.Taking.{allowed_stop}
+use Rattle.pager.proofs.Stops.{allowed_stop}
 use Rattle.index_page.proofs.paging.load.Goals as goal
 
 pub returns-in_err-found-clause-read : goal.returns-in_err-found-clause-read

@@ -4,7 +4,7 @@ use Rattle.pager.specs.Pages.{Pages}
 use Rattle.heap_file.specs.declared.chain.Placed.{Placed}
 use Rattle.heap_file.specs.Work.{removed}
 use Rattle.heap_file.proofs.Ways.{allowed_stop}
-use Rattle.relation.proofs.Steps.{in_turn-next, in_turn-ended}
+use Rattle.pager.proofs.Turns.{in_turn-next, in_turn-ended}
 use Rattle.relation.proofs.drafting.remove_rows.Goals as goal
 
 pub returns-in_err-cursor-clause-removed : goal.returns-in_err-cursor-clause-removed

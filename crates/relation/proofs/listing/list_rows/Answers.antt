@@ -4,7 +4,7 @@ use Rattle.relation.specs.declared.catalog.StoredIndex.{StoredIndex}
 use Rattle.std.proofs.lemmas.Result.{err_from_is_err_and}
 use Rattle.heap_file.proofs.Ways.{allowed_stop}
 use Rattle.relation.specs.Entries.{edit_of, entries_edited, entries_of}
-use Rattle.relation.proofs.Steps.{in_turn-ended, in_turn-next}
+use Rattle.pager.proofs.Turns.{in_turn-ended, in_turn-next}
 use Rattle.relation.proofs.listing.list_rows.Goals as goal
 
 pub returns-in_err-list_in-clause-edited : goal.returns-in_err-list_in-clause-edited

@@ -2,7 +2,7 @@ use Rattle.std.proofs.Common.{◌∙◌}
 use Rattle.std.proofs.lemmas.Result.{err_from_is_err_and}
 use Rattle.heap_file.proofs.Ways.{allowed_stop}
 use Rattle.relation.specs.Entries.{row_moved}
-use Rattle.relation.proofs.Steps.{in_turn-ended, in_turn-next}
+use Rattle.pager.proofs.Turns.{in_turn-ended, in_turn-next}
 use Rattle.relation.proofs.listing.move_in.Goals as goal
 
 pub returns-in_err-move_row-clause-moved : goal.returns-in_err-move_row-clause-moved

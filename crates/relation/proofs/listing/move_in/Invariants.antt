@@ -1,8 +1,8 @@
 use Rattle.std.proofs.Common.{◌≡◌, Ok, take}
 use Rattle.pager.specs.Draft.{drafted}
 use Rattle.pager.specs.Pages.{Pages, Narrows}
-use Rattle.relation.specs.Each.{in_turn}
 use Rattle.relation.specs.Entries.{row_moved}
+use Rattle.pager.specs.Allows.{in_turn}
 use Rattle.relation.proofs.listing.move_in.Given as goal
 
 abbrev pub invariant-loop-moved : goal.invariant-loop-moved

@@ -3,9 +3,9 @@ use Rattle.std.proofs.lemmas.List.{get_or_default}
 use Rattle.relation.specs.declared.catalog.StoredIndex.{StoredIndex}
 use Rattle.std.proofs.lemmas.Result.{err_from_is_err_and}
 use Rattle.heap_file.proofs.Ways.{allowed_stop}
-use Rattle.relation.specs.Each.{in_turn}
 use Rattle.relation.specs.Entries.{row_moved}
-use Rattle.relation.proofs.Steps.{in_turn-ended, in_turn-next}
+use Rattle.pager.specs.Allows.{in_turn}
+use Rattle.pager.proofs.Turns.{in_turn-ended, in_turn-next}
 use Rattle.relation.proofs.listing.move_rows.Goals as goal
 
 pub returns-in_err-move_in-clause-moved : goal.returns-in_err-move_in-clause-moved

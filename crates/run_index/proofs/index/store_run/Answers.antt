@@ -8,7 +8,7 @@ use Rattle.pager.specs.Pages.{Pages, with_bytes}
 use Rattle.index_page.specs.IndexPage.{have_room, half, page_bytes, width}
 use Rattle.run_index.specs.Run.{run_of}
 use Rattle.run_index.specs.Shaping.{back-writable, front-writable}
-use Rattle.run_index.proofs.Walking.{allowed_stop}
+use Rattle.pager.proofs.Stops.{allowed_stop}
 use Rattle.run_index.proofs.index.store_run.Goals as goal
 
 pub returns-then-width-le-ENTRY_BYTES-clause-stored : goal.returns-then-width-le-ENTRY_BYTES-clause-stored

@@ -3,7 +3,8 @@ use Rattle.std.proofs.lemmas.Result.{err_from_is_err_and}
 use Rattle.pager.specs.Draft.{drafted}
 use Rattle.index_page.specs.Entries.{reaches}
 use Rattle.run_index.specs.declared.walk.Met.{Met}
-use Rattle.run_index.proofs.Walking.{allowed_stop, passes-more}
+use Rattle.run_index.proofs.Walking.{passes-more}
+use Rattle.pager.proofs.Stops.{allowed_stop}
 use Rattle.run_index.proofs.walk.find.Goals as goal
 
 pub returns-in_err-held-clause-met : goal.returns-in_err-held-clause-met

@@ -1,5 +1,5 @@
 use Rattle.std.proofs.lemmas.Result.{err_from_is_err_and}
-use Rattle.run_index.proofs.Walking.{allowed_stop}
+use Rattle.pager.proofs.Stops.{allowed_stop}
 use Rattle.run_index.proofs.walk.load_run.Goals as goal
 
 pub returns-in_err-held-clause-read : goal.returns-in_err-held-clause-read

@@ -4,7 +4,8 @@ use Rattle.pager.specs.Draft.{drafted}
 use Rattle.pager.specs.declared.index.Found.{Found}
 use Rattle.index_page.specs.Entries.{is_past}
 use Rattle.run_index.specs.declared.walk.Met.{Met}
-use Rattle.run_index.proofs.Walking.{allowed_stop, collected, passes-more}
+use Rattle.run_index.proofs.Walking.{collected, passes-more}
+use Rattle.pager.proofs.Stops.{allowed_stop}
 use Rattle.run_index.proofs.walk.range.Goals as goal
 
 pub returns-in_err-held-clause-ranged : goal.returns-in_err-held-clause-ranged

@@ -3,13 +3,13 @@ use Rattle.std.specs.List.{AllByRecursion}
 use Rattle.std.proofs.lemmas.Result.{err_from_is_err_and}
 use Rattle.pager.specs.Draft.{drafted}
 use Rattle.pager.specs.Pages.{Pages}
-use Rattle.index_page.proofs.Taking.{allowed_stop}
 use Rattle.pager.specs.declared.index.Found.{Found}
 use Rattle.tree_index.specs.declared.climb.Climb.{Climb}
 use Rattle.tree_index.specs.Marking.{all-left}
 use Rattle.tree_index.specs.Walk.{IsStored}
 use Rattle.tree_index.specs.Work.{climbed, edited, placed}
 use Rattle.tree_index.proofs.Climbed.{edited-err, edited-ok, popped}
+use Rattle.pager.proofs.Stops.{allowed_stop}
 use Rattle.tree_index.proofs.climb.climb_up.Goals as goal
 
 pub returns-in_err-state-clause-edited : goal.returns-in_err-state-clause-edited

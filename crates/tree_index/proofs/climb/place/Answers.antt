@@ -10,7 +10,7 @@ use Rattle.index_page.proofs.Placing.{inserted-length, inserted-width}
 use Rattle.tree_index.specs.declared.climb.Climb.{Climb}
 use Rattle.tree_index.specs.Work.{placed, split, with_entries}
 use Rattle.tree_index.proofs.Climbed.{placed-full}
-use Rattle.tree_index.proofs.Walking.{allowed_on}
+use Rattle.pager.proofs.Stops.{allowed_on}
 use Rattle.tree_index.proofs.climb.place.Goals as goal
 
 pub width-is_full-requires : goal.width-is_full-requires

@@ -10,7 +10,7 @@ use Rattle.tree_index.specs.RootPage.{key-writable}
 use Rattle.tree_index.specs.Walk.{IsStored}
 use Rattle.tree_index.specs.Work.{lifted, split}
 use Rattle.tree_index.proofs.Climbed.{split-lifted}
-use Rattle.tree_index.proofs.Walking.{allowed_on}
+use Rattle.pager.proofs.Stops.{allowed_on}
 use Rattle.tree_index.proofs.climb.split.Goals as goal
 
 pub lift-requires-clause-stored : goal.lift-requires-clause-stored

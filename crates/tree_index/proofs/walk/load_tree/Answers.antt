@@ -3,8 +3,8 @@ use Rattle.std.proofs.lemmas.Result.{err_from_is_err_and}
 use Rattle.pager.specs.Draft.{drafted}
 use Rattle.index_page.specs.declared.page.IndexPage.{IndexPage}
 use Rattle.index_page.proofs.Packing.{holds_one}
-use Rattle.index_page.proofs.Taking.{allowed_stop}
 use Rattle.tree_index.specs.Walk.{IsOfTree}
+use Rattle.pager.proofs.Stops.{allowed_stop}
 use Rattle.tree_index.proofs.walk.load_tree.Goals as goal
 
 pub returns-in_err-held-clause-read : goal.returns-in_err-held-clause-read

@@ -3,11 +3,11 @@ use Rattle.std.specs.List.{AllByRecursion, remove}
 use Rattle.std.proofs.lemmas.Bool.{eqb-false}
 use Rattle.std.proofs.lemmas.Result.{err_from_is_err_and}
 use Rattle.pager.specs.Draft.{drafted}
-use Rattle.index_page.proofs.Taking.{allowed_stop}
 use Rattle.tree_index.specs.declared.walk.Met.{Met}
 use Rattle.tree_index.specs.Marking.{all-join}
 use Rattle.tree_index.specs.Walk.{IsStored, Meets, children}
 use Rattle.tree_index.proofs.Walking.{first-rest, meets-more}
+use Rattle.pager.proofs.Stops.{allowed_stop}
 use Rattle.tree_index.proofs.walk.walk.Goals as goal
 
 pub returns-in_err-held-clause-walked : goal.returns-in_err-held-clause-walked

@@ -7,7 +7,8 @@ use Rattle.index_page.proofs.Packing.{width-least}
 use Rattle.index_page.proofs.Placing.{inserted-length}
 use Rattle.run_index.specs.Shaping.{inserted-most}
 use Rattle.run_index.specs.Work.{added, stored}
-use Rattle.run_index.proofs.Walking.{added-there, allowed_on}
+use Rattle.run_index.proofs.Walking.{added-there}
+use Rattle.pager.proofs.Stops.{allowed_on}
 use Rattle.run_index.proofs.index.RunIndexIndex.add_in.Goals as goal
 
 pub store_run-requires-clause-few : goal.store_run-requires-clause-few

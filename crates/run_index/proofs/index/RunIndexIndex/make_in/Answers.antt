@@ -2,7 +2,7 @@ use Rattle.std.proofs.Common.{Ok, ap, inl, sym, arith}
 use Rattle.std.proofs.lemmas.Result.{err_from_is_err_and}
 use Rattle.pager.specs.Draft.{drafted}
 use Rattle.pager.specs.Pages.{Pages}
-use Rattle.run_index.proofs.Walking.{allowed_stop}
+use Rattle.pager.proofs.Stops.{allowed_stop}
 use Rattle.run_index.proofs.index.RunIndexIndex.make_in.Goals as goal
 
 pub returns-in_err-root-clause-made : goal.returns-in_err-root-clause-made

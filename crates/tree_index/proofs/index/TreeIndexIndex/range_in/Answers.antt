@@ -1,6 +1,6 @@
 use Rattle.std.proofs.Common.{inl}
 use Rattle.std.proofs.lemmas.Result.{err_from_is_err_and}
-use Rattle.index_page.proofs.Taking.{allowed_stop}
+use Rattle.pager.proofs.Stops.{allowed_stop}
 use Rattle.tree_index.proofs.index.TreeIndexIndex.range_in.Goals as goal
 
 pub returns-in_err-way-clause-ranged : goal.returns-in_err-way-clause-ranged

@@ -3,7 +3,7 @@ use Rattle.pager.specs.Draft.{drafted}
 use Rattle.pager.specs.Pages.{Pages}
 use Rattle.pager.specs.declared.index.Found.{Found}
 use Rattle.tree_index.specs.Work.{all_written, edited}
-use Rattle.tree_index.proofs.index.TreeIndexIndex.add_in.Goals as goal
+use Rattle.tree_index.proofs.index.add_on.Goals as goal
 
 pub returns-clause-added : goal.returns-clause-added
 returns-clause-added g c = λ base shown told.
@@ -11,8 +11,6 @@ returns-clause-added g c = λ base shown told.
     let pages = drafted shown c.args.draft.now.list in
     let mid = drafted shown c.climb_up.new.draft.list in
     let edits = c.in_ok-edits.edits in
-    let way = c.in_ok-way.way.items in
-    let walked = c.in_ok-way.ensures.walked base shown (c.in_ok-edits.ensures.only_drafts.narrows base shown told) in
-    let climbed = subst (λ (e : Found). edited size c.args.self.now.root e pages way (Ok (edits, mid))) c.in_ok-entry.ensures (c.in_ok-edits.ensures.edited base shown told) in
+    let climbed = subst (λ (e : Found). edited size c.args.root e pages c.args.way.items (Ok (edits, mid))) c.in_ok-entry.ensures (c.in_ok-edits.ensures.edited base shown told) in
     let stored : drafted shown c.store_all.new.draft.list ≡ all_written mid edits = c.in_ok-store_all.ensures.drafted shown ∙ ap (all_written mid) c.as_slice.ensures in
-    (way, walked, ((edits, mid), climbed, ap (λ (p : Pages). Ok (tt, p)) (sym stored)))
+    ((edits, mid), climbed, ap (λ (p : Pages). Ok (tt, p)) (sym stored))
