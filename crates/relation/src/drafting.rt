@@ -22,7 +22,7 @@ use crate::listing::{EntryEdit, Moved, edit_entries, entries_of, in_order, list_
 use crate::row::{column_values, index_values, table_values};
 use heap_file::drafting::{self, Cursor};
 use heap_file::{Link, Placed};
-use pager::{Draft, Found, Index, Pager, Stop, broken};
+use pager::{Draft, Found, Index, Pager, Stop, Tree, broken};
 use retro_base::Refusal;
 use sql_tree::{Column, fits};
 use std::alloc::{AllocError, Global};
@@ -106,7 +106,7 @@ fn rows_of_table(
 
 /// Drafts an index over the column at that place of a table: its root page, its row in the catalog, and an entry for
 /// each row of the table.
-pub fn create_index<I: Index, P: Pager>(
+pub fn create_index<I: Tree, P: Pager>(
     alloc: Global,
     pager: &mut P,
     draft: &mut Draft,
