@@ -220,3 +220,6 @@ pub trait Index: Sized + Drop {
 
     ghost indexing: { IsIndexing empty entries put without opens lists made added removed ranged };
 }
+
+/// An index that is a tree of pages: the catalog of a store of tables tells so of each index that it keeps pages of.
+pub trait Tree: Index {}

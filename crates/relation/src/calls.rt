@@ -14,7 +14,7 @@ use crate::catalog::{Catalog, StoredIndex, StoredTable, read_catalog};
 use crate::drafting::{self, RowChange};
 use crate::ranging;
 use heap_file::{Everything, Placed, Sieve};
-use pager::{Draft, EditPager, Index, Pager, Stop};
+use pager::{Draft, EditPager, Index, Pager, Stop, Tree};
 use sql_tree::Column;
 use std::alloc::Global;
 use values::{Name, Row, Value};
@@ -138,7 +138,7 @@ pub fn create_table<P: EditPager>(
 
 /// Makes an index over the column at that place of a table, with an entry for each row that the table has. Its name is
 /// to be a new one. Refused before the first edit where more pages are needed than are free.
-pub fn create_index<I: Index, P: EditPager>(
+pub fn create_index<I: Tree, P: EditPager>(
     alloc: Global,
     pager: &mut P,
     name: &Name,

@@ -21,7 +21,7 @@ use crate::row::{column_values, index_values, table_values};
 use crate::sieving::Fitting;
 use heap_file::drafting::{self, Cursor};
 use heap_file::{Everything, Link, Placed, Sieve};
-use pager::{Draft, Found, Index, Pager, Stop};
+use pager::{Draft, Found, Index, Pager, Stop, Tree};
 use sql_tree::Column;
 use std::alloc::{AllocError, Global};
 use values::{Duplicate, Name, Row};
@@ -110,7 +110,7 @@ fn rows_of_table(
 
 /// Drafts an index over the column at that place of a table: its root page, its row in the catalog, and an entry for
 /// each row of the table.
-pub fn create_index<I: Index, P: Pager>(
+pub fn create_index<I: Tree, P: Pager>(
     alloc: Global,
     pager: &mut P,
     draft: &mut Draft,

@@ -25,8 +25,7 @@ pub struct ColumnRow {
     pub column: Column,
 }
 
-/// How an index keeps its entries: not at all, where it is kept by name alone, or on pages of the one kind of index that
-/// the calls are given. The program gives them trees.
+/// How an index keeps its entries: not at all, where it is kept by name alone, or in a tree of pages.
 #[derive(Clone, Copy)]
 pub enum IndexForm {
     Named,

@@ -4,14 +4,13 @@ use Rattle.std.specs.List.{AllByRecursion, Contains, cons_option}
 use Rattle.std.proofs.lemmas.List.Elements.{Contains-append_right}
 use Rattle.retro_base.specs.declared.refusal.Refusal.{Refusal}
 use Rattle.values.specs.declared.value.Value.{Value}
-use Rattle.pager.specs.Allows.{◌>>=◌}
+use Rattle.pager.specs.Allows.{◌>>=◌, in_turn}
 use Rattle.pager.specs.Pages.{Pages}
 use Rattle.pager.specs.declared.index.Found.{Found}
 use Rattle.heap_file.specs.declared.chain.Placed.{Placed}
 use Rattle.heap_laws.specs.Store.{WellFormed}
 use Rattle.heap_laws.specs.Table.{IsTable}
 use Rattle.relation.specs.declared.catalog.StoredTable.{StoredTable}
-use Rattle.relation.specs.Each.{in_turn}
 use Rattle.relation.specs.Entries.{EditsIndex, entries_of, entry_edited, entry_of}
 use Rattle.sql_tree.specs.Rows.{fits}
 use Rattle.relation_laws.specs.Tables.{numbered, numbered_row}

@@ -14,9 +14,7 @@ use Rattle.heap_laws.proofs.Changing.{change_law}
 use Rattle.heap_laws.proofs.Orders.{number_of}
 use Rattle.heap_laws.proofs.Reading.{reads, rows-numbered, rows-read as table-read}
 use Rattle.heap_laws.proofs.Rows.{keyed-contains}
-use Rattle.relation.specs.Each.{in_turn}
 use Rattle.relation.proofs.Halves.{page_of, row_changed}
-use Rattle.relation.proofs.Steps.{left_pages}
 use Rattle.relation_laws.specs.Needs.{TakesNeeded, changes_open, has_room_for, moved_to, next_pages, page_under, taken_after}
 use Rattle.relation_laws.specs.Reach.{with_root}
 use Rattle.relation_laws.proofs.Changed.{Goes, full-both, moves}
@@ -25,6 +23,8 @@ use Rattle.relation_laws.proofs.Drawing.{Draws}
 use Rattle.relation_laws.proofs.Reaching.{Touches}
 use Rattle.relation_laws.proofs.Updating.{changed_at, numbers_of, still-changed}
 use Rattle.relation_laws.proofs.Weighing.{under-one}
+use Rattle.pager.specs.Allows.{in_turn}
+use Rattle.pager.proofs.Turns.{left_pages}
 
 -- a change that is made
 pub record Change (size : ℕ) (pages after : Pages) (firsts indexes : List ℕ) (first last : ℕ) (table : Table) (change : ℕ × List Value) (to : ℕ) : Type 0 where

@@ -5,7 +5,7 @@ use Rattle.std.proofs.lemmas.Bool.{eq-eqb, ne_eqb}
 use Rattle.retro_base.specs.declared.refusal.Refusal.{Refusal}
 use Rattle.values.specs.declared.value.Value.{Value}
 use Rattle.sql_tree.specs.declared.statement.Column.{Column as TableColumn}
-use Rattle.pager.specs.Allows.{◌>>=◌, only}
+use Rattle.pager.specs.Allows.{◌>>=◌, in_turn, only}
 use Rattle.pager.specs.Pages.{Pages}
 use Rattle.pager.specs.declared.index.Found.{Found}
 use Rattle.tree_index.specs.Work.{added, removed}
@@ -16,7 +16,7 @@ use Rattle.heap_laws.proofs.Reading.{ok-one, rows-numbered}
 use Rattle.relation.specs.declared.catalog.Catalog.{Catalog}
 use Rattle.relation.specs.declared.catalog.StoredIndex.{StoredIndex}
 use Rattle.relation.specs.declared.catalog.StoredTable.{StoredTable}
-use Rattle.relation.specs.Each.{each, in_turn}
+use Rattle.relation.specs.Each.{each}
 use Rattle.relation.specs.Entries.{EditsIndex, entries_edited, entries_of, entry_edited, entry_of, rows_listed}
 use Rattle.relation.specs.Work.{all_removed, placed_of, rows_at, table_deleted}
 use Rattle.relation.proofs.Halves.{page_of, placed-page, removes-numbered}

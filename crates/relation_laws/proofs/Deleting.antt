@@ -12,10 +12,8 @@ use Rattle.heap_laws.specs.Store.{WellFormed}
 use Rattle.heap_laws.specs.Table.{IsTable, OthersStay, Table, without_row}
 use Rattle.heap_laws.proofs.Removing.{remove_law}
 use Rattle.relation.specs.declared.catalog.StoredTable.{StoredTable}
-use Rattle.relation.specs.Each.{in_turn}
 use Rattle.relation.proofs.Halves.{page_of, row_removed}
 use Rattle.sql_tree.specs.Rows.{fits}
-use Rattle.relation.proofs.Steps.{left_pages}
 use Rattle.relation_laws.specs.Laws.{without_rows}
 use Rattle.relation_laws.specs.Tables.{AreDifferent, PlainTable, ShowsTable, numbered_row}
 use Rattle.relation_laws.proofs.Catalogs.{goes-on}
@@ -23,6 +21,8 @@ use Rattle.relation_laws.proofs.Lists.{contains-cases, contains-cons, contains-h
 use Rattle.heap_laws.specs.Laws.{AreSpared}
 use Rattle.heap_laws.proofs.Staying.{indexes_stay_law}
 use Rattle.relation_laws.proofs.Reaching.{untouched-then, Spares, removed-spares, spares-none, spares-then}
+use Rattle.pager.specs.Allows.{in_turn}
+use Rattle.pager.proofs.Turns.{left_pages}
 
 -- a row of another number stays
 kept : (number : ℕ) (placed : Placed) (rows : List Placed) → placed.number ≢ number → Contains rows placed → Contains (filter (λ (p : Placed). not (p.number == number)) rows) placed

@@ -17,7 +17,6 @@ use Rattle.heap_laws.specs.Store.{WellFormed, free_pages}
 use Rattle.heap_laws.specs.Table.{AllStay}
 use Rattle.heap_laws.proofs.Indexing.{index_pages_law}
 use Rattle.heap_laws.proofs.Reading.{ok-one}
-use Rattle.relation.specs.Each.{in_turn}
 use Rattle.relation.specs.Entries.{entry_of}
 use Rattle.relation.specs.declared.catalog.StoredIndex.{StoredIndex}
 use Rattle.relation_laws.specs.Tables.{AreEntriesOf, all_pages}
@@ -29,6 +28,7 @@ use Rattle.relation_laws.proofs.KeyTurns.{made-of}
 use Rattle.relation_laws.proofs.Lists.{contains-cons, contains-head, contains-left}
 use Rattle.relation_laws.proofs.Reaching.{untouched-then}
 use Rattle.relation_laws.proofs.Turning.{IsOfKind, RowsTurn, TurnFits, turn_work, turns-answer}
+use Rattle.pager.specs.Allows.{in_turn}
 
 pub pages-cons : (held : List ℕ) (each : List (List ℕ)) → all_pages (held ∷ each) ≡ held ++ all_pages each
 pages-cons held each = flat_map-cons (λ (some : List ℕ). some) held each

@@ -24,7 +24,6 @@ use Rattle.relation.specs.declared.catalog.Catalog.{Catalog}
 use Rattle.relation.specs.declared.catalog.StoredIndex.{StoredIndex}
 use Rattle.relation.specs.declared.catalog.StoredTable.{StoredTable}
 use Rattle.relation.specs.declared.catalog.TheConstants.{CATALOG}
-use Rattle.relation.specs.Each.{in_turn}
 use Rattle.relation_laws.specs.Laws.{IsStoreOf}
 use Rattle.relation_laws.specs.Needs.{IndexesNeed}
 use Rattle.relation_laws.specs.Reach.{IsIndexPage}
@@ -42,6 +41,7 @@ use Rattle.relation_laws.proofs.Names.{first_of, firsts-once}
 use Rattle.relation_laws.proofs.Singling.{Single, firsts_of, has-catalog, has-first, shown-here, store-stays}
 use Rattle.relation_laws.proofs.TableStores.{HoldsStill, IsTableStoreOf, tables_of}
 use Rattle.relation_laws.proofs.Turning.{RowsTurn, turn_work}
+use Rattle.pager.specs.Allows.{in_turn}
 
 -- the tree is a kind of index
 abbrev pub tree : IndexKind

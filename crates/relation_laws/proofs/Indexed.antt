@@ -5,8 +5,9 @@ use Rattle.std.specs.List.Sorted.{IsPermutation}
 use Rattle.std.proofs.lemmas.List.{map-append}
 use Rattle.std.proofs.lemmas.List.Concat.{flat_map-append}
 use Rattle.std.proofs.lemmas.List.Elements.{Contains-append_right}
-use Rattle.std.proofs.lemmas.List.Sorted.{IsPermutation-append, IsPermutation-append_comm, IsPermutation-refl, IsPermutation-trans}
+use Rattle.std.proofs.lemmas.List.Sorted.{Contains-permutation, IsPermutation-append, IsPermutation-append_comm, IsPermutation-refl, IsPermutation-sym, IsPermutation-trans}
 use Rattle.retro_base.specs.declared.refusal.Refusal.{Refusal}
+use Rattle.retro_base.specs.declared.refusal.Refusal.TheVariants.{PagesFull}
 use Rattle.values.specs.Name.{same_name}
 use Rattle.values.specs.declared.value.Value.{Value}
 use Rattle.sql_tree.specs.Rows.{fits}
@@ -15,17 +16,18 @@ use Rattle.sql_tree.specs.declared.statement.Column.{Column as TableColumn}
 use Rattle.pager.specs.Allows.{◌>>=◌, only}
 use Rattle.pager.specs.Index.{AreOfKind}
 use Rattle.pager.specs.Pages.{Pages}
+use Rattle.pager.specs.declared.index.Found.{Found}
 use Rattle.tree_index.specs.Listing.{listed}
 use Rattle.tree_index.specs.Shaped.{shaped}
-use Rattle.tree_index.specs.Tree.{Lists, Shape, empty, entries_of as entries_of_shape}
-use Rattle.tree_index.specs.Work.{added, made, removed}
+use Rattle.tree_index.specs.Tree.{Lists, Shape, empty, entries_of as entries_of_shape, opens, put}
+use Rattle.tree_index.specs.Work.{added, made}
 use Rattle.heap_file.specs.declared.chain.Link.{Link}
 use Rattle.heap_file.specs.declared.chain.Placed.{Placed}
 use Rattle.heap_file.specs.Chain.{IsWay}
-use Rattle.heap_laws.specs.Store.{WellFormed, times}
+use Rattle.heap_laws.specs.Store.{WellFormed, free_pages, times}
 use Rattle.heap_laws.specs.Table.{IsTable, Table as HeapTable}
 use Rattle.heap_laws.proofs.Indexing.{index_pages_law}
-use Rattle.heap_laws.proofs.Reading.{ok-one, read_law}
+use Rattle.heap_laws.proofs.Reading.{ok-one, read_law, rows-numbered}
 use Rattle.heap_laws.proofs.Routes.{leads-same, pages_on, times-cons}
 use Rattle.heap_laws.proofs.Stores.{times-some}
 use Rattle.relation.specs.declared.catalog.Catalog.{Catalog}
@@ -36,29 +38,29 @@ use Rattle.relation.specs.declared.row.CatalogRow.{CatalogRow}
 use Rattle.relation.specs.Catalog.{catalog, kept_indexes, stored_index}
 use Rattle.relation.specs.CatalogRow.{row_values}
 use Rattle.relation.specs.declared.row.IndexForm.TheVariants.{Tree}
-use Rattle.relation.specs.Entries.{entries_edited, entries_of}
+use Rattle.relation.specs.Entries.{entries_edited, entries_of, entry_of, in_order}
 use Rattle.relation.specs.Work.{all_added, all_placed, indexed, or_broken, row_of_index, rows_at, table_indexed}
 use Rattle.relation_laws.specs.Laws.{IndexLaw, IsNewName, IsStoreOf, LeavesOrIsFull, with_index}
 use Rattle.relation_laws.specs.Reach.{IsUntouched, ReachesCatalog}
 use Rattle.relation_laws.specs.Tables.{AreEntriesOf, KeepsIndex, KeepsIndexes, PlainTable, PlainTables, ShowsTable, all_pages, numbered_row}
-use Rattle.relation_laws.specs.Turns.{comes}
+use Rattle.relation_laws.specs.Turns.{entered, entries_open}
 use Rattle.relation_laws.proofs.Catalogs.{goes-on}
 use Rattle.relation_laws.proofs.ColumnKinds.{entry-stands, kind_in, row-stands}
-use Rattle.relation_laws.proofs.Coming.{came-rising, listed-came}
+use Rattle.relation_laws.proofs.Entering.{EntriesAnswer, Holds, Once, Stands, all-from, entered-holds, entries-added, once-entries, once-moved}
 use Rattle.relation_laws.proofs.Following.{kept-same, pages-cons}
 use Rattle.relation_laws.proofs.Growing.{longer, shows-stays}
 use Rattle.relation_laws.proofs.Holding.{Shapes, ZipAround, all-keep, every, every-middle, keeps-stays, of-shapes, other-firsts, shapes-of, tree, turned-out, zip-around, zip-right}
 use Rattle.relation_laws.proofs.Indexing.{IndexReady, RowStands, entry_row, firsts-longer, found_indexed, index-ready, index-store, place-found}
 use Rattle.relation_laws.proofs.Inserting.{Extends, added-placed, extended, full}
 use Rattle.relation_laws.proofs.Keeping.{Edited, make-answer}
+use Rattle.relation_laws.proofs.KeyTurns.{made-of}
 use Rattle.relation_laws.proofs.Lists.{all-at, contains-cons, contains-head, contains-left, contains-map, zip-join, zip-weaken}
 use Rattle.relation_laws.proofs.Names.{first-apart, first_of, firsts-once, name-is, name-same}
 use Rattle.relation_laws.proofs.Reaching.{untouched-then}
-use Rattle.relation_laws.proofs.Rising.{rising-rows}
 use Rattle.relation_laws.proofs.Sparing.{index-held}
 use Rattle.relation_laws.proofs.Singling.{Single, by-name, firsts_of, has-catalog, has-first, names-apart, rows-read, shown-here, single, store-catalog, store-stays}
 use Rattle.relation_laws.proofs.TableStores.{HoldsStill, tables_of}
-use Rattle.relation_laws.proofs.Turning.{RowsTurn, TurnFits, TurnsAnswer, turns-answer}
+use Rattle.relation_laws.proofs.Turning.{CanStand}
 
 -- The root page of an index was made, and its row added to the catalog.
 pub record Begun (size : ℕ) (pages mid : Pages) (all : PlainTables) (table : PlainTable) (store : IsStoreOf size pages all) (one : Single size pages all table (tables_of size pages all store)) (name column : List ℕ) (ready : IndexReady size pages all (tables_of size pages all store) one.stored name column) (root : ℕ × Pages) : Type 0 where
@@ -102,25 +104,49 @@ begun size pages mid all table store one name column ready root make add = recor
     extends = extended size root.1 mid (firsts_of store.store.base.found) (edited.behind ++ store.store.base.held) CATALOG (record { next_number = length store.store.base.placed; rows = store.store.base.placed }) (row_values row ∷ []) placed.0 edited.well (has-catalog store.store.base.found)
         (edited.stay CATALOG (has-catalog store.store.base.found) (record { next_number = length store.store.base.placed; rows = store.store.base.placed }) ready.is_table) (ready.storable root.0 low) ready.room placed.1
 
--- what is done once the rows are read
-abbrev pub indexing_rows : ℕ → List ℕ → List ℕ → ℕ → List Placed → Pages → Result (Unit {0} × Pages) Refusal → Type 0
-indexing_rows size name table place rows pages =
-    made size pages >>= λ (root : ℕ × Pages). all_added size CATALOG (row_values (row_of_index name table place root.0) ∷ []) root.1 >>= λ (told : Unit {0} × Pages). entries_edited added size root.0 (entries_of place rows) told.1
+-- what is done once the entries are known
+abbrev pub indexing_entries : ℕ → List ℕ → List ℕ → ℕ → List Found → Pages → Result (Unit {0} × Pages) Refusal → Type 0
+indexing_entries size name table place entries pages =
+    made size pages >>= λ (root : ℕ × Pages). all_added size CATALOG (row_values (row_of_index name table place root.0) ∷ []) root.1 >>= λ (told : Unit {0} × Pages). entries_edited added size root.0 entries told.1
+
+-- the entries of rows are put in order, and the index is made by them
+pub record Indexing (size : ℕ) (name table : List ℕ) (place : ℕ) (rows : List Placed) (pages : Pages) (answer : Result (Unit {0} × Pages) Refusal) : Type 0 where
+  pub entries : List Found
+  pub order : in_order (entries_of place rows) (Ok entries)
+  pub steps : indexing_entries size name table place entries pages answer
+
+-- what goes on with the entries in order
+ordered-on : (read : Result (List Placed) Refusal → Type 0) (place : ℕ) (rows : List Placed) → ((a : Result (List Placed) Refusal) → read a → a ≡ Ok rows) → (size : ℕ) (name table : List ℕ) (pages : Pages) (answer : Result (Unit {0} × Pages) Refusal)
+    → ((read >>= λ (some : List Placed). in_order (entries_of place some)) >>= λ (entries : List Found). indexing_entries size name table place entries pages) answer → Indexing size name table place rows pages answer
+ordered-on read place rows one size name table pages (Ok y) (entries, (some, told, order), h) =
+    record { entries = entries; order = subst (λ (r : List Placed). in_order (entries_of place r) (Ok entries)) (ok-one (one (Ok some) told)) order; steps = h }
+ordered-on read place rows one size name table pages (Err why) (inl (inl refused)) = absurd (differ-from (one (Err why) refused))
+  where
+    differ-from : Err why ≡ Ok rows → ⊥
+    differ-from e = absurd cc
+ordered-on read place rows one size name table pages (Err why) (inl (inr (some, told, never))) = absurd never
+ordered-on read place rows one size name table pages (Err why) (inr (entries, (some, told, order), h)) =
+    record { entries = entries; order = subst (λ (r : List Placed). in_order (entries_of place r) (Ok entries)) (ok-one (one (Ok some) told)) order; steps = h }
 
 pub indexing-at : (size : ℕ) (pages : Pages) (all : PlainTables) (table : PlainTable) (store : IsStoreOf size pages all) (one : Single size pages all table (tables_of size pages all store)) (name column : List ℕ) (ready : IndexReady size pages all (tables_of size pages all store) one.stored name column) (answer : Result (Unit {0} × Pages) Refusal) → indexed made added size pages name table.name column answer
-    → indexing_rows size name one.stored.name ready.at_column.place one.shows.placed pages answer
+    → Indexing size name one.stored.name ready.at_column.place one.shows.placed pages answer
 indexing-at size pages all table store one name column ready answer work =
-    goes-on (rows_at size pages one.stored) (λ rows. indexing_rows size name one.stored.name ready.at_column.place rows pages) one.shows.placed (rows-read size pages all table (tables_of size pages all store) one) answer
+    ordered-on (rows_at size pages one.stored) ready.at_column.place one.shows.placed (rows-read size pages all table (tables_of size pages all store) one) size name one.stored.name pages answer
     (goes-on (only (or_broken (column_place column one.stored.columns))) (λ place. table_indexed made added size name one.stored place pages) ready.at_column.place (λ a e. sym e ∙ ap or_broken (place-found column one.stored.columns ready.at_column)) answer
     (by-name size pages all table (tables_of size pages all store) one (λ (stored : StoredTable). only (or_broken (column_place column stored.columns)) >>= λ place. table_indexed made added size name stored place pages) answer work))
 
+-- what an index over rows answers as it is made by their entries in order
+abbrev pub IndexAnswer : (size : ℕ) (pages : Pages) (firsts others : List ℕ) (root place : ℕ) (rows : List Placed) (entries : List Found) (held : List ℕ) → Result (Unit {0} × Pages) Refusal → Type 0
+IndexAnswer size pages firsts others root place rows entries held (Ok y) =
+    Edited tree size pages y.1 firsts others root (entered put entries empty) held (entries_open put opens entries empty)
+    × AreEntriesOf place rows (entries_of_shape (entered put entries empty))
+IndexAnswer size pages firsts others root place rows entries held (Err why) = (why ≡ PagesFull size) × (free_pages size pages < entries_open put opens entries empty)
+
 -- the entries of the table's rows are added
-pub entries-answer : (size : ℕ) (pages mid : Pages) (all : PlainTables) (table : PlainTable) (store : IsStoreOf size pages all) (one : Single size pages all table (tables_of size pages all store)) (name column : List ℕ) (ready : IndexReady size pages all (tables_of size pages all store) one.stored name column) (root : ℕ × Pages) (it : Begun size pages mid all table store one name column ready root) (answer : Result (Unit {0} × Pages) Refusal)
-    → entries_edited added size root.0 (entries_of ready.at_column.place one.shows.placed) mid answer
-    → TurnsAnswer tree size mid (firsts_of store.store.base.found) store.store.base.held root.0 ready.at_column.place (map comes one.shows.placed) one.shows.placed empty it.edited.behind answer
-entries-answer size pages mid all table store one name column ready root it answer work =
-    turns-answer tree size root.0 (kind_in one.stored.columns place) place (map comes one.shows.placed) mid firsts store.store.base.held [] one.shows.placed empty it.edited.behind answer it.stands.extends.well it.lists none_of none_are (all-fit one.shows.placed (λ p has. has)) turned
-    (listed-came added removed size root.0 place one.shows.placed mid answer work)
+pub entries-answer : (size : ℕ) (pages mid : Pages) (all : PlainTables) (table : PlainTable) (store : IsStoreOf size pages all) (one : Single size pages all table (tables_of size pages all store)) (name column : List ℕ) (ready : IndexReady size pages all (tables_of size pages all store) one.stored name column) (root : ℕ × Pages) (it : Begun size pages mid all table store one name column ready root) (entries : List Found) (answer : Result (Unit {0} × Pages) Refusal)
+    → in_order (entries_of ready.at_column.place one.shows.placed) (Ok entries) → entries_edited added size root.0 entries mid answer
+    → IndexAnswer size mid (firsts_of store.store.base.found) store.store.base.held root.0 ready.at_column.place one.shows.placed entries it.edited.behind answer
+entries-answer size pages mid all table store one name column ready root it entries answer order work = go answer (entries-added tree size root.0 (kind_in one.stored.columns place) entries mid firsts store.store.base.held empty it.edited.behind answer it.stands.extends.well it.lists none_of stand work)
   where
     place : ℕ
     place = ready.at_column.place
@@ -134,23 +160,45 @@ entries-answer size pages mid all table store one name column ready root it answ
     none_of : AreOfKind (kind_in one.stored.columns ready.at_column.place) (entries_of_shape empty)
     none_of = subst (AreOfKind (kind_in one.stored.columns ready.at_column.place)) (sym shaped.of_none.1) tt
 
-    none_are : AreEntriesOf ready.at_column.place [] (entries_of_shape empty)
-    none_are = subst (AreEntriesOf ready.at_column.place []) (sym shaped.of_none.1) (record { told = λ entry has. has; listed = λ entry has. has })
+    none-there : (x : Found) → Contains (entries_of_shape empty) x → ⊥
+    none-there x has = absurd (omega (arith, (subst (λ (l : List Found). Contains l x) shaped.of_none.1 has).1))
 
     fit_old : AllByRecursion (λ (row : ℕ × List Value). fits one.stored.columns row.1 ≡ true) (map numbered_row one.shows.placed)
     fit_old = subst (λ (l : List (ℕ × List Value)). AllByRecursion (λ (row : ℕ × List Value). fits one.stored.columns row.1 ≡ true) l) one.shows.rows
         (subst (λ (columns : List TableColumn). AllByRecursion (λ (row : ℕ × List Value). fits columns row.1 ≡ true) table.rows) one.shows.columns one.shows.fitting)
 
-    all-fit : (rows : List Placed) → ((p : Placed) → Contains rows p → Contains one.shows.placed p) → AllByRecursion (TurnFits (kind_in one.stored.columns ready.at_column.place) ready.at_column.place) (map comes rows)
-    all-fit [] among = tt
-    all-fit (p ∷ rows) among =
-        let there = among p (contains-head p rows) in
-        let fit = all-at (λ (row : ℕ × List Value). fits one.stored.columns row.1 ≡ true) (map numbered_row one.shows.placed) (numbered_row p) fit_old (contains-map numbered_row one.shows.placed p there) in
-        let stands = row-stands size pages (firsts_of store.store.base.found) store.store.base.held one.stored.first before p store.store.base.heap (has-first store.store.base.found one.stored one.has) one.shows.is_table there in
-        ((tt, entry-stands one.stored.columns ready.at_column.place p fit stands.0 stands.1), all-fit rows (λ q also. among q (contains-cons q p rows also)))
+    listed_by : (e : Found) → Contains entries e → Contains (entries_of ready.at_column.place one.shows.placed) e
+    listed_by e has = Contains-permutation entries (entries_of place one.shows.placed) e (IsPermutation-sym (entries_of place one.shows.placed) entries order.0) has
 
-    turned : RowsTurn [] (map comes one.shows.placed) one.shows.placed
-    turned = came-rising [] one.shows.placed (λ p q has also. absurd (omega (arith, has.1))) (rising-rows one.shows.placed (read_law.numbered size pages (firsts_of store.store.base.found) store.store.base.held one.stored.first before store.store.base.heap (has-first store.store.base.found one.stored one.has) one.shows.is_table).rise)
+    one-stands : (e : Found) → Contains entries e → Stands (kind_in one.stored.columns ready.at_column.place) e
+    one-stands e has =
+        let of = made-of (entry_of place) one.shows.placed e (listed_by e has) in
+        let fit = all-at (λ (row : ℕ × List Value). fits one.stored.columns row.1 ≡ true) (map numbered_row one.shows.placed) (numbered_row of.0) fit_old (contains-map numbered_row one.shows.placed of.0 of.1) in
+        let stands = row-stands size pages (firsts_of store.store.base.found) store.store.base.held one.stored.first before of.0 store.store.base.heap (has-first store.store.base.found one.stored one.has) one.shows.is_table of.1 in
+        subst (CanStand (kind_in one.stored.columns place)) of.2 (entry-stands one.stored.columns place of.0 fit stands.0 stands.1)
+
+    stand : AllByRecursion (Stands (kind_in one.stored.columns ready.at_column.place)) entries
+    stand = all-from (Stands (kind_in one.stored.columns ready.at_column.place)) entries one-stands
+
+    once : Once entries
+    once = once-moved (entries_of place one.shows.placed) entries order.0 (once-entries place one.shows.placed (λ n. (rows-numbered size pages (firsts_of store.store.base.found) store.store.base.held one.stored.first before store.store.base.heap (has-first store.store.base.found one.stored one.has) one.shows.is_table n).0))
+
+    holds : Holds tree entries empty
+    holds = entered-holds tree (kind_in one.stored.columns ready.at_column.place) entries empty shaped.of_none.0 none_of stand once (λ x y has also. absurd (none-there x has))
+
+    are : AreEntriesOf ready.at_column.place one.shows.placed (entries_of_shape (entered put entries empty))
+    are = record {
+      told = λ e has. elim (holds.told e has) [
+        | inl none ↦ absurd (none-there e none)
+        | inr in_ ↦ listed_by e in_
+      ];
+      listed = λ e has. holds.listed e (inr (Contains-permutation (entries_of place one.shows.placed) entries e order.0 has));
+    }
+
+    go : (answer : Result (Unit {0} × Pages) Refusal) → EntriesAnswer tree size mid (firsts_of store.store.base.found) store.store.base.held root.0 entries empty it.edited.behind answer
+        → IndexAnswer size mid (firsts_of store.store.base.found) store.store.base.held root.0 ready.at_column.place one.shows.placed entries it.edited.behind answer
+    go (Ok y) h = (h, are)
+    go (Err why) h = h
 
 -- a table whose catalog has one more index of it
 abbrev pub table_indexing : StoredTable → StoredIndex → StoredTable
@@ -340,7 +388,7 @@ index-reaches size pages mid after all table store one name column ready root it
 
 pub index_law : IndexLaw
 index_law size pages all table name column answer store has new there work =
-    go answer (indexing-at size pages all table store one name column ready answer work)
+    go answer by.steps
   where
     one : Single size pages all table (tables_of size pages all store)
     one = single size pages all table (tables_of size pages all store) has
@@ -348,13 +396,16 @@ index_law size pages all table name column answer store has new there work =
     ready : IndexReady size pages all (tables_of size pages all store) one.stored name column
     ready = index-ready size pages all table (tables_of size pages all store) one name column new.is_name there
 
+    by : Indexing size name one.stored.name ready.at_column.place one.shows.placed pages answer
+    by = indexing-at size pages all table store one name column ready answer work
+
     before : HeapTable
     before = record { next_number = length store.store.base.placed; rows = store.store.base.placed }
 
-    go : (answer : Result (Unit {0} × Pages) Refusal) → indexing_rows size name one.stored.name ready.at_column.place one.shows.placed pages answer → LeavesOrIsFull size (λ after. IsStoreOf size after (with_index (record { name = name; table = table.name; column = column }) all) × ReachesCatalog size pages after) answer
+    go : (answer : Result (Unit {0} × Pages) Refusal) → indexing_entries size name one.stored.name ready.at_column.place by.entries pages answer → LeavesOrIsFull size (λ after. IsStoreOf size after (with_index (record { name = name; table = table.name; column = column }) all) × ReachesCatalog size pages after) answer
     go (Ok y) (root, make, (told, add, listing)) =
         let it = begun size pages told.1 all table store one name column ready root make add in
-        let fin = entries-answer size pages told.1 all table store one name column ready root it (Ok y) listing in (
+        let fin = entries-answer size pages told.1 all table store one name column ready root it by.entries (Ok y) by.order listing in (
           indexed-store size pages told.1 y.1 all table store one name column ready root new it _ _ fin.0 fin.1,
           index-reaches size pages told.1 y.1 all table store one name column ready root it _ _ fin.0,
         )
@@ -365,4 +416,4 @@ index_law size pages all table name column answer store has new there work =
         full size root.1 (firsts_of store.store.base.found) (edited.behind ++ store.store.base.held) CATALOG before (row_values (row_of_index name one.stored.name ready.at_column.place root.0) ∷ []) why edited.well (has-catalog store.store.base.found) (edited.stay CATALOG (has-catalog store.store.base.found) before ready.is_table) (ready.storable root.0 low) ready.room add
     go (Err why) (inr (root, make, inr (told, add, listing))) =
         let it = begun size pages told.1 all table store one name column ready root make add in
-        (entries-answer size pages told.1 all table store one name column ready root it (Err why) listing).0
+        (entries-answer size pages told.1 all table store one name column ready root it by.entries (Err why) by.order listing).0

@@ -12,7 +12,6 @@ use Rattle.heap_laws.proofs.Reading.{read_law}
 use Rattle.relation.specs.declared.catalog.Catalog.{Catalog}
 use Rattle.relation.specs.declared.catalog.StoredIndex.{StoredIndex}
 use Rattle.relation.specs.declared.catalog.StoredTable.{StoredTable}
-use Rattle.relation.specs.Each.{in_turn}
 use Rattle.relation.specs.Entries.{entries_edited, entries_of, rows_listed}
 use Rattle.relation.specs.Work.{all_placed, table_inserted}
 use Rattle.relation.proofs.Halves.{placed-refused}
@@ -29,6 +28,7 @@ use Rattle.relation_laws.proofs.Sparing.{reaches-behind}
 use Rattle.relation_laws.proofs.Singling.{Single, by-name, firsts_of, has-first, one-changed, single}
 use Rattle.relation_laws.proofs.TableStores.{HoldsStill, tables_of}
 use Rattle.relation_laws.proofs.Turning.{RowsTurn, turn_work}
+use Rattle.pager.specs.Allows.{in_turn}
 
 -- rows of a table of the store are inserted: the rows stand, and the indexes wait
 pub record RowsIn (size : ℕ) (pages mid : Pages) (all : PlainTables) (table : PlainTable) (rows : List (List Value)) (store : IsStoreOf size pages all) (one : Single size pages all table (tables_of size pages all store)) (placed : List Placed) : Type 0 where

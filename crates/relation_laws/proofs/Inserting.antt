@@ -17,10 +17,10 @@ use Rattle.heap_laws.proofs.Stores.{all-join}
 use Rattle.relation.specs.declared.catalog.StoredTable.{StoredTable}
 use Rattle.relation.specs.Work.{all_added, all_placed}
 use Rattle.sql_tree.specs.Rows.{fits}
-use Rattle.relation.proofs.Steps.{left_pages}
 use Rattle.relation_laws.specs.Laws.{IsRowFor, with_rows}
 use Rattle.relation_laws.specs.Tables.{PlainTable, ShowsTable, numbered, numbered_row}
 use Rattle.relation_laws.proofs.Reaching.{Spares, added-spares, spares-none, spares-then, untouched-then}
+use Rattle.pager.proofs.Turns.{left_pages}
 
 -- Rows were added to the table that begins with a page: they stand last, in order, under the next row numbers. The other
 -- tables are as they were, and so are the other pages that are held.

@@ -7,12 +7,11 @@ use Rattle.std.specs.Ordering.{is_gt, is_lt, nat_cmp}
 use Rattle.std.specs.declared.cmp.Ordering.{Ordering}
 use Rattle.std.specs.declared.cmp.Ordering.TheVariants.{Less, Equal, Greater}
 use Rattle.std.proofs.lemmas.Bool.Decides.{eqb_tells}
-use Rattle.std.specs.Cmp.{IsTotalOrder}
-use Rattle.std.proofs.lemmas.Cmp.{nat_cmp_total, on_total, ranked, then_total, tied_itself}
+use Rattle.std.proofs.lemmas.Cmp.{ranked, tied_itself}
 use Rattle.std.proofs.lemmas.List.Elements.{Contains-append_right}
 use Rattle.values.specs.Value.{value_cmp}
 use Rattle.values.specs.declared.value.Value.{Value}
-use Rattle.values.proofs.Orders.{value_total}
+use Rattle.pager.proofs.Orders.{found_total}
 use Rattle.pager.specs.Index.{found_cmp, same_found, with_found, without_found}
 use Rattle.pager.specs.declared.index.Found.{Found}
 use Rattle.heap_file.specs.declared.chain.Placed.{Placed}
@@ -111,9 +110,6 @@ row_number placed = placed.number
 
 abbrev pub entry_number : Found → ℕ
 entry_number found = found.number
-
-pub found_total : IsTotalOrder found_cmp
-found_total = then_total (on_total (λ (found : Found). found.value) value_total) (on_total (λ (found : Found). found.number) nat_cmp_total)
 
 -- entries of different numbers are told apart
 pub cmp-apart : (x e : Found) → x.number ≢ e.number → (found_cmp x e ≡ Less) ⊎ (found_cmp x e ≡ Greater)

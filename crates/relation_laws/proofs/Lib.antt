@@ -1,4 +1,5 @@
 pub mod Beginning
+pub mod Bytes
 pub mod CatalogRows
 pub mod Catalogs
 pub mod Changed
@@ -12,6 +13,7 @@ pub mod Deleting
 pub mod Drawing
 pub mod Drawn
 pub mod Eaches
+pub mod Entering
 pub mod Entries
 pub mod Filling
 pub mod Following
@@ -47,4 +49,3 @@ pub mod Updating
 pub mod Weighing
 pub mod Within
 pub mod Working
-pub mod Bytes

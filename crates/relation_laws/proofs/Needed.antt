@@ -7,7 +7,7 @@ use Rattle.values.specs.declared.value.Value.{Value}
 use Rattle.sql_tree.specs.declared.statement.Column.{Column as TableColumn}
 use Rattle.pager.specs.Allows.{◌>>=◌}
 use Rattle.pager.specs.Pages.{Pages}
-use Rattle.tree_index.specs.Tree.{empty, opens, put, without}
+use Rattle.tree_index.specs.Tree.{empty, opens, put}
 use Rattle.tree_index.specs.Work.{added, made, removed}
 use Rattle.heap_file.specs.declared.page.HeapPage.{HeapPage}
 use Rattle.heap_file.specs.HeapPage.{entry_bytes}
@@ -24,14 +24,14 @@ use Rattle.relation.proofs.Halves.{changes-numbered-err, changes-numbered-ok, pl
 use Rattle.relation_laws.specs.Laws.{AreChangesOf, AreTableColumns, EditsLaw, HasColumn, IsNewName, IsRowFor, IsStoreOf, NeedsLaw}
 use Rattle.relation_laws.specs.Needs.{CreateNeeds, IndexNeeds, IndexesNeed, InsertNeeds, TakesNeeded, UpdateNeeds, changes_open, pages_opened, taken_after}
 use Rattle.relation_laws.specs.Tables.{PlainTable, PlainTables, all_pages}
-use Rattle.relation_laws.specs.Turns.{Turn, comes, moves, turns_open}
+use Rattle.relation_laws.specs.Turns.{Turn, comes, entries_open, moves}
 use Rattle.relation_laws.proofs.Catalogs.{goes-on}
 use Rattle.relation_laws.proofs.Counting.{needed}
 use Rattle.relation_laws.proofs.Creating.{ready}
 use Rattle.relation_laws.proofs.Deleting.{StillThere, still}
 use Rattle.relation_laws.proofs.Following.{KeptAs, all_open, kept-same}
 use Rattle.relation_laws.proofs.Holding.{Waiting, every, follow-answer, needs-of, tree}
-use Rattle.relation_laws.proofs.Indexed.{begun, entries-answer, indexing-at, indexing_rows, root-low}
+use Rattle.relation_laws.proofs.Indexed.{Indexing, begun, entries-answer, indexing-at, indexing_entries, root-low}
 use Rattle.relation_laws.proofs.Indexing.{IndexReady, index-ready, place-found}
 use Rattle.relation_laws.proofs.Inserted.{listed-rows, rows-in}
 use Rattle.relation_laws.proofs.Inserting.{storable-rows}
@@ -192,9 +192,9 @@ pub index-needs : (size : ℕ) (pages : Pages) (all : PlainTables) (table : Plai
     → IsStoreOf size pages all → Contains all.tables table → IsNewName all name → HasColumn column table
     → indexed made added size pages name table.name column answer → (needs : ℕ) × IndexNeeds size pages name table.name column needs × TakesNeeded size pages needs answer
 index-needs size pages all table name column answer store has new there work = (
-  1 + (behind + turns_open put without opens ready.at_column.place (map comes one.shows.placed) empty),
-  (one.stored, named-here size pages all table is one, ready.at_column.place, place-found column one.stored.columns ready.at_column, one.shows.placed, rows-here size pages all table is one, behind, (end.0, end.1, end.2, refl), refl),
-  go end.0 end.1 end.2 answer (indexing-at size pages all table store one name column ready answer work),
+  1 + (behind + entries_open put opens by.entries empty),
+  (one.stored, named-here size pages all table is one, ready.at_column.place, place-found column one.stored.columns ready.at_column, by.entries, (one.shows.placed, rows-here size pages all table is one, by.order), behind, (end.0, end.1, end.2, refl), refl),
+  go end.0 end.1 end.2 answer by.steps,
 )
   where
     is : IsTableStoreOf size pages all
@@ -205,6 +205,9 @@ index-needs size pages all table name column answer store has new there work = (
 
     ready : IndexReady size pages all (tables_of size pages all store) one.stored name column
     ready = index-ready size pages all table (tables_of size pages all store) one name column new.is_name there
+
+    by : Indexing size name one.stored.name ready.at_column.place one.shows.placed pages answer
+    by = indexing-at size pages all table store one name column ready answer work
 
     firsts : List ℕ
     firsts = firsts_of store.store.base.found
@@ -224,11 +227,11 @@ index-needs size pages all table name column answer store has new there work = (
     same : (taken root : ℕ) → pages_opened taken (row_values (row_of_index name one.stored.name ready.at_column.place root) ∷ []) ≡ pages_opened taken (row_values (row_of_index name table.name 0 0) ∷ [])
     same taken root = opened-index taken name one.stored.name ready.at_column.place 0 root 0 ∙ ap (λ (n : List ℕ). pages_opened taken (row_values (row_of_index name n 0 0) ∷ [])) (sym one.shows.name)
 
-    go : (last : ℕ) (tail : HeapPage) → EndsAt size pages CATALOG last tail → (answer : Result (Unit {0} × Pages) Refusal) → indexing_rows size name one.stored.name ready.at_column.place one.shows.placed pages answer
-        → TakesNeeded size pages (1 + (pages_opened (length (entry_bytes tail.entries)) (row_values (row_of_index name table.name 0 0) ∷ []) + turns_open put without opens ready.at_column.place (map comes one.shows.placed) empty)) answer
+    go : (last : ℕ) (tail : HeapPage) → EndsAt size pages CATALOG last tail → (answer : Result (Unit {0} × Pages) Refusal) → indexing_entries size name one.stored.name ready.at_column.place by.entries pages answer
+        → TakesNeeded size pages (1 + (pages_opened (length (entry_bytes tail.entries)) (row_values (row_of_index name table.name 0 0) ∷ []) + entries_open put opens by.entries empty)) answer
     go last tail ends (Ok y) (root, make, (told, add, listing)) =
         let it = begun size pages told.1 all table store one name column ready root make add in
-        let fin = entries-answer size pages told.1 all table store one name column ready root it (Ok y) listing in
+        let fin = entries-answer size pages told.1 all table store one name column ready root it by.entries (Ok y) by.order listing in
         let kept = ends-kept size pages root.1 firsts held CATALOG store.store.base.heap (has-catalog store.store.base.found) (it.edited.tables CATALOG (has-catalog store.store.base.found)) last tail ends in
         let took = rows-take size root.1 told.1 firsts (it.edited.behind ++ held) CATALOG before (row_values (row_of_index name one.stored.name ready.at_column.place root.0) ∷ []) last tail it.edited.well (has-catalog store.store.base.found) (it.edited.stay CATALOG (has-catalog store.store.base.found) before ready.is_table) (ready.storable root.0 it.low) ready.room kept add in
         omega (arith, took, it.edited.fewer, fin.0.fewer, same (length (entry_bytes tail.entries)) root.0)
@@ -243,7 +246,7 @@ index-needs size pages all table name column answer store has new there work = (
         omega (arith, full, edited.fewer, same (length (entry_bytes tail.entries)) root.0)
     go last tail ends (Err why) (inr (root, make, inr (told, add, listing))) =
         let it = begun size pages told.1 all table store one name column ready root make add in
-        let fin = entries-answer size pages told.1 all table store one name column ready root it (Err why) listing in
+        let fin = entries-answer size pages told.1 all table store one name column ready root it by.entries (Err why) by.order listing in
         let kept = ends-kept size pages root.1 firsts held CATALOG store.store.base.heap (has-catalog store.store.base.found) (it.edited.tables CATALOG (has-catalog store.store.base.found)) last tail ends in
         let took = rows-take size root.1 told.1 firsts (it.edited.behind ++ held) CATALOG before (row_values (row_of_index name one.stored.name ready.at_column.place root.0) ∷ []) last tail it.edited.well (has-catalog store.store.base.found) (it.edited.stay CATALOG (has-catalog store.store.base.found) before ready.is_table) (ready.storable root.0 it.low) ready.room kept add in
         omega (arith, took, it.edited.fewer, fin.1, same (length (entry_bytes tail.entries)) root.0)

@@ -26,7 +26,6 @@ use Rattle.relation.specs.declared.catalog.TheConstants.{CATALOG}
 use Rattle.relation.specs.declared.row.CatalogRow.TheVariants.{Table as TableOf}
 use Rattle.relation.specs.CatalogRow.{row_values}
 use Rattle.relation.specs.Work.{all_added, row_of_index, rows_of_columns, rows_of_table}
-use Rattle.relation.proofs.Steps.{left_pages}
 use Rattle.relation_laws.specs.Needs.{next_pages, pages_opened, entry_size, taken_after}
 use Rattle.relation_laws.specs.Reach.{IsUntouched, with_root}
 use Rattle.relation_laws.specs.Tables.{PlainTables}
@@ -36,6 +35,7 @@ use Rattle.relation_laws.proofs.Filling.{add-ends, entries_after}
 use Rattle.relation_laws.proofs.Reaching.{made-spares, own-first, own-last}
 use Rattle.relation_laws.proofs.Singling.{firsts_of, has-catalog}
 use Rattle.relation_laws.proofs.TableStores.{IsTableStoreOf}
+use Rattle.pager.proofs.Turns.{left_pages}
 
 pub entry-length : (number : ℕ) (row : List Value) → length (entry_code (record { number = number; row = row })) ≡ entry_size row
 entry-length number row =

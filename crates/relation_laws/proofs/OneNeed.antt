@@ -4,7 +4,8 @@ use Rattle.std.specs.List.{AllByRecursion, Contains}
 use Rattle.retro_base.specs.declared.refusal.Refusal.{Refusal}
 use Rattle.values.specs.declared.value.Value.{Value}
 use Rattle.pager.specs.Pages.{Pages}
-use Rattle.tree_index.specs.Tree.{empty, opens, put, without}
+use Rattle.pager.specs.declared.index.Found.{Found}
+use Rattle.tree_index.specs.Tree.{empty, opens, put}
 use Rattle.heap_file.specs.declared.page.HeapPage.{HeapPage}
 use Rattle.heap_file.specs.declared.chain.Placed.{Placed}
 use Rattle.heap_file.specs.HeapPage.{entry_bytes}
@@ -14,24 +15,26 @@ use Rattle.heap_file.proofs.Positions.{some-is}
 use Rattle.heap_laws.specs.Store.{free_pages}
 use Rattle.heap_laws.specs.Table.{EndsAt, Table}
 use Rattle.heap_laws.proofs.Ones.{chain_answers_are_one}
-use Rattle.heap_laws.proofs.Reading.{ok-one}
+use Rattle.heap_laws.proofs.Reading.{ok-one, rows-numbered}
 use Rattle.relation.specs.declared.catalog.StoredTable.{StoredTable}
 use Rattle.relation.specs.declared.catalog.TheConstants.{CATALOG}
 use Rattle.relation.specs.declared.drafting.RowChange.{RowChange}
 use Rattle.relation.specs.declared.listing.Moved.{Moved}
 use Rattle.relation.specs.CatalogRow.{row_values}
 use Rattle.relation.specs.Each.{each, each_in_turn}
+use Rattle.relation.specs.Entries.{entries_of, in_order}
 use Rattle.relation.specs.Work.{all_changed, all_placed, change_of, row_changes, row_of_index, row_placed, rows_at, rows_of_table}
 use Rattle.relation.proofs.Halves.{changes-numbered-ok, placed-added}
 use Rattle.sql_tree.specs.Scope.{column_place}
 use Rattle.relation_laws.specs.Laws.{AreChangesOf, IsRowFor, IsStoreOf}
 use Rattle.relation_laws.specs.Needs.{IndexNeeds, IndexesNeed, InsertNeeds, NeedsThen, RowsNeed, TurnInserted, TurnUpdated, UpdateNeeds, changes_open, pages_opened, taken_after}
 use Rattle.relation_laws.specs.Tables.{PlainTable, PlainTables}
-use Rattle.relation_laws.specs.Turns.{Turn, comes, moves, turns_open}
+use Rattle.relation_laws.specs.Turns.{Turn, comes, entries_open, moves}
 use Rattle.relation_laws.specs.Work.{Changes, Creates, Indexes, Inserts, IsAllowed, Needs, Removes, Work}
 use Rattle.relation_laws.proofs.Catalogs.{each-one}
 use Rattle.relation_laws.proofs.Counting.{needed}
 use Rattle.relation_laws.proofs.Deleting.{StillThere, still}
+use Rattle.relation_laws.proofs.Entering.{once-entries, order-one}
 use Rattle.relation_laws.proofs.Holding.{needs-one}
 use Rattle.relation_laws.proofs.Inserting.{storable-rows}
 use Rattle.relation_laws.proofs.Needing.{ends-one, ends-there, last-one, rows-take}
@@ -155,18 +158,21 @@ update-one size pages all table changes needs other store has these need also =
 -- what an index needs is one number
 index-one : (size : ℕ) (pages : Pages) (all : PlainTables) (table : PlainTable) (name column : List ℕ) (needs other : ℕ) → IsStoreOf size pages all → Contains all.tables table
     → IndexNeeds size pages name table.name column needs → IndexNeeds size pages name table.name column other → needs ≡ other
-index-one size pages all table name column needs other store has (found, named, place, at_place, rows, read, behind, rows_need, e) (also, names, there, at_there, others, reads, more, need, f) =
+index-one size pages all table name column needs other store has (found, named, place, at_place, entries, (rows, read, order), behind, rows_need, e) (also, names, there, at_there, others, (some, reads, orders), more, need, f) =
     let is = tables_of size pages all store in
     let one = single size pages all table is has in
     let left : found ≡ one.stored = ok-one (named-in size pages all table is one (Ok found) named) in
     let right : also ≡ one.stored = ok-one (named-in size pages all table is one (Ok also) names) in
     let places : place ≡ there = some-is (column_place column one.stored.columns) place there (subst (λ (t : StoredTable). column_place column t.columns ≡ Some place) left at_place) (subst (λ (t : StoredTable). column_place column t.columns ≡ Some there) right at_there) in
     let rows_left : rows ≡ one.shows.placed = ok-one (rows-read size pages all table is one (Ok rows) (subst (λ (t : StoredTable). rows_at size pages t (Ok rows)) left read)) in
-    let rows_right : others ≡ one.shows.placed = ok-one (rows-read size pages all table is one (Ok others) (subst (λ (t : StoredTable). rows_at size pages t (Ok others)) right reads)) in
+    let rows_right : some ≡ one.shows.placed = ok-one (rows-read size pages all table is one (Ok some) (subst (λ (t : StoredTable). rows_at size pages t (Ok some)) right reads)) in
+    let once = once-entries there one.shows.placed (λ n. (rows-numbered size pages (firsts_of store.store.base.found) store.store.base.held one.stored.first (record { next_number = table.next_number; rows = one.shows.placed }) store.store.base.heap (has-first store.store.base.found one.stored one.has) one.shows.is_table n).0) in
+    let same : entries ≡ others = order-one (entries_of there one.shows.placed) entries others once
+    (subst (λ (p : ℕ). in_order (entries_of p one.shows.placed) (Ok entries)) places (subst (λ (r : List Placed). in_order (entries_of place r) (Ok entries)) rows_left order))
+    (subst (λ (r : List Placed). in_order (entries_of there r) (Ok others)) rows_right orders) in
     let opened : behind ≡ more = rows-need size pages CATALOG (row_values (row_of_index name table.name 0 0) ∷ []) behind more rows_need need in
-    e ∙ ap (λ (n : ℕ). 1 + (n + turns_open put without opens place (map comes rows) empty)) opened
-    ∙ ap (λ (p : ℕ). 1 + (more + turns_open put without opens p (map comes rows) empty)) places
-    ∙ ap (λ (r : List Placed). 1 + (more + turns_open put without opens there (map comes r) empty)) (rows_left ∙ sym rows_right)
+    e ∙ ap (λ (n : ℕ). 1 + (n + entries_open put opens entries empty)) opened
+    ∙ ap (λ (l : List Found). 1 + (more + entries_open put opens l empty)) same
     ∙ sym f
 
 -- the number that a piece of work needs is one

@@ -37,11 +37,12 @@ use Rattle.relation_laws.proofs.Catalogs.{goes-on}
 use Rattle.relation_laws.proofs.ColumnKinds.{entry-kind, kind_in}
 use Rattle.relation_laws.proofs.Following.{kind-of-entries}
 use Rattle.relation_laws.proofs.Holding.{tree, zip-right}
-use Rattle.relation_laws.proofs.KeyTurns.{entry-named, entry_number, filter-keeps, filter-of, found_total, made-of, of-made, row_number, some-is}
+use Rattle.relation_laws.proofs.KeyTurns.{entry-named, entry_number, filter-keeps, filter-of, made-of, of-made, row_number, some-is}
 use Rattle.relation_laws.proofs.Lists.{all-at, contains-cases, contains-cons, contains-head, contains-map, keyed-one}
 use Rattle.relation_laws.proofs.Rising.{Rising, rising-filter, rising-once, rising-one, rising-rows}
 use Rattle.relation_laws.proofs.Singling.{Single, firsts_of, has-first, named-in, rows-read, single}
 use Rattle.relation_laws.proofs.TableStores.{tables_of}
+use Rattle.pager.proofs.Orders.{found_total}
 
 -- entries in order, of which two of one number are one, have each number once
 once-each : (xs : List Found) → IsInOrder xs → ((x y : Found) → Contains xs x → Contains xs y → x.number ≡ y.number → x ≡ y) → (n : ℕ) → keyed entry_number n xs ≤ 1

@@ -3,9 +3,9 @@ use Rattle.std.proofs.Common.{◌≡◌, ◌∙◌, ◌<◌, ◌≤◌, ◌+◌,
 use Rattle.std.specs.List.{AllByRecursion, Contains}
 use Rattle.values.specs.declared.value.Value.{Value}
 use Rattle.sql_tree.specs.declared.statement.Column.{Column as TableColumn}
-use Rattle.pager.specs.Allows.{◌>>=◌, only}
+use Rattle.pager.specs.Allows.{◌>>=◌, in_turn, only}
 use Rattle.pager.specs.Pages.{Pages}
-use Rattle.tree_index.specs.Tree.{empty, opens, put, without}
+use Rattle.tree_index.specs.Tree.{empty, opens, put}
 use Rattle.tree_index.specs.Work.{added, made, removed}
 use Rattle.heap_file.specs.declared.page.HeapPage.{HeapPage}
 use Rattle.heap_file.specs.declared.chain.Placed.{Placed}
@@ -19,15 +19,14 @@ use Rattle.heap_laws.proofs.Stores.{times-some}
 use Rattle.relation.specs.declared.catalog.StoredTable.{StoredTable}
 use Rattle.relation.specs.declared.catalog.TheConstants.{CATALOG}
 use Rattle.relation.specs.CatalogRow.{row_values}
-use Rattle.relation.specs.Each.{each, in_turn}
+use Rattle.relation.specs.Each.{each}
 use Rattle.relation.specs.Work.{all_placed, change_of, created, deleted, indexed, inserted, placed_of, row_of_index, rows_at, rows_of_table, table_deleted, table_inserted, table_updated, updated}
 use Rattle.relation.proofs.Halves.{changes-numbered-ok, placed-added, removes-numbered, row_removed}
-use Rattle.relation.proofs.Steps.{left_pages}
 use Rattle.relation_laws.specs.Laws.{AreChangesOf, AreNumbersOf, AreTableColumns, HasColumn, IsNewName, IsRowFor, IsStoreOf}
 use Rattle.relation_laws.specs.Needs.{changes_open, next_pages, pages_opened, taken_after}
 use Rattle.relation_laws.specs.Reach.{with_root}
 use Rattle.relation_laws.specs.Tables.{PlainTable, PlainTables, all_pages}
-use Rattle.relation_laws.specs.Turns.{comes, goes, moves, turns_open}
+use Rattle.relation_laws.specs.Turns.{comes, entries_open, goes, moves}
 use Rattle.relation_laws.specs.Work.{Changes, Creates, EditsWithin, Indexes, Inserts, IsInReach, IsOfTable, Needs, Removes, Work}
 use Rattle.relation_laws.proofs.Catalogs.{goes-on}
 use Rattle.relation_laws.proofs.Creating.{ready}
@@ -53,6 +52,7 @@ use Rattle.relation_laws.proofs.Updated.{moved-rows, rows-move}
 use Rattle.relation_laws.proofs.Updating.{numbers_of, storable-changes}
 use Rattle.relation_laws.proofs.Weighing.{rows-own}
 use Rattle.relation_laws.proofs.Within.{all-contained, all-root, changes-draw, changes-within, contains-times, own-page, removes-within, within-edits, within-then, within-wider}
+use Rattle.pager.proofs.Turns.{left_pages}
 
 -- a page of the table of a name
 pub of-table : (size : ℕ) (pages : Pages) (all : PlainTables) (table : PlainTable) (is : IsTableStoreOf size pages all) (one : Single size pages all table is) (p : ℕ) → 0 < times p (own size pages (firsts_of is.store.found) is.store.held one.stored.first is.store.heap (has-first is.store.found one.stored one.has)) → IsOfTable size pages table.name p
@@ -208,11 +208,12 @@ index-within size pages after all table name column store has new there work =
     let is = tables_of size pages all store in
     let one = single size pages all table is has in
     let ready_ = index-ready size pages all table is one name column new.is_name there in
-    let steps = indexing-at size pages all table store one name column ready_ (Ok (tt, after)) work in
+    let by = indexing-at size pages all table store one name column ready_ (Ok (tt, after)) work in
+    let steps = by.steps in
     let root = steps.0 in
     let mid = steps.2.0.1 in
     let it = begun size pages mid all table store one name column ready_ root steps.1 steps.2.1 in
-    let fin = entries-answer size pages mid all table store one name column ready_ root it (Ok (tt, after)) steps.2.2 in
+    let fin = entries-answer size pages mid all table store one name column ready_ root it by.entries (Ok (tt, after)) by.order steps.2.2 in
     let firsts = firsts_of is.store.found in
     let held = is.store.held in
     let among = has-catalog is.store.found in
@@ -223,11 +224,11 @@ index-within size pages after all table name column store has new there work =
     let taken_in = length (entry_bytes end.1.entries) in
     let behind = pages_opened taken_in (row_values (row_of_index name table.name 0 0) ∷ []) in
     let count : pages_opened taken_in (row ∷ []) ≡ behind = opened-index taken_in name one.stored.name ready_.at_column.place 0 root.0 0 ∙ ap (λ (n : List ℕ). pages_opened taken_in (row_values (row_of_index name n 0 0) ∷ [])) (sym one.shows.name) in
-    let takes = turns_open put without opens ready_.at_column.place (map comes one.shows.placed) empty in
+    let takes = entries_open put opens by.entries empty in
     let edits = rows-edit size root.1 mid firsts (it.edited.behind ++ held) CATALOG before (row ∷ []) end.0 end.1 it.edited.well among (it.edited.stay CATALOG among before ready_.is_table) (ready_.storable root.0 it.low) ready_.room kept (omega arith) steps.2.1 in
     let draws : Draws root.1 mid behind = subst (Draws root.1 mid) count (rows-draw size root.1 mid firsts (it.edited.behind ++ held) CATALOG before (row ∷ []) end.0 end.1 it.edited.well among (it.edited.stay CATALOG among before ready_.is_table) (ready_.storable root.0 it.low) ready_.room kept steps.2.1) in
     let T : ℕ → Type 0 = IsInReach size pages (Indexes name table.name column) in
-    let taken : AllByRecursion T (with_root (next_pages pages (1 + (behind + takes)))) = taken-within size pages (Indexes name table.name column) (1 + (behind + takes)) (one.stored, named-here size pages all table is one, ready_.at_column.place, place-found column one.stored.columns ready_.at_column, one.shows.placed, rows-here size pages all table is one, behind, (end.0, end.1, end.2, refl), refl) in
+    let taken : AllByRecursion T (with_root (next_pages pages (1 + (behind + takes)))) = taken-within size pages (Indexes name table.name column) (1 + (behind + takes)) (one.stored, named-here size pages all table is one, ready_.at_column.place, place-found column one.stored.columns ready_.at_column, by.entries, (one.shows.placed, rows-here size pages all table is one, by.order), behind, (end.0, end.1, end.2, refl), refl) in
     let first = first-taken T pages root.1 1 (behind + takes) it.edited.draws taken in
     let rest = then-taken T pages root.1 1 (behind + takes) it.edited.draws taken in
     let mine : (p : ℕ) → 0 < times p (own size pages firsts held CATALOG is.store.heap among) → T p = λ p here. inl (own-page size pages firsts held CATALOG is.store.heap among p here) in

@@ -15,7 +15,7 @@ use Rattle.values.specs.Value.{kind_of, value_cmp}
 use Rattle.values.specs.declared.value.Kind.{Kind}
 use Rattle.values.specs.declared.value.Value.{Value}
 use Rattle.values.specs.declared.value.Value.TheVariants.{Int, Text}
-use Rattle.pager.specs.Allows.{◌>>=◌}
+use Rattle.pager.specs.Allows.{◌>>=◌, in_turn}
 use Rattle.pager.specs.Index.{AreOfKind, IsFound, found_cmp, with_found, without_found}
 use Rattle.pager.specs.Pages.{Pages}
 use Rattle.pager.specs.declared.index.Found.{Found}
@@ -23,7 +23,6 @@ use Rattle.heap_file.specs.declared.chain.Placed.{Placed}
 use Rattle.heap_laws.specs.Store.{WellFormed, free_pages}
 use Rattle.heap_laws.proofs.Reading.{ok-one}
 use Rattle.heap_laws.proofs.Stores.{all-join}
-use Rattle.relation.specs.Each.{in_turn}
 use Rattle.relation.specs.Entries.{entry_edited, entry_of, is_one_value, value_stays}
 use Rattle.relation.specs.declared.listing.Moved.{Moved}
 use Rattle.relation_laws.specs.Tables.{AreEntriesOf}
@@ -107,7 +106,7 @@ RowsTurn rows [] after = rows ≡ after
 RowsTurn rows (turn ∷ turns) after = (number : ℕ) × (mid : List Placed) × IsOwn row_number number rows turn.before × KeyTurn row_number number rows mid turn.behind × RowsTurn mid turns after
 
 module _ (I : IndexKind) where
-  kind-put : (kind : Kind) (entry : Found) (shape : I.Shape) → I.IsShape shape → IsFound entry → kind_of entry.value ≡ kind → AreOfKind kind (I.entries shape) → AreOfKind kind (I.entries (I.put entry shape))
+  pub kind-put : (kind : Kind) (entry : Found) (shape : I.Shape) → I.IsShape shape → IsFound entry → kind_of entry.value ≡ kind → AreOfKind kind (I.entries shape) → AreOfKind kind (I.entries (I.put entry shape))
   kind-put kind entry shape is found same all =
       let put = I.shaped.of_put entry shape is found (subst (λ (k : Kind). AreOfKind k (I.entries shape)) (sym same) all) in
       let P : Found → Type 0 = λ (x : Found). kind_of x.value ≡ kind in

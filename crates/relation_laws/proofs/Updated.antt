@@ -4,7 +4,7 @@ use Rattle.std.specs.List.{AllByRecursion, Contains}
 use Rattle.retro_base.specs.declared.refusal.Refusal.{Refusal}
 use Rattle.values.specs.declared.value.Value.{Value}
 use Rattle.sql_tree.specs.declared.statement.Column.{Column as TableColumn}
-use Rattle.pager.specs.Allows.{◌>>=◌}
+use Rattle.pager.specs.Allows.{◌>>=◌, in_turn}
 use Rattle.pager.specs.Pages.{Pages}
 use Rattle.tree_index.specs.Work.{added, removed}
 use Rattle.heap_file.specs.declared.chain.Placed.{Placed}
@@ -15,7 +15,7 @@ use Rattle.relation.specs.declared.catalog.StoredIndex.{StoredIndex}
 use Rattle.relation.specs.declared.catalog.StoredTable.{StoredTable}
 use Rattle.relation.specs.declared.drafting.RowChange.{RowChange}
 use Rattle.relation.specs.declared.listing.Moved.{Moved}
-use Rattle.relation.specs.Each.{each, in_turn}
+use Rattle.relation.specs.Each.{each}
 use Rattle.relation.specs.Entries.{entry_of, row_moved, rows_moved, value_stays}
 use Rattle.relation.specs.Work.{all_changed, change_of, placed_of, rows_at, table_updated}
 use Rattle.relation.proofs.Halves.{changes-numbered-err, page_of, placed-page}

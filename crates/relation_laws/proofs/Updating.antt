@@ -17,7 +17,6 @@ use Rattle.heap_laws.proofs.Changing.{change_law}
 use Rattle.heap_laws.proofs.Reading.{ok-one, rows-numbered}
 use Rattle.heap_laws.proofs.Rows.{entry_of as heap_entry}
 use Rattle.heap_laws.proofs.Staying.{indexes_stay_law}
-use Rattle.relation.specs.Each.{in_turn}
 use Rattle.relation.specs.declared.drafting.RowChange.{RowChange}
 use Rattle.relation.specs.declared.listing.Moved.{Moved}
 use Rattle.sql_tree.specs.declared.statement.Column.{Column as TableColumn}
@@ -35,6 +34,7 @@ use Rattle.relation_laws.proofs.Turning.{RowsTurn}
 use Rattle.relation_laws.proofs.Lists.{contains-map, contains-of, keyed-one}
 use Rattle.relation_laws.proofs.Reaching.{Spares, spares-none, spares-then, untouched-then}
 use Rattle.relation_laws.proofs.Moving.{changed-spares}
+use Rattle.pager.specs.Allows.{in_turn}
 
 abbrev pub numbers_of : List (ℕ × List Value) → List ℕ
 numbers_of changes = map (λ (change : ℕ × List Value). change.0) changes

@@ -12,9 +12,7 @@ use Rattle.heap_laws.proofs.Counts.{one_if}
 use Rattle.heap_laws.proofs.Reading.{reads}
 use Rattle.heap_laws.proofs.Removing.{remove_law}
 use Rattle.heap_laws.proofs.Routes.{times-cons}
-use Rattle.relation.specs.Each.{in_turn}
 use Rattle.relation.proofs.Halves.{row_changed, row_removed}
-use Rattle.relation.proofs.Steps.{left_pages}
 use Rattle.relation_laws.specs.Needs.{changes_open, moved_to, next_pages, page_under, taken_after}
 use Rattle.relation_laws.specs.Reach.{IsPageOf, IsUntouched, with_root}
 use Rattle.relation_laws.specs.Work.{EditsWithin}
@@ -27,6 +25,8 @@ use Rattle.relation_laws.proofs.Lists.{all-at, contains-cases, contains-cons, co
 use Rattle.relation_laws.proofs.Needing.{next-more}
 use Rattle.relation_laws.proofs.Reaching.{Touches, own, previous-own, untouched, untouched-then}
 use Rattle.relation_laws.proofs.Updating.{numbers_of, still-changed}
+use Rattle.pager.specs.Allows.{in_turn}
+use Rattle.pager.proofs.Turns.{left_pages}
 
 -- a page is one of these, or apart from each
 in-or-off : (T : ℕ → Type 0) (list : List ℕ) (page : ℕ) → AllByRecursion T list → AllByRecursion (λ q. page ≡ q → ⊥) list ⊎ T page

@@ -9,7 +9,6 @@ use Rattle.pager.specs.Pages.{Pages}
 use Rattle.tree_index.specs.Work.{added, made, removed}
 use Rattle.relation.specs.declared.catalog.StoredTable.{StoredTable}
 use Rattle.relation.specs.Work.{created, deleted, indexed, inserted, updated}
-use Rattle.relation.proofs.Steps.{left_pages}
 use Rattle.relation_laws.specs.Laws.{AreChangesOf, AreNumbersOf, AreTableColumns, HasColumn, IsNewName, IsRowFor, IsStoreOf, with_changes, with_rows, with_table, without_rows}
 use Rattle.relation_laws.specs.Tables.{AreDifferent, PlainTable, PlainTables, ShowsTable, names_of}
 use Rattle.relation_laws.specs.Work.{AreAllowed, AreWorked, Changes, Creates, Indexes, Inserts, IsAllowed, IsInReach, IsInReachOf, IsWorked, Removes, Work, WorkLaw, all_worked, tables_behind, where_named, worked}
@@ -26,6 +25,7 @@ use Rattle.relation_laws.proofs.TableStores.{IsTableStoreOf, tables_of}
 use Rattle.relation_laws.proofs.Touched.{change-within, create-within, index-within, insert-within, removed-within}
 use Rattle.relation_laws.proofs.Updated.{update_law}
 use Rattle.relation_laws.proofs.Within.{within-then}
+use Rattle.pager.proofs.Turns.{left_pages}
 
 -- what is so of each item
 map-in : {A B : Type 0} (f g : A → B) (xs : List A) → ((x : A) → Contains xs x → f x ≡ g x) → map f xs ≡ map g xs

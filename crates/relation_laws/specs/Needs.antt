@@ -7,6 +7,7 @@ use Rattle.values.specs.declared.value.Value.{Value}
 use Rattle.values.specs.Row.{row_bytes}
 use Rattle.sql_tree.specs.declared.statement.Column.{Column as TableColumn}
 use Rattle.pager.specs.Pages.{Pages}
+use Rattle.pager.specs.declared.index.Found.{Found}
 use Rattle.heap_file.specs.declared.page.HeapPage.{HeapPage}
 use Rattle.heap_file.specs.declared.chain.Placed.{Placed}
 use Rattle.heap_file.specs.HeapPage.{entry_bytes}
@@ -20,9 +21,9 @@ use Rattle.relation.specs.CatalogRow.{row_values}
 use Rattle.relation.specs.declared.drafting.RowChange.{RowChange}
 use Rattle.relation.specs.declared.listing.Moved.{Moved}
 use Rattle.relation.specs.Each.{each}
-use Rattle.relation.specs.Work.{all_changed, all_placed, change_of, row_of_index, rows_at, rows_of_table, table_in}
+use Rattle.relation.specs.Work.{all_changed, all_placed, change_of, entries_at, row_of_index, rows_at, rows_of_table, table_in}
 use Rattle.sql_tree.specs.Scope.{column_place}
-use Rattle.relation_laws.specs.Turns.{Turn, comes, moves, turns_open}
+use Rattle.relation_laws.specs.Turns.{Turn, comes, entries_open, moves, turns_open}
 
 -- the bytes of a row's entry on a page: its length in two bytes, and its encoding
 abbrev pub entry_size : List Value → ℕ
@@ -91,14 +92,15 @@ CreateNeeds size pages name columns needs = (behind : ℕ)
     × RowsNeed size pages CATALOG (map row_values (rows_of_table name 0 columns)) behind × (needs ≡ 1 + behind)
 
 -- How many pages an index over a column of a table needs: its root page, those that its row opens in the catalog, which
--- is as long whatever the column's place and the root page are, and those that the table's rows open in it.
+-- is as long whatever the column's place and the root page are, and those that the entries of the table's rows open in
+-- it, in order.
 abbrev pub IndexNeeds : ℕ → Pages → List ℕ → List ℕ → List ℕ → ℕ → Type 0
 IndexNeeds size pages name table column needs =
     (found : StoredTable) × table_in size pages table (Ok found)
     × (place : ℕ) × (column_place column found.columns ≡ Some place)
-    × (rows : List Placed) × rows_at size pages found (Ok rows)
+    × (entries : List Found) × entries_at size pages found place (Ok entries)
     × (behind : ℕ) × RowsNeed size pages CATALOG (row_values (row_of_index name table 0 0) ∷ []) behind
-    × (needs ≡ 1 + (behind + turns_open put without opens place (map comes rows) empty))
+    × (needs ≡ 1 + (behind + entries_open put opens entries empty))
 
 -- a call that needs so many pages takes them, and is refused exactly where fewer are free
 abbrev pub TakesNeeded : {A : Type 0} → ℕ → Pages → ℕ → Result (A × Pages) Refusal → Type 0

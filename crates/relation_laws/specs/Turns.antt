@@ -66,3 +66,14 @@ turns_open put without opens place (turn ∷ turns) shape =
     + turns_open put without opens place turns
     (shape_more put (taken_in place turn.before turn.behind)
     (shape_less without (given_up place turn.before turn.behind) shape))
+
+-- what an index holds once entries are added, in order
+abbrev pub entered : {Shape : Type 0} → (Found → Shape → Shape) → List Found → Shape → Shape
+entered put [] shape = shape
+entered put (entry ∷ entries) shape = entered put entries (put entry shape)
+
+-- and how many pages that opens
+abbrev pub entries_open : {Shape : Type 0} → (Found → Shape → Shape) → (Value → ℕ → Shape → ℕ) → List Found → Shape → ℕ
+entries_open put opens [] shape = 0
+entries_open put opens (entry ∷ entries) shape =
+    opens entry.value entry.number shape + entries_open put opens entries (put entry shape)

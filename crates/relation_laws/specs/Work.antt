@@ -11,12 +11,12 @@ use Rattle.heap_laws.specs.Store.{free_pages}
 use Rattle.relation.specs.declared.catalog.StoredTable.{StoredTable}
 use Rattle.relation.specs.declared.catalog.TheConstants.{CATALOG}
 use Rattle.values.specs.Name.{same_name}
-use Rattle.relation.specs.Each.{in_turn}
 use Rattle.relation.specs.Work.{created, deleted, indexed, inserted, table_in, updated}
 use Rattle.relation_laws.specs.Laws.{AreChangesOf, AreNumbersOf, AreTableColumns, HasColumn, IsNewName, IsRowFor, IsStoreOf, empty_table, with_changes, with_index, with_new, with_rows, without_rows}
 use Rattle.relation_laws.specs.Needs.{CreateNeeds, IndexNeeds, InsertNeeds, UpdateNeeds, next_pages}
 use Rattle.relation_laws.specs.Reach.{IsIndexPage, IsPageOf, IsUntouched, with_root}
 use Rattle.relation_laws.specs.Tables.{PlainTable, PlainTables}
+use Rattle.pager.specs.Allows.{in_turn}
 
 -- a table is made; an index of that name is made over a table's column; rows are inserted; rows are changed, each under
 -- its number; the rows of these numbers are taken out

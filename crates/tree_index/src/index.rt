@@ -15,7 +15,7 @@ use crate::climb::{climb_up, store_all};
 use crate::filling::{Filled, fill};
 use crate::walk::{Met, walk};
 use index_page::{Form, IndexPage, copy_of, select, store, take_out};
-use pager::{Draft, Found, Index, Pager, Stop, take};
+use pager::{Draft, Found, Index, Pager, Stop, Tree, take};
 use retro_base::Refusal;
 use std::alloc::{AllocError, Global};
 use values::{Duplicate, Seq, Value};
@@ -261,3 +261,5 @@ impl Index for TreeIndex {
 
     ghost indexing = { indexing };
 }
+
+impl Tree for TreeIndex {}
