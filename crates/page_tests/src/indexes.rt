@@ -1,10 +1,11 @@
 //! Tables that keep indexes: whatever is done to the rows, an index answers those of a range.
 
-use crate::support::{are_short, become_short, letters, make_table, name, table_of, zero_pages};
-use pager::{EditPager, Index, MemPager, Pager, Stop};
-use relation::{Placed, RowChange, create_index, delete, insert, open, ranged, rows, update};
+use crate::support::{
+    are_short, become_short, index_over, letters, make_table, name, table_of, zero_pages,
+};
+use pager::{EditPager, MemPager, Pager, Stop, Tree};
+use relation::{Placed, RowChange, delete, insert, open, ranged, rows, update};
 use retro_base::{Failed, Refusal};
-use run_index::RunIndex;
 use std::alloc::{AllocError, Global};
 use std::test::Fail;
 use tree_index::TreeIndex;
@@ -70,7 +71,7 @@ fn row_of(alloc: Global, integer: i64, length: usize) -> Result<Row, AllocError>
 }
 
 // Inserts the rows of these numbers into t.
-fn insert_from<I: Index, P: EditPager>(
+fn insert_from<I: Tree, P: EditPager>(
     alloc: Global,
     pager: &mut P,
     from: u32,
@@ -89,7 +90,7 @@ fn insert_from<I: Index, P: EditPager>(
 }
 
 // Makes an index over the column at that place of t.
-fn index_at<I: Index, P: EditPager>(
+fn index_at<I: Tree, P: EditPager>(
     alloc: Global,
     pager: &mut P,
     index: &[u8],
@@ -97,7 +98,7 @@ fn index_at<I: Index, P: EditPager>(
 ) -> Result<(), Stop<P::Fault>> {
     let index = name(alloc, index)?;
     let catalog = open(alloc, pager)?;
-    create_index::<I, P>(
+    index_over::<I, P>(
         alloc,
         pager,
         &index,
@@ -118,7 +119,7 @@ fn changes_of(alloc: Global, rows: Vec<Placed>) -> Result<Vec<RowChange>, AllocE
     Ok(all)
 }
 
-fn change_rows<I: Index, P: EditPager>(alloc: Global, pager: &mut P) -> Result<(), Stop<P::Fault>> {
+fn change_rows<I: Tree, P: EditPager>(alloc: Global, pager: &mut P) -> Result<(), Stop<P::Fault>> {
     let catalog = open(alloc, pager)?;
     let table = table_of(alloc, &catalog, b"t")?;
     let all = rows(alloc, pager, table)?;
@@ -129,7 +130,7 @@ fn change_rows<I: Index, P: EditPager>(alloc: Global, pager: &mut P) -> Result<(
     update::<I, P>(alloc, pager, table, changes)
 }
 
-fn delete_rows<I: Index, P: EditPager>(alloc: Global, pager: &mut P) -> Result<(), Stop<P::Fault>> {
+fn delete_rows<I: Tree, P: EditPager>(alloc: Global, pager: &mut P) -> Result<(), Stop<P::Fault>> {
     let catalog = open(alloc, pager)?;
     let table = table_of(alloc, &catalog, b"t")?;
     let mut gone = rows(alloc, pager, table)?;
@@ -138,7 +139,7 @@ fn delete_rows<I: Index, P: EditPager>(alloc: Global, pager: &mut P) -> Result<(
 }
 
 // A store with t(a INT, b TEXT), an index over each column, and all that is done to its rows.
-fn store<I: Index>(alloc: Global) -> Result<MemPager, Stop<Failed>> {
+fn store<I: Tree>(alloc: Global) -> Result<MemPager, Stop<Failed>> {
     let mut pager = zero_pages(alloc, 400, &[])?;
     make_table(alloc, &mut pager, b"t", &[Kind::Int, Kind::Text])?;
     insert_from::<I, MemPager>(alloc, &mut pager, 0, ROWS / 2)?;
@@ -151,7 +152,7 @@ fn store<I: Index>(alloc: Global) -> Result<MemPager, Stop<Failed>> {
 }
 
 // The rows of a range, by the index at that place of the table's.
-fn found<I: Index, P: Pager>(
+fn found<I: Tree, P: Pager>(
     alloc: Global,
     pager: &mut P,
     place: usize,
@@ -199,7 +200,7 @@ fn lengths_between(alloc: Global, low: usize, high: usize) -> Result<Vec<u64>, A
 }
 
 // How many ranges the indexes of the store answer right.
-fn right<I: Index>(alloc: Global) -> Result<usize, Stop<Failed>> {
+fn right<I: Tree>(alloc: Global) -> Result<usize, Stop<Failed>> {
     let mut pager = store::<I>(alloc)?;
     let mut right: usize = 0;
     for (low, high) in INTEGERS {
@@ -227,11 +228,5 @@ fn right<I: Index>(alloc: Global) -> Result<usize, Stop<Failed>> {
 #[test]
 fn trees_follow_their_table(rt: HostRuntime) -> Result<(), Fail> {
     assert!(rt; right::<TreeIndex>(rt.alloc()) == Ok(12));
-    Ok(())
-}
-
-#[test]
-fn runs_follow_their_table(rt: HostRuntime) -> Result<(), Fail> {
-    assert!(rt; right::<RunIndex>(rt.alloc()) == Ok(12));
     Ok(())
 }

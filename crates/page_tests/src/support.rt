@@ -6,7 +6,7 @@ ghost use Rattle.std.specs.List.{AllByRecursion};
 ghost use Rattle.heap_file.specs.HeapPage.{IsShort};
 ghost use Rattle.relation.specs.declared.drafting.RowChange.{RowChange};
 
-use pager::{EditPager, MemPager, Pager, Stop};
+use pager::{EditPager, MemPager, Pager, Stop, Tree};
 use relation::{
     Catalog, Placed, RowChange, StoredTable, create_index, create_table, delete, insert,
     next_number, open, ranged, rows, update,
@@ -171,7 +171,21 @@ pub fn make_index<P: EditPager>(
     let index = name(alloc, index)?;
     let catalog = open(alloc, pager)?;
     let table = table_of(alloc, &catalog, table)?;
-    create_index::<TreeIndex, P>(alloc, pager, &index, table, place)
+    index_over::<TreeIndex, P>(alloc, pager, &index, table, place)
+}
+
+// Makes an index of that name over the column at that place of a table, if the table has it.
+pub fn index_over<I: Tree, P: EditPager>(
+    alloc: Global,
+    pager: &mut P,
+    index: &Name,
+    table: &StoredTable,
+    place: u32,
+) -> Result<(), Stop<P::Fault>> {
+    if place as usize >= table.columns.len() {
+        return Err(Stop::Refused(Refusal::BadSizes));
+    }
+    create_index::<I, P>(alloc, pager, index, table, place)
 }
 
 // How many tables there are, and how many indexes.

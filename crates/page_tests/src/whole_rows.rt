@@ -1,12 +1,11 @@
 //! A table with an index over each of its columns: what each tells of a range, as whole rows.
 
 use crate::support::{
-    are_short, become_short, encoding, letters, make_table, name, table_of, zero_pages,
+    are_short, become_short, encoding, index_over, letters, make_table, name, table_of, zero_pages,
 };
-use pager::{EditPager, Index, MemPager, Pager, Stop};
-use relation::{RowChange, create_index, delete, insert, open, ranged, rows, update};
+use pager::{EditPager, MemPager, Pager, Stop, Tree};
+use relation::{RowChange, delete, insert, open, ranged, rows, update};
 use retro_base::{Failed, Refusal};
-use run_index::RunIndex;
 use std::alloc::{AllocError, Global};
 use std::test::Fail;
 use tree_index::TreeIndex;
@@ -84,16 +83,16 @@ fn last_row(alloc: Global, number: u64) -> Result<Row, AllocError> {
 }
 
 // Makes an index over each column of t.
-fn index_all<I: Index, P: EditPager>(alloc: Global, pager: &mut P) -> Result<(), Stop<P::Fault>> {
+fn index_all<I: Tree, P: EditPager>(alloc: Global, pager: &mut P) -> Result<(), Stop<P::Fault>> {
     for (index, place) in [(b"i", 0), (b"j", 1), (b"k", 2)] {
         let catalog = open(alloc, pager)?;
         let table = table_of(alloc, &catalog, b"t")?;
-        create_index::<I, P>(alloc, pager, &name(alloc, index)?, table, place)?;
+        index_over::<I, P>(alloc, pager, &name(alloc, index)?, table, place)?;
     }
     Ok(())
 }
 
-fn insert_all<I: Index, P: EditPager>(alloc: Global, pager: &mut P) -> Result<(), Stop<P::Fault>> {
+fn insert_all<I: Tree, P: EditPager>(alloc: Global, pager: &mut P) -> Result<(), Stop<P::Fault>> {
     let mut rows = Vec::new(alloc);
     for number in 0..ROWS {
         rows.push(first_row(alloc, number)?)?;
@@ -105,7 +104,7 @@ fn insert_all<I: Index, P: EditPager>(alloc: Global, pager: &mut P) -> Result<()
     insert::<I, P>(alloc, pager, table_of(alloc, &catalog, b"t")?, &rows)
 }
 
-fn grow_rows<I: Index, P: EditPager>(alloc: Global, pager: &mut P) -> Result<(), Stop<P::Fault>> {
+fn grow_rows<I: Tree, P: EditPager>(alloc: Global, pager: &mut P) -> Result<(), Stop<P::Fault>> {
     let catalog = open(alloc, pager)?;
     let table = table_of(alloc, &catalog, b"t")?;
     let mut changes = Vec::new(alloc);
@@ -121,7 +120,7 @@ fn grow_rows<I: Index, P: EditPager>(alloc: Global, pager: &mut P) -> Result<(),
     update::<I, P>(alloc, pager, table, changes)
 }
 
-fn delete_some<I: Index, P: EditPager>(alloc: Global, pager: &mut P) -> Result<(), Stop<P::Fault>> {
+fn delete_some<I: Tree, P: EditPager>(alloc: Global, pager: &mut P) -> Result<(), Stop<P::Fault>> {
     let catalog = open(alloc, pager)?;
     let table = table_of(alloc, &catalog, b"t")?;
     let mut gone = rows(alloc, pager, table)?;
@@ -130,7 +129,7 @@ fn delete_some<I: Index, P: EditPager>(alloc: Global, pager: &mut P) -> Result<(
 }
 
 // A store with t(a INT, b TEXT, c INT), its indexes, and all that is done to its rows.
-fn store<I: Index>(alloc: Global) -> Result<MemPager, Stop<Failed>> {
+fn store<I: Tree>(alloc: Global) -> Result<MemPager, Stop<Failed>> {
     let mut pager = zero_pages(alloc, 400, &[])?;
     make_table(alloc, &mut pager, b"t", &[Kind::Int, Kind::Text, Kind::Int])?;
     index_all::<I, MemPager>(alloc, &mut pager)?;
@@ -141,7 +140,7 @@ fn store<I: Index>(alloc: Global) -> Result<MemPager, Stop<Failed>> {
 }
 
 // The bytes of the rows of a range, one after the other, by the index over that column.
-fn bytes_told<I: Index, P: Pager>(
+fn bytes_told<I: Tree, P: Pager>(
     alloc: Global,
     pager: &mut P,
     place: usize,
@@ -178,7 +177,7 @@ fn bytes_left(alloc: Global, place: usize, low: i64, high: i64) -> Result<Vec<u8
 }
 
 // How many ranges the indexes of the store answer right.
-fn right<I: Index>(alloc: Global) -> Result<usize, Stop<Failed>> {
+fn right<I: Tree>(alloc: Global) -> Result<usize, Stop<Failed>> {
     let mut pager = store::<I>(alloc)?;
     let mut right: usize = 0;
     for (place, low, high) in RANGES {
@@ -194,6 +193,6 @@ fn right<I: Index>(alloc: Global) -> Result<usize, Stop<Failed>> {
 #[test]
 fn each_index_tells_whole_rows(rt: HostRuntime) -> Result<(), Fail> {
     let alloc = rt.alloc();
-    assert!(rt; [right::<TreeIndex>(alloc), right::<RunIndex>(alloc)] == [Ok(11), Ok(11)]);
+    assert!(rt; right::<TreeIndex>(alloc) == Ok(11));
     Ok(())
 }
