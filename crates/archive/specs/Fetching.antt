@@ -50,7 +50,8 @@ IsRefusedFetch extent is_honest state faults version page_count capacity pagelog
     Maplog (faults maplog) (faults maplog_after) why)
 
 -- An archive that was opened of these sizes: it goes on, all mappings in memory are entered, no slot is laid beyond
--- them, and it knows where the closed gate behind their list stands. It is each opened vault of these mappings, and of slots as an honest device has them.
+-- them, and it knows where the closed gate behind their list stands. It is each opened vault of these mappings, and of
+-- slots as an honest device has them.
 pub record IsOpened {D : Type 0} (is_honest : D → Type 0)
     (state : D → State) (version : Version) (page_count capacity : ℕ) (maplog : D) (archive : Running D) : Type 0 where
   pub log : IsFetched version page_count capacity archive.side.log

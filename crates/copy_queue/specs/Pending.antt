@@ -1,5 +1,6 @@
 -- Captures on their way to the archive, and where those of a page stand.
-use Rattle.std.specs.Prelude.{◌≡◌, ◌+◌, ◌≤◌, ◌<◌, ◌==◌, ◌&&◌, ◌||◌, ℕ, Bool, true, false, Option, Some, None, List, [], ◌∷◌, length}
+use Rattle.std.specs.Prelude.{◌≡◌, ◌+◌, ◌≤◌, ◌<◌, ◌==◌, ◌&&◌, ◌||◌, ℕ, Bool, true, false, Option, Some, None, List, [],
+    ◌∷◌, length}
 use Rattle.std.specs.declared.cmp.Ordering.{Ordering}
 use Rattle.std.specs.Ordering.{nat_cmp, ordering_then}
 use Rattle.std.specs.BTreeSet.{BTreeSet, contains}
@@ -28,9 +29,11 @@ pub record IsIndex (first : ℕ) (images : List PageImage) (places : BTreeSet (�
 
 -- the set has no number of the page from there on up to that one
 abbrev pub HasNone : BTreeSet (ℕ × ℕ) → ℕ → ℕ → ℕ → Type 0
-HasNone places page from to = (number : ℕ) → from ≤ number → number < to → contains in_turn places (page, number) ≡ false
+HasNone places page from to = (number : ℕ) → from ≤ number → number < to →
+    contains in_turn places (page, number) ≡ false
 
 -- the least number of the page that the set has from there on
 abbrev pub IsFirstPast : BTreeSet (ℕ × ℕ) → ℕ → ℕ → Option ℕ → Type 0
 IsFirstPast places page from None = (to : ℕ) → HasNone places page from to
-IsFirstPast places page from (Some number) = (from ≤ number) × (contains in_turn places (page, number) ≡ true) × HasNone places page from number
+IsFirstPast places page from (Some number) = (from ≤ number) × (contains in_turn places (page, number) ≡ true)
+    × HasNone places page from number

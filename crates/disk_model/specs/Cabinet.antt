@@ -18,17 +18,20 @@ abbrev pub SameOut : (List ℕ → Type 0) → (List ℕ → Type 0) → Type 0
 SameOut old new = (name : List ℕ) → new name ↔ old name
 
 -- what stands under each name: this under that one, under any other what stood there
-pub record Stands {Store : Type 0} (dir : List ℕ) (store : Option Store) (old new : List ℕ → Option Store) : Type 0 where
+pub record Stands {Store : Type 0} (dir : List ℕ) (store : Option Store)
+    (old new : List ℕ → Option Store) : Type 0 where
   pub here : new dir ≡ store
   pub elsewhere : (name : List ℕ) → (name ≡ dir → ⊥) → new name ≡ old name
 
 -- a store was taken out, or all is as it was
-pub record TakesOut {Store Taken E : Type 0} (dir : List ℕ) (old new : List ℕ → Option Store) (result : Result Taken E) : Type 0 where
+pub record TakesOut {Store Taken E : Type 0} (dir : List ℕ) (old new : List ℕ → Option Store)
+    (result : Result Taken E) : Type 0 where
   pub ok : OnOk result (Stands dir None old new)
   pub err : OnErr result ((name : List ℕ) → new name ≡ old name)
 
 -- the same for the names that are out
-pub record GoesOut {Taken E : Type 0} (dir : List ℕ) (old new : List ℕ → Type 0) (result : Result Taken E) : Type 0 where
+pub record GoesOut {Taken E : Type 0} (dir : List ℕ) (old new : List ℕ → Type 0)
+    (result : Result Taken E) : Type 0 where
   pub ok : OnOk result (OneMoreOut dir old new)
   pub err : OnErr result (SameOut old new)
 
@@ -40,7 +43,8 @@ pub record AreSized {Device : Type 0} (extent : Device → ℕ) (sizes : Sizes) 
   pub maplog : extent four.maplog ≡ maplog_bytes sizes.capacity
 
 -- a device that tells its bytes, all of them 0 and durable
-pub record IsBlank {Device : Type 0} (extent : Device → ℕ) (is_honest : Device → Type 0) (state : Device → State) (device : Device) : Type 0 where
+pub record IsBlank {Device : Type 0} (extent : Device → ℕ) (is_honest : Device → Type 0) (state : Device → State)
+    (device : Device) : Type 0 where
   pub honest : is_honest device
   pub zeros : (state device).seen ≡ replicate (extent device) 0
   pub durable : IsDurable (state device)

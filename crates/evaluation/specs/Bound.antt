@@ -1,5 +1,7 @@
--- Steps over places in place of names. No promise above cites more of it than `seen`, `source_value`, `value_at` and `truth_at`.
-use Rattle.std.specs.Prelude.{◌&&◌, ◌||◌, ℕ, pos, Bool, not, Option, Some, None, List, [], ◌∷◌, Result, Ok, Err, slice_get}
+-- Steps over places in place of names. No promise above cites more of it than `seen`, `source_value`, `value_at` and
+-- `truth_at`.
+use Rattle.std.specs.Prelude.{◌&&◌, ◌||◌, ℕ, pos, Bool, not, Option, Some, None, List, [], ◌∷◌, Result, Ok, Err,
+    slice_get}
 use denote.Ref.{Bor}
 use Rattle.retro_base.specs.Gives.{◌>>=◌}
 use Rattle.retro_base.specs.declared.refusal.Refusal.{Refusal}
@@ -88,7 +90,8 @@ value_at bound row = value_left row bound.steps
 
 -- a step of a condition, and what it does
 abbrev pub bound_condition_step : List TableSchema → Option ℕ → ConditionStep → BoundConditionStep
-bound_condition_step scope snapshot (condition.Compare a c b) = Compare (operand_source scope snapshot a) c (operand_source scope snapshot b)
+bound_condition_step scope snapshot (condition.Compare a c b) =
+    Compare (operand_source scope snapshot a) c (operand_source scope snapshot b)
 bound_condition_step scope snapshot condition.Not = Not
 bound_condition_step scope snapshot condition.And = And
 bound_condition_step scope snapshot condition.Or = Or

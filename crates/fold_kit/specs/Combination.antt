@@ -22,4 +22,5 @@ combination how (n ∷ ns) = Some (fold (combined how) n ns)
 
 -- to combine each of the parts of a list, and then what they give, is to combine the list
 abbrev pub Regroups : Type 0
-Regroups = (how : How) (parts : List (List ℤ)) → combination how (filter_map (combination how) parts) ≡ combination how (flat_map (λ part. part) parts)
+Regroups = (how : How) (parts : List (List ℤ)) →
+    combination how (filter_map (combination how) parts) ≡ combination how (flat_map (λ part. part) parts)

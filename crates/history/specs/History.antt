@@ -1,5 +1,6 @@
 -- What changes make of the pages of a store and of the list of its captures.
-use Rattle.std.specs.Prelude.{◌+◌, ◌-◌, ◌%◌, ◌^◌, ◌==◌, nat_lt, ℕ, Bool, true, false, not, ◌&&◌, List, [], ◌∷◌, ◌++◌, length, map, filter, drop, Option, Some, None, slice_get, unwrap_or, option_map, if◌then◌else◌}
+use Rattle.std.specs.Prelude.{◌+◌, ◌-◌, ◌%◌, ◌^◌, ◌==◌, nat_lt, ℕ, Bool, true, false, not, ◌&&◌, List, [], ◌∷◌, ◌++◌,
+    length, map, filter, drop, Option, Some, None, slice_get, unwrap_or, option_map, if◌then◌else◌}
 use Rattle.retro_base.specs.FirstMet.{first_met}
 use Rattle.history.specs.declared.entry.Mark.{Mark}
 use Rattle.history.specs.declared.entry.Base.{Base}
@@ -44,7 +45,8 @@ with_pages (page ∷ more) pages = with_pages more (with_page page pages)
 -- the marks behind a commit that leaves this count of captures
 abbrev pub declared : List Mark → ℕ → Option (List ℕ) → List Mark
 declared marks captures None = marks
-declared marks captures (Some label) = marks ++ record { number = newest marks + 1; label = label; start = captures } ∷ []
+declared marks captures (Some label) =
+    marks ++ record { number = newest marks + 1; label = label; start = captures } ∷ []
 
 -- the pages captured since the newest snapshot, behind a commit that captures these: behind a declaration none
 abbrev pub captured_behind : List ℕ → Option (List ℕ) → List ℕ → List ℕ
@@ -55,12 +57,15 @@ captured_behind captured (Some label) pages = []
 abbrev pub behind_commit : Base → Option (List ℕ) → List ℕ → Base
 behind_commit base label pages =
     let count : ℕ = base.captures + length pages in
-    record base { changes = (base.changes + 1) % 2 ^ 64; captures = count; marks = declared base.marks count label; captured = captured_behind base.captured label pages }
+    record base
+    { changes = (base.changes + 1) % 2 ^ 64; captures = count; marks = declared base.marks count label;
+    captured = captured_behind base.captured label pages }
 
 -- what the log says behind a change
 abbrev pub base_after : Base → Change → Base
 base_after base (Commit label writes) = behind_commit base label (pages_of (capturing base writes))
-base_after base (Drop below) = record base { changes = (base.changes + 1) % 2 ^ 64; marks = kept_marks below base.marks }
+base_after base (Drop below) =
+    record base { changes = (base.changes + 1) % 2 ^ 64; marks = kept_marks below base.marks }
 
 abbrev pub bases_after : Base → List Change → Base
 bases_after base [] = base
@@ -96,7 +101,8 @@ abbrev pub captures_of : State → List Change → List PageImage
 captures_of state [] = []
 captures_of state (change ∷ changes) = captured_by state change ++ captures_of (after state change) changes
 
--- A history: the place where the log begins, with the bytes that the pages device had at the opening; the captures that the archive then held, numbered from 0; and the changes.
+-- A history: the place where the log begins, with the bytes that the pages device had at the opening; the captures that
+-- the archive then held, numbered from 0; and the changes.
 pub record History : Type 0 where
   pub origin : State
   pub held : List PageImage
@@ -107,7 +113,9 @@ now history = run history.origin history.changes
 
 -- the captures, numbered from 0: those that the archive held, and then those of the changes
 abbrev pub captures : History → List PageImage
-captures history = history.held ++ drop (length history.held - history.origin.base.captures) (captures_of history.origin history.changes)
+captures history =
+    history.held ++ drop (length history.held - history.origin.base.captures)
+    (captures_of history.origin history.changes)
 
 abbrev pub with_change : History → Change → History
 with_change history change = record history { changes = history.changes ++ change ∷ [] }
@@ -123,4 +131,6 @@ bytes_at images bytes (Some number) = unwrap_or (option_map (λ image. image.byt
 -- a page as of a retained snapshot: the bytes of its first capture from the snapshot's start on, or the page as it is
 abbrev pub pages_as_of : History → ℕ → ℕ → List ℕ
 pages_as_of history snapshot page =
-    bytes_at (captures history) ((now history).pages page) (first_met (pages_of (captures history)) (start_of snapshot (now history).base.marks) (length (captures history)) page)
+    bytes_at (captures history) ((now history).pages page)
+    (first_met (pages_of (captures history)) (start_of snapshot (now history).base.marks)
+    (length (captures history)) page)

@@ -1,5 +1,6 @@
 -- What the lines of a journal tell, line by line.
-use Rattle.std.specs.Prelude.{◌≡◌, ◌<◌, ◌-◌, ◌^◌, ◌+◌, ◌==◌, ◌&&◌, ℕ, Bool, true, false, not, List, [], ◌∷◌, ◌++◌, length, map, filter, drop, Option, Some, None, if◌then◌else◌}
+use Rattle.std.specs.Prelude.{◌≡◌, ◌<◌, ◌-◌, ◌^◌, ◌+◌, ◌==◌, ◌&&◌, ℕ, Bool, true, false, not, List, [], ◌∷◌, ◌++◌,
+    length, map, filter, drop, Option, Some, None, if◌then◌else◌}
 use Rattle.std.specs.Option.{option_or}
 use Rattle.std.specs.List.{AllByRecursion, list_any}
 use Rattle.retro_base.specs.declared.device.Device.{Device}
@@ -52,7 +53,8 @@ begins LookedAll = true
 begins _ = false
 
 abbrev pub open_behind : List Who → Line → List Who
-open_behind items line = if begins line.what then line.who ∷ items else filter (λ who. not (same_item who line.who)) items
+open_behind items line =
+    if begins line.what then line.who ∷ items else filter (λ who. not (same_item who line.who)) items
 
 abbrev pub open_from : List Who → List Line → List Who
 open_from items [] = items
@@ -98,7 +100,8 @@ pub record DeviceFault : Type 0 where
 
 -- the fault of a device that a line tells, if any
 abbrev pub fault_of : Device → Who → What → List DeviceFault
-fault_of device who (Fault other count call) = if same_device other device then record { session = who.session; count = count } ∷ [] else []
+fault_of device who (Fault other count call) =
+    if same_device other device then record { session = who.session; count = count } ∷ [] else []
 fault_of device who _ = []
 
 -- the faults of a device, in order
@@ -106,7 +109,8 @@ abbrev pub faults_of : Device → List Line → List DeviceFault
 faults_of device [] = []
 faults_of device (line ∷ lines) = fault_of device line.who line.what ++ faults_of device lines
 
--- A fault has a count of its own, and a greater one than the faults that its session met before. The last value of 64 bits is excepted, since counts stay there.
+-- A fault has a count of its own, and a greater one than the faults that its session met before. The last value of 64
+-- bits is excepted, since counts stay there.
 pub record IsNewer (before fault : DeviceFault) : Type 0 where
   pub other : fault.count ≡ before.count → fault.count < 2 ^ 64 - 1 → ⊥
   pub rises : fault.session ≡ before.session → before.count < 2 ^ 64 - 1 → before.count < fault.count

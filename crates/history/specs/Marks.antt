@@ -39,10 +39,12 @@ abbrev pub kept_marks : ℕ → List Mark → List Mark
 kept_marks below [] = []
 kept_marks below (mark ∷ marks) = if nat_le below mark.number then mark ∷ marks else kept_marks below marks
 
--- behind a number and a start the numbers strictly rise, the starts do not fall, and none is greater than this count of captures
+-- behind a number and a start the numbers strictly rise, the starts do not fall, and none is greater than this count of
+-- captures
 abbrev pub MarksRise : ℕ → ℕ → ℕ → List Mark → Type 0
 MarksRise captures number start [] = start ≤ captures
-MarksRise captures number start (mark ∷ marks) = (number < mark.number) × (start ≤ mark.start) × MarksRise captures mark.number mark.start marks
+MarksRise captures number start (mark ∷ marks) = (number < mark.number) × (start ≤ mark.start)
+    × MarksRise captures mark.number mark.start marks
 
 -- what marks are at a place with this count of captures
 abbrev pub AreMarks : ℕ → List Mark → Type 0

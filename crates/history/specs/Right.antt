@@ -1,7 +1,8 @@
 -- Which records are right at their place.
 use Rattle.std.specs.Prelude.{◌≡◌, ◌≤◌, ◌<◌, ◌-◌, ◌^◌, ℕ, IsTrue, List, [], ◌∷◌, length, Option, None}
 use Rattle.std.specs.List.{AllByRecursion}
-use Rattle.retro_base.specs.declared.limits.TheConstants.{MIN_PAGES, MAX_PAGES, MIN_CAPACITY, MAX_CAPACITY, MAX_CAPTURES, RETAINED_SNAPSHOTS}
+use Rattle.retro_base.specs.declared.limits.TheConstants.{MIN_PAGES, MAX_PAGES, MIN_CAPACITY, MAX_CAPACITY,
+    MAX_CAPTURES, RETAINED_SNAPSHOTS}
 use Rattle.history.specs.declared.entry.Base.{Base}
 use Rattle.history.specs.declared.entry.Mark.{Mark}
 use Rattle.history.specs.declared.entry.Change.{Change}
@@ -18,7 +19,8 @@ pub record IsWithinLimits (capacity captures : ℕ) (marks : List Mark) : Type 0
   pub retained : length marks ≤ RETAINED_SNAPSHOTS
   pub newest : newest marks < 2 ^ 32
 
--- A right base: sizes in their ranges, within the limits, snapshots in order, with no capture before the first, and as many captured pages as captures since the newest.
+-- A right base: sizes in their ranges, within the limits, snapshots in order, with no capture before the first, and as
+-- many captured pages as captures since the newest.
 pub record IsBase (base : Base) : Type 0 where
   pub pages : (MIN_PAGES ≤ base.page_count) × (base.page_count ≤ MAX_PAGES)
   pub capacity : (MIN_CAPACITY ≤ base.capacity) × (base.capacity ≤ MAX_CAPACITY)
@@ -34,11 +36,13 @@ abbrev pub DoesSomething : Option (List ℕ) → List PageImage → Type 0
 DoesSomething None [] = ⊥
 DoesSomething label writes = Unit {0}
 
--- A right change behind what the log says: a commit that writes pages of the store, or declares, and keeps the limits; a drop of some snapshots, but not of the newest.
+-- A right change behind what the log says: a commit that writes pages of the store, or declares, and keeps the limits;
+-- a drop of some snapshots, but not of the newest.
 abbrev pub IsRight : Base → Change → Type 0
 IsRight base (Commit label writes) =
     let after : Base = base_after base (Commit label writes) in
-    AllByRecursion (λ write. write.page < base.page_count) writes × DoesSomething label writes × IsWithinLimits after.capacity after.captures after.marks
+    AllByRecursion (λ write. write.page < base.page_count) writes × DoesSomething label writes
+    × IsWithinLimits after.capacity after.captures after.marks
 IsRight base (Drop below) = (oldest base.marks < below) × (below ≤ newest base.marks)
 
 -- each change is right behind those before it

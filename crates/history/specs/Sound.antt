@@ -1,5 +1,6 @@
 -- Sound journals: each commit, drop and look keeps the rules at its place.
-use Rattle.std.specs.Prelude.{◌≡◌, ◌≤◌, ◌<◌, ◌==◌, ◌&&◌, ℕ, Bool, true, not, IsTrue, List, [], ◌∷◌, ◌++◌, length, map, filter, Option}
+use Rattle.std.specs.Prelude.{◌≡◌, ◌≤◌, ◌<◌, ◌==◌, ◌&&◌, ℕ, Bool, true, not, IsTrue, List, [], ◌∷◌, ◌++◌, length, map,
+    filter, Option}
 use Rattle.std.specs.List.{AllByRecursion}
 use Rattle.retro_base.specs.declared.limits.TheConstants.{JOURNAL_LINES}
 use Rattle.retro_base.specs.declared.who.Who.{Who}
@@ -40,19 +41,23 @@ pins_behind base pins who _ = pins
 pub record MayCommit (base : Base) (label : Option (List ℕ)) (writes : List PageImage) : Type 0 where
   pub rises : IsTrue (rises 0 (pages_of writes))
   pub in_store : AllByRecursion (λ write. write.page < base.page_count) writes
-  pub limits : IsWithinLimits base.capacity (base_after base (Commit label writes)).captures (base_after base (Commit label writes)).marks
+  pub limits : IsWithinLimits base.capacity (base_after base (Commit label writes)).captures
+      (base_after base (Commit label writes)).marks
 
--- What a line may say there, with these pins: a commit that may be, a look at a retained snapshot, a drop that leaves the newest snapshot and each that is pinned.
+-- What a line may say there, with these pins: a commit that may be, a look at a retained snapshot, a drop that leaves
+-- the newest snapshot and each that is pinned.
 abbrev pub KeepsRules : Base → List Pin → What → Type 0
 KeepsRules base pins (Done label writes) = MayCommit base label writes
 KeepsRules base pins (Looked snapshot) = is_retained snapshot base.marks ≡ true
-KeepsRules base pins (Dropped below) = (1 ≤ below) × (below ≤ newest base.marks) × AllByRecursion (λ pin. below ≤ pin.snapshot) pins
+KeepsRules base pins (Dropped below) = (1 ≤ below) × (below ≤ newest base.marks)
+    × AllByRecursion (λ pin. below ≤ pin.snapshot) pins
 KeepsRules base pins _ = Unit {0}
 
 abbrev pub AllKeepRules : Base → List Pin → List Line → Type 0
 AllKeepRules base pins [] = Unit {0}
 AllKeepRules base pins (line ∷ lines) =
-    KeepsRules base pins line.what × AllKeepRules (base_behind base line) (pins_behind base pins line.who line.what) lines
+    KeepsRules base pins line.what
+    × AllKeepRules (base_behind base line) (pins_behind base pins line.who line.what) lines
 
 -- the pins of the looks that are open behind a journal
 abbrev pub pins_of : Base → List Pin → List Line → List Pin

@@ -1,5 +1,6 @@
 -- The journal of a run, with the places that are kept for lines to come.
-use Rattle.std.specs.Prelude.{◌≡◌, ◌+◌, ◌-◌, ◌≤◌, ◌<◌, ◌++◌, nat_lt, ℕ, Option, Some, None, if◌then◌else◌, List, [], ◌∷◌, length, slice_index, set}
+use Rattle.std.specs.Prelude.{◌≡◌, ◌+◌, ◌-◌, ◌≤◌, ◌<◌, ◌++◌, nat_lt, ℕ, Option, Some, None, if◌then◌else◌, List, [],
+    ◌∷◌, length, slice_index, set}
 use Rattle.retro_base.specs.declared.limits.TheConstants.{JOURNAL_IMAGES, JOURNAL_LINES, WORKER_LINES}
 use Rattle.retro_base.specs.declared.refusal.Refusal.{Refusal}
 use Rattle.retro_base.specs.declared.refusal.Refusal.TheVariants.{JournalFull}
@@ -10,7 +11,8 @@ use Rattle.history.specs.declared.stop.Stop.{Stop}
 use Rattle.history.specs.declared.writes.PageImage.{PageImage}
 use Rattle.history.specs.Lines.{images_in, changes_page, first_stop}
 
--- the pages of the store, the lines so far, how many closing lines are kept for what is open, and how many for faults of the workers
+-- the pages of the store, the lines so far, how many closing lines are kept for what is open, and how many for faults
+-- of the workers
 pub record Book : Type 0 where
   pub pages : ℕ
   pub lines : List Line
@@ -27,7 +29,9 @@ lines_needed book more = length book.lines + book.kept + more
 
 -- the refusal of a call that adds so many lines
 abbrev pub lines_refused : Book → ℕ → Option Refusal
-lines_refused book more = if nat_lt SESSION_LINES (lines_needed book more) then Some (JournalFull (lines_needed book more) (images_in book.lines)) else None
+lines_refused book more =
+    if nat_lt SESSION_LINES (lines_needed book more)
+    then Some (JournalFull (lines_needed book more) (images_in book.lines)) else None
 
 -- the book with places for so many lines more
 abbrev pub keeping : Book → ℕ → Book
@@ -65,8 +69,10 @@ abbrev pub marked : List ℕ → ℕ → List PageImage → List ℕ
 marked ends place [] = ends
 marked ends place (write ∷ writes) = marked (set ends write.page place) place writes
 
--- What a book keeps: it counts its images, every line that is kept finds its place in the journal and in memory, and it knows the first stop and the last changes.
-pub record IsBook (lines : List Line) (capacity images kept workers : ℕ) (stop : Option Stop) (ends : List ℕ) : Type 0 where
+-- What a book keeps: it counts its images, every line that is kept finds its place in the journal and in memory, and it
+-- knows the first stop and the last changes.
+pub record IsBook (lines : List Line) (capacity images kept workers : ℕ) (stop : Option Stop)
+    (ends : List ℕ) : Type 0 where
   pub counted : images ≡ images_in lines
   pub within : images ≤ JOURNAL_IMAGES
   pub memory : length lines + kept + workers ≤ capacity

@@ -1,5 +1,6 @@
 -- What sessions have open: a finite map by session number.
-use Rattle.std.specs.Prelude.{◌≡◌, ◌+◌, ◌<◌, ◌≤◌, ◌==◌, ◌&&◌, nat_lt, ℕ, zero, suc, Bool, true, false, not, List, [], ◌∷◌, length, Option, Some, None, slice_index, slice_index_or, if◌then◌else◌}
+use Rattle.std.specs.Prelude.{◌≡◌, ◌+◌, ◌<◌, ◌≤◌, ◌==◌, ◌&&◌, nat_lt, ℕ, zero, suc, Bool, true, false, not, List, [],
+    ◌∷◌, length, Option, Some, None, slice_index, slice_index_or, if◌then◌else◌}
 use Rattle.std.specs.BTreeSet.{insert_key}
 use Rattle.std.specs.Ordering.{nat_cmp}
 use Rattle.std.specs.Option.{option_or}
@@ -51,7 +52,8 @@ edits_page page work = is_among page (pages_of (edits_of work))
 -- the item that edits the page, if it is of another session than this one
 abbrev pub latched_by : Who → ℕ → Option Work → Option Who
 latched_by who page (Some (Open transaction)) =
-    if is_among page (pages_of transaction.edits) && not (transaction.who.session == who.session) then Some transaction.who else None
+    if is_among page (pages_of transaction.edits) && not (transaction.who.session == who.session)
+    then Some transaction.who else None
 latched_by who page _ = None
 
 -- the item that holds the page's latch against this one
@@ -82,7 +84,8 @@ least_pin (slot ∷ slots) = lesser (first_pin slot) (least_pin slots)
 abbrev pub with_edit : PageImage → List PageImage → List PageImage
 with_edit image [] = image ∷ []
 with_edit image (other ∷ images) =
-    if nat_lt other.page image.page then other ∷ with_edit image images else if image.page == other.page then image ∷ images else image ∷ other ∷ images
+    if nat_lt other.page image.page then other ∷ with_edit image images else if image.page == other.page
+    then image ∷ images else image ∷ other ∷ images
 
 -- the bytes of the page's edit, if it has one
 abbrev pub own_edit : ℕ → List PageImage → Option (List ℕ)
@@ -103,7 +106,8 @@ pub record GoesTo (page : ℕ) (images : List PageImage) (place : ℕ) : Type 0 
 
 -- the transaction with this page read, with this edit, and with this refusal kept
 abbrev pub reading : ℕ → Transaction → Transaction
-reading page transaction = record transaction { reads = record { keys = insert_key nat_cmp transaction.reads.keys page } }
+reading page transaction =
+    record transaction { reads = record { keys = insert_key nat_cmp transaction.reads.keys page } }
 
 abbrev pub editing : PageImage → Transaction → Transaction
 editing image transaction = record transaction { edits = with_edit image transaction.edits }
@@ -113,10 +117,13 @@ keeping_refusal why transaction = record transaction { kept = Some why }
 
 -- The table of latches by page: one more than the number of the session that edits the page, or 0.
 pub record AreLatches (latches : List ℕ) (slots : List (Option Work)) : Type 0 where
-  pub named : (page session : ℕ) → page < length latches → slice_index latches page ≡ session + 1 → edits_page page (work_at slots session) ≡ true
-  pub held : (page session : ℕ) → edits_page page (work_at slots session) ≡ true → (page < length latches) × (slice_index latches page ≡ session + 1)
+  pub named : (page session : ℕ) → page < length latches → slice_index latches page ≡ session + 1 →
+      edits_page page (work_at slots session) ≡ true
+  pub held : (page session : ℕ) → edits_page page (work_at slots session) ≡ true → (page < length latches)
+      × (slice_index latches page ≡ session + 1)
 
 -- no session edits any of these pages, each of which is the store's
 pub record AreFree (works : Works) (images : List PageImage) : Type 0 where
   pub in_store : (page : ℕ) → is_among page (pages_of images) ≡ true → page < works.pages
-  pub unlatched : (page session : ℕ) → is_among page (pages_of images) ≡ true → edits_page page (work_at works.slots session) ≡ false
+  pub unlatched : (page session : ℕ) → is_among page (pages_of images) ≡ true →
+      edits_page page (work_at works.slots session) ≡ false

@@ -1,5 +1,6 @@
 -- Pages in memory that are dirty or held.
-use Rattle.std.specs.Prelude.{◌≡◌, ◌+◌, ◌<◌, ◌≤◌, ℕ, List, zero, suc, Bool, true, false, Option, Some, None, IsSome, if◌then◌else◌}
+use Rattle.std.specs.Prelude.{◌≡◌, ◌+◌, ◌<◌, ◌≤◌, ℕ, List, zero, suc, Bool, true, false, Option, Some, None, IsSome,
+    if◌then◌else◌}
 use Rattle.std.specs.Ordering.{nat_cmp}
 use Rattle.std.specs.BTreeMap.{BTreeMap, is_at}
 use Rattle.std.specs.Map.{lookup}
@@ -40,9 +41,11 @@ pub record AreFrames (frame : ℕ → Option Frame) (pages count : ℕ) : Type 0
 -- the least page with a frame from there on, and whether it is dirty
 abbrev pub IsLeastFrame : (ℕ → Option Frame) → ℕ → Option (ℕ × Bool) → Type 0
 IsLeastFrame frame from None = (page : ℕ) → from ≤ page → frame page ≡ None
-IsLeastFrame frame from (Some found) = (from ≤ found.0) × IsSome (frame found.0) × (is_dirty_in (frame found.0) ≡ found.1) × ((page : ℕ) → from ≤ page → page < found.0 → frame page ≡ None)
+IsLeastFrame frame from (Some found) = (from ≤ found.0) × IsSome (frame found.0)
+    × (is_dirty_in (frame found.0) ≡ found.1) × ((page : ℕ) → from ≤ page → page < found.0 → frame page ≡ None)
 
 -- the least dirty page from there on
 abbrev pub IsLeastDirty : (ℕ → Bool) → ℕ → Option ℕ → Type 0
 IsLeastDirty dirty from None = (page : ℕ) → from ≤ page → dirty page ≡ false
-IsLeastDirty dirty from (Some found) = (from ≤ found) × (dirty found ≡ true) × ((page : ℕ) → from ≤ page → page < found → dirty page ≡ false)
+IsLeastDirty dirty from (Some found) = (from ≤ found) × (dirty found ≡ true)
+    × ((page : ℕ) → from ≤ page → page < found → dirty page ≡ false)

@@ -1,5 +1,6 @@
 -- The pages' device with the pages in memory, and when they are those of plain data.
-use Rattle.std.specs.Prelude.{◌≡◌, ◌==◌, ◌||◌, ◌<◌, ◌^◌, ℕ, Bool, true, false, List, Option, Contains, IfSome, IsSome, if◌then◌else◌}
+use Rattle.std.specs.Prelude.{◌≡◌, ◌==◌, ◌||◌, ◌<◌, ◌^◌, ℕ, Bool, true, false, List, Option, Contains, IfSome, IsSome,
+    if◌then◌else◌}
 use Rattle.disk_model.specs.Disk.{State}
 use Rattle.block_file.specs.Blocks.{block_at, File, IsSettled}
 use Rattle.history.specs.declared.writes.PageImage.{PageImage}
@@ -10,14 +11,16 @@ use Rattle.retro_base.specs.declared.limits.TheConstants.{CLEAN_FRAMES}
 use Rattle.page_pool.specs.Clean.{AreApart, HoldsClean}
 use Rattle.page_pool.specs.Frames.{AreFrames, frame_at, is_dirty_in, is_held_in}
 
--- the device, the frames of pages, the clean pages that may go, and whether a page was written since the device was settled
+-- the device, the frames of pages, the clean pages that may go, and whether a page was written since the device was
+-- settled
 pub record Pool (D : Type 0) : Type 0 where
   pub file : File D
   pub frames : List (ℕ × Frame)
   pub clean : List (ℕ × List ℕ)
   pub is_unsettled : Bool
 
--- The frames are of the store's pages, and so many are dirty. The clean pages have no frame, and are as many as may be kept.
+-- The frames are of the store's pages, and so many are dirty. The clean pages have no frame, and are as many as may be
+-- kept.
 pub record IsPool (frame : ℕ → Option Frame) (clean : LruCache ℕ (List ℕ)) (pages count : ℕ) : Type 0 where
   pub frames : AreFrames frame pages count
   pub apart : AreApart frame clean.entries
@@ -38,7 +41,8 @@ HoldsSame old new = (page : ℕ) → held new page ≡ held old page
 
 -- the page is held or not, as told, and each other as before
 abbrev pub HoldsBut : {D : Type 0} → ℕ → Bool → Pool D → Pool D → Type 0
-HoldsBut page is_held old new = (held new page ≡ is_held) × ((other : ℕ) → (other ≡ page → ⊥) → held new other ≡ held old other)
+HoldsBut page is_held old new =
+    (held new page ≡ is_held) × ((other : ℕ) → (other ≡ page → ⊥) → held new other ≡ held old other)
 
 -- no call of the device where the page is in memory, in a frame or among the clean ones
 pub record IsNear {D : Type 0} (old new : Pool D) (page : ℕ) : Type 0 where
@@ -67,8 +71,10 @@ pub record ShowsPages {D : Type 0} (pool : Pool D) (now : ℕ → List ℕ) : Ty
   pub frames : (page : ℕ) → IfSome (frame_at pool.frames page) (λ frame. frame.bytes ≡ now page)
   pub clean : HoldsClean pool.clean now
 
--- The store's pages are `now`, the device has `device`, of which those written since it was settled are loose, and those that differ are dirty. The marks stand for every device, the bytes for an honest one.
-pub record IsPageSide {D : Type 0} (is_honest : D → Type 0) (state : D → State) (pool : Pool D) (now device : ℕ → List ℕ) (loose dirty : ℕ → Bool) : Type 0 where
+-- The store's pages are `now`, the device has `device`, of which those written since it was settled are loose, and
+-- those that differ are dirty. The marks stand for every device, the bytes for an honest one.
+pub record IsPageSide {D : Type 0} (is_honest : D → Type 0) (state : D → State) (pool : Pool D)
+    (now device : ℕ → List ℕ) (loose dirty : ℕ → Bool) : Type 0 where
   pub marks : (page : ℕ) → soiled pool page ≡ dirty page
   pub settled : pool.is_unsettled ≡ false → (page : ℕ) → loose page ≡ false
   pub unsettled : pool.is_unsettled ≡ true → (page : ℕ) × (loose page ≡ true)

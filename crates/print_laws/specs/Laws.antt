@@ -11,7 +11,8 @@ PrintedIsRead = (p : Parsed) → HasLimits p → Says (printed p) p × ((q : Par
 
 -- so does its line, where bytes spell these tokens
 abbrev pub LineIsRead : Type 0
-LineIsRead = (p : Parsed) → HasLimits p → IsSpellable p → Spells (line_of p) p × ((q : Parsed) → Spells (line_of p) q → q ≡ p)
+LineIsRead = (p : Parsed) → HasLimits p → IsSpellable p → Spells (line_of p) p
+    × ((q : Parsed) → Spells (line_of p) q → q ≡ p)
 
 -- and no line says anything else
 abbrev pub LinesSayNoMore : Type 0

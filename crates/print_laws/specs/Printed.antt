@@ -1,5 +1,6 @@
 -- The tokens that say a line. Each writer puts the tokens of a tree before those that follow.
-use Rattle.std.specs.Prelude.{ℕ, pos, negsuc, suc, Bool, true, false, Option, Some, None, List, [], ◌∷◌, length, nat_le, nat_lt, if◌then◌else◌}
+use Rattle.std.specs.Prelude.{ℕ, pos, negsuc, suc, Bool, true, false, Option, Some, None, List, [], ◌∷◌, length, nat_le,
+    nat_lt, if◌then◌else◌}
 use Rattle.values.specs.declared.value.Kind.{Kind}
 use Rattle.values.specs.declared.value.Kind.TheVariants as kind
 use Rattle.values.specs.declared.value.Value.{Value}
@@ -98,7 +99,8 @@ expression least (expression_tree.Literal v) ts = operand (operand'.Literal v) t
 expression least (expression_tree.Column c) ts = operand (operand'.Column c) ts
 expression least expression_tree.CurrentSnapshot ts = operand operand'.CurrentSnapshot ts
 expression least (expression_tree.Apply o a b) ts =
-    grouped (nat_lt (strength o) least) (λ more. expression (strength o) a (mark (operator_sign o) (expression (suc (strength o)) b more))) ts
+    grouped (nat_lt (strength o) least)
+    (λ more. expression (strength o) a (mark (operator_sign o) (expression (suc (strength o)) b more))) ts
 
 abbrev pub comparison_sign : Comparison → Sign
 comparison_sign comparison.Equal = sign.Equal
@@ -112,8 +114,10 @@ comparison_sign comparison.AtLeast = sign.AtLeast
 abbrev pub condition : ℕ → Writer ConditionTree
 condition least (condition_tree.Compare a c b) ts = operand a (mark (comparison_sign c) (operand b ts))
 condition least (condition_tree.Not a) ts = word keyword.Not (condition 2 a ts)
-condition least (condition_tree.And a b) ts = grouped (nat_lt 1 least) (λ more. condition 1 a (word keyword.And (condition 2 b more))) ts
-condition least (condition_tree.Or a b) ts = grouped (nat_lt 0 least) (λ more. condition 0 a (word keyword.Or (condition 1 b more))) ts
+condition least (condition_tree.And a b) ts =
+    grouped (nat_lt 1 least) (λ more. condition 1 a (word keyword.And (condition 2 b more))) ts
+condition least (condition_tree.Or a b) ts =
+    grouped (nat_lt 0 least) (λ more. condition 0 a (word keyword.Or (condition 1 b more))) ts
 
 abbrev pub filter : Writer (Option ConditionTree)
 filter None ts = ts
@@ -195,13 +199,25 @@ distinct true ts = word keyword.Distinct ts
 distinct false ts = ts
 
 abbrev pub query : Writer Select
-query q ts = distinct q.distinct (select_list q.list (word keyword.From (name q.table (second q.second (filter q.condition (grouping q.group_by (ordering q.order_by (limit q.limit ts))))))))
+query q ts =
+    distinct q.distinct
+    (select_list q.list
+    (word keyword.From
+    (name q.table
+    (second q.second (filter q.condition (grouping q.group_by (ordering q.order_by (limit q.limit ts))))))))
 
 abbrev pub statement : Statement → List Token
-statement (statement'.CreateTable t) = word keyword.Create (word keyword.Table (name t.table (mark sign.Open (several new_column t.columns (mark sign.Close [])))))
-statement (statement'.CreateIndex i) = word keyword.Create (word keyword.Index (name i.index (word keyword.On (name i.table (mark sign.Open (name i.column (mark sign.Close [])))))))
-statement (statement'.Insert i) = word keyword.Insert (word keyword.Into (name i.table (word keyword.Values (several tuple i.tuples []))))
-statement (statement'.Update u) = word keyword.Update (name u.table (word keyword.Set (several assignment u.assignments (filter u.condition []))))
+statement (statement'.CreateTable t) =
+    word keyword.Create
+    (word keyword.Table (name t.table (mark sign.Open (several new_column t.columns (mark sign.Close [])))))
+statement (statement'.CreateIndex i) =
+    word keyword.Create
+    (word keyword.Index
+    (name i.index (word keyword.On (name i.table (mark sign.Open (name i.column (mark sign.Close [])))))))
+statement (statement'.Insert i) =
+    word keyword.Insert (word keyword.Into (name i.table (word keyword.Values (several tuple i.tuples []))))
+statement (statement'.Update u) =
+    word keyword.Update (name u.table (word keyword.Set (several assignment u.assignments (filter u.condition []))))
 statement (statement'.Delete d) = word keyword.Delete (word keyword.From (name d.table (filter d.condition [])))
 statement (statement'.Select q) = word keyword.Select (query q [])
 
@@ -222,14 +238,17 @@ fourth m ts = ts
 
 abbrev pub rql_call : RqlCall → List Token
 rql_call c =
-    call (call_word c.mechanism) (λ ts. argument c.snapshots (mark sign.Comma (argument c.query (mark sign.Comma (argument c.table (fourth c.mechanism ts)))))) []
+    call (call_word c.mechanism)
+    (λ ts. argument c.snapshots
+    (mark sign.Comma (argument c.query (mark sign.Comma (argument c.table (fourth c.mechanism ts)))))) []
 
 -- the tokens of a line
 abbrev pub printed : Parsed → List Token
 printed (parsed.Plain s) = statement s
 printed (parsed.AsOf q) = word keyword.Select (word keyword.As (word keyword.Of (number q.snapshot (query q.query []))))
 printed (parsed.Commit None) = word keyword.Commit []
-printed (parsed.Commit (Some label)) = word keyword.Commit (word keyword.With (word keyword.Snapshot (token.Text label ∷ [])))
+printed (parsed.Commit (Some label)) =
+    word keyword.Commit (word keyword.With (word keyword.Snapshot (token.Text label ∷ [])))
 printed parsed.Rollback = word keyword.Rollback []
 printed (parsed.DropBelow n) = word keyword.Drop (word keyword.Snapshots (word keyword.Below (number n [])))
 printed (parsed.Rql c) = rql_call c

@@ -34,17 +34,23 @@ write_bytes version write = field_bytes (page_width version) write.page ++ write
 
 -- 1, the version, and the sizes
 abbrev pub sizes_bytes : Version → Base → List ℕ
-sizes_bytes version base = 1 ∷ (field_bytes 2 (version_number version) ++ (field_bytes 4 base.page_count ++ field_bytes 4 base.capacity))
+sizes_bytes version base =
+    1 ∷ (field_bytes 2 (version_number version) ++ (field_bytes 4 base.page_count ++ field_bytes 4 base.capacity))
 
 -- how many changes and captures there were, the oldest and the newest snapshot, and how many pages are captured since
 abbrev pub counts_bytes : Base → List ℕ
 counts_bytes base =
-    field_bytes 8 base.changes ++ (field_bytes 8 base.captures ++ (field_bytes 4 (oldest base.marks) ++ (field_bytes 4 (newest base.marks) ++ field_bytes 4 (length base.captured))))
+    field_bytes 8 base.changes
+    ++ (field_bytes 8 base.captures
+    ++ (field_bytes 4 (oldest base.marks)
+    ++ (field_bytes 4 (newest base.marks) ++ field_bytes 4 (length base.captured))))
 
 -- a base: its sizes and counts, the snapshots, and the captured pages
 abbrev pub base_bytes : Version → Base → List ℕ
 base_bytes version base =
-    sizes_bytes version base ++ (counts_bytes base ++ (flat_map mark_bytes base.marks ++ flat_map (field_bytes (page_width version)) base.captured))
+    sizes_bytes version base
+    ++ (counts_bytes base
+    ++ (flat_map mark_bytes base.marks ++ flat_map (field_bytes (page_width version)) base.captured))
 
 -- a flag, and the label where there is one
 abbrev pub declaration_bytes : Option (List ℕ) → List ℕ
@@ -53,7 +59,8 @@ declaration_bytes (Some label) = 1 ∷ label_bytes label
 
 -- A commit: 2, its declaration, how many pages it writes, and the writes. A drop: 3, and the number.
 abbrev pub change_bytes : Version → Change → List ℕ
-change_bytes version (Commit label writes) = 2 ∷ (declaration_bytes label ++ (field_bytes 2 (length writes) ++ flat_map (write_bytes version) writes))
+change_bytes version (Commit label writes) =
+    2 ∷ (declaration_bytes label ++ (field_bytes 2 (length writes) ++ flat_map (write_bytes version) writes))
 change_bytes version (Drop below) = 3 ∷ field_bytes 4 below
 
 abbrev pub entry_bytes : Version → Entry → List ℕ
@@ -93,7 +100,8 @@ LabelFits None = Unit {0}
 LabelFits (Some label) = IsTrue (is_label label)
 
 abbrev pub ChangeFits : Version → Change → Type 0
-ChangeFits version (Commit label writes) = LabelFits label × (length writes ≤ EDITED_PAGES) × IsTrue (rises 0 (pages_of writes)) × AllByRecursion (WriteFits version) writes
+ChangeFits version (Commit label writes) = LabelFits label × (length writes ≤ EDITED_PAGES)
+    × IsTrue (rises 0 (pages_of writes)) × AllByRecursion (WriteFits version) writes
 ChangeFits version (Drop below) = below < 2 ^ 32
 
 -- an entry whose fields fit theirs

@@ -8,7 +8,8 @@ use Rattle.records.specs.declared.decoding.DecodeError.TheVariants as decoding
 -- Each body is that of an item that is right at its place, and the item leads to the place of the next.
 abbrev pub InTurn : {P I : Type 0} → (P → List ℕ → I → Type 0) → (P → I → P) → P → List (List ℕ) → List I → Type 0
 InTurn Is after place [] [] = Unit {0}
-InTurn Is after place (body ∷ bodies) (item ∷ items) = Is place body item × InTurn Is after (after place item) bodies items
+InTurn Is after place (body ∷ bodies) (item ∷ items) =
+    Is place body item × InTurn Is after (after place item) bodies items
 InTurn Is after place bodies items = ⊥
 
 -- the place behind these items

@@ -25,4 +25,5 @@ pub record IsChangeBody (version : Version) (base : Base) (body : List ℕ) (cha
 -- The bodies are those of a log of this version: a right base, and changes that are right in turn.
 abbrev pub IsLog : Version → List (List ℕ) → Log → Type 0
 IsLog version [] log = ⊥
-IsLog version (body ∷ bodies) log = (log.version ≡ version) × IsBaseBody version body log.base × InTurn (IsChangeBody version) base_after log.base bodies log.changes
+IsLog version (body ∷ bodies) log = (log.version ≡ version) × IsBaseBody version body log.base
+    × InTurn (IsChangeBody version) base_after log.base bodies log.changes

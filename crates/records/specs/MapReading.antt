@@ -1,5 +1,7 @@
--- Reading a record of the Maplog from the front of bytes, field by field. That it gives exactly the records whose bytes these are is said where one is decoded.
-use Rattle.std.specs.Prelude.{◌==◌, ◌&&◌, nat_le, ℕ, zero, suc, List, [], ◌∷◌, length, Option, Some, None, if◌then◌else◌}
+-- Reading a record of the Maplog from the front of bytes, field by field. That it gives exactly the records whose bytes
+-- these are is said where one is decoded.
+use Rattle.std.specs.Prelude.{◌==◌, ◌&&◌, nat_le, ℕ, zero, suc, List, [], ◌∷◌, length, Option, Some, None,
+    if◌then◌else◌}
 use Rattle.history.specs.declared.log.Version.{Version}
 use Rattle.records.specs.Entries.{page_width}
 use Rattle.history.specs.Log.{version_number}
@@ -26,7 +28,8 @@ unfoldable pub take_run : Version → List ℕ → Option (MapEntry × List ℕ)
 take_run version bytes = do
   first ← take_number 8 bytes
   count ← take_number 4 first.1
-  pages ← if nat_le 1 count.0 && nat_le count.0 RUN_PAGES then take_list (take_mapped version) no_matter count.0 0 count.1 else None
+  pages ← if nat_le 1 count.0 && nat_le count.0 RUN_PAGES
+      then take_list (take_mapped version) no_matter count.0 0 count.1 else None
   Some (Run first.0 pages.0, pages.1)
 
 unfoldable pub take_low : List ℕ → Option (MapEntry × List ℕ)

@@ -12,16 +12,20 @@ use Rattle.records.specs.declared.map_entry.MapEntry.TheVariants.{Start, Run, Lo
 use Rattle.records.specs.declared.map_entry.TheConstants.{RUN_PAGES}
 use Rattle.records.specs.InTurn.{InTurn, reached}
 
--- A start: 1, the version, the number of the first mapping, and the capacity. A run: 2, the number of its first mapping, how many there are, and their pages. A low mark: 3, and the number.
+-- A start: 1, the version, the number of the first mapping, and the capacity. A run: 2, the number of its first
+-- mapping, how many there are, and their pages. A low mark: 3, and the number.
 abbrev pub map_entry_bytes : Version → MapEntry → List ℕ
-map_entry_bytes version (Start low capacity) = 1 ∷ (field_bytes 2 (version_number version) ++ (field_bytes 8 low ++ field_bytes 4 capacity))
-map_entry_bytes version (Run first pages) = 2 ∷ (field_bytes 8 first ++ (field_bytes 4 (length pages) ++ flat_map (field_bytes (page_width version)) pages))
+map_entry_bytes version (Start low capacity) =
+    1 ∷ (field_bytes 2 (version_number version) ++ (field_bytes 8 low ++ field_bytes 4 capacity))
+map_entry_bytes version (Run first pages) =
+    2 ∷ (field_bytes 8 first ++ (field_bytes 4 (length pages) ++ flat_map (field_bytes (page_width version)) pages))
 map_entry_bytes version (Low low) = 3 ∷ field_bytes 8 low
 
 -- an entry whose fields fit theirs
 abbrev pub MapEntryFits : Version → MapEntry → Type 0
 MapEntryFits version (Start low capacity) = (low < 2 ^ 64) × (capacity < 2 ^ 32)
-MapEntryFits version (Run first pages) = (first < 2 ^ 64) × (1 ≤ length pages) × (length pages ≤ RUN_PAGES) × AllByRecursion (λ page. page < 256 ^ page_width version) pages
+MapEntryFits version (Run first pages) = (first < 2 ^ 64) × (1 ≤ length pages) × (length pages ≤ RUN_PAGES)
+    × AllByRecursion (λ page. page < 256 ^ page_width version) pages
 MapEntryFits version (Low low) = low < 2 ^ 64
 
 -- the mappings behind a record: a run adds its own, a low mark forgets those below it
@@ -30,11 +34,13 @@ mappings_after mappings (Start low capacity) = mappings
 mappings_after mappings (Run first pages) = push mappings pages
 mappings_after mappings (Low low) = trim mappings low
 
--- A right record behind these mappings of a store of that many pages: a run goes on where they end, up to the most captures, with pages of the store; a low mark does not fall, and is at most their end.
+-- A right record behind these mappings of a store of that many pages: a run goes on where they end, up to the most
+-- captures, with pages of the store; a low mark does not fall, and is at most their end.
 abbrev pub IsRightMapping : ℕ → Mappings → MapEntry → Type 0
 IsRightMapping page_count mappings (Start low capacity) = ⊥
 IsRightMapping page_count mappings (Run first pages) =
-    (first ≡ end_of mappings) × (end_of mappings + length pages ≤ MAX_CAPTURES) × AllByRecursion (λ page. page < page_count) pages
+    (first ≡ end_of mappings) × (end_of mappings + length pages ≤ MAX_CAPTURES)
+    × AllByRecursion (λ page. page < page_count) pages
 IsRightMapping page_count mappings (Low low) = (mappings.low ≤ low) × (low ≤ end_of mappings)
 
 -- a start, of that capacity, and the mappings behind it: none from its number on
@@ -52,13 +58,16 @@ pub record IsStartBody (version : Version) (capacity : ℕ) (body : List ℕ) (m
   pub start : IsStart capacity entry mappings
 
 -- the body of a record that is right there
-pub record IsMappingBody (version : Version) (page_count : ℕ) (mappings : Mappings) (body : List ℕ) (entry : MapEntry) : Type 0 where
+pub record IsMappingBody (version : Version) (page_count : ℕ) (mappings : Mappings) (body : List ℕ)
+    (entry : MapEntry) : Type 0 where
   pub spelled : body ≡ map_entry_bytes version entry
   pub fits : MapEntryFits version entry
   pub right : IsRightMapping page_count mappings entry
 
--- The bodies, in records of this version and beside a log of that many pages and that capacity, are a start and records that are right in turn, and these mappings are kept behind them.
-pub record MapsTo (version : Version) (page_count capacity : ℕ) (body : List ℕ) (bodies : List (List ℕ)) (mappings : Mappings) : Type 0 where
+-- The bodies, in records of this version and beside a log of that many pages and that capacity, are a start and records
+-- that are right in turn, and these mappings are kept behind them.
+pub record MapsTo (version : Version) (page_count capacity : ℕ) (body : List ℕ) (bodies : List (List ℕ))
+    (mappings : Mappings) : Type 0 where
   pub start : Mappings
   pub entries : List MapEntry
   pub first : IsStartBody version capacity body start

@@ -1,5 +1,7 @@
--- Reading an entry from the front of bytes, field by field. That it gives exactly the entries whose bytes these are is said where an entry is decoded.
-use Rattle.std.specs.Prelude.{◌≡◌, ◌+◌, ◌-◌, ◌==◌, ◌&&◌, nat_lt, nat_le, ℕ, zero, suc, Bool, List, [], ◌∷◌, length, take, drop, Option, Some, None, Result, Ok, Err, if◌then◌else◌}
+-- Reading an entry from the front of bytes, field by field. That it gives exactly the entries whose bytes these are is
+-- said where an entry is decoded.
+use Rattle.std.specs.Prelude.{◌≡◌, ◌+◌, ◌-◌, ◌==◌, ◌&&◌, nat_lt, nat_le, ℕ, zero, suc, Bool, List, [], ◌∷◌, length,
+    take, drop, Option, Some, None, Result, Ok, Err, if◌then◌else◌}
 use Rattle.retro_base.specs.declared.limits.TheConstants.{EDITED_PAGES, PAGE_BYTES}
 use Rattle.retro_base.specs.Fields.{number_at}
 use Rattle.history.specs.declared.entry.Base.{Base}
@@ -76,7 +78,8 @@ take_image version least bytes = do
   Some (record { page = page.0; bytes = image.0 }, image.1)
 
 -- so many items, each read with the number that `next` gives of the one before
-unfoldable pub take_list : {X : Type 0} → (ℕ → List ℕ → Option (X × List ℕ)) → (X → ℕ) → ℕ → ℕ → List ℕ → Option (List X × List ℕ)
+unfoldable pub take_list : {X : Type 0} → (ℕ → List ℕ → Option (X × List ℕ)) → (X → ℕ) → ℕ → ℕ → List ℕ →
+    Option (List X × List ℕ)
 take_list item next zero number bytes = Some ([], bytes)
 take_list item next (suc count) number bytes = do
   first ← item number bytes
@@ -95,17 +98,21 @@ after_image image = image.page + 1
 -- the marks from the oldest to the newest; there are none exactly where these are 1 and 0
 unfoldable pub take_marks : ℕ → ℕ → List ℕ → Option (List Mark × List ℕ)
 take_marks oldest newest bytes =
-    if nat_lt newest oldest then where_true (oldest == 1 && newest == 0) ([], bytes) else take_list take_mark after_mark (newest + 1 - oldest) oldest bytes
+    if nat_lt newest oldest then where_true (oldest == 1 && newest == 0) ([], bytes)
+    else take_list take_mark after_mark (newest + 1 - oldest) oldest bytes
 
 -- the fields of a base stand at these places, and behind them the marks and the captured pages
 unfoldable pub base_from : Version → List ℕ → Option (Base × List ℕ)
 base_from version bytes = do
   marks ← take_marks (number_at 4 bytes 27) (number_at 4 bytes 31) (drop 39 bytes)
   captured ← take_list (take_page version) after_page (number_at 4 bytes 35) 0 marks.1
-  Some (record { page_count = number_at 4 bytes 3; capacity = number_at 4 bytes 7; changes = number_at 8 bytes 11; captures = number_at 8 bytes 19; marks = marks.0; captured = captured.0 }, captured.1)
+  Some (record
+      { page_count = number_at 4 bytes 3; capacity = number_at 4 bytes 7; changes = number_at 8 bytes 11;
+      captures = number_at 8 bytes 19; marks = marks.0; captured = captured.0 }, captured.1)
 
 unfoldable pub take_base : Version → List ℕ → Option (Base × List ℕ)
-take_base version bytes = if nat_lt (length bytes) 39 then None else if number_at 2 bytes 1 == version_number version then base_from version bytes else None
+take_base version bytes = if nat_lt (length bytes) 39 then None else if number_at 2 bytes 1 == version_number version
+    then base_from version bytes else None
 
 unfoldable pub take_commit : Version → List ℕ → Option (Change × List ℕ)
 take_commit version bytes = do

@@ -1,6 +1,7 @@
--- The entries that a table's rows have in its indexes, and what becomes of them. An index over pages is known here by how
--- one entry is added to it and taken out of it.
-use Rattle.std.specs.Prelude.{◌==◌, ◌&&◌, ℕ, Bool, false, List, Option, Some, None, Result, Ok, Err, slice_get, if◌then◌else◌}
+-- The entries that a table's rows have in its indexes, and what becomes of them. An index over pages is known here by
+-- how one entry is added to it and taken out of it.
+use Rattle.std.specs.Prelude.{◌==◌, ◌&&◌, ℕ, Bool, false, List, Option, Some, None, Result, Ok, Err, slice_get,
+    if◌then◌else◌}
 use Rattle.std.specs.List.{filter_map}
 use Rattle.std.specs.List.Sorted.{IsPermutation, IsSorted}
 use Rattle.std.specs.Option.{option_map}
@@ -71,8 +72,8 @@ value_stays place moved = is_one_value (slice_get moved.was.row place) (slice_ge
 abbrev pub entry_out : ℕ → Moved → Option Found
 entry_out place moved = if value_stays place moved then None else entry_of place moved.was
 
--- The entry that is added then: none where the value stays and the page too. Where the page alone differs, the entry takes
--- the place of the one before.
+-- The entry that is added then: none where the value stays and the page too. Where the page alone differs, the entry
+-- takes the place of the one before.
 abbrev pub entry_in : ℕ → Moved → Option Found
 entry_in place moved =
     if value_stays place moved && (moved.was.page == moved.becomes.page) then None else entry_of place moved.becomes

@@ -1,5 +1,6 @@
 -- What the calls answer, and what they do to the pages.
-use Rattle.std.specs.Prelude.{◌≡◌, ◌+◌, ◌==◌, ℕ, Bool, true, List, [], ◌∷◌, map, Option, Some, None, Result, Ok, Err, if◌then◌else◌}
+use Rattle.std.specs.Prelude.{◌≡◌, ◌+◌, ◌==◌, ℕ, Bool, true, List, [], ◌∷◌, map, Option, Some, None, Result, Ok, Err,
+    if◌then◌else◌}
 use Rattle.std.specs.List.{AllByRecursion}
 use Rattle.std.specs.List.Sorted.{IsNonDecreasingBy, IsPermutation}
 use Rattle.retro_base.specs.declared.refusal.Refusal.{Refusal}
@@ -224,7 +225,8 @@ row_found passes size pages entry = do
 -- The rows of a table whose value in the column of an index is at least `low` and at most `high`, in rising number, as
 -- the index lists them, and that pass a test; an entry whose row is not on its page is passed over. Each row is to fit
 -- the columns.
-abbrev pub ranged_by : (Placed → Result Bool Refusal) → (ℕ → ℕ → Value → Value → Pages → Result (List Found) Refusal → Type 0)
+abbrev pub ranged_by : (Placed → Result Bool Refusal) →
+    (ℕ → ℕ → Value → Value → Pages → Result (List Found) Refusal → Type 0)
     → ℕ → Pages → StoredTable → StoredIndex → Value → Value → Result (List Placed) Refusal → Type 0
 ranged_by passes range size pages table index low high = do
   found ← range size index.root low high pages

@@ -1,5 +1,6 @@
 -- What the calls on tables by name do to the tables of well-formed pages.
-use Rattle.std.specs.Prelude.{◌≡◌, ◌≢◌, ◌<◌, ◌≤◌, ◌+◌, ◌++◌, ◌^◌, ◌==◌, ◌&&◌, not, ℕ, Bool, List, [], ◌∷◌, length, map, slice_get, slice_index_or, true, false, Option, Some, None, Result, Ok, Err, if◌then◌else◌}
+use Rattle.std.specs.Prelude.{◌≡◌, ◌≢◌, ◌<◌, ◌≤◌, ◌+◌, ◌++◌, ◌^◌, ◌==◌, ◌&&◌, not, ℕ, Bool, List, [], ◌∷◌, length, map,
+    slice_get, slice_index_or, true, false, Option, Some, None, Result, Ok, Err, if◌then◌else◌}
 use Rattle.std.specs.List.{AllByRecursion, Contains, filter, list_any}
 use Rattle.retro_base.specs.declared.refusal.Refusal.{Refusal}
 use Rattle.retro_base.specs.declared.refusal.Refusal.TheVariants.{PagesFull}
@@ -21,7 +22,8 @@ use Rattle.relation.specs.declared.catalog.StoredTable.{StoredTable}
 use Rattle.relation.specs.Each.{each}
 use Rattle.tree_index.specs.Work.{added, made, ranged, removed}
 use Rattle.relation.specs.declared.drafting.RowChange.{RowChange}
-use Rattle.relation.specs.Work.{all_placed, change_of, created, deleted, indexed, inserted, next_in, placed_of, ranged_at, rows_at, rows_in, schema_in, table_in, updated}
+use Rattle.relation.specs.Work.{all_placed, change_of, created, deleted, indexed, inserted, next_in, placed_of,
+    ranged_at, rows_at, rows_in, schema_in, table_in, updated}
 use Rattle.sql_tree.specs.Rows.{fits}
 use Rattle.relation_laws.specs.Needs.{CreateNeeds, IndexNeeds, InsertNeeds, TakesNeeded, UpdateNeeds}
 use Rattle.relation_laws.specs.Reach.{EditsEnds, Reaches, ReachesCatalog}
@@ -109,8 +111,8 @@ InsertLaw = (size : ℕ) (pages : Pages) (all : PlainTables) (table : PlainTable
     answer
 
 -- Rows that are added to a table edit its first page, the last one, and where they open pages, those and the root page;
--- and no other. What an insert edits besides is on pages of the table's indexes or was taken for them, and the root page
--- where some were taken.
+-- and no other. What an insert edits besides is on pages of the table's indexes or was taken for them, and the root
+-- page where some were taken.
 abbrev pub EditsLaw : Type 0
 EditsLaw = (size : ℕ) (pages after : Pages) (all : PlainTables) (table : PlainTable) (stored : StoredTable)
     (rows : List (List Value)) (placed : List Placed)

@@ -32,8 +32,8 @@ IsIndexPage size pages table page = (index : StoredIndex) × Contains table.inde
 abbrev pub IsUntouched : Pages → Pages → ℕ → Type 0
 IsUntouched pages after page = (after.at page ≡ pages.at page) × (after.edited page ≡ pages.edited page)
 
--- What a call on the table of that name leaves alone: the root page, where as many pages are free as before, the pages of
--- the catalog, and those of the other tables and of their indexes.
+-- What a call on the table of that name leaves alone: the root page, where as many pages are free as before, the pages
+-- of the catalog, and those of the other tables and of their indexes.
 pub record Reaches (size : ℕ) (pages : Pages) (name : List ℕ) (after : Pages) : Type 0 where
   pub root : free_pages size after ≡ free_pages size pages → IsUntouched pages after 0
   pub in_catalog : (page : ℕ) → IsPageOf size pages CATALOG page → IsUntouched pages after page

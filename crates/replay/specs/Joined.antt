@@ -1,5 +1,6 @@
 -- When the log and the Maplog belong together.
-use Rattle.std.specs.Prelude.{◌≤◌, ◌-◌, ◌==◌, ◌&&◌, ℕ, Bool, true, false, not, IsTrue, List, [], ◌∷◌, length, take, drop}
+use Rattle.std.specs.Prelude.{◌≤◌, ◌-◌, ◌==◌, ◌&&◌, ℕ, Bool, true, false, not, IsTrue, List, [], ◌∷◌, length, take,
+    drop}
 use Rattle.std.specs.List.{list_all}
 use Rattle.history.specs.declared.entry.Base.{Base}
 use Rattle.history.specs.Writes.{pages_of, is_among}
@@ -29,22 +30,27 @@ pages_from number first pages = drop (number - first) pages
 
 -- the kept mappings before the base, since its newest snapshot
 abbrev pub mapped_since : Base → Mappings → List ℕ
-mapped_since base mappings = pages_from (newest_start base.marks) mappings.low (take (base.captures - mappings.low) mappings.pages)
+mapped_since base mappings =
+    pages_from (newest_start base.marks) mappings.low (take (base.captures - mappings.low) mappings.pages)
 
--- The archive holds the base's captures. Since the base's newest snapshot it maps different pages, each of which the base tells as captured. It keeps at most the capacity.
+-- The archive holds the base's captures. Since the base's newest snapshot it maps different pages, each of which the
+-- base tells as captured. It keeps at most the capacity.
 pub record HoldsBase (base : Base) (mappings : Mappings) : Type 0 where
   pub counted : base.captures ≤ end_of mappings
   pub room : length mappings.pages ≤ base.capacity
   pub different : IsTrue (differ (mapped_since base mappings))
   pub captured : IsTrue (are_among (mapped_since base mappings) base.captured)
 
--- Behind a base with this count of captures, changes captured these pages. The archive holds no more, keeps all that a retained snapshot needs, and from the base on it maps what the changes captured.
+-- Behind a base with this count of captures, changes captured these pages. The archive holds no more, keeps all that a
+-- retained snapshot needs, and from the base on it maps what the changes captured.
 pub record HoldsChanges (count : ℕ) (behind : Base) (captured : List ℕ) (mappings : Mappings) : Type 0 where
   pub known : end_of mappings ≤ behind.captures
   pub needed : mappings.low ≤ oldest_start behind.marks
-  pub same : IsTrue (begins_with (pages_from count mappings.low mappings.pages) (pages_from mappings.low count captured))
+  pub same : IsTrue
+      (begins_with (pages_from count mappings.low mappings.pages) (pages_from mappings.low count captured))
 
 -- the log and the Maplog belong together
 pub record AreJoined (contents : Contents) : Type 0 where
   pub holds_base : HoldsBase contents.log.base contents.mappings
-  pub holds_changes : HoldsChanges contents.log.base.captures (now (opened contents)).base (pages_of (captures_of (opened contents).origin contents.log.changes)) contents.mappings
+  pub holds_changes : HoldsChanges contents.log.base.captures (now (opened contents)).base
+      (pages_of (captures_of (opened contents).origin contents.log.changes)) contents.mappings

@@ -20,10 +20,15 @@ pub record AreRightContents (contents : Contents) : Type 0 where
 abbrev pub OpenedIsConsistent : Type 0
 OpenedIsConsistent = (contents : Contents) → AreRightContents contents → IsConsistent (opened contents)
 
--- As of a retained snapshot a page has the bytes of its first capture from the snapshot's start on: those in the capture's slot, where the archive holds the capture. Where there is none, the page is as it is.
+-- As of a retained snapshot a page has the bytes of its first capture from the snapshot's start on: those in the
+-- capture's slot, where the archive holds the capture. Where there is none, the page is as it is.
 abbrev pub PastByFirstCapture : Type 0
-PastByFirstCapture = (contents : Contents) (snapshot page : ℕ) → AreRightContents contents → is_retained snapshot (now (opened contents)).base.marks ≡ true →
+PastByFirstCapture = (contents : Contents) (snapshot page : ℕ) → AreRightContents contents →
+    is_retained snapshot (now (opened contents)).base.marks ≡ true →
     let history : History = opened contents in
-    let first : Option ℕ = first_met (pages_of (captures history)) (start_of snapshot (now history).base.marks) (length (captures history)) page in
-    ((number : ℕ) → first ≡ Some number → number < end_of contents.mappings → (contents.mappings.low ≤ number) × (pages_as_of history snapshot page ≡ contents.slots (number % contents.log.base.capacity)))
+    let first : Option ℕ =
+        first_met (pages_of (captures history)) (start_of snapshot (now history).base.marks)
+        (length (captures history)) page in
+    ((number : ℕ) → first ≡ Some number → number < end_of contents.mappings → (contents.mappings.low ≤ number)
+    × (pages_as_of history snapshot page ≡ contents.slots (number % contents.log.base.capacity)))
     × (first ≡ None → pages_as_of history snapshot page ≡ (now history).pages page)

@@ -1,5 +1,6 @@
 -- The run of a script over a store that a cabinet keeps.
-use Rattle.std.specs.Prelude.{◌≡◌, ◌⊎◌, ℕ, zero, suc, Bool, true, false, List, Option, Some, Result, Ok, Err, MatchResult, if◌then◌else◌}
+use Rattle.std.specs.Prelude.{◌≡◌, ◌⊎◌, ℕ, zero, suc, Bool, true, false, List, Option, Some, Result, Ok, Err,
+    MatchResult, if◌then◌else◌}
 use Rattle.std.specs.List.{list_any}
 use Rattle.std.specs.Result.{IsErrAnd}
 use Rattle.disk_model.specs.Disk.{State}
@@ -19,8 +20,10 @@ use Rattle.retro.specs.declared.asking.NoPlan.{NoPlan}
 use Rattle.retro.specs.declared.storing.Ended.{Ended}
 
 -- the cabinet handed out no devices, or a plan was run over the store on those that it handed out, or was not
-abbrev pub RunsOnStore : {C D : Type 0} → (C → ℕ) → (C → List ℕ → Type 0) → (C → Type 0) → (C → List ℕ → Option (Four D))
-    → (D → ℕ) → (D → ℕ) → (D → Type 0) → Type 0 → (D → State) → (D → Clock) → List ℕ → Plan → C → C → Result Ended Refusal
+abbrev pub RunsOnStore : {C D : Type 0} → (C → ℕ) → (C → List ℕ → Type 0) → (C → Type 0) →
+    (C → List ℕ → Option (Four D))
+    → (D → ℕ) → (D → ℕ) → (D → Type 0) → Type 0 → (D → State) → (D → Clock) → List ℕ → Plan → C → C →
+    Result Ended Refusal
     → Type 0
 RunsOnStore faults is_out tells store extent device_faults is_honest remembers state clock dir plan old new result =
     IsErrAnd result (HandsOutNone faults is_out tells store old new)

@@ -1,5 +1,6 @@
 -- A load, and what is written of it.
-use Rattle.std.specs.Prelude.{◌≡◌, ◌==◌, ◌++◌, ◌||◌, ◌∷◌, ℕ, Bool, true, false, not, List, [], length, filter, get_or, codes, Option, Some, None, Result, Ok, Err}
+use Rattle.std.specs.Prelude.{◌≡◌, ◌==◌, ◌++◌, ◌||◌, ◌∷◌, ℕ, Bool, true, false, not, List, [], length, filter, get_or,
+    codes, Option, Some, None, Result, Ok, Err}
 use Rattle.std.specs.Fmt.{decimal}
 use Rattle.std.specs.List.{flat_map, slice_split}
 use Rattle.std.specs.Option.{option_map_or}
@@ -39,8 +40,8 @@ count_of is journal = length (filter (λ (line : Line). is line.what) journal)
 
 -- ---- what the last phase replies
 
--- A line of a reply stands for a number unless it counts the one row that follows, or tells the commit: it is that row, or
--- says why there is none.
+-- A line of a reply stands for a number unless it counts the one row that follows, or tells the commit: it is that row,
+-- or says why there is none.
 abbrev pub is_number : List ℕ → Bool
 is_number line = not (bytes_eq line [] || (bytes_eq line (codes "rows 1") || bytes_eq line (codes "committed")))
 

@@ -1,5 +1,6 @@
 -- The run of a script that names no folder, and how it ends.
-use Rattle.std.specs.Prelude.{◌≡◌, ◌≢◌, ◌⊎◌, ◌<◌, ◌-◌, ◌^◌, ◌∷◌, ◌==◌, ℕ, IsTrue, List, [], Some, IfSome, Result, Ok, Err}
+use Rattle.std.specs.Prelude.{◌≡◌, ◌≢◌, ◌⊎◌, ◌<◌, ◌-◌, ◌^◌, ◌∷◌, ◌==◌, ℕ, IsTrue, List, [], Some, IfSome, Result, Ok,
+    Err}
 use Rattle.std.specs.List.{list_any}
 use Rattle.retro_base.specs.declared.refusal.Refusal.{Refusal}
 use Rattle.script.specs.Script.{ReadsAs}
@@ -20,16 +21,16 @@ EndsFrom size o sink plan (Ok ended) status =
     WritesOne sink (RanOver size plan o o.opened.faults ended.journal) status
 EndsFrom size o sink plan (Err why) status = Refuses sink why status
 
--- The headline: `run`, with this opening. What its script asks for, or why for nothing; the run of that plan, which left
--- one journal; and how it ended.
+-- The headline: `run`, with this opening. What its script asks for, or why for nothing; the run of that plan, which
+-- left one journal; and how it ended.
 abbrev pub RunsPlainly : (size : ℕ) → Opening (sql size) → Seen → Seen → ℕ → Type 0
 RunsPlainly size o source sink status =
     RunsAsAsked (IsAsked source)
     (λ plan. (ended : Result Ended Refusal) × RunsFrom size o plan ended × EndsFrom size o sink plan ended status)
     (λ why. RefusesScript sink why status)
 
--- What the status of `run` tells. No other comes, and each has its cause. Bytes that are bad at a line are refused, and a
--- good script and no fault end well, unless memory runs out.
+-- What the status of `run` tells. No other comes, and each has its cause. Bytes that are bad at a line are refused, and
+-- a good script and no fault end well, unless memory runs out.
 pub record HasCauses (source sink : Seen) (status : ℕ) : Type 0 where
   pub statuses : IsTrue (list_any (λ one. one == status) (0 ∷ 3 ∷ 4 ∷ 5 ∷ 8 ∷ []))
   pub source_fault : status ≡ 4 → HasFailed source

@@ -29,8 +29,9 @@ shown_text shown =
     ++ (number_line (codes "newest") shown.newest
     ++ number_line (codes "captures") shown.captures))))
 
--- The devices of a store, so as they were handed out and so as they came back with nothing written on them, and what was
--- found on them: what their bytes open to; or a device of which a call failed, or the place at which they are no store.
+-- The devices of a store, so as they were handed out and so as they came back with nothing written on them, and what
+-- was found on them: what their bytes open to; or a device of which a call failed, or the place at which they are no
+-- store.
 pub record Looks {D : Type 0} (extent faults : D → ℕ) (is_honest : D → Type 0) (remembers : Type 0) (state : D → State)
     (clock : D → Clock) (first last : Four D) (result : Result Shown Refusal) : Type 0 where
   pub unwritten : AreUnwritten extent is_honest remembers state clock first last

@@ -30,7 +30,8 @@ AreSeated view slots = (number : ℕ) → number < length slots → IsSeated vie
 
 -- each two of the seats are of one store
 abbrev pub AreTogether : {S : Type 0} → (S → S → Type 0) → List (Slot S) → Type 0
-AreTogether {S} together slots = (number other : ℕ) (s t : S) → SitsAt slots number s → SitsAt slots other t → number ≢ other → together s t
+AreTogether {S} together slots = (number other : ℕ) (s t : S) → SitsAt slots number s → SitsAt slots other t →
+    number ≢ other → together s t
 
 abbrev pub AreHonest : {S : Type 0} → (S → Type 0) → List (Slot S) → Type 0
 AreHonest {S} is_honest slots = (number : ℕ) (s : S) → SitsAt slots number s → is_honest s
@@ -83,4 +84,6 @@ answered_at slots number = answered_in (slice_get slots number)
 
 -- this was kept of each, at its place
 abbrev pub AreAnswers : {S : Type 0} → List (Slot S) → List (List Kept) → Type 0
-AreAnswers slots kept = (length kept ≡ length slots) × ((number : ℕ) → number < length slots → answered_at slots number ≡ Ok (kept_at_place kept number))
+AreAnswers slots kept =
+    (length kept ≡ length slots)
+    × ((number : ℕ) → number < length slots → answered_at slots number ≡ Ok (kept_at_place kept number))

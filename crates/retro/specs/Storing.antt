@@ -1,5 +1,6 @@
 -- The run of a plan over the four devices of a store, at which each session has a seat of its own.
-use Rattle.std.specs.Prelude.{◌≡◌, ◌<◌, ◌≤◌, ℕ, true, false, List, [], ◌∷◌, length, max, slice_get, Some, None, Result, Ok, IfErr, IfOk}
+use Rattle.std.specs.Prelude.{◌≡◌, ◌<◌, ◌≤◌, ℕ, true, false, List, [], ◌∷◌, length, max, slice_get, Some, None, Result,
+    Ok, IfErr, IfOk}
 use Rattle.std.specs.List.{AllByRecursion}
 use Rattle.atomic_table.specs.Seated.{TableId}
 use Rattle.disk_model.specs.Disk.{State}
@@ -69,18 +70,22 @@ pub record IsPrinted (plan : Plan) (ended : Ended) (text : List ℕ) : Type 0 wh
   pub kept_is : ended.kept ≡ Ok kept
   pub text_is : text ≡ printed plan (kept_by_place kept) ended.newest ended.journal
 
--- From whatever tables its pages held, the run left this journal, which is lawful, and tells what was replied to each item.
+-- From whatever tables its pages held, the run left this journal, which is lawful, and tells what was replied to each
+-- item.
 pub record HasRunOver (plan : Plan) (ground : Ground) (ending : Device → ℕ) (ended : Ended) : Type 0 where
   pub lawful : (tables : World Tables) → Shows (sql ground.base.page_count) ground.pages tables →
       LeftLawful ground.base.page_count plan (opening_with ground tables) ending ended.journal
   pub replied : (tables : World Tables) → Shows (sql ground.base.page_count) ground.pages tables →
-      IfOk ended.kept (λ kept. RepliedOver ground.base.page_count plan (opening_with ground tables) ending ended.journal (kept_by_place kept))
+      IfOk ended.kept
+      (λ kept. RepliedOver ground.base.page_count plan (opening_with ground tables) ending ended.journal
+      (kept_by_place kept))
 
--- What a run over a store leaves, from the devices so as they were to those that came back. Where they tell what they hold, the store
--- was opened with what they held, and whatever a crash leaves of them shows the pages behind the journal, or behind the
--- one change in doubt; where all is copied, its Maplog ends with the last capture; and where no change is in doubt, the
--- next run begins with the tables behind this one.
-pub record Leaves {D : Type 0} (faults : D → ℕ) (is_honest : D → Type 0) (state : D → State) (plan : Plan) (first last : Four D) (ended : Ended) : Type 0 where
+-- What a run over a store leaves, from the devices so as they were to those that came back. Where they tell what they
+-- hold, the store was opened with what they held, and whatever a crash leaves of them shows the pages behind the
+-- journal, or behind the one change in doubt; where all is copied, its Maplog ends with the last capture; and where no
+-- change is in doubt, the next run begins with the tables behind this one.
+pub record Leaves {D : Type 0} (faults : D → ℕ) (is_honest : D → Type 0) (state : D → State) (plan : Plan)
+    (first last : Four D) (ended : Ended) : Type 0 where
   pub ground : Ground
   pub counts : SameCounts (of_each faults first) ground.faults
   pub opens : AreHonest is_honest first → OpenAs (seen_of state first) ground
@@ -88,7 +93,8 @@ pub record Leaves {D : Type 0} (faults : D → ℕ) (is_honest : D → Type 0) (
   pub honest : AreHonest is_honest first → AreHonest is_honest last
   pub newest_is : ended.newest ≡ newest ground.pages
   pub captures_are : ended.captures ≡ (base_of ground.base ended.journal).captures
-  pub crashes : AreHonest is_honest first → CrashesShow state One (page_world ground.pages ended.journal) ended.journal last
+  pub crashes : AreHonest is_honest first →
+      CrashesShow state One (page_world ground.pages ended.journal) ended.journal last
   pub next : AreHonest is_honest first → (tables : World Tables) →
       Shows (sql ground.base.page_count) ground.pages tables → doubt_in ended.journal ≡ None →
       OpensShowing state ground.base.page_count
@@ -115,7 +121,8 @@ pub record IsUncopied {D : Type 0} (faults : D → ℕ) (is_honest : D → Type 
 pub record RunsOn {D : Type 0} (extent faults : D → ℕ) (is_honest : D → Type 0) (remembers : Type 0) (state : D → State)
     (clock : D → Clock) (plan : Plan) (first last : Four D) (result : Result Ended Refusal) : Type 0 where
   pub unwritten : IfErr result (λ why. AreUnwritten extent is_honest remembers state clock first last)
-  pub unopened : IfErr result (λ why. IsUnopened (AreRefused extent is_honest state One first) (of_each faults first) (of_each faults last) why)
+  pub unopened : IfErr result
+      (λ why. IsUnopened (AreRefused extent is_honest state One first) (of_each faults first) (of_each faults last) why)
   pub leaves : IfOk result (Leaves faults is_honest state plan first last)
   pub pending : IfOk result (λ ended. AreHonest is_honest first → ended.copied ≡ false →
       IsUncopied faults is_honest remembers state clock (last_phase plan) ended.journal)
@@ -130,10 +137,12 @@ view_held state faults held = view_of state faults held.asked held.told.items he
 
 -- They are the seats of a store of so many pages that was just opened, each at the place of its number.
 abbrev pub AreFresh : {D : Type 0} → ℕ → List (Sat D) → Type 0
-AreFresh {D} pages seats = (k : ℕ) (s : Sat D) → slice_get seats k ≡ Some s → IsSized pages s × (s.number ≡ k) × ((mine s).work ≡ None) × (seen s ≡ [])
+AreFresh {D} pages seats = (k : ℕ) (s : Sat D) → slice_get seats k ≡ Some s → IsSized pages s × (s.number ≡ k)
+    × ((mine s).work ≡ None) × (seen s ≡ [])
 
 -- a store is held with this seat, and nothing is open
-pub record IsHeld {R D : Type 0} (state : D → State) (faults : D → ℕ) (z : TableId) (seat : Sat D) (held : Held R D) : Type 0 where
+pub record IsHeld {R D : Type 0} (state : D → State) (faults : D → ℕ) (z : TableId) (seat : Sat D)
+    (held : Held R D) : Type 0 where
   pub seat_is : held.seat ≡ seat
   pub store_is : store_of held ≡ z
   pub number_is : (view_held state faults held).session ≡ seat.number
@@ -143,7 +152,8 @@ pub record IsHeld {R D : Type 0} (state : D → State) (faults : D → ℕ) (z :
 -- each of these seats, in its slot
 abbrev pub AreHeld : {R D : Type 0} → (D → State) → (D → ℕ) → TableId → List (Sat D) → List (Slot (Held R D)) → Type 0
 AreHeld state faults z [] [] = Unit {0}
-AreHeld {R} {D} state faults z (seat ∷ seats) (slot ∷ slots) = ((held : Held R D) × (slot.seat ≡ Some held) × IsHeld state faults z seat held) × AreHeld state faults z seats slots
+AreHeld {R} {D} state faults z (seat ∷ seats) (slot ∷ slots) =
+    ((held : Held R D) × (slot.seat ≡ Some held) × IsHeld state faults z seat held) × AreHeld state faults z seats slots
 AreHeld state faults z seats slots = ⊥
 
 -- Nothing is open at the seat; and where it is one behind those of the sessions, a worker may run at it.
@@ -162,7 +172,8 @@ AreIn {R} {D} state faults z slots =
 
 -- the seat in the slot of this number is among these
 abbrev pub IsAmong : {R D : Type 0} → List (Slot (Held R D)) → List (Sat D) → ℕ → Type 0
-IsAmong {R} {D} slots seats number = (held : Held R D) → SitsAt slots number held → (k : ℕ) × (slice_get seats k ≡ Some held.seat)
+IsAmong {R} {D} slots seats number = (held : Held R D) → SitsAt slots number held → (k : ℕ)
+    × (slice_get seats k ≡ Some held.seat)
 
 -- each of these seats is that in the slot of some number
 abbrev pub AreOf : {R D : Type 0} → List (Slot (Held R D)) → List (Sat D) → Type 0

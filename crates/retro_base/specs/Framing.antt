@@ -20,7 +20,8 @@ records_of bodies = flat_map record_of bodies
 abbrev pub AreBodies : List (List ℕ) → Type 0
 AreBodies bodies = AllByRecursion (λ (body : List ℕ). length body < 2 ^ 32) bodies
 
--- The bytes begin with the records of these bodies, and behind them stands a gate that is not open. What stands behind that gate is not read.
+-- The bytes begin with the records of these bodies, and behind them stands a gate that is not open. What stands behind
+-- that gate is not read.
 pub record AreRecords (bodies : List (List ℕ)) (bytes : List ℕ) : Type 0 where
   pub gate : ℕ
   pub rest : List ℕ

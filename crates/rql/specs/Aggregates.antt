@@ -21,7 +21,8 @@ abbrev pub best : Extreme → List Value → Option Value
 best extreme [] = None
 best extreme (value ∷ values) = Some (fold (better extreme) value values)
 
--- The values in one, where there is one. A sum is a whole number of any size, of which only the end has to be within i64.
+-- The values in one, where there is one. A sum is a whole number of any size, of which only the end has to be within
+-- i64.
 abbrev pub aggregate : Function → List Value → Result (Option Value) Refusal
 aggregate Min values = Ok (best Least values)
 aggregate Max values = Ok (best Greatest values)

@@ -1,7 +1,8 @@
 -- What a query gives at snapshots, and the forms of contracts over it.
 use Rattle.std.specs.Prelude.{◌≡◌, ◌⊎◌, ℕ, Bool, List, Result, Ok, Err, Contains}
 use Rattle.retro_base.specs.declared.refusal.Refusal.{Refusal}
-use Rattle.retro_base.specs.declared.refusal.Refusal.TheVariants.{OutOfMemory, NotAStore, UnknownName, NameTaken, WrongType, Overflow, NotOneValue}
+use Rattle.retro_base.specs.declared.refusal.Refusal.TheVariants.{OutOfMemory, NotAStore, UnknownName, NameTaken,
+    WrongType, Overflow, NotOneValue}
 use Rattle.pager.specs.Stop.{Allowed, IsCaused}
 use Rattle.pager.specs.declared.stop.Stop.{Stop}
 use Rattle.pager.specs.declared.stop.Stop.TheVariants as stop
@@ -37,12 +38,14 @@ IsNamed allowed (Err (stop.Refused why)) = allowed why
 IsNamed allowed (Err (stop.Pager fault)) = Unit {0}
 
 -- the answer of a call is what the definition gives of the query's answers, whatever they may be by what is told
-abbrev pub Tells : {X Y F : Type 0} → (X → Y) → (Answers → Type 0) → Select → ((ℕ → Result Answer Refusal) → Result Y Refusal) → Result X (Stop F) → Type 0
+abbrev pub Tells : {X Y F : Type 0} → (X → Y) → (Answers → Type 0) → Select →
+    ((ℕ → Result Answer Refusal) → Result Y Refusal) → Result X (Stop F) → Type 0
 Tells view told query definition result =
     (answers : Answers) → told answers → Allowed view (λ r. definition (λ snapshot. answers snapshot query) ≡ r) result
 
 -- a call that asks changes nothing that may be asked, still tells what was told, and tells what ended it
-pub record OnlyAsks {A X F : Type 0} (may_ask : A → ℕ → Bool) (told : A → Answers → Type 0) (goes : A → A → Type 0) (faults : A → ℕ) (allowed : Refusal → Type 0) (old new : A) (result : Result X (Stop F)) : Type 0 where
+pub record OnlyAsks {A X F : Type 0} (may_ask : A → ℕ → Bool) (told : A → Answers → Type 0) (goes : A → A → Type 0)
+    (faults : A → ℕ) (allowed : Refusal → Type 0) (old new : A) (result : Result X (Stop F)) : Type 0 where
   pub may_ask_stays : may_ask new ≡ may_ask old
   pub told_stays : (answers : Answers) → told old answers → told new answers
   pub goes_on : goes old new

@@ -27,7 +27,8 @@ taken_later take answers columns snapshot = do
   if same_columns columns later.0 then Ok later.1 else Err WrongType
 
 -- at all of them; over no snapshots there are no columns
-abbrev pub gathered : {X : Type 0} → Take X → (ℕ → Result Answer Refusal) → List ℕ → Result (List Column × List X) Refusal
+abbrev pub gathered : {X : Type 0} → Take X → (ℕ → Result Answer Refusal) → List ℕ →
+    Result (List Column × List X) Refusal
 gathered take answers [] = Ok ([], [])
 gathered take answers (snapshot ∷ snapshots) = do
   first ← taken take answers snapshot

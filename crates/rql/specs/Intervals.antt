@@ -1,6 +1,8 @@
 -- The runs of places at which a row stands in the answers.
-use Rattle.std.specs.Prelude.{◌≡◌, ◌⊎◌, ◌+◌, ◌<◌, ◌≤◌, ◌++◌, ℕ, zero, suc, pos, Bool, false, not, List, [], ◌∷◌, Result, Ok, Err, codes, drop, length, map, if◌then◌else◌, slice_index}
-use Rattle.std.specs.List.{All, AllPairs, Contains, filter, flat_map, list_any, position_or_len, prefix_len, range_with_len, slice_index_or}
+use Rattle.std.specs.Prelude.{◌≡◌, ◌⊎◌, ◌+◌, ◌<◌, ◌≤◌, ◌++◌, ℕ, zero, suc, pos, Bool, false, not, List, [], ◌∷◌, Result,
+    Ok, Err, codes, drop, length, map, if◌then◌else◌, slice_index}
+use Rattle.std.specs.List.{All, AllPairs, Contains, filter, flat_map, list_any, position_or_len, prefix_len,
+    range_with_len, slice_index_or}
 use Rattle.retro_base.specs.Gives.{◌>>=◌}
 use Rattle.retro_base.specs.declared.refusal.Refusal.{Refusal}
 use Rattle.retro_base.specs.declared.refusal.Refusal.TheVariants.{NameTaken}
@@ -18,7 +20,9 @@ use Rattle.rql.specs.declared.runs_so_far.Run.{Run}
 
 -- the columns of the snapshots at which a run starts and ends
 abbrev pub end_columns : List Column
-end_columns = record { name = codes "start_snapshot"; kind = kind.Int } ∷ record { name = codes "end_snapshot"; kind = kind.Int } ∷ []
+end_columns =
+    record { name = codes "start_snapshot"; kind = kind.Int } ∷ record { name = codes "end_snapshot"; kind = kind.Int }
+    ∷ []
 
 -- rows as a set: each once, in order of first appearance
 abbrev pub set_of : List (List Value) → List (List Value)
@@ -26,7 +30,8 @@ set_of = firsts same_row
 
 -- an answer as a set, whose columns with those of the two snapshots have names of their own
 abbrev pub answer_set : Take (List (List Value))
-answer_set snapshot columns rows = if has_twins name_of (columns ++ end_columns) then Err NameTaken else Ok (set_of rows)
+answer_set snapshot columns rows =
+    if has_twins name_of (columns ++ end_columns) then Err NameTaken else Ok (set_of rows)
 
 -- whether the row stands among the rows
 abbrev pub has_row : List Value → List (List Value) → Bool
@@ -43,7 +48,9 @@ run_end answers start row = start + prefix_len (has_row row) (drop (start + 1) a
 
 -- the runs that start at a place: those of its rows that do not stand in the answer before
 abbrev pub runs_at : List (List (List Value)) → ℕ → List Run
-runs_at answers start = map (λ row. record { row = row; start = start; end = run_end answers start row }) (filter (λ row. not (stands_before answers start row)) (slice_index_or answers start []))
+runs_at answers start =
+    map (λ row. record { row = row; start = start; end = run_end answers start row })
+    (filter (λ row. not (stands_before answers start row)) (slice_index_or answers start []))
 
 -- the runs of the rows of answers that are sets, by the places where they start
 abbrev pub runs : List (List (List Value)) → List Run
@@ -51,7 +58,8 @@ runs answers = flat_map (runs_at answers) (range_with_len 0 (length answers))
 
 -- a run as a row: its row's values, and the snapshots at its first and its last place
 abbrev pub row_of_run : List ℕ → Run → List Value
-row_of_run snapshots run = run.row ++ Int (pos (slice_index snapshots run.start)) ∷ Int (pos (slice_index snapshots run.end)) ∷ []
+row_of_run snapshots run =
+    run.row ++ Int (pos (slice_index snapshots run.start)) ∷ Int (pos (slice_index snapshots run.end)) ∷ []
 
 -- the columns of the query, and then those of the two snapshots; over no snapshots there are none
 abbrev pub interval_columns : List ℕ → List Column → List Column

@@ -16,7 +16,8 @@ column_name pair = pair.column
 
 -- the function of a column, where a pair has the column
 abbrev pub function_of : List Pair → Column → Option Function
-function_of pairs column = option_map (λ (pair : Pair). pair.function) (find (λ (pair : Pair). same_name pair.column column.name) pairs)
+function_of pairs column =
+    option_map (λ (pair : Pair). pair.function) (find (λ (pair : Pair). same_name pair.column column.name) pairs)
 
 -- whether a pair's column is none of the columns
 abbrev pub names_unknown : List Pair → List Column → Bool

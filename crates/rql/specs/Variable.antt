@@ -1,5 +1,6 @@
 -- The one value of each answer, all of them in one.
-use Rattle.std.specs.Prelude.{ℕ, Option, Some, None, Bool, true, false, List, [], ◌∷◌, Result, Ok, Err, codes, map, if◌then◌else◌}
+use Rattle.std.specs.Prelude.{ℕ, Option, Some, None, Bool, true, false, List, [], ◌∷◌, Result, Ok, Err, codes, map,
+    if◌then◌else◌}
 use Rattle.std.specs.Option.{option_to_list}
 use Rattle.retro_base.specs.Gives.{◌>>=◌}
 use Rattle.retro_base.specs.declared.refusal.Refusal.{Refusal}
@@ -30,7 +31,8 @@ value_of snapshot rows = Err (NotOneValue snapshot)
 
 -- the one value of an answer of one column and one row
 abbrev pub one_value : Function → Take Value
-one_value function snapshot (column ∷ []) rows = if adds_texts function column.kind then Err WrongType else value_of snapshot rows
+one_value function snapshot (column ∷ []) rows =
+    if adds_texts function column.kind then Err WrongType else value_of snapshot rows
 one_value function snapshot columns rows = Err (NotOneValue snapshot)
 
 -- one row of the values in one, where there is one

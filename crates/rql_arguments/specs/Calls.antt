@@ -46,8 +46,10 @@ pub record IsFirstOutside (call : RqlCall) (argument : ℕ) : Type 0 where
 abbrev pub place_at : List ℕ → ℕ → ℕ
 place_at places argument = option_map_or (λ place. place) (slice_get places argument) 0
 
--- what a call may be refused for: want of memory, or bad syntax at the opening quote of the first argument outside its form
+-- what a call may be refused for: want of memory, or bad syntax at the opening quote of the first argument outside its
+-- form
 abbrev pub IsRefused : RqlCall → List ℕ → Refusal → Type 0
 IsRefused call places refusal.OutOfMemory = Unit {0}
-IsRefused call places (refusal.Syntax place) = (argument : ℕ) × IsFirstOutside call argument × (place ≡ place_at places argument)
+IsRefused call places (refusal.Syntax place) = (argument : ℕ) × IsFirstOutside call argument
+    × (place ≡ place_at places argument)
 IsRefused call places _ = ⊥

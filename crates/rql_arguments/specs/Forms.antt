@@ -1,5 +1,6 @@
 -- The forms of the arguments of a call.
-use Rattle.std.specs.Prelude.{◌≡◌, ◌≤◌, ◌++◌, ◌&&◌, ℕ, Bool, true, false, IsTrue, Option, Some, None, List, [], ◌∷◌, codes, length, nat_eq, nat_le, if◌then◌else◌}
+use Rattle.std.specs.Prelude.{◌≡◌, ◌≤◌, ◌++◌, ◌&&◌, ℕ, Bool, true, false, IsTrue, Option, Some, None, List, [], ◌∷◌,
+    codes, length, nat_eq, nat_le, if◌then◌else◌}
 use Rattle.std.specs.List.{list_all, starts_with}
 use Rattle.std.specs.Str.{bytes_eq, str_eq_ignore_ascii_case}
 use Rattle.retro_base.specs.declared.limits.TheConstants.{LINE_BYTES}
@@ -27,7 +28,8 @@ IsQuery text query = (length text ≤ LINE_BYTES) × Spells text (parsed.Plain (
 
 -- the tokens begin with the words `SELECT snap_id FROM SnapIds`
 abbrev pub lists_snapshots : List Token → Bool
-lists_snapshots (token.Keyword keyword.Select ∷ token.Name column ∷ token.Keyword keyword.From ∷ token.Name table ∷ more) =
+lists_snapshots
+    (token.Keyword keyword.Select ∷ token.Name column ∷ token.Keyword keyword.From ∷ token.Name table ∷ more) =
     bytes_eq column (codes "snap_id") && bytes_eq table (codes "SnapIds")
 lists_snapshots tokens = false
 
@@ -59,7 +61,8 @@ function_keyword function.Count = keyword.Count
 -- `( column , function )`
 abbrev pub pair_tokens : Pair → List Token
 pair_tokens pair =
-    token.Sign sign.Open ∷ token.Name pair.column ∷ token.Sign sign.Comma ∷ token.Keyword (function_keyword pair.function) ∷ token.Sign sign.Close ∷ []
+    token.Sign sign.Open ∷ token.Name pair.column ∷ token.Sign sign.Comma ∷ token.Keyword
+    (function_keyword pair.function) ∷ token.Sign sign.Close ∷ []
 
 -- pairs with commas between
 abbrev pub pairs_tokens : List Pair → List Token
@@ -69,4 +72,5 @@ pairs_tokens (pair ∷ next ∷ pairs) = pair_tokens pair ++ token.Sign sign.Com
 
 -- one pair or more
 abbrev pub ArePairs : List ℕ → List Pair → Type 0
-ArePairs text pairs = (1 ≤ length pairs) × ((tokens : List Placed) × Lexes 0 text tokens Whole × (tokens_of tokens ≡ pairs_tokens pairs))
+ArePairs text pairs =
+    (1 ≤ length pairs) × ((tokens : List Placed) × Lexes 0 text tokens Whole × (tokens_of tokens ≡ pairs_tokens pairs))

@@ -1,5 +1,6 @@
 -- What the parts of the reading give. No promise cites it.
-use Rattle.std.specs.Prelude.{◌≡◌, ◌++◌, ◌==◌, ◌&&◌, ℕ, Bool, true, false, Option, Some, None, List, [], ◌∷◌, MatchOption, is_none, length, if◌then◌else◌}
+use Rattle.std.specs.Prelude.{◌≡◌, ◌++◌, ◌==◌, ◌&&◌, ℕ, Bool, true, false, Option, Some, None, List, [], ◌∷◌,
+    MatchOption, is_none, length, if◌then◌else◌}
 use Rattle.rql.specs.declared.function.Function.{Function}
 use Rattle.rql.specs.declared.function.Function.TheVariants as function
 use Rattle.rql.specs.declared.pair.Pair.{Pair}
@@ -40,7 +41,9 @@ is_whole e = false
 
 -- the tokens are whole and begin as a select of snapshots does, and it has no second table and no groups
 abbrev pub lists_only : Lexed → Select → Bool
-lists_only lexed query = is_whole lexed.ending && lists_snapshots (tokens_of lexed.tokens) && is_none query.second && (length query.group_by == 0)
+lists_only lexed query =
+    is_whole lexed.ending && lists_snapshots (tokens_of lexed.tokens) && is_none query.second
+    && (length query.group_by == 0)
 
 abbrev pub is_open : Token → Bool
 is_open (token.Sign sign.Open) = true

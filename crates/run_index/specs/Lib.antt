@@ -1,3 +1,4 @@
+pub mod Editing
 pub mod Laws
 pub mod Leading
 pub mod Opens

@@ -1,5 +1,6 @@
 -- What a statement line that the grammar refuses is, by its first tokens.
-use Rattle.std.specs.Prelude.{◌+◌, ◌&&◌, ◌||◌, ℕ, Bool, true, false, List, Option, Some, None, drop, slice_get, nat_eq, codes, if◌then◌else◌}
+use Rattle.std.specs.Prelude.{◌+◌, ◌&&◌, ◌||◌, ℕ, Bool, true, false, List, Option, Some, None, drop, slice_get, nat_eq,
+    codes, if◌then◌else◌}
 use Rattle.std.specs.List.{position_or_len, starts_with}
 use Rattle.std.specs.Option.{option_and_then, option_map_or}
 use Rattle.std.specs.Str.{bytes_eq}
@@ -52,7 +53,8 @@ is_result_name name = starts_with nat_eq name (codes "rql_")
 abbrev pub is_own_table : List ℕ → Bool
 is_own_table name = is_snap_ids name || is_result_name name
 
--- whether the token at this place of the text is such a table's name; a word of more than 32 bytes is read in the text, and is never `SnapIds`
+-- whether the token at this place of the text is such a table's name; a word of more than 32 bytes is read in the text,
+-- and is never `SnapIds`
 abbrev pub names_own_table : List ℕ → ℕ → Token → Bool
 names_own_table text place (token.Name name) = is_own_table name
 names_own_table text place token.LongWord = is_result_name (drop place text)
@@ -74,7 +76,8 @@ class_behind text tokens (Some keyword.AggregateDataInTable) = Single
 class_behind text tokens (Some keyword.CollateDataIntoIntervals) = Single
 class_behind text tokens (Some keyword.Drop) = if is_snapshots (keyword_at tokens 1) then Single else Statement
 class_behind text tokens (Some keyword.Select) =
-    if (is_as (keyword_at tokens 1) && is_of (keyword_at tokens 2)) || reads_own_table text tokens then Single else Statement
+    if (is_as (keyword_at tokens 1) && is_of (keyword_at tokens 2)) || reads_own_table text tokens then Single
+    else Statement
 class_behind text tokens first = Statement
 
 -- what such a line is, by its text and tokens

@@ -1,5 +1,6 @@
 -- What a line of a script is.
-use Rattle.std.specs.Prelude.{◌≡◌, ◌⊎◌, ℕ, Bool, true, false, List, Option, Some, None, MatchBool, filter, map, if◌then◌else◌}
+use Rattle.std.specs.Prelude.{◌≡◌, ◌⊎◌, ℕ, Bool, true, false, List, Option, Some, None, MatchBool, filter, map,
+    if◌then◌else◌}
 use Rattle.sql_lexer.specs.Lexes.{Lexes}
 use Rattle.sql_lexer.specs.declared.token.Ending.{Ending}
 use Rattle.sql_lexer.specs.declared.token.Placed.{Placed}
@@ -36,7 +37,8 @@ text_places tokens = map (λ t. t.place) (filter (λ t. is_text t.token) tokens)
 abbrev pub query_line : Select → Line
 query_line query =
     if is_snap_ids query.table then Single (single.SnapIds query)
-    else (if is_result_name query.table then Single (single.Results query) else Statement (Read (statement.Select query)))
+    else (if is_result_name query.table then Single (single.Results query)
+    else Statement (Read (statement.Select query)))
 
 abbrev pub plain_line : StatementOf → Line
 plain_line (statement.Select query) = query_line query
@@ -67,7 +69,8 @@ IsRefused tokens text line = (place : ℕ) × SyntaxAt text place × (line ≡ r
 
 -- what a statement line is
 abbrev pub IsStatementLine : List ℕ → Line → Type 0
-IsStatementLine text line = (tokens : List Placed) × (end : Ending) × Lexes 0 text tokens end × (IsRead tokens text line ⊎ IsRefused tokens text line)
+IsStatementLine text line = (tokens : List Placed) × (end : Ending) × Lexes 0 text tokens end
+    × (IsRead tokens text line ⊎ IsRefused tokens text line)
 
 -- what a SESSION line with this name is
 abbrev pub IsSessionLine : List ℕ → Line → Type 0

@@ -1,5 +1,6 @@
 -- The rules of a script, line by line, its lines written back, and what bytes are by both.
-use Rattle.std.specs.Prelude.{◌≡◌, ◌+◌, ◌++◌, ◌<◌, ◌==◌, ◌&&◌, ◌||◌, ◌↔◌, ℕ, Bool, true, false, not, List, [], ◌∷◌, Result, Ok, Err, length, nat_le, take, map, filter, slice_get, flat_map, if◌then◌else◌}
+use Rattle.std.specs.Prelude.{◌≡◌, ◌+◌, ◌++◌, ◌<◌, ◌==◌, ◌&&◌, ◌||◌, ◌↔◌, ℕ, Bool, true, false, not, List, [], ◌∷◌,
+    Result, Ok, Err, length, nat_le, take, map, filter, slice_get, flat_map, if◌then◌else◌}
 use Rattle.std.specs.List.{AllZip, list_any}
 use Rattle.std.specs.Option.{option_map_or}
 use Rattle.std.specs.Str.{bytes_eq}
@@ -18,8 +19,8 @@ use Rattle.script.specs.declared.structure.Phase.{Phase as PhaseOf}
 use Rattle.script.specs.declared.structure.Session.{Session as SessionOf}
 use Rattle.script.specs.declared.structure.Script.{Script}
 
--- What the lines before a line say: how many phases and items they opened, which names the sessions of the last phase have, and whether a
--- transaction is open behind them.
+-- What the lines before a line say: how many phases and items they opened, which names the sessions of the last phase
+-- have, and whether a transaction is open behind them.
 pub record Standing : Type 0 where
   pub phases : ℕ
   pub names : List (List ℕ)
@@ -60,7 +61,8 @@ has_no_room s = (length s.names == 0) || (not s.is_open && nat_le ITEMS s.items)
 abbrev pub breaks : Standing → Line → Bool
 breaks s Skipped = false
 breaks s Phase = s.is_open || nat_le PHASES s.phases
-breaks s (Session name) = s.is_open || (nat_le SESSIONS (length s.names) || list_any (λ other. bytes_eq other name) s.names)
+breaks s (Session name) =
+    s.is_open || (nat_le SESSIONS (length s.names) || list_any (λ other. bytes_eq other name) s.names)
 breaks s (Ends end) = has_no_room s
 breaks s (Statement reading) = has_no_room s
 breaks s (Single single) = s.is_open || has_no_room s
@@ -68,12 +70,15 @@ breaks s Bad = true
 
 -- whether the line at this place, from 0, breaks a rule; or at the end, that a transaction is open there
 abbrev pub breaks_at : List Line → ℕ → Bool
-breaks_at lines place = option_map_or (breaks (standing (take place lines))) (slice_get lines place) ((place == length lines) && (standing lines).is_open)
+breaks_at lines place =
+    option_map_or (breaks (standing (take place lines))) (slice_get lines place)
+    ((place == length lines) && (standing lines).is_open)
 
 -- the number, from 1, of the first line that breaks a rule
 abbrev pub IsFirstBreak : List Line → ℕ → Type 0
 IsFirstBreak lines number =
-    (place : ℕ) × (number ≡ place + 1) × (breaks_at lines place ≡ true) × ((earlier : ℕ) → earlier < place → breaks_at lines earlier ≡ false)
+    (place : ℕ) × (number ≡ place + 1) × (breaks_at lines place ≡ true)
+    × ((earlier : ℕ) → earlier < place → breaks_at lines earlier ≡ false)
 
 -- no line breaks a rule, and no transaction is open at the end
 abbrev pub KeepsRules : List Line → Type 0
@@ -134,8 +139,10 @@ pub record ReadsByTheRules : Type 0 where
 
 -- The law of the bytes that are read: the first SCRIPT_BYTES + 1 decide what they read as, and what their lines tell.
 pub record FrontDecides : Type 0 where
-  pub reads : (bytes : List ℕ) (answer : Result Script ℕ) → ReadsAs (take (SCRIPT_BYTES + 1) bytes) answer → ReadsAs bytes answer
-  pub only : (bytes : List ℕ) (answer : Result Script ℕ) → IsOnlyReading (take (SCRIPT_BYTES + 1) bytes) answer → IsOnlyReading bytes answer
+  pub reads : (bytes : List ℕ) (answer : Result Script ℕ) → ReadsAs (take (SCRIPT_BYTES + 1) bytes) answer →
+      ReadsAs bytes answer
+  pub only : (bytes : List ℕ) (answer : Result Script ℕ) → IsOnlyReading (take (SCRIPT_BYTES + 1) bytes) answer →
+      IsOnlyReading bytes answer
   pub told : (bytes : List ℕ) (script : Script) → IsToldBy (take (SCRIPT_BYTES + 1) bytes) script
       → IsToldBy bytes script
   pub first_bad : (bytes : List ℕ) (n : ℕ) → IsFirstBad (take (SCRIPT_BYTES + 1) bytes) n → IsFirstBad bytes n

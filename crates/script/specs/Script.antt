@@ -1,5 +1,6 @@
 -- The script that lines tell.
-use Rattle.std.specs.Prelude.{◌≡◌, ◌+◌, ◌++◌, ◌==◌, ◌||◌, ℕ, Bool, true, not, List, [], ◌∷◌, Option, Some, None, Result, Ok, Err, length, nat_le, take, if◌then◌else◌}
+use Rattle.std.specs.Prelude.{◌≡◌, ◌+◌, ◌++◌, ◌==◌, ◌||◌, ℕ, Bool, true, not, List, [], ◌∷◌, Option, Some, None, Result,
+    Ok, Err, length, nat_le, take, if◌then◌else◌}
 use Rattle.std.specs.List.{AllZip, list_any}
 use Rattle.std.specs.Option.{option_map, option_map_or}
 use Rattle.std.specs.Str.{bytes_eq}
@@ -52,12 +53,14 @@ phase_step p =
 -- behind a SESSION line
 abbrev pub session_step : List ℕ → OpenPhase → Option OpenPhase
 session_step name p =
-    if not (is_closed p.session) || (nat_le SESSIONS (length (sessions_of p.session)) || has_name name (sessions_of p.session)) then None
+    if not (is_closed p.session)
+    || (nat_le SESSIONS (length (sessions_of p.session)) || has_name name (sessions_of p.session)) then None
     else Some (record p { session = Some (new_session (sessions_of p.session) name) })
 
 -- the number of items behind a line that opens one unless a transaction is open: none, where that is one too many
 abbrev pub opened : ℕ → OpenSession → Option ℕ
-opened items s = if length s.statements == 0 then (if nat_le ITEMS items then None else Some (items + 1)) else Some items
+opened items s = if length s.statements == 0 then (if nat_le ITEMS items then None else Some (items + 1))
+    else Some items
 
 -- a phase behind a line of its session
 abbrev pub goes_on : OpenPhase → OpenSession → ℕ → OpenPhase
@@ -65,7 +68,8 @@ goes_on p s items = record { phases = p.phases; items = items; session = Some s 
 
 abbrev pub statement_step : OpenPhase → Reading StatementOf → Option OpenSession → Option OpenPhase
 statement_step p reading None = None
-statement_step p reading (Some s) = option_map (goes_on p (record s { statements = s.statements ++ reading ∷ [] })) (opened p.items s)
+statement_step p reading (Some s) =
+    option_map (goes_on p (record s { statements = s.statements ++ reading ∷ [] })) (opened p.items s)
 
 abbrev pub end_step : OpenPhase → End → Option OpenSession → Option OpenPhase
 end_step p end None = None
@@ -93,7 +97,8 @@ open_step p Bad = None
 abbrev pub step : ScriptSoFar → Line → Option ScriptSoFar
 step draft.Empty Skipped = Some draft.Empty
 step draft.Empty Phase = Some (draft.Open (record { phases = []; items = 0; session = None }))
-step draft.Empty (Session name) = Some (draft.Open (record { phases = []; items = 0; session = Some (new_session [] name) }))
+step draft.Empty (Session name) =
+    Some (draft.Open (record { phases = []; items = 0; session = Some (new_session [] name) }))
 step draft.Empty line = None
 step (draft.Open p) line = option_map draft.Open (open_step p line)
 
@@ -102,10 +107,12 @@ abbrev pub finished : ℕ → ScriptSoFar → Result Script ℕ
 finished number draft.Empty = Ok (record { phases = [] })
 finished number (draft.Open p) = if is_closed p.session then Ok (record { phases = phases_of p }) else Err number
 
--- the script that these lines tell, the first having this number, behind what was read; or the number of the first bad line
+-- the script that these lines tell, the first having this number, behind what was read; or the number of the first bad
+-- line
 abbrev pub script_from : ℕ → ScriptSoFar → List Line → Result Script ℕ
 script_from number state [] = finished number state
-script_from number state (line ∷ lines) = option_map_or (λ next. script_from (number + 1) next lines) (step state line) (Err number)
+script_from number state (line ∷ lines) =
+    option_map_or (λ next. script_from (number + 1) next lines) (step state line) (Err number)
 
 -- the script that lines tell, or the number of the first bad one, from 1
 abbrev pub script_of : List Line → Result Script ℕ
@@ -118,7 +125,8 @@ IsScript bytes script = (lines : List Line) × AllZip IsLine (script_lines bytes
 -- The bytes are no script, and this is the number of the first bad line: the lines up to it say so. It is one more
 -- than the number of lines where a transaction is open behind the last.
 unfoldable pub IsBadAt : List ℕ → ℕ → Type 0
-IsBadAt bytes number = (lines : List Line) × AllZip IsLine (take number (script_lines bytes)) lines × (script_of lines ≡ Err number)
+IsBadAt bytes number = (lines : List Line) × AllZip IsLine (take number (script_lines bytes)) lines
+    × (script_of lines ≡ Err number)
 
 -- what bytes are: a script, or bad at a line
 abbrev pub ReadsAs : List ℕ → Result Script ℕ → Type 0

@@ -1,5 +1,6 @@
 -- The lines of a script, and what counts of each.
-use Rattle.std.specs.Prelude.{◌+◌, ◌-◌, ◌==◌, ◌&&◌, ◌||◌, ℕ, Bool, true, List, [], ◌∷◌, Option, Some, None, length, take, drop, nat_eq, nat_lt, slice_index, codes, if◌then◌else◌}
+use Rattle.std.specs.Prelude.{◌+◌, ◌-◌, ◌==◌, ◌&&◌, ◌||◌, ℕ, Bool, true, List, [], ◌∷◌, Option, Some, None, length,
+    take, drop, nat_eq, nat_lt, slice_index, codes, if◌then◌else◌}
 use Rattle.std.specs.List.{starts_with, prefix_len, suffix_len}
 use Rattle.std.specs.Str.{str_eq_ignore_ascii_case}
 use Rattle.std.specs.Str.Lines.{lines}
@@ -17,8 +18,8 @@ lines_in_bounds too_far [] = []
 lines_in_bounds too_far (line ∷ []) = (if too_far then None else in_bounds line) ∷ []
 lines_in_bounds too_far (line ∷ next ∷ more) = in_bounds line ∷ lines_in_bounds too_far (next ∷ more)
 
--- The lines of a script, without their ends: none stands for a line that is longer than LINE_BYTES, and for the one that
--- holds the first byte behind SCRIPT_BYTES. What stands behind that byte is not read.
+-- The lines of a script, without their ends: none stands for a line that is longer than LINE_BYTES, and for the one
+-- that holds the first byte behind SCRIPT_BYTES. What stands behind that byte is not read.
 abbrev pub script_lines : List ℕ → List (Option (List ℕ))
 script_lines bytes = lines_in_bounds (nat_lt SCRIPT_BYTES (length bytes)) (lines (take (SCRIPT_BYTES + 1) bytes))
 
@@ -34,7 +35,8 @@ trim_back bytes = take (length bytes - suffix_len is_blank bytes) bytes
 abbrev pub drop_semicolon : List ℕ → List ℕ
 drop_semicolon bytes = if slice_index bytes (length bytes - 1) == 59 then take (length bytes - 1) bytes else bytes
 
--- what counts of a line: blanks and tabs at both ends are dropped, then one `;` at the end and the blanks and tabs before it
+-- what counts of a line: blanks and tabs at both ends are dropped, then one `;` at the end and the blanks and tabs
+-- before it
 abbrev pub text_of : List ℕ → List ℕ
 text_of line = trim_back (drop_semicolon (trim_back (trim_front line)))
 

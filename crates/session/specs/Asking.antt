@@ -31,7 +31,9 @@ pub record AnswersOver (size snapshot : ℕ) (held : Bytes) (answers : Answers) 
 -- with this opening and this work, these may be the answers at each snapshot at which the open look looks
 abbrev pub TellsAt : Ground → Work → Answers → Type 0
 TellsAt opened work answers =
-    (look : Look) (snapshot : ℕ) (held : Bytes) → work ≡ Looking look → as_of snapshot (page_world opened.pages look.since) ≡ Ok held → AnswersOver opened.base.page_count snapshot held answers
+    (look : Look) (snapshot : ℕ) (held : Bytes) → work ≡ Looking look →
+    as_of snapshot (page_world opened.pages look.since) ≡ Ok held →
+    AnswersOver opened.base.page_count snapshot held answers
 
 abbrev pub TellsPast : View → Answers → Type 0
 TellsPast view answers = TellsAt view.opened view.work answers

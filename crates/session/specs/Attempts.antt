@@ -73,12 +73,17 @@ module _ (L : Language) (items : Who → Option L.Item) where
     pub idle : new.work ≡ Idle
     pub told : IsReply L items new.opened.pages who item new.front text
 
-  -- what is known where an attempt that began behind these lines ends by this refusal: it overlapped another item, or the fault is new, or, whatever tables the pages held at its beginning, it met that limit
+  -- what is known where an attempt that began behind these lines ends by this refusal: it overlapped another item, or
+  -- the fault is new, or, whatever tables the pages held at its beginning, it met that limit
   abbrev pub EndsBy : Ground → Who → List Line → List Line → L.Item → End → Refusal → Type 0
   EndsBy ground who since before item end (refusal.Overlap session number) = IsOverlapBy who before session number
   EndsBy ground who since before item end (refusal.DiskFault device count) = IsAbove ground device count
-  EndsBy ground who since before item end why = (tables : L.Tables) → L.IsStored (page_world ground.pages since).current tables → IsLimit L ground who before item end why
+  EndsBy ground who since before item end why =
+      (tables : L.Tables) → L.IsStored (page_world ground.pages since).current tables →
+      IsLimit L ground who before item end why
 
   -- an overlap with an item that had an attempt open fits
   abbrev pub OverlapsFit : Type 0
-  OverlapsFit = (ground : Ground) (before : List Line) (who : Who) (item : L.Item) (end : End) (session number : ℕ) → items who ≡ Some item → L.kind item ≡ Transaction end → IsOverlapBy who before session number → Fits L items ground before (line who (Overlapped session number))
+  OverlapsFit = (ground : Ground) (before : List Line) (who : Who) (item : L.Item) (end : End) (session number : ℕ) →
+      items who ≡ Some item → L.kind item ≡ Transaction end → IsOverlapBy who before session number →
+      Fits L items ground before (line who (Overlapped session number))

@@ -1,5 +1,6 @@
 -- Calls over many snapshots, as a session runs them.
-use Rattle.std.specs.Prelude.{◌≡◌, ◌&&◌, ◌==◌, ℕ, Bool, not, List, [], map, flat_map, Option, Some, None, option_to_list, Result, Ok, Err, IfOk, nat_le}
+use Rattle.std.specs.Prelude.{◌≡◌, ◌&&◌, ◌==◌, ℕ, Bool, not, List, [], map, flat_map, Option, Some, None,
+    option_to_list, Result, Ok, Err, IfOk, nat_le}
 use Rattle.retro_base.specs.Gives.{◌>>=◌}
 use Rattle.std.specs.List.{list_any}
 use Rattle.std.specs.List.Sorted.{IsSortedByKey}
@@ -54,23 +55,28 @@ ended (Ok answer) last = Ok answer
 ended (Err (stop.Refused why)) last = Err (of_query why)
 ended (Err (stop.Pager fault)) last = Err (of_seat last)
 
--- whatever the query's answers may be at the snapshots at which the open look of an honest seat looks, this is what they are in one
+-- whatever the query's answers may be at the snapshots at which the open look of an honest seat looks, this is what
+-- they are in one
 abbrev pub Combines : Select → Combination → List ℕ → Type 0 → View → Result Answer Refusal → Type 0
 Combines query combination numbers honest view answered =
-    honest → (answers : Answers) → TellsPast view answers → combined combination (λ (n : ℕ). answers n query) numbers ≡ answered
+    honest → (answers : Answers) → TellsPast view answers →
+    combined combination (λ (n : ℕ). answers n query) numbers ≡ answered
 
 -- whatever tables the pages hold at which the open look of an honest seat looks, this is the call's result over them
 abbrev pub CallsOver : CallSaid → Type 0 → View → Result Answer Refusal → Type 0
 CallsOver call honest view answered =
-    honest → (look : Look) (tables : World Tables) → view.work ≡ Looking look → Shows (sql view.opened.base.page_count) (at_look view look) tables → called call tables ≡ answered
+    honest → (look : Look) (tables : World Tables) → view.work ≡ Looking look →
+    Shows (sql view.opened.base.page_count) (at_look view look) tables → called call tables ≡ answered
 
 -- and what they are over no snapshots
 abbrev pub CombinesNone : Select → Combination → Result Answer Refusal → Type 0
-CombinesNone query combination answered = (answers : Answers) → combined combination (λ (n : ℕ). answers n query) [] ≡ answered
+CombinesNone query combination answered =
+    (answers : Answers) → combined combination (λ (n : ℕ). answers n query) [] ≡ answered
 
 -- the open look is one at all snapshots, which have these numbers and labels
 abbrev pub LooksAtMarks : View → List MarkOf → Type 0
-LooksAtMarks view marks = (look : Look) → view.work ≡ Looking look → (look.snapshot ≡ None) × (names_of marks ≡ names_in (at_look view look))
+LooksAtMarks view marks = (look : Look) → view.work ≡ Looking look → (look.snapshot ≡ None)
+    × (names_of marks ≡ names_in (at_look view look))
 
 -- the numbers that a list of the snapshots of these marks gives
 abbrev pub numbers_listed : Select → List MarkOf → Result (List ℕ) Refusal
@@ -80,13 +86,15 @@ numbers_listed query marks = do
 
 -- what a call ends with whose result is this: its reply, with the table that it leaves; or a refusal, or want of memory
 abbrev pub CallEnds : List ℕ → Result Answer Refusal → Result (List ℕ) Refusal → Option ResultTable → Type 0
-CallEnds name (Ok answer) (Ok text) table = (text ≡ count_text answer) × (table ≡ Some (record { name = name; answer = answer }))
+CallEnds name (Ok answer) (Ok text) table =
+    (text ≡ count_text answer) × (table ≡ Some (record { name = name; answer = answer }))
 CallEnds name (Ok answer) (Err why) table = (why ≡ refusal.OutOfMemory) × (table ≡ None)
 CallEnds name (Err why) (Ok text) table = ⊥
 CallEnds name (Err why) (Err other) table = (other ≡ why) × (table ≡ None)
 
 -- An open look has ended with the result of a call, and leaves this table.
-pub record CallLeaves {E : Type 0} (names : List (List ℕ)) (call : CallSaid) (honest : Type 0) (old new : View) (words : Result (Option (List ℕ)) E) (table : Option ResultTable) : Type 0 where
+pub record CallLeaves {E : Type 0} (names : List (List ℕ)) (call : CallSaid) (honest : Type 0) (old new : View)
+    (words : Result (Option (List ℕ)) E) (table : Option ResultTable) : Type 0 where
   pub between : View
   pub moves : Moves old between []
   pub work : between.work ≡ old.work
@@ -100,5 +108,6 @@ pub record CallLeaves {E : Type 0} (names : List (List ℕ)) (call : CallSaid) (
 -- Whatever tables the pages held, the item has left this table.
 abbrev pub LeavesTable : Who → Item → View → View → Option ResultTable → Type 0
 LeavesTable who item old new table =
-    (size : ℕ) (plan : Plan) → MayRun size plan who item old → (tables : World Tables) → ShowsAlong (sql size) (item_of plan) new.opened.pages tables new.front
+    (size : ℕ) (plan : Plan) → MayRun size plan who item old → (tables : World Tables) →
+    ShowsAlong (sql size) (item_of plan) new.opened.pages tables new.front
     → option_to_list table ≡ left item.task (fate (sql size) (item_of plan) who tables new.front)

@@ -22,7 +22,8 @@ abbrev pub told_of : List (List ℕ) → Result (List ℕ) Refusal → List ℕ
 told_of names (Ok text) = text
 told_of names (Err why) = refusal_text names why
 
--- what is told of an item whose only line says this refusal; where the journal is full, or memory is wanting, it has none, and is cut short
+-- what is told of an item whose only line says this refusal; where the journal is full, or memory is wanting, it has
+-- none, and is cut short
 abbrev pub told_alone : List (List ℕ) → Refusal → Option (List ℕ)
 told_alone names (refusal.JournalFull lines images) = None
 told_alone names refusal.OutOfMemory = None
@@ -30,7 +31,8 @@ told_alone names why = Some (refusal_text names why)
 
 -- why a look may have no answer: want of memory, a fault that its seat was told of, or a refusal in place of the answer
 abbrev pub IsReason : {X : Type 0} → (Result X Refusal → Type 0) → View → Refusal → Type 0
-IsReason Answers view (refusal.DiskFault device count) = Contains view.told (record { device = device; count = count }) × IsNew view device count
+IsReason Answers view (refusal.DiskFault device count) = Contains view.told (record { device = device; count = count })
+    × IsNew view device count
 IsReason Answers view (refusal.Overlap session item) = ⊥
 IsReason Answers view why = (why ≡ refusal.OutOfMemory) ⊎ Answers (Err why)
 
@@ -39,8 +41,10 @@ abbrev pub Concludes : {X : Type 0} → (Result X Refusal → Type 0) → View �
 Concludes Answers view (Ok found) = Answers (Ok found)
 Concludes Answers view (Err why) = IsReason Answers view why
 
--- An open look that is to answer so has gone on, and has ended; the text of its end is told, where there is memory for it.
-pub record LookEnds {E : Type 0} (names : List (List ℕ)) (Answers : Result (List ℕ) Refusal → Type 0) (old new : View) (told : Result (Option (List ℕ)) E) : Type 0 where
+-- An open look that is to answer so has gone on, and has ended; the text of its end is told, where there is memory for
+-- it.
+pub record LookEnds {E : Type 0} (names : List (List ℕ)) (Answers : Result (List ℕ) Refusal → Type 0) (old new : View)
+    (told : Result (Option (List ℕ)) E) : Type 0 where
   pub between : View
   pub moves : Moves old between []
   pub work : between.work ≡ old.work

@@ -25,7 +25,8 @@ pub record MayRun (size : ℕ) (plan : Plan) (who : Who) (item : Item) (view : V
 abbrev pub OfItem : Who → Line → Type 0
 OfItem who line = line.who.session ≡ who.session → line.who ≡ who
 
--- The item has been run: its session has added lines of this item alone, they fit and are those of a run, and nothing is open.
+-- The item has been run: its session has added lines of this item alone, they fit and are those of a run, and nothing
+-- is open.
 pub record ItemRan (size : ℕ) (plan : Plan) (who : Who) (item : Item) (old new : View) : Type 0 where
   pub session : new.session ≡ old.session
   pub opened : new.opened ≡ old.opened
@@ -36,16 +37,20 @@ pub record ItemRan (size : ℕ) (plan : Plan) (who : Who) (item : Item) (old new
   pub fits : Sane (sql size) (item_of plan) new
   pub is_run : IsRun (kind_of item.task) (own who new.front)
 
--- What is told of an item that needs lines: its reply, whatever tables the pages held; or nothing, where it was cut short.
+-- What is told of an item that needs lines: its reply, whatever tables the pages held; or nothing, where it was cut
+-- short.
 abbrev pub IsTold : ℕ → Plan → Who → Item → View → Option (List ℕ) → Type 0
 IsTold size plan who item new (Some text) =
-    (is_cut (kind_of item.task) (own who new.front) ≡ false) × IsReply (sql size) (item_of plan) new.opened.pages who item new.front text
+    (is_cut (kind_of item.task) (own who new.front) ≡ false)
+    × IsReply (sql size) (item_of plan) new.opened.pages who item new.front text
 IsTold size plan who item new None = is_cut (kind_of item.task) (own who new.front) ≡ true
 
 -- The contract of an item: from a seat that may run it, it is run, whatever the store answers.
 abbrev pub RunsItem : Who → Item → View → View → Type 0
-RunsItem who item old new = (size : ℕ) (plan : Plan) → MayRun size plan who item old → ItemRan size plan who item old new
+RunsItem who item old new = (size : ℕ) (plan : Plan) → MayRun size plan who item old →
+    ItemRan size plan who item old new
 
 -- and this is told of it
 abbrev pub TellsItem : Who → Item → View → View → Option (List ℕ) → Type 0
-TellsItem who item old new told = (size : ℕ) (plan : Plan) → MayRun size plan who item old → IsTold size plan who item new told
+TellsItem who item old new told = (size : ℕ) (plan : Plan) → MayRun size plan who item old →
+    IsTold size plan who item new told

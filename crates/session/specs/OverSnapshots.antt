@@ -1,5 +1,6 @@
 -- Queries of the table of snapshots, of result tables, and over many snapshots.
-use Rattle.std.specs.Prelude.{◌||◌, ℕ, pos, Bool, false, not, List, [], ◌∷◌, codes, flat_map, map, Option, Some, None, Result, Ok, Err, if◌then◌else◌}
+use Rattle.std.specs.Prelude.{◌||◌, ℕ, pos, Bool, false, not, List, [], ◌∷◌, codes, flat_map, map, Option, Some, None,
+    Result, Ok, Err, if◌then◌else◌}
 use Rattle.retro_base.specs.Gives.{◌>>=◌}
 use Rattle.retro_base.specs.declared.refusal.Refusal.{Refusal}
 use Rattle.retro_base.specs.declared.refusal.Refusal.TheVariants.{UnknownName}
@@ -27,7 +28,8 @@ use Rattle.session.specs.declared.result_table.ResultTable.{ResultTable}
 
 -- ---- a table beside those of the store
 
--- The answer of a select over this one table. Names and types are checked in the order of every select: an unknown name, one table twice, a wrong type.
+-- The answer of a select over this one table. Names and types are checked in the order of every select: an unknown
+-- name, one table twice, a wrong type.
 abbrev pub asked_of : Select → TableSchema → List (List Value) → Result Answer Refusal
 asked_of query table rows = do
   _ ← checked_beside query table
@@ -36,7 +38,10 @@ asked_of query table rows = do
 -- ---- the table of snapshots
 
 abbrev pub snapshots_table : TableSchema
-snapshots_table = record { name = codes "SnapIds"; columns = record { name = codes "snap_id"; kind = kind.Int } ∷ record { name = codes "label"; kind = kind.Text } ∷ [] }
+snapshots_table =
+    record { name = codes "SnapIds";
+    columns =
+    record { name = codes "snap_id"; kind = kind.Int } ∷ record { name = codes "label"; kind = kind.Text } ∷ [] }
 
 abbrev pub snapshot_row : {X : Type 0} → Mark X → List Value
 snapshot_row mark = Int (pos mark.number) ∷ Text mark.label ∷ []
@@ -81,5 +86,6 @@ called call world = do
 abbrev pub results_asked : Select → List ResultTable → Result Answer Refusal
 results_asked query [] = Err UnknownName
 results_asked query (result ∷ results) =
-    if same_name query.table result.name then asked_of query (record { name = result.name; columns = result.answer.columns }) result.answer.rows
+    if same_name query.table result.name
+    then asked_of query (record { name = result.name; columns = result.answer.columns }) result.answer.rows
     else results_asked query results

@@ -1,4 +1,5 @@
--- What a script asks for. A call has its arguments read; a line that the grammar refuses, or a call with an argument outside its form, has the place of the refusal.
+-- What a script asks for. A call has its arguments read; a line that the grammar refuses, or a call with an argument
+-- outside its form, has the place of the refusal.
 use Rattle.std.specs.Prelude.{◌≡◌, ◌≤◌, ℕ, zero, suc, List, [], ◌∷◌, length, map, Option, None, Some, slice_get}
 use Rattle.std.specs.List.{AllByRecursion}
 use Rattle.std.specs.Option.{option_and_then, option_map, option_map_or}
@@ -40,7 +41,8 @@ AreTasks items tasks = ⊥
 
 abbrev pub AreSessions : List Session → List SessionPlan → Type 0
 AreSessions [] [] = Unit {0}
-AreSessions (session ∷ sessions) (plan ∷ plans) = (plan.name ≡ session.name) × AreTasks session.items plan.tasks × AreSessions sessions plans
+AreSessions (session ∷ sessions) (plan ∷ plans) = (plan.name ≡ session.name) × AreTasks session.items plan.tasks
+    × AreSessions sessions plans
 AreSessions sessions plans = ⊥
 
 abbrev pub ArePhases : List Phase → Plan → Type 0
@@ -100,7 +102,8 @@ names_at plan phase = option_map_or names_of (numbered plan phase) []
 
 -- the session at a place of a phase, and its tasks
 abbrev pub session_at : Plan → ℕ → ℕ → Option SessionPlan
-session_at plan phase place = option_and_then (λ (sessions : List SessionPlan). slice_get sessions place) (numbered plan phase)
+session_at plan phase place =
+    option_and_then (λ (sessions : List SessionPlan). slice_get sessions place) (numbered plan phase)
 
 abbrev pub tasks_at : Plan → ℕ → ℕ → List Task
 tasks_at plan phase place = option_map_or (λ (session : SessionPlan). session.tasks) (session_at plan phase place) []

@@ -1,5 +1,6 @@
 -- What each item of a plan replies, as a journal says what became of it, and the transcript.
-use Rattle.std.specs.Prelude.{◌≡◌, ◌+◌, ◌-◌, ◌*◌, ◌++◌, ◌||◌, ◌&&◌, ℕ, Bool, true, false, List, [], ◌∷◌, codes, length, Option, Some, None, Result, Ok, Err, nat_lt, slice_get, if◌then◌else◌}
+use Rattle.std.specs.Prelude.{◌≡◌, ◌+◌, ◌-◌, ◌*◌, ◌++◌, ◌||◌, ◌&&◌, ℕ, Bool, true, false, List, [], ◌∷◌, codes, length,
+    Option, Some, None, Result, Ok, Err, nat_lt, slice_get, if◌then◌else◌}
 use Rattle.std.specs.Fmt.{decimal}
 use Rattle.std.specs.Option.{option_map_or}
 use Rattle.std.specs.Str.{bytes_eq}
@@ -54,7 +55,8 @@ is_cut kind (what ∷ whats) = is_overlap (last (what ∷ whats)) && nat_lt (len
 
 -- why it was cut short: the journal has no room for two lines more beside those of the workers, or memory was wanting
 abbrev pub cause_of_cut : ℕ → Refusal
-cause_of_cut lines = if nat_lt (JOURNAL_LINES - WORKER_LINES) (lines + 2) then refusal.JournalFull lines 0 else refusal.OutOfMemory
+cause_of_cut lines = if nat_lt (JOURNAL_LINES - WORKER_LINES) (lines + 2) then refusal.JournalFull lines 0
+    else refusal.OutOfMemory
 
 -- the reply lines of an item by what is kept of it, where the journal has so many lines at its end
 abbrev pub text_of : ℕ → Kept → List ℕ
@@ -126,7 +128,8 @@ abbrev pub left : Task → Option (Fate Tables) → List ResultTable
 left task None = []
 left task (Some f) = left_at task f f.last
 
--- what is known of an item of a run: what its lines say, what became of it, and whether memory was wanting for it where it needs no line
+-- what is known of an item of a run: what its lines say, what became of it, and whether memory was wanting for it where
+-- it needs no line
 pub record Known : Type 0 where
   pub whats : List What
   pub fate : Option (Fate Tables)
@@ -134,11 +137,14 @@ pub record Known : Type 0 where
 
 -- what is kept of an item that is run
 abbrev pub kept_of : ℕ → Known → List ResultTable → Item → Kind → Kept
-kept_of size known results item law.Lineless = Told (if known.wanting then refusal_text item.names refusal.OutOfMemory else lineless results item.task)
-kept_of size known results item kind = if is_cut kind known.whats then CutShort else Told (reply (sql size) item known.fate)
+kept_of size known results item law.Lineless =
+    Told (if known.wanting then refusal_text item.names refusal.OutOfMemory else lineless results item.task)
+kept_of size known results item kind =
+    if is_cut kind known.whats then CutShort else Told (reply (sql size) item known.fate)
 
 abbrev pub kept_at : ℕ → Known → Standing → Item → Kept
-kept_at size known standing item = if standing.stopped then NotRun else kept_of size known standing.results item (kind_of item.task)
+kept_at size known standing item =
+    if standing.stopped then NotRun else kept_of size known standing.results item (kind_of item.task)
 
 -- what stands behind an item
 abbrev pub standing_behind : Known → Standing → Task → Standing
@@ -151,11 +157,14 @@ standing_behind known standing task = record {
 abbrev pub kept_by : ℕ → (ℕ → Known) → List (List ℕ) → Standing → ℕ → List Task → List Kept
 kept_by size known names standing number [] = []
 kept_by size known names standing number (task ∷ tasks) =
-    kept_at size (known number) standing (record { names = names; task = task }) ∷ kept_by size known names (standing_behind (known number) standing task) (number + 1) tasks
+    kept_at size (known number) standing (record { names = names; task = task }) ∷ kept_by size known names
+    (standing_behind (known number) standing task) (number + 1) tasks
 
 -- what is kept of the items of the session at a place of a phase
 abbrev pub kept_in : ℕ → (Who → Known) → Plan → ℕ → ℕ → List Kept
-kept_in size known plan phase place = kept_by size (λ (number : ℕ). known (who_is phase place number)) (names_at plan phase) starting 1 (tasks_at plan phase place)
+kept_in size known plan phase place =
+    kept_by size (λ (number : ℕ). known (who_is phase place number)) (names_at plan phase) starting 1
+    (tasks_at plan phase place)
 
 -- what a journal tells of an item of a plan, from these tables on
 abbrev pub known_by : ℕ → Plan → (Who → Bool) → World Tables → List Line → Who → Known
@@ -170,22 +179,31 @@ known_by size plan wanting opening journal who = record {
 -- items, the first having this number
 abbrev pub items_text : ℕ → ℕ → List Kept → List ℕ
 items_text lines number [] = []
-items_text lines number (kept ∷ more) = line (codes "item " ++ decimal number) ++ text_of lines kept ++ items_text lines (number + 1) more
+items_text lines number (kept ∷ more) =
+    line (codes "item " ++ decimal number) ++ text_of lines kept ++ items_text lines (number + 1) more
 
 -- the sessions of a phase, the first standing at this place
 abbrev pub sessions_text : ℕ → (ℕ → List Kept) → ℕ → List SessionPlan → List ℕ
 sessions_text lines kept place [] = []
-sessions_text lines kept place (session ∷ sessions) = line (codes "session " ++ session.name) ++ items_text lines 1 (kept place) ++ sessions_text lines kept (place + 1) sessions
+sessions_text lines kept place (session ∷ sessions) =
+    line (codes "session " ++ session.name) ++ items_text lines 1 (kept place) ++ sessions_text lines kept
+    (place + 1) sessions
 
 -- phases, the first having this number
 abbrev pub phases_text : ℕ → (ℕ → ℕ → List Kept) → ℕ → Plan → List ℕ
 phases_text lines kept number [] = []
-phases_text lines kept number (sessions ∷ phases) = line (codes "phase " ++ decimal number) ++ sessions_text lines (kept number) 0 sessions ++ phases_text lines kept (number + 1) phases
+phases_text lines kept number (sessions ∷ phases) =
+    line (codes "phase " ++ decimal number) ++ sessions_text lines (kept number) 0 sessions ++ phases_text lines kept
+    (number + 1) phases
 
--- What is printed of a plan: what was kept of each session of each phase, and the visible lines of the journal, behind a snapshot of this number.
+-- What is printed of a plan: what was kept of each session of each phase, and the visible lines of the journal, behind
+-- a snapshot of this number.
 abbrev pub printed : Plan → (ℕ → ℕ → List Kept) → ℕ → List Line → List ℕ
-printed plan kept newest journal = phases_text (length journal) kept 1 plan ++ line (codes "journal") ++ visible_text plan newest journal
+printed plan kept newest journal =
+    phases_text (length journal) kept 1 plan ++ line (codes "journal") ++ visible_text plan newest journal
 
--- The transcript of a journal, from these tables on. `wanting` are the items without a line for which memory was wanting.
+-- The transcript of a journal, from these tables on. `wanting` are the items without a line for which memory was
+-- wanting.
 abbrev pub transcript : ℕ → Plan → (Who → Bool) → World Tables → List Line → List ℕ
-transcript size plan wanting opening journal = printed plan (kept_in size (known_by size plan wanting opening journal) plan) (newest opening) journal
+transcript size plan wanting opening journal =
+    printed plan (kept_in size (known_by size plan wanting opening journal) plan) (newest opening) journal

@@ -26,7 +26,8 @@ use Rattle.session.specs.Sql.{answer_told}
 use Rattle.session.specs.Texts.{answer_text}
 
 -- The item is run, whatever the store answers, and this is told of it, where there is memory for it.
-pub record Settles {E : Type 0} (who : Who) (item : Item) (old new : View) (words : Result (Option (List ℕ)) E) : Type 0 where
+pub record Settles {E : Type 0} (who : Who) (item : Item) (old new : View)
+    (words : Result (Option (List ℕ)) E) : Type 0 where
   pub runs : RunsItem who item old new
   pub tells : IfOk words (TellsItem who item old new)
 
@@ -42,11 +43,13 @@ item_drop_below names below = record { names = names; task = DropBelow below }
 
 -- ---- the answer of a query as of a snapshot
 
--- Whatever tables the pages hold as of the snapshot at which the open look of an honest seat looks, this is the query's answer over them.
+-- Whatever tables the pages hold as of the snapshot at which the open look of an honest seat looks, this is the query's
+-- answer over them.
 abbrev pub AsksPast : Select → ℕ → Type 0 → View → Result (List ℕ) Refusal → Type 0
 AsksPast query snapshot honest view answered =
     honest → (look : Look) (held : Bytes) → view.work ≡ Looking look → as_of snapshot (at_look view look) ≡ Ok held
-    → (tables : Tables) → IsStored view.opened.base.page_count (unedited held) tables → answer_told answer_text (asked query (Some snapshot) tables) ≡ answered
+    → (tables : Tables) → IsStored view.opened.base.page_count (unedited held) tables →
+    answer_told answer_text (asked query (Some snapshot) tables) ≡ answered
 
 -- a query has its own refusals; those that only a seat gives are none of it
 abbrev pub of_query : Refusal → Refusal
@@ -73,7 +76,8 @@ row_of_mark mark = value.Int (pos mark.number) ∷ value.Text mark.label ∷ []
 
 -- the answer of a query of the table of snapshots, of which these are the marks of the retained ones
 abbrev pub AsksMarks : Select → List MarkOf → Result (List ℕ) Refusal → Type 0
-AsksMarks query marks answered = answer_told answer_text (asked_of query snapshots_table (map row_of_mark marks)) ≡ answered
+AsksMarks query marks answered =
+    answer_told answer_text (asked_of query snapshots_table (map row_of_mark marks)) ≡ answered
 
 -- an answer, without what only a seat tells
 abbrev pub without_seat : Result (List ℕ) Refusal → Result (List ℕ) Refusal

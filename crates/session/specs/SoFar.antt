@@ -1,5 +1,6 @@
 -- What stands while a session runs its items of a phase, one after the other.
-use Rattle.std.specs.Prelude.{◌≡◌, ◌⊎◌, ◌<◌, ◌+◌, ◌++◌, ◌||◌, ℕ, Bool, true, false, List, [], ◌∷◌, length, option_to_list, Some, Result, Ok, Err}
+use Rattle.std.specs.Prelude.{◌≡◌, ◌⊎◌, ◌<◌, ◌+◌, ◌++◌, ◌||◌, ℕ, Bool, true, false, List, [], ◌∷◌, length,
+    option_to_list, Some, Result, Ok, Err}
 use Rattle.std.specs.List.{AllByRecursion}
 use Rattle.retro_base.specs.declared.who.Who.{Who}
 use Rattle.tables.specs.Tables.{Tables}
@@ -57,47 +58,59 @@ pub record IsBehind (one : Done) (before after : Progress) : Type 0 where
 -- the replies of a session's items, the first having this number, say for which memory was wanting
 abbrev pub Says : (Who → Bool) → ℕ → ℕ → ℕ → List Kept → Type 0
 Says wanting phase session number [] = Unit {0}
-Says wanting phase session number (one ∷ more) = (wanting (who_is phase session number) ≡ is_wanting one) × Says wanting phase session (number + 1) more
+Says wanting phase session number (one ∷ more) = (wanting (who_is phase session number) ≡ is_wanting one)
+    × Says wanting phase session (number + 1) more
 
 -- what stands behind tasks, the first having this number
 abbrev pub standing_after : (ℕ → Known) → Standing → ℕ → List Task → Standing
 standing_after known standing number [] = standing
-standing_after known standing number (task ∷ tasks) = standing_after known (standing_behind (known number) standing task) (number + 1) tasks
+standing_after known standing number (task ∷ tasks) =
+    standing_after known (standing_behind (known number) standing task) (number + 1) tasks
 
 -- that is what is kept of the tasks that are done, and what stands behind them
-pub record KeptOf (size : ℕ) (names : List (List ℕ)) (tasks : List Task) (known : ℕ → Known) (progress : Progress) : Type 0 where
+pub record KeptOf (size : ℕ) (names : List (List ℕ)) (tasks : List Task) (known : ℕ → Known)
+    (progress : Progress) : Type 0 where
   pub kept : progress.kept ≡ kept_by size known names starting 1 tasks
   pub stopped : (standing_after known starting 1 tasks).stopped ≡ progress.stopped
-  pub results : progress.stopped ≡ false → GiveAlike (standing_after known starting 1 tasks).results (held progress.results)
+  pub results : progress.stopped ≡ false →
+      GiveAlike (standing_after known starting 1 tasks).results (held progress.results)
 
 -- ---- the lines
 
 -- a line of the session is of an earlier phase, or of an item before this number
 abbrev pub IsEarlier : ℕ → ℕ → ℕ → Line → Type 0
-IsEarlier phase session number line = line.who.session ≡ session → (line.who.phase < phase) ⊎ ((line.who.phase ≡ phase) × (line.who.item < number))
+IsEarlier phase session number line = line.who.session ≡ session → (line.who.phase < phase)
+    ⊎ ((line.who.phase ≡ phase) × (line.who.item < number))
 
 -- items may still be run: its lines are of items before this number, of which none was cut short
 pub record GoesOn (plan : Plan) (phase session number : ℕ) (front : List Line) : Type 0 where
   pub earlier : AllByRecursion (IsEarlier phase session number) front
-  pub whole : (who : Who) (item : Item) → who.phase ≡ phase → who.session ≡ session → who.item < number → item_of plan who ≡ Some item → IsCut (kind_of item.task) (own who front) → ⊥
+  pub whole : (who : Who) (item : Item) → who.phase ≡ phase → who.session ≡ session → who.item < number →
+      item_of plan who ≡ Some item → IsCut (kind_of item.task) (own who front) → ⊥
 
 -- The session has done these tasks.
-pub record SoFar (size : ℕ) (plan : Plan) (phase : ℕ) (names : List (List ℕ)) (start now : View) (tasks : List Task) (progress : Progress) : Type 0 where
+pub record SoFar (size : ℕ) (plan : Plan) (phase : ℕ) (names : List (List ℕ)) (start now : View) (tasks : List Task)
+    (progress : Progress) : Type 0 where
   pub sized : now.opened.base.page_count ≡ size
   pub left : SessionLeft size plan phase start now
   pub goes : progress.stopped ≡ false → GoesOn plan phase start.session (length tasks + 1) now.front
   pub counted : length progress.kept ≡ length tasks
-  pub kept : (wanting : Who → Bool) → Says wanting phase start.session 1 progress.kept → (tables : World Tables) → ShowsAlong (sql size) (item_of plan) now.opened.pages tables now.front →
-      KeptOf size names tasks (λ (number : ℕ). known_by size plan wanting tables now.front (who_is phase start.session number)) progress
+  pub kept : (wanting : Who → Bool) → Says wanting phase start.session 1 progress.kept → (tables : World Tables) →
+      ShowsAlong (sql size) (item_of plan) now.opened.pages tables now.front →
+      KeptOf size names tasks
+      (λ (number : ℕ). known_by size plan wanting tables now.front (who_is phase start.session number)) progress
 
 -- ---- one step
 
-abbrev pub Stepped : {E : Type 0} → ℕ → Plan → ℕ → List (List ℕ) → View → View → List Task → Progress → Result (Unit {0}) E → Type 0
+abbrev pub Stepped : {E : Type 0} → ℕ → Plan → ℕ → List (List ℕ) → View → View → List Task → Progress →
+    Result (Unit {0}) E → Type 0
 Stepped size plan phase names start new tasks progress (Ok u) = SoFar size plan phase names start new tasks progress
 Stepped size plan phase names start new tasks progress (Err why) = SessionLeft size plan phase start new
 
 -- the session has done the tasks before this item, and then that one too, unless memory was wanting
 abbrev pub StepsOn : {E : Type 0} → Who → Item → View → View → Progress → Progress → Result (Unit {0}) E → Type 0
 StepsOn who item old new before behind answered =
-    (size : ℕ) (plan : Plan) (start : View) (tasks : List Task) → who.item ≡ length tasks + 1 → item_of plan who ≡ Some item →
-    SoFar size plan who.phase item.names start old tasks before → Stepped size plan who.phase item.names start new (tasks ++ item.task ∷ []) behind answered
+    (size : ℕ) (plan : Plan) (start : View) (tasks : List Task) → who.item ≡ length tasks + 1 →
+    item_of plan who ≡ Some item →
+    SoFar size plan who.phase item.names start old tasks before →
+    Stepped size plan who.phase item.names start new (tasks ++ item.task ∷ []) behind answered

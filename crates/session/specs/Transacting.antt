@@ -77,11 +77,13 @@ pub record HasBegun (who : Who) (view : View) : Type 0 where
 
 -- what statement lines give in an attempt, over whatever pages agree with those that it read and hold tables
 abbrev pub HaveRun : ℕ → Lines → View → Attempt → Option ℕ → List ℕ → Result (Unit {0}) Refusal → Type 0
-HaveRun size lines view a asked text result = (pages : Bytes) (tables : Tables) → Agree a.read pages (at_began view a) → IsStored size (unedited pages) tables →
+HaveRun size lines view a asked text result = (pages : Bytes) (tables : Tables) → Agree a.read pages (at_began view a) →
+    IsStored size (unedited pages) tables →
     LinesGiveOver size lines (unedited pages) tables (under (unedited pages) asked a.edits) text result
 
 -- the statement lines of the item have run in an attempt that keeps no refusal, and the text has their replies
-pub record HasRun (size : ℕ) (items : Who → Option Item) (who : Who) (item : Item) (lines : Lines) (view : View) (text : List ℕ) : Type 0 where
+pub record HasRun (size : ℕ) (items : Who → Option Item) (who : Who) (item : Item) (lines : Lines) (view : View)
+    (text : List ℕ) : Type 0 where
   pub stands : Stands size items who item view
   pub overlaps : OverlapsFit (sql size) items
   pub trying : IsTrying who view
@@ -91,8 +93,11 @@ pub record HasRun (size : ℕ) (items : Who → Option Item) (who : Who) (item :
 
 -- what is told of an attempt that has ended
 abbrev pub IsTried : ℕ → (Who → Option Item) → Who → Item → View → Tried → Type 0
-IsTried size items who item new (tried.Ended text) = IsReply (sql size) items new.opened.pages who item new.front text.items
-IsTried size items who item new (tried.Overlapped session number) = IsReply (sql size) items new.opened.pages who item new.front (refusal_text item.names (refusal.Overlap session number))
+IsTried size items who item new (tried.Ended text) =
+    IsReply (sql size) items new.opened.pages who item new.front text.items
+IsTried size items who item new (tried.Overlapped session number) =
+    IsReply (sql size) items new.opened.pages who item new.front
+    (refusal_text item.names (refusal.Overlap session number))
 IsTried size items who item new result = Unit {0}
 
 -- the line by which the attempt ended
@@ -103,7 +108,8 @@ EndsSo tried.Untold what = IsLastEnd what
 EndsSo tried.NotBegun what = ⊥
 
 -- an open attempt has ended
-pub record AttemptEnds (size : ℕ) (items : Who → Option Item) (who : Who) (item : Item) (old new : View) (result : Tried) : Type 0 where
+pub record AttemptEnds (size : ℕ) (items : Who → Option Item) (who : Who) (item : Item) (old new : View)
+    (result : Tried) : Type 0 where
   pub what : What
   pub added : Added (sql size) items who old new (what ∷ [])
   pub idle : new.work ≡ Idle
@@ -118,7 +124,8 @@ AreTry tried.NotBegun whats = whats ≡ []
 AreTry result whats = (what : What) × (whats ≡ said.Began ∷ what ∷ []) × EndsSo result what
 
 -- one attempt, from its beginning
-pub record HasTriedOnce (size : ℕ) (items : Who → Option Item) (who : Who) (item : Item) (old new : View) (result : Tried) : Type 0 where
+pub record HasTriedOnce (size : ℕ) (items : Who → Option Item) (who : Who) (item : Item) (old new : View)
+    (result : Tried) : Type 0 where
   pub whats : List What
   pub added : Added (sql size) items who old new whats
   pub idle : new.work ≡ Idle
@@ -134,7 +141,8 @@ pub record AreTries (attempts : ℕ) (result : Tried) (whats : List What) : Type
   pub whole : whats ≡ before ++ once
 
 -- one attempt behind so many that overlapped
-pub record HasTried (size : ℕ) (items : Who → Option Item) (who : Who) (item : Item) (old new : View) (attempts : ℕ) (result : Tried) : Type 0 where
+pub record HasTried (size : ℕ) (items : Who → Option Item) (who : Who) (item : Item) (old new : View) (attempts : ℕ)
+    (result : Tried) : Type 0 where
   pub whats : List What
   pub added : Added (sql size) items who old new whats
   pub idle : new.work ≡ Idle
@@ -144,7 +152,8 @@ pub record HasTried (size : ℕ) (items : Who → Option Item) (who : Who) (item
 -- what is told of a transaction by its last attempt
 abbrev pub IsAnswer : List (List ℕ) → Tried → Option (List ℕ) → Type 0
 IsAnswer names (tried.Ended text) (Some told) = told ≡ text.items
-IsAnswer names (tried.Overlapped session number) (Some told) = told ≡ refusal_text names (refusal.Overlap session number)
+IsAnswer names (tried.Overlapped session number) (Some told) =
+    told ≡ refusal_text names (refusal.Overlap session number)
 IsAnswer names tried.NotBegun None = Unit {0}
 IsAnswer names result told = ⊥
 

@@ -7,7 +7,8 @@ use Rattle.retro_base.specs.declared.limits.TheConstants.{SESSIONS}
 use Rattle.retro_base.specs.declared.who.Who.{Who}
 use Rattle.history.specs.declared.journal.Line.{Line}
 use Rattle.history.specs.declared.journal.What.{What}
-use Rattle.history.specs.declared.journal.What.TheVariants.{Began, Done, Overlapped, RolledBack, Looked, LookedAll, Unlooked, Dropped, Refused, Fault}
+use Rattle.history.specs.declared.journal.What.TheVariants.{Began, Done, Overlapped, RolledBack, Looked, LookedAll,
+    Unlooked, Dropped, Refused, Fault}
 use Rattle.session.specs.Line.{line}
 use Rattle.session.specs.Plan.{Plan, names_at}
 use Rattle.session.specs.Texts.{value_text}
@@ -15,7 +16,8 @@ use Rattle.session.specs.Wording.{session_name, word}
 
 -- the workers behind the sessions of a phase: the copier, and then the flusher
 abbrev pub worker_name : ℕ → List ℕ
-worker_name session = if session == SESSIONS then codes "copier" else if session == SESSIONS + 1 then codes "flusher" else []
+worker_name session = if session == SESSIONS then codes "copier" else if session == SESSIONS + 1 then codes "flusher"
+    else []
 
 -- whose a line is: a session of its phase, or a worker
 abbrev pub name_of : Plan → Who → List ℕ
@@ -38,7 +40,8 @@ what_text newest (Fault device count call) = Some (codes "fault " ++ device_name
 -- a visible line: phase, name, item, and what it says
 abbrev pub shown_line : Plan → Who → Option (List ℕ) → List ℕ
 shown_line plan who None = []
-shown_line plan who (Some text) = line (decimal who.phase ++ word (name_of plan who) ++ value_text who.item ++ word text)
+shown_line plan who (Some text) =
+    line (decimal who.phase ++ word (name_of plan who) ++ value_text who.item ++ word text)
 
 -- the number of the newest snapshot behind a line; dropping leaves the newest
 abbrev pub newest_behind : What → ℕ → ℕ
@@ -48,4 +51,5 @@ newest_behind what newest = newest
 -- the visible lines in order, behind a snapshot of this number
 abbrev pub visible_text : Plan → ℕ → List Line → List ℕ
 visible_text plan newest [] = []
-visible_text plan newest (l ∷ lines) = shown_line plan l.who (what_text newest l.what) ++ visible_text plan (newest_behind l.what newest) lines
+visible_text plan newest (l ∷ lines) =
+    shown_line plan l.who (what_text newest l.what) ++ visible_text plan (newest_behind l.what newest) lines

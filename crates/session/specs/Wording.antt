@@ -41,7 +41,8 @@ values_text names other = []
 
 -- a refusal: its number, its name and its values
 abbrev pub refusal_text : List (List ℕ) → Refusal → List ℕ
-refusal_text names why = line (codes "refused " ++ decimal (number_of why) ++ codes " " ++ name_of why ++ values_text names why)
+refusal_text names why =
+    line (codes "refused " ++ decimal (number_of why) ++ codes " " ++ name_of why ++ values_text names why)
 
 -- the reply of a statement, or its refusal, which names no session
 abbrev pub outcome_text : Result Reply Refusal → List ℕ

@@ -13,11 +13,13 @@ use Rattle.sql_tree.specs.Expression.{ExpressionTree}
 use Rattle.sql_tree.specs.Expression as expression
 use Rattle.sql_build.specs.declared.draft.Assembly.{Assembly}
 use Rattle.sql_parts.specs.declared.action.Action.{Action}
-use Rattle.sql_parts.specs.declared.action.Action.TheVariants.{Term, Step, Table, Row, Update, Output, List as ListAction, Query, Line}
+use Rattle.sql_parts.specs.declared.action.Action.TheVariants.{Term, Step, Table, Row, Update, Output,
+    List as ListAction, Query, Line}
 use Rattle.sql_parts.specs.declared.action.Op.{Op}
 use Rattle.sql_parts.specs.declared.action.Op.TheVariants as op
 use Rattle.sql_parts.specs.declared.action.StepAction.{StepAction}
-use Rattle.sql_parts.specs.declared.action.StepAction.TheVariants.{Leaf, Apply, Compare, Not, And, Or, Expression, Condition, NoCondition}
+use Rattle.sql_parts.specs.declared.action.StepAction.TheVariants.{Leaf, Apply, Compare, Not, And, Or, Expression,
+    Condition, NoCondition}
 use Rattle.sql_parts.specs.declared.parsed.Parsed.{Parsed}
 use Rattle.sql_parts.specs.declared.part.Part.{Part}
 use Rattle.sql_parts.specs.declared.part.Part.TheVariants as part
@@ -47,12 +49,14 @@ condition_on s ps d = record { parts = ps; expression = d.expression; condition 
 -- an expression is over where its steps tell one
 abbrev pub expression_ends : Option ExpressionTree → Assembly → Option Assembly
 expression_ends None d = None
-expression_ends (Some t) d = Some (record { parts = part.Expression t ∷ d.parts; expression = []; condition = d.condition })
+expression_ends (Some t) d =
+    Some (record { parts = part.Expression t ∷ d.parts; expression = []; condition = d.condition })
 
 -- a condition is over where its steps tell one
 abbrev pub condition_ends : Option ConditionTree → Assembly → Option Assembly
 condition_ends None d = None
-condition_ends (Some t) d = Some (record { parts = part.Condition (Some t) ∷ d.parts; expression = d.expression; condition = [] })
+condition_ends (Some t) d =
+    Some (record { parts = part.Condition (Some t) ∷ d.parts; expression = d.expression; condition = [] })
 
 abbrev pub leaf_step : Assembly → List Part → Option Assembly
 leaf_step d = do

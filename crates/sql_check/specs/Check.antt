@@ -1,5 +1,6 @@
 -- The names and types of statements.
-use Rattle.std.specs.Prelude.{◌||◌, ℕ, Bool, true, false, not, Option, Some, None, is_none, List, [], ◌∷◌, Result, Ok, Err, if◌then◌else◌}
+use Rattle.std.specs.Prelude.{◌||◌, ℕ, Bool, true, false, not, Option, Some, None, is_none, List, [], ◌∷◌, Result, Ok,
+    Err, if◌then◌else◌}
 use Rattle.std.specs.List.{list_all, list_any}
 use Rattle.std.specs.Option.{option_map, option_map_or}
 use Rattle.retro_base.specs.declared.refusal.Refusal.{Refusal}
@@ -11,7 +12,8 @@ use Rattle.sql_tree.specs.declared.select.Select.{Select as SelectRecord}
 use Rattle.sql_tree.specs.declared.statement.Assignment.{Assignment}
 use Rattle.sql_tree.specs.declared.statement.Column.{Column}
 use Rattle.sql_tree.specs.declared.statement.Statement.{Statement}
-use Rattle.sql_tree.specs.declared.statement.Statement.TheVariants.{CreateTable, CreateIndex, Insert, Update, Delete, Select}
+use Rattle.sql_tree.specs.declared.statement.Statement.TheVariants.{CreateTable, CreateIndex, Insert, Update, Delete,
+    Select}
 use Rattle.sql_tree.specs.declared.statement.Update.{Update as UpdateRecord}
 use Rattle.sql_check.specs.Expressions.{agree, has_unknown, kind_of}
 use Rattle.sql_check.specs.Names.{column_named, has_name, has_twins, is_named, is_reserved, stored_table, table_named}
@@ -51,25 +53,35 @@ abbrev pub assigns_unknown : Option ℕ → TableSchema → Assignment → Bool
 assigns_unknown snapshot table a = not (has_column a.column table.columns) || has_unknown (table ∷ []) snapshot a.value
 
 abbrev pub update_has_unknown : Option ℕ → UpdateRecord → TableSchema → Bool
-update_has_unknown snapshot update table = list_any (assigns_unknown snapshot table) update.assignments || where_has_unknown (table ∷ []) snapshot update.condition
+update_has_unknown snapshot update table =
+    list_any (assigns_unknown snapshot table) update.assignments
+    || where_has_unknown (table ∷ []) snapshot update.condition
 
 -- whether a statement has an unknown name
 abbrev pub has_unknown_name : Statement → Option ℕ → Schema → Bool
 has_unknown_name (CreateTable create) snapshot schema = false
-has_unknown_name (CreateIndex create) snapshot schema = lacks (stored_table create.table schema) (λ (table : TableSchema). not (has_column create.column table.columns))
+has_unknown_name (CreateIndex create) snapshot schema =
+    lacks (stored_table create.table schema) (λ (table : TableSchema). not (has_column create.column table.columns))
 has_unknown_name (Insert insert) snapshot schema = is_none (stored_table insert.table schema)
-has_unknown_name (Update update) snapshot schema = lacks (stored_table update.table schema) (update_has_unknown snapshot update)
-has_unknown_name (Delete delete) snapshot schema = lacks (stored_table delete.table schema) (λ (table : TableSchema). where_has_unknown (table ∷ []) snapshot delete.condition)
-has_unknown_name (Select select) snapshot schema = lacks (select_scope select schema) (select_has_unknown snapshot select)
+has_unknown_name (Update update) snapshot schema =
+    lacks (stored_table update.table schema) (update_has_unknown snapshot update)
+has_unknown_name (Delete delete) snapshot schema =
+    lacks (stored_table delete.table schema)
+    (λ (table : TableSchema). where_has_unknown (table ∷ []) snapshot delete.condition)
+has_unknown_name (Select select) snapshot schema =
+    lacks (select_scope select schema) (select_has_unknown snapshot select)
 
 -- whether a FROM has one table twice
 abbrev pub is_twice : List ℕ → Option (List ℕ) → Bool
 is_twice first None = false
 is_twice first (Some second) = same_name first second
 
--- whether a statement takes a name that is taken: that of a table or index that exists, a reserved one for a table, or one of its own columns twice
+-- whether a statement takes a name that is taken: that of a table or index that exists, a reserved one for a table, or
+-- one of its own columns twice
 abbrev pub takes_taken_name : Statement → Schema → Bool
-takes_taken_name (CreateTable create) schema = is_named create.table schema || is_reserved create.table || has_twins (λ (column : Column). column.name) create.columns
+takes_taken_name (CreateTable create) schema =
+    is_named create.table schema || is_reserved create.table
+    || has_twins (λ (column : Column). column.name) create.columns
 takes_taken_name (CreateIndex create) schema = is_named create.index schema
 takes_taken_name (Insert insert) schema = false
 takes_taken_name (Update update) schema = has_twins (λ (a : Assignment). a.column) update.assignments
@@ -85,15 +97,20 @@ abbrev pub assigns_other_kind : TableSchema → Assignment → Bool
 assigns_other_kind table a = not (agree (column_kind a.column table.columns) (kind_of (table ∷ []) a.value))
 
 abbrev pub update_is_mistyped : UpdateRecord → TableSchema → Bool
-update_is_mistyped update table = list_any (assigns_other_kind table) update.assignments || where_compares_apart (table ∷ []) update.condition
+update_is_mistyped update table =
+    list_any (assigns_other_kind table) update.assignments || where_compares_apart (table ∷ []) update.condition
 
 -- whether a statement has a wrong type; told only where all names are known
 abbrev pub has_wrong_type : Statement → Schema → Bool
 has_wrong_type (CreateTable create) schema = false
 has_wrong_type (CreateIndex create) schema = false
-has_wrong_type (Insert insert) schema = finds (stored_table insert.table schema) (λ (table : TableSchema). not (list_all (fits table.columns) insert.tuples))
+has_wrong_type (Insert insert) schema =
+    finds (stored_table insert.table schema)
+    (λ (table : TableSchema). not (list_all (fits table.columns) insert.tuples))
 has_wrong_type (Update update) schema = finds (stored_table update.table schema) (update_is_mistyped update)
-has_wrong_type (Delete delete) schema = finds (stored_table delete.table schema) (λ (table : TableSchema). where_compares_apart (table ∷ []) delete.condition)
+has_wrong_type (Delete delete) schema =
+    finds (stored_table delete.table schema)
+    (λ (table : TableSchema). where_compares_apart (table ∷ []) delete.condition)
 has_wrong_type (Select select) schema = finds (select_scope select schema) (select_is_mistyped select)
 
 -- what is refused: an unknown name before a taken one, and that before a wrong type
@@ -102,7 +119,9 @@ first_refusal unknown taken mistyped =
     if unknown then Err UnknownName else if taken then Err NameTaken else if mistyped then Err WrongType else Ok tt
 
 abbrev pub checked : Statement → Option ℕ → Schema → Result (Unit {0}) Refusal
-checked statement snapshot schema = first_refusal (has_unknown_name statement snapshot schema) (takes_taken_name statement schema) (has_wrong_type statement schema)
+checked statement snapshot schema =
+    first_refusal (has_unknown_name statement snapshot schema) (takes_taken_name statement schema)
+    (has_wrong_type statement schema)
 
 -- ---- a table that the store does not have
 
@@ -119,5 +138,6 @@ names_other table (Some name) = not (same_name name table.name)
 -- the names and types of a select over this one table
 abbrev pub checked_beside : SelectRecord → TableSchema → Result (Unit {0}) Refusal
 checked_beside select table =
-    first_refusal (names_other table select.second || select_has_unknown None select (scope_beside table select.second)) (is_twice select.table select.second)
+    first_refusal (names_other table select.second || select_has_unknown None select (scope_beside table select.second))
+    (is_twice select.table select.second)
     (select_is_mistyped select (scope_beside table select.second))

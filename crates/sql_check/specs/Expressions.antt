@@ -25,7 +25,8 @@ abbrev pub has_unknown : List TableSchema → Option ℕ → ExpressionTree → 
 has_unknown scope snapshot (Literal v) = false
 has_unknown scope snapshot (Column name) = is_unknown scope name
 has_unknown scope snapshot CurrentSnapshot = is_none snapshot
-has_unknown scope snapshot (Apply operator left right) = has_unknown scope snapshot left || has_unknown scope snapshot right
+has_unknown scope snapshot (Apply operator left right) =
+    has_unknown scope snapshot left || has_unknown scope snapshot right
 
 -- whether there is a kind, and it is INT
 abbrev pub is_int : Option Kind → Bool
@@ -64,10 +65,13 @@ operand_kind scope operand.CurrentSnapshot = Some kind.Int
 
 -- whether a condition has an unknown side
 abbrev pub has_unknown_operand : List TableSchema → Option ℕ → ConditionTree → Bool
-has_unknown_operand scope snapshot (Compare left comparison right) = is_unknown_operand scope snapshot left || is_unknown_operand scope snapshot right
+has_unknown_operand scope snapshot (Compare left comparison right) =
+    is_unknown_operand scope snapshot left || is_unknown_operand scope snapshot right
 has_unknown_operand scope snapshot (Not a) = has_unknown_operand scope snapshot a
-has_unknown_operand scope snapshot (And a b) = has_unknown_operand scope snapshot a || has_unknown_operand scope snapshot b
-has_unknown_operand scope snapshot (Or a b) = has_unknown_operand scope snapshot a || has_unknown_operand scope snapshot b
+has_unknown_operand scope snapshot (And a b) =
+    has_unknown_operand scope snapshot a || has_unknown_operand scope snapshot b
+has_unknown_operand scope snapshot (Or a b) =
+    has_unknown_operand scope snapshot a || has_unknown_operand scope snapshot b
 
 -- whether a condition compares INT with TEXT
 abbrev pub compares_apart : List TableSchema → ConditionTree → Bool

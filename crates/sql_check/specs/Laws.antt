@@ -20,12 +20,14 @@ IsOfKind kind (Err refusal) = refusal ≡ Overflow
 
 -- at a row that fits the columns, an expression whose names are known has a value of its kind, unless a step leaves i64
 abbrev pub ExpressionsKeepTheirKind : Type 0
-ExpressionsKeepTheirKind = (scope : List TableSchema) (snapshot : Option ℕ) (row : List Value) (of : ExpressionTree) (kind : Kind) →
+ExpressionsKeepTheirKind =
+    (scope : List TableSchema) (snapshot : Option ℕ) (row : List Value) (of : ExpressionTree) (kind : Kind) →
     IsTrue (fits (columns_of scope) row) → has_unknown scope snapshot of ≡ false → kind_of scope of ≡ Some kind →
     IsOfKind kind (value_of scope snapshot row of)
 
 -- at a row that fits the columns, a condition whose names are known, and that compares like with like, is true or false
 abbrev pub ConditionsAreDecided : Type 0
 ConditionsAreDecided = (scope : List TableSchema) (snapshot : Option ℕ) (row : List Value) (condition : ConditionTree) →
-    IsTrue (fits (columns_of scope) row) → has_unknown_operand scope snapshot condition ≡ false → compares_apart scope condition ≡ false →
+    IsTrue (fits (columns_of scope) row) → has_unknown_operand scope snapshot condition ≡ false →
+    compares_apart scope condition ≡ false →
     IsOk (is_true scope snapshot row condition)

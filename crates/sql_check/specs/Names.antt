@@ -34,4 +34,6 @@ stored_table name schema = if is_reserved name then None else table_named name s
 
 -- whether a table or an index has the name
 abbrev pub is_named : List ℕ → Schema → Bool
-is_named name schema = has_name (λ (table : TableSchema). table.name) name schema.tables || has_name (λ (index : IndexSchema). index.name) name schema.indexes
+is_named name schema =
+    has_name (λ (table : TableSchema). table.name) name schema.tables
+    || has_name (λ (index : IndexSchema). index.name) name schema.indexes

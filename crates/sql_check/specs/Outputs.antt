@@ -34,12 +34,14 @@ output_name place output = unwrap_or output.name (own_name place output.value)
 
 -- the column of an output; where the output has no kind, which no checked select has, it is INT
 abbrev pub output_column : List TableSchema → ℕ → Output → Column
-output_column scope place output = record { name = output_name place output; kind = unwrap_or (output_kind scope output.value) kind.Int }
+output_column scope place output =
+    record { name = output_name place output; kind = unwrap_or (output_kind scope output.value) kind.Int }
 
 -- the columns of outputs whose places count up from the first one's
 abbrev pub output_columns : List TableSchema → ℕ → List Output → List Column
 output_columns scope place [] = []
-output_columns scope place (output ∷ outputs) = output_column scope place output ∷ output_columns scope (place + 1) outputs
+output_columns scope place (output ∷ outputs) =
+    output_column scope place output ∷ output_columns scope (place + 1) outputs
 
 -- the columns of an answer: for `*` all columns that are joined
 abbrev pub answer_columns : List TableSchema → SelectList → List Column

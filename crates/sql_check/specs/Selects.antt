@@ -16,7 +16,8 @@ use Rattle.sql_tree.specs.Condition.{ConditionTree}
 use Rattle.sql_tree.specs.Expression.{ExpressionTree, column_of, is_constant}
 use Rattle.sql_tree.specs.Scope.{place_of}
 use Rattle.sql_tree.specs.Select.{is_grouped, outputs_of}
-use Rattle.sql_check.specs.Expressions.{compares_apart, has_unknown_operand, is_unknown, output_has_unknown, output_kind}
+use Rattle.sql_check.specs.Expressions.{compares_apart, has_unknown_operand, is_unknown, output_has_unknown,
+    output_kind}
 use Rattle.sql_check.specs.Names.{has_name}
 use Rattle.sql_check.specs.Outputs.{answer_columns}
 
@@ -30,18 +31,22 @@ where_compares_apart scope condition = option_map_or (compares_apart scope) cond
 
 -- whether an output has an unknown name
 abbrev pub list_has_unknown : List TableSchema → Option ℕ → SelectList → Bool
-list_has_unknown scope snapshot list = list_any (λ (output : Output). output_has_unknown scope snapshot output.value) (outputs_of list)
+list_has_unknown scope snapshot list =
+    list_any (λ (output : Output). output_has_unknown scope snapshot output.value) (outputs_of list)
 
 -- whether a name without a table is that of a column of the answer
 abbrev pub names_output : List Column → ColumnName → Bool
 names_output columns name = is_none name.table && has_name (λ (column : Column). column.name) name.column columns
 
--- whether rows can be ordered by what the name stands for: a column of the answer, or a column of the scope where each row of the answer comes from one row
+-- whether rows can be ordered by what the name stands for: a column of the answer, or a column of the scope where each
+-- row of the answer comes from one row
 abbrev pub is_key : List TableSchema → Select → List Column → ColumnName → Bool
-is_key scope select columns name = names_output columns name || (not (is_grouped select || select.distinct) && not (is_unknown scope name))
+is_key scope select columns name =
+    names_output columns name || (not (is_grouped select || select.distinct) && not (is_unknown scope name))
 
 abbrev pub keys_have_unknown : List TableSchema → Select → List Column → Bool
-keys_have_unknown scope select columns = list_any (λ (key : OrderKey). not (is_key scope select columns key.column)) select.order_by
+keys_have_unknown scope select columns =
+    list_any (λ (key : OrderKey). not (is_key scope select columns key.column)) select.order_by
 
 -- whether a select has an unknown name in its outputs, its WHERE, its GROUP BY or its ORDER BY
 abbrev pub select_has_unknown : Option ℕ → Select → List TableSchema → Bool
@@ -58,7 +63,8 @@ same_place _ _ = false
 
 -- whether the name is that of a column of GROUP BY, however either is written
 abbrev pub is_grouped_by : List TableSchema → List ColumnName → ColumnName → Bool
-is_grouped_by scope columns name = list_any (λ (column : ColumnName). same_place (place_of scope column) (place_of scope name)) columns
+is_grouped_by scope columns name =
+    list_any (λ (column : ColumnName). same_place (place_of scope column) (place_of scope name)) columns
 
 -- whether an expression has one value for each group: a literal, the number of the snapshot or a column of GROUP BY
 abbrev pub is_of_group : List TableSchema → List ColumnName → ExpressionTree → Bool
@@ -71,7 +77,8 @@ output_is_of_group scope columns (output.Aggregate of) = true
 -- whether an output has more than one value for a group, as `*` has
 abbrev pub breaks_groups : List TableSchema → List ColumnName → SelectList → Bool
 breaks_groups scope columns All = true
-breaks_groups scope columns (Outputs outputs) = list_any (λ (output : Output). not (output_is_of_group scope columns output.value)) outputs
+breaks_groups scope columns (Outputs outputs) =
+    list_any (λ (output : Output). not (output_is_of_group scope columns output.value)) outputs
 
 -- whether an output has no kind
 abbrev pub lacks_kind : List TableSchema → SelectList → Bool

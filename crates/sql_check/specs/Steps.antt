@@ -45,14 +45,16 @@ steps_kind scope steps = kind_beside scope steps (only steps)
 
 -- whether a step of a condition has an unknown side
 abbrev pub is_unknown_at : List TableSchema → Option ℕ → ConditionStep → Bool
-is_unknown_at scope snapshot (condition.Compare left comparison right) = is_unknown_operand scope snapshot left || is_unknown_operand scope snapshot right
+is_unknown_at scope snapshot (condition.Compare left comparison right) =
+    is_unknown_operand scope snapshot left || is_unknown_operand scope snapshot right
 is_unknown_at scope snapshot condition.Not = false
 is_unknown_at scope snapshot condition.And = false
 is_unknown_at scope snapshot condition.Or = false
 
 -- whether a step of a condition compares INT with TEXT
 abbrev pub compares_apart_at : List TableSchema → ConditionStep → Bool
-compares_apart_at scope (condition.Compare left comparison right) = not (agree (operand_kind scope left) (operand_kind scope right))
+compares_apart_at scope (condition.Compare left comparison right) =
+    not (agree (operand_kind scope left) (operand_kind scope right))
 compares_apart_at scope condition.Not = false
 compares_apart_at scope condition.And = false
 compares_apart_at scope condition.Or = false

@@ -10,7 +10,8 @@ use Rattle.relation.specs.declared.drafting.RowChange.{RowChange}
 use Rattle.sql_exec.specs.Running.{numbered_at, changes_on}
 
 -- a row that an update counts, as it stands, and what it becomes
-abbrev pub placed_changes_by : (List Value → Result Bool Refusal) → (List Value → Result (List Value) Refusal) → Placed → Result (List RowChange) Refusal
+abbrev pub placed_changes_by : (List Value → Result Bool Refusal) → (List Value → Result (List Value) Refusal) →
+    Placed → Result (List RowChange) Refusal
 placed_changes_by keeps sets placed = counted (changes_on placed) (updated_by keeps sets (numbered_at placed))
 
 -- a row that a delete counts

@@ -18,9 +18,12 @@ IsIn x (y ∷ ys) = (x ≡ y) ⊎ IsIn x ys
 -- From the symbols these tokens follow, and these operations come out: a rule stands for any of its right sides.
 pub data Derives : List Symbol → List Token → List Op → Type 0 where
   Done : Derives [] [] []
-  Taken : {k : Class} {ss : List Symbol} {t : Token} {ts : List Token} {os out : List Op} → class_of t ≡ k → out ≡ content_of t ++ os → Derives ss ts os → Derives (Take k ∷ ss) (t ∷ ts) out
-  Emitted : {a : Action} {ss : List Symbol} {ts : List Token} {os : List Op} → Derives ss ts os → Derives (Put a ∷ ss) ts (Act a ∷ os)
-  Replaced : {r : Rule} (side : List Symbol) {ss : List Symbol} {ts : List Token} {os : List Op} → IsIn side (sides r) → Derives (side ++ ss) ts os → Derives (Use r ∷ ss) ts os
+  Taken : {k : Class} {ss : List Symbol} {t : Token} {ts : List Token} {os out : List Op} → class_of t ≡ k →
+      out ≡ content_of t ++ os → Derives ss ts os → Derives (Take k ∷ ss) (t ∷ ts) out
+  Emitted : {a : Action} {ss : List Symbol} {ts : List Token} {os : List Op} → Derives ss ts os →
+      Derives (Put a ∷ ss) ts (Act a ∷ os)
+  Replaced : {r : Rule} (side : List Symbol) {ss : List Symbol} {ts : List Token} {os : List Op} → IsIn side (sides r) →
+      Derives (side ++ ss) ts os → Derives (Use r ∷ ss) ts os
 
 -- the tokens are a sentence of the rule, and these operations come out
 abbrev pub IsSentence : Rule → List Token → List Op → Type 0

@@ -13,11 +13,13 @@ use Rattle.sql_tree.specs.declared.select.Direction.TheVariants as direction
 use Rattle.values.specs.declared.value.Kind.TheVariants as kind
 use Rattle.sql_parts.specs.declared.action.Action.TheVariants as action
 use Rattle.sql_grammar.specs.declared.grammar.Class.{Class}
-use Rattle.sql_grammar.specs.declared.grammar.Class.TheVariants.{Keyword, Sign, Name, LongWord, Integer, BigInteger, ShortText, Text, LongText}
+use Rattle.sql_grammar.specs.declared.grammar.Class.TheVariants.{Keyword, Sign, Name, LongWord, Integer, BigInteger,
+    ShortText, Text, LongText}
 use Rattle.sql_parts.specs.declared.action.Op.{Op}
 use Rattle.sql_parts.specs.declared.action.Op.TheVariants as op
 use Rattle.sql_grammar.specs.declared.grammar.Room.{Room}
-use Rattle.sql_grammar.specs.declared.grammar.Room.TheVariants.{Fifteen, Fourteen, Thirteen, Twelve, Eleven, Ten, Nine, Eight, Seven, Six, Five, Four, Three, Two, One}
+use Rattle.sql_grammar.specs.declared.grammar.Room.TheVariants.{Fifteen, Fourteen, Thirteen, Twelve, Eleven, Ten, Nine,
+    Eight, Seven, Six, Five, Four, Three, Two, One}
 use Rattle.sql_grammar.specs.declared.grammar.Rule.{Rule}
 use Rattle.sql_grammar.specs.declared.grammar.Rule.TheVariants as rule
 use Rattle.sql_grammar.specs.declared.grammar.Symbol.{Symbol}
@@ -64,41 +66,73 @@ mark s = Take (Sign s)
 
 -- a comma and a column, and as many more as there is room for
 abbrev pub more_columns : Room → List Symbol
-more_columns Fifteen = mark sign.Comma ∷ Use rule.Column ∷ Put (action.Table table_action.NextColumn) ∷ Use (rule.MoreColumns Fourteen) ∷ []
-more_columns Fourteen = mark sign.Comma ∷ Use rule.Column ∷ Put (action.Table table_action.NextColumn) ∷ Use (rule.MoreColumns Thirteen) ∷ []
-more_columns Thirteen = mark sign.Comma ∷ Use rule.Column ∷ Put (action.Table table_action.NextColumn) ∷ Use (rule.MoreColumns Twelve) ∷ []
-more_columns Twelve = mark sign.Comma ∷ Use rule.Column ∷ Put (action.Table table_action.NextColumn) ∷ Use (rule.MoreColumns Eleven) ∷ []
-more_columns Eleven = mark sign.Comma ∷ Use rule.Column ∷ Put (action.Table table_action.NextColumn) ∷ Use (rule.MoreColumns Ten) ∷ []
-more_columns Ten = mark sign.Comma ∷ Use rule.Column ∷ Put (action.Table table_action.NextColumn) ∷ Use (rule.MoreColumns Nine) ∷ []
-more_columns Nine = mark sign.Comma ∷ Use rule.Column ∷ Put (action.Table table_action.NextColumn) ∷ Use (rule.MoreColumns Eight) ∷ []
-more_columns Eight = mark sign.Comma ∷ Use rule.Column ∷ Put (action.Table table_action.NextColumn) ∷ Use (rule.MoreColumns Seven) ∷ []
-more_columns Seven = mark sign.Comma ∷ Use rule.Column ∷ Put (action.Table table_action.NextColumn) ∷ Use (rule.MoreColumns Six) ∷ []
-more_columns Six = mark sign.Comma ∷ Use rule.Column ∷ Put (action.Table table_action.NextColumn) ∷ Use (rule.MoreColumns Five) ∷ []
-more_columns Five = mark sign.Comma ∷ Use rule.Column ∷ Put (action.Table table_action.NextColumn) ∷ Use (rule.MoreColumns Four) ∷ []
-more_columns Four = mark sign.Comma ∷ Use rule.Column ∷ Put (action.Table table_action.NextColumn) ∷ Use (rule.MoreColumns Three) ∷ []
-more_columns Three = mark sign.Comma ∷ Use rule.Column ∷ Put (action.Table table_action.NextColumn) ∷ Use (rule.MoreColumns Two) ∷ []
-more_columns Two = mark sign.Comma ∷ Use rule.Column ∷ Put (action.Table table_action.NextColumn) ∷ Use (rule.MoreColumns One) ∷ []
-more_columns One = mark sign.Comma ∷ Use rule.Column ∷ Put (action.Table table_action.NextColumn) ∷ Put (action.Table table_action.Finish) ∷ []
+more_columns Fifteen =
+    mark sign.Comma ∷ Use rule.Column ∷ Put (action.Table table_action.NextColumn) ∷ Use
+    (rule.MoreColumns Fourteen) ∷ []
+more_columns Fourteen =
+    mark sign.Comma ∷ Use rule.Column ∷ Put (action.Table table_action.NextColumn) ∷ Use
+    (rule.MoreColumns Thirteen) ∷ []
+more_columns Thirteen =
+    mark sign.Comma ∷ Use rule.Column ∷ Put (action.Table table_action.NextColumn) ∷ Use (rule.MoreColumns Twelve) ∷ []
+more_columns Twelve =
+    mark sign.Comma ∷ Use rule.Column ∷ Put (action.Table table_action.NextColumn) ∷ Use (rule.MoreColumns Eleven) ∷ []
+more_columns Eleven =
+    mark sign.Comma ∷ Use rule.Column ∷ Put (action.Table table_action.NextColumn) ∷ Use (rule.MoreColumns Ten) ∷ []
+more_columns Ten =
+    mark sign.Comma ∷ Use rule.Column ∷ Put (action.Table table_action.NextColumn) ∷ Use (rule.MoreColumns Nine) ∷ []
+more_columns Nine =
+    mark sign.Comma ∷ Use rule.Column ∷ Put (action.Table table_action.NextColumn) ∷ Use (rule.MoreColumns Eight) ∷ []
+more_columns Eight =
+    mark sign.Comma ∷ Use rule.Column ∷ Put (action.Table table_action.NextColumn) ∷ Use (rule.MoreColumns Seven) ∷ []
+more_columns Seven =
+    mark sign.Comma ∷ Use rule.Column ∷ Put (action.Table table_action.NextColumn) ∷ Use (rule.MoreColumns Six) ∷ []
+more_columns Six =
+    mark sign.Comma ∷ Use rule.Column ∷ Put (action.Table table_action.NextColumn) ∷ Use (rule.MoreColumns Five) ∷ []
+more_columns Five =
+    mark sign.Comma ∷ Use rule.Column ∷ Put (action.Table table_action.NextColumn) ∷ Use (rule.MoreColumns Four) ∷ []
+more_columns Four =
+    mark sign.Comma ∷ Use rule.Column ∷ Put (action.Table table_action.NextColumn) ∷ Use (rule.MoreColumns Three) ∷ []
+more_columns Three =
+    mark sign.Comma ∷ Use rule.Column ∷ Put (action.Table table_action.NextColumn) ∷ Use (rule.MoreColumns Two) ∷ []
+more_columns Two =
+    mark sign.Comma ∷ Use rule.Column ∷ Put (action.Table table_action.NextColumn) ∷ Use (rule.MoreColumns One) ∷ []
+more_columns One =
+    mark sign.Comma ∷ Use rule.Column ∷ Put (action.Table table_action.NextColumn) ∷ Put
+    (action.Table table_action.Finish) ∷ []
 
 -- The right sides of each rule. A table has at most sixteen columns.
 abbrev pub sides : Rule → List (List Symbol)
 sides rule.Sentence =
     (word keyword.Create ∷ Use rule.Created ∷ [])
-    ∷ (word keyword.Insert ∷ word keyword.Into ∷ Take Name ∷ word keyword.Values ∷ Use rule.Tuple ∷ Put (action.Row row_action.Insert) ∷ Use rule.MoreTuples ∷ Put (action.Row row_action.Finish) ∷ [])
-    ∷ (word keyword.Update ∷ Take Name ∷ word keyword.Set ∷ Use rule.Assignment ∷ Put (action.Update update_action.Update) ∷ Use rule.MoreAssignments ∷ Use rule.Where ∷ Put (action.Update update_action.Finish) ∷ [])
-    ∷ (word keyword.Delete ∷ word keyword.From ∷ Take Name ∷ Use rule.Where ∷ Put (action.Update update_action.Delete) ∷ [])
+    ∷ (word keyword.Insert ∷ word keyword.Into ∷ Take Name ∷ word keyword.Values ∷ Use rule.Tuple ∷ Put
+    (action.Row row_action.Insert) ∷ Use rule.MoreTuples ∷ Put (action.Row row_action.Finish) ∷ [])
+    ∷ (word keyword.Update ∷ Take Name ∷ word keyword.Set ∷ Use rule.Assignment ∷ Put
+    (action.Update update_action.Update) ∷ Use rule.MoreAssignments ∷ Use rule.Where ∷ Put
+    (action.Update update_action.Finish) ∷ [])
+    ∷ (word keyword.Delete ∷ word keyword.From ∷ Take Name ∷ Use rule.Where ∷ Put (action.Update update_action.Delete)
+    ∷ [])
     ∷ (word keyword.Select ∷ Use rule.Selected ∷ [])
     ∷ (word keyword.Commit ∷ Use rule.SnapshotChoice ∷ [])
     ∷ (word keyword.Rollback ∷ Put (action.Line line_action.Rollback) ∷ [])
-    ∷ (word keyword.CollateData ∷ mark sign.Open ∷ Use rule.Argument ∷ mark sign.Comma ∷ Use rule.Argument ∷ mark sign.Comma ∷ Use rule.Argument ∷ mark sign.Close ∷ Put (action.Line line_action.CollateData) ∷ [])
-    ∷ (word keyword.AggregateDataInVariable ∷ mark sign.Open ∷ Use rule.Argument ∷ mark sign.Comma ∷ Use rule.Argument ∷ mark sign.Comma ∷ Use rule.Argument ∷ mark sign.Comma ∷ Use rule.Argument ∷ mark sign.Close ∷ Put (action.Line line_action.AggregateDataInVariable) ∷ [])
-    ∷ (word keyword.AggregateDataInTable ∷ mark sign.Open ∷ Use rule.Argument ∷ mark sign.Comma ∷ Use rule.Argument ∷ mark sign.Comma ∷ Use rule.Argument ∷ mark sign.Comma ∷ Use rule.Argument ∷ mark sign.Close ∷ Put (action.Line line_action.AggregateDataInTable) ∷ [])
-    ∷ (word keyword.CollateDataIntoIntervals ∷ mark sign.Open ∷ Use rule.Argument ∷ mark sign.Comma ∷ Use rule.Argument ∷ mark sign.Comma ∷ Use rule.Argument ∷ mark sign.Close ∷ Put (action.Line line_action.CollateDataIntoIntervals) ∷ [])
-    ∷ (word keyword.Drop ∷ word keyword.Snapshots ∷ word keyword.Below ∷ Take Integer ∷ Put (action.Line line_action.DropBelow) ∷ [])
+    ∷ (word keyword.CollateData ∷ mark sign.Open ∷ Use rule.Argument ∷ mark sign.Comma ∷ Use rule.Argument
+    ∷ mark sign.Comma ∷ Use rule.Argument ∷ mark sign.Close ∷ Put (action.Line line_action.CollateData) ∷ [])
+    ∷ (word keyword.AggregateDataInVariable ∷ mark sign.Open ∷ Use rule.Argument ∷ mark sign.Comma ∷ Use rule.Argument
+    ∷ mark sign.Comma ∷ Use rule.Argument ∷ mark sign.Comma ∷ Use rule.Argument ∷ mark sign.Close ∷ Put
+    (action.Line line_action.AggregateDataInVariable) ∷ [])
+    ∷ (word keyword.AggregateDataInTable ∷ mark sign.Open ∷ Use rule.Argument ∷ mark sign.Comma ∷ Use rule.Argument
+    ∷ mark sign.Comma ∷ Use rule.Argument ∷ mark sign.Comma ∷ Use rule.Argument ∷ mark sign.Close ∷ Put
+    (action.Line line_action.AggregateDataInTable) ∷ [])
+    ∷ (word keyword.CollateDataIntoIntervals ∷ mark sign.Open ∷ Use rule.Argument ∷ mark sign.Comma ∷ Use rule.Argument
+    ∷ mark sign.Comma ∷ Use rule.Argument ∷ mark sign.Close ∷ Put (action.Line line_action.CollateDataIntoIntervals)
+    ∷ [])
+    ∷ (word keyword.Drop ∷ word keyword.Snapshots ∷ word keyword.Below ∷ Take Integer ∷ Put
+    (action.Line line_action.DropBelow) ∷ [])
     ∷ []
 sides rule.Created =
-    (word keyword.Table ∷ Take Name ∷ mark sign.Open ∷ Use rule.Column ∷ Put (action.Table table_action.CreateTable) ∷ Use (rule.MoreColumns Fifteen) ∷ mark sign.Close ∷ [])
-    ∷ (word keyword.Index ∷ Take Name ∷ word keyword.On ∷ Take Name ∷ mark sign.Open ∷ Take Name ∷ mark sign.Close ∷ Put (action.Table table_action.CreateIndex) ∷ [])
+    (word keyword.Table ∷ Take Name ∷ mark sign.Open ∷ Use rule.Column ∷ Put (action.Table table_action.CreateTable)
+    ∷ Use (rule.MoreColumns Fifteen) ∷ mark sign.Close ∷ [])
+    ∷ (word keyword.Index ∷ Take Name ∷ word keyword.On ∷ Take Name ∷ mark sign.Open ∷ Take Name ∷ mark sign.Close ∷ Put
+    (action.Table table_action.CreateIndex) ∷ [])
     ∷ []
 sides rule.Column = (Take Name ∷ Use rule.Kind ∷ []) ∷ []
 sides rule.Kind =
@@ -107,13 +141,18 @@ sides rule.Kind =
     ∷ []
 sides (rule.MoreColumns room) = more_columns room ∷ (Put (action.Table table_action.Finish) ∷ []) ∷ []
 sides rule.Tuple =
-    (mark sign.Open ∷ Use rule.Literal ∷ Put (action.Row row_action.FirstValue) ∷ Use rule.MoreValues ∷ mark sign.Close ∷ [])
+    (mark sign.Open ∷ Use rule.Literal ∷ Put (action.Row row_action.FirstValue) ∷ Use rule.MoreValues ∷ mark sign.Close
+    ∷ [])
     ∷ []
-sides rule.MoreValues = (mark sign.Comma ∷ Use rule.Literal ∷ Put (action.Row row_action.NextValue) ∷ Use rule.MoreValues ∷ []) ∷ [] ∷ []
-sides rule.MoreTuples = (mark sign.Comma ∷ Use rule.Tuple ∷ Put (action.Row row_action.NextTuple) ∷ Use rule.MoreTuples ∷ []) ∷ [] ∷ []
-sides rule.Assignment = (Take Name ∷ mark sign.Equal ∷ Use rule.Value ∷ Put (action.Update update_action.Assign) ∷ []) ∷ []
+sides rule.MoreValues =
+    (mark sign.Comma ∷ Use rule.Literal ∷ Put (action.Row row_action.NextValue) ∷ Use rule.MoreValues ∷ []) ∷ [] ∷ []
+sides rule.MoreTuples =
+    (mark sign.Comma ∷ Use rule.Tuple ∷ Put (action.Row row_action.NextTuple) ∷ Use rule.MoreTuples ∷ []) ∷ [] ∷ []
+sides rule.Assignment =
+    (Take Name ∷ mark sign.Equal ∷ Use rule.Value ∷ Put (action.Update update_action.Assign) ∷ []) ∷ []
 sides rule.MoreAssignments =
-    (mark sign.Comma ∷ Use rule.Assignment ∷ Put (action.Update update_action.NextAssignment) ∷ Use rule.MoreAssignments ∷ [])
+    (mark sign.Comma ∷ Use rule.Assignment ∷ Put (action.Update update_action.NextAssignment) ∷ Use rule.MoreAssignments
+    ∷ [])
     ∷ []
     ∷ []
 sides rule.Where =
@@ -130,15 +169,20 @@ sides rule.Query =
     ∷ []
 sides rule.List =
     (mark sign.Star ∷ word keyword.From ∷ Take Name ∷ Put (action.List list_action.All) ∷ [])
-    ∷ (Use rule.Output ∷ Put (action.List list_action.First) ∷ Use rule.MoreOutputs ∷ word keyword.From ∷ Take Name ∷ Put (action.List list_action.From) ∷ [])
+    ∷ (Use rule.Output ∷ Put (action.List list_action.First) ∷ Use rule.MoreOutputs ∷ word keyword.From ∷ Take Name
+    ∷ Put (action.List list_action.From) ∷ [])
     ∷ []
-sides rule.MoreOutputs = (mark sign.Comma ∷ Use rule.Output ∷ Put (action.List list_action.Next) ∷ Use rule.MoreOutputs ∷ []) ∷ [] ∷ []
+sides rule.MoreOutputs =
+    (mark sign.Comma ∷ Use rule.Output ∷ Put (action.List list_action.Next) ∷ Use rule.MoreOutputs ∷ []) ∷ [] ∷ []
 sides rule.Output = (Use rule.OutputValue ∷ Use rule.OutputName ∷ []) ∷ []
 sides rule.OutputValue =
     (word keyword.Count ∷ mark sign.Open ∷ Use rule.Counted ∷ [])
-    ∷ (word keyword.Sum ∷ mark sign.Open ∷ Use rule.Value ∷ mark sign.Close ∷ Put (action.Output output_action.Sum) ∷ [])
-    ∷ (word keyword.Min ∷ mark sign.Open ∷ Use rule.Value ∷ mark sign.Close ∷ Put (action.Output output_action.Min) ∷ [])
-    ∷ (word keyword.Max ∷ mark sign.Open ∷ Use rule.Value ∷ mark sign.Close ∷ Put (action.Output output_action.Max) ∷ [])
+    ∷ (word keyword.Sum ∷ mark sign.Open ∷ Use rule.Value ∷ mark sign.Close ∷ Put (action.Output output_action.Sum)
+    ∷ [])
+    ∷ (word keyword.Min ∷ mark sign.Open ∷ Use rule.Value ∷ mark sign.Close ∷ Put (action.Output output_action.Min)
+    ∷ [])
+    ∷ (word keyword.Max ∷ mark sign.Open ∷ Use rule.Value ∷ mark sign.Close ∷ Put (action.Output output_action.Max)
+    ∷ [])
     ∷ (Use rule.Value ∷ Put (action.Output output_action.Value) ∷ [])
     ∷ []
 sides rule.Counted =
@@ -150,14 +194,18 @@ sides rule.OutputName =
     ∷ (Put (action.Output output_action.Unnamed) ∷ [])
     ∷ []
 sides rule.Clauses =
-    (Use rule.Second ∷ Use rule.Where ∷ Put (action.Query query_action.Filter) ∷ Use rule.Grouping ∷ Use rule.Ordering ∷ Use rule.Limit ∷ [])
+    (Use rule.Second ∷ Use rule.Where ∷ Put (action.Query query_action.Filter) ∷ Use rule.Grouping ∷ Use rule.Ordering
+    ∷ Use rule.Limit ∷ [])
     ∷ []
 sides rule.Second = (mark sign.Comma ∷ Take Name ∷ Put (action.Query query_action.Second) ∷ []) ∷ [] ∷ []
 sides rule.Grouping =
-    (word keyword.Group ∷ word keyword.By ∷ Use rule.ColumnName ∷ Put (action.Query query_action.GroupBy) ∷ Use rule.MoreGroups ∷ [])
+    (word keyword.Group ∷ word keyword.By ∷ Use rule.ColumnName ∷ Put (action.Query query_action.GroupBy)
+    ∷ Use rule.MoreGroups ∷ [])
     ∷ []
     ∷ []
-sides rule.MoreGroups = (mark sign.Comma ∷ Use rule.ColumnName ∷ Put (action.Query query_action.GroupBy) ∷ Use rule.MoreGroups ∷ []) ∷ [] ∷ []
+sides rule.MoreGroups =
+    (mark sign.Comma ∷ Use rule.ColumnName ∷ Put (action.Query query_action.GroupBy) ∷ Use rule.MoreGroups ∷ []) ∷ []
+    ∷ []
 sides rule.Ordering = (word keyword.Order ∷ word keyword.By ∷ Use rule.Key ∷ Use rule.MoreKeys ∷ []) ∷ [] ∷ []
 sides rule.MoreKeys = (mark sign.Comma ∷ Use rule.Key ∷ Use rule.MoreKeys ∷ []) ∷ [] ∷ []
 sides rule.Key = (Use rule.ColumnName ∷ Use rule.SortDirection ∷ []) ∷ []
@@ -171,12 +219,14 @@ sides rule.Value = (Use rule.Expression ∷ Put (action.Step step_action.Express
 sides rule.Expression = (Use rule.Term ∷ Use rule.MoreTerms ∷ []) ∷ []
 sides rule.MoreTerms =
     (mark sign.Plus ∷ Use rule.Term ∷ Put (action.Step (step_action.Apply operator.Add)) ∷ Use rule.MoreTerms ∷ [])
-    ∷ (mark sign.Minus ∷ Use rule.Term ∷ Put (action.Step (step_action.Apply operator.Subtract)) ∷ Use rule.MoreTerms ∷ [])
+    ∷ (mark sign.Minus ∷ Use rule.Term ∷ Put (action.Step (step_action.Apply operator.Subtract)) ∷ Use rule.MoreTerms
+    ∷ [])
     ∷ []
     ∷ []
 sides rule.Term = (Use rule.Factor ∷ Use rule.MoreFactors ∷ []) ∷ []
 sides rule.MoreFactors =
-    (mark sign.Star ∷ Use rule.Factor ∷ Put (action.Step (step_action.Apply operator.Multiply)) ∷ Use rule.MoreFactors ∷ [])
+    (mark sign.Star ∷ Use rule.Factor ∷ Put (action.Step (step_action.Apply operator.Multiply)) ∷ Use rule.MoreFactors
+    ∷ [])
     ∷ []
     ∷ []
 sides rule.Factor =
@@ -184,7 +234,8 @@ sides rule.Factor =
     ∷ (Use rule.Operand ∷ Put (action.Step step_action.Leaf) ∷ [])
     ∷ []
 sides rule.Operand =
-    (word keyword.CurrentSnapshot ∷ mark sign.Open ∷ mark sign.Close ∷ Put (action.Term term_action.CurrentSnapshot) ∷ [])
+    (word keyword.CurrentSnapshot ∷ mark sign.Open ∷ mark sign.Close ∷ Put (action.Term term_action.CurrentSnapshot)
+    ∷ [])
     ∷ (Use rule.ColumnName ∷ Put (action.Term term_action.ColumnOperand) ∷ [])
     ∷ (Use rule.Literal ∷ Put (action.Term term_action.LiteralOperand) ∷ [])
     ∷ []
@@ -200,9 +251,12 @@ sides rule.Literal =
     ∷ (Take Text ∷ Put (action.Term term_action.Text) ∷ [])
     ∷ []
 sides rule.Condition = (Use rule.Conjunction ∷ Use rule.MoreConjunctions ∷ []) ∷ []
-sides rule.MoreConjunctions = (word keyword.Or ∷ Use rule.Conjunction ∷ Put (action.Step step_action.Or) ∷ Use rule.MoreConjunctions ∷ []) ∷ [] ∷ []
+sides rule.MoreConjunctions =
+    (word keyword.Or ∷ Use rule.Conjunction ∷ Put (action.Step step_action.Or) ∷ Use rule.MoreConjunctions ∷ []) ∷ []
+    ∷ []
 sides rule.Conjunction = (Use rule.Negation ∷ Use rule.MoreNegations ∷ []) ∷ []
-sides rule.MoreNegations = (word keyword.And ∷ Use rule.Negation ∷ Put (action.Step step_action.And) ∷ Use rule.MoreNegations ∷ []) ∷ [] ∷ []
+sides rule.MoreNegations =
+    (word keyword.And ∷ Use rule.Negation ∷ Put (action.Step step_action.And) ∷ Use rule.MoreNegations ∷ []) ∷ [] ∷ []
 sides rule.Negation =
     (word keyword.Not ∷ Use rule.Negation ∷ Put (action.Step step_action.Not) ∷ [])
     ∷ (mark sign.Open ∷ Use rule.Condition ∷ mark sign.Close ∷ [])

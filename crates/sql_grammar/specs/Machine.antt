@@ -1,5 +1,6 @@
 -- What the machine that reads a sentence keeps.
-use Rattle.std.specs.Prelude.{◌≡◌, ◌≢◌, ◌+◌, ℕ, suc, Bool, true, false, Option, Some, None, List, [], ◌∷◌, ◌++◌, if◌then◌else◌}
+use Rattle.std.specs.Prelude.{◌≡◌, ◌≢◌, ◌+◌, ℕ, suc, Bool, true, false, Option, Some, None, List, [], ◌∷◌, ◌++◌,
+    if◌then◌else◌}
 use Rattle.sql_lexer.specs.declared.token.Token.{Token}
 use Rattle.sql_grammar.specs.declared.grammar.Class.{Class}
 use Rattle.sql_grammar.specs.declared.grammar.Class.TheVariants.{End}
@@ -33,7 +34,8 @@ IsFine (Use r ∷ ss) = ((k : Class) → IsIn k (heads ss) → IsIn k (follow r)
 -- where a token of the class comes next, the symbols stand for what may come behind the tokens so far
 pub record Continues (r : Rule) (so_far : List Token) (k : Class) (ss : List Symbol) (ops : List Op) : Type 0 where
   pub sound : (ts : List Token) (os : List Op) → Derives ss ts os → IsSentence r (so_far ++ ts) (ops ++ os)
-  pub whole : (ts : List Token) (os : List Op) → look ts ≡ k → IsSentence r (so_far ++ ts) os → (rest : List Op) × (os ≡ ops ++ rest) × Derives ss ts rest
+  pub whole : (ts : List Token) (os : List Op) → look ts ≡ k → IsSentence r (so_far ++ ts) os → (rest : List Op)
+      × (os ≡ ops ++ rest) × Derives ss ts rest
   pub fine : IsFine ss
 
 -- the same, whatever comes next

@@ -3,7 +3,8 @@ use Rattle.std.specs.Prelude.{ℕ, zero, suc, Bool, true, false, List, [], ◌�
 use Rattle.sql_lexer.specs.declared.token.Keyword.TheVariants as keyword
 use Rattle.sql_lexer.specs.declared.token.Sign.TheVariants as sign
 use Rattle.sql_grammar.specs.declared.grammar.Class.{Class}
-use Rattle.sql_grammar.specs.declared.grammar.Class.TheVariants.{Keyword, Sign, Name, Integer, ShortText, Text, LongText, End}
+use Rattle.sql_grammar.specs.declared.grammar.Class.TheVariants.{Keyword, Sign, Name, Integer, ShortText, Text,
+    LongText, End}
 use Rattle.sql_grammar.specs.declared.grammar.Rule.{Rule}
 use Rattle.sql_grammar.specs.declared.grammar.Rule.TheVariants as rule
 use Rattle.sql_grammar.specs.declared.grammar.Symbol.{Symbol}
@@ -37,7 +38,11 @@ null _ = false
 
 -- the classes that a rule may begin with
 abbrev pub first : Rule → List Class
-first rule.Sentence = Keyword keyword.Create ∷ Keyword keyword.Insert ∷ Keyword keyword.Update ∷ Keyword keyword.Delete ∷ Keyword keyword.Select ∷ Keyword keyword.Commit ∷ Keyword keyword.Rollback ∷ Keyword keyword.CollateData ∷ Keyword keyword.AggregateDataInVariable ∷ Keyword keyword.AggregateDataInTable ∷ Keyword keyword.CollateDataIntoIntervals ∷ Keyword keyword.Drop ∷ []
+first rule.Sentence =
+    Keyword keyword.Create ∷ Keyword keyword.Insert ∷ Keyword keyword.Update ∷ Keyword keyword.Delete
+    ∷ Keyword keyword.Select ∷ Keyword keyword.Commit ∷ Keyword keyword.Rollback ∷ Keyword keyword.CollateData
+    ∷ Keyword keyword.AggregateDataInVariable ∷ Keyword keyword.AggregateDataInTable
+    ∷ Keyword keyword.CollateDataIntoIntervals ∷ Keyword keyword.Drop ∷ []
 first rule.Created = Keyword keyword.Table ∷ Keyword keyword.Index ∷ []
 first rule.Column = Name ∷ []
 first rule.Kind = Keyword keyword.Int ∷ Keyword keyword.Text ∷ []
@@ -48,15 +53,30 @@ first rule.MoreTuples = Sign sign.Comma ∷ []
 first rule.Assignment = Name ∷ []
 first rule.MoreAssignments = Sign sign.Comma ∷ []
 first rule.Where = Keyword keyword.Where ∷ []
-first rule.Selected = Keyword keyword.As ∷ Keyword keyword.Distinct ∷ Sign sign.Star ∷ Keyword keyword.Count ∷ Keyword keyword.Sum ∷ Keyword keyword.Min ∷ Keyword keyword.Max ∷ Sign sign.Open ∷ Keyword keyword.CurrentSnapshot ∷ Name ∷ Integer ∷ Sign sign.Minus ∷ ShortText ∷ Text ∷ []
-first rule.Query = Keyword keyword.Distinct ∷ Sign sign.Star ∷ Keyword keyword.Count ∷ Keyword keyword.Sum ∷ Keyword keyword.Min ∷ Keyword keyword.Max ∷ Sign sign.Open ∷ Keyword keyword.CurrentSnapshot ∷ Name ∷ Integer ∷ Sign sign.Minus ∷ ShortText ∷ Text ∷ []
-first rule.List = Sign sign.Star ∷ Keyword keyword.Count ∷ Keyword keyword.Sum ∷ Keyword keyword.Min ∷ Keyword keyword.Max ∷ Sign sign.Open ∷ Keyword keyword.CurrentSnapshot ∷ Name ∷ Integer ∷ Sign sign.Minus ∷ ShortText ∷ Text ∷ []
+first rule.Selected =
+    Keyword keyword.As ∷ Keyword keyword.Distinct ∷ Sign sign.Star ∷ Keyword keyword.Count ∷ Keyword keyword.Sum
+    ∷ Keyword keyword.Min ∷ Keyword keyword.Max ∷ Sign sign.Open ∷ Keyword keyword.CurrentSnapshot ∷ Name ∷ Integer
+    ∷ Sign sign.Minus ∷ ShortText ∷ Text ∷ []
+first rule.Query =
+    Keyword keyword.Distinct ∷ Sign sign.Star ∷ Keyword keyword.Count ∷ Keyword keyword.Sum ∷ Keyword keyword.Min
+    ∷ Keyword keyword.Max ∷ Sign sign.Open ∷ Keyword keyword.CurrentSnapshot ∷ Name ∷ Integer ∷ Sign sign.Minus
+    ∷ ShortText ∷ Text ∷ []
+first rule.List =
+    Sign sign.Star ∷ Keyword keyword.Count ∷ Keyword keyword.Sum ∷ Keyword keyword.Min ∷ Keyword keyword.Max
+    ∷ Sign sign.Open ∷ Keyword keyword.CurrentSnapshot ∷ Name ∷ Integer ∷ Sign sign.Minus ∷ ShortText ∷ Text ∷ []
 first rule.MoreOutputs = Sign sign.Comma ∷ []
-first rule.Output = Keyword keyword.Count ∷ Keyword keyword.Sum ∷ Keyword keyword.Min ∷ Keyword keyword.Max ∷ Sign sign.Open ∷ Keyword keyword.CurrentSnapshot ∷ Name ∷ Integer ∷ Sign sign.Minus ∷ ShortText ∷ Text ∷ []
-first rule.OutputValue = Keyword keyword.Count ∷ Keyword keyword.Sum ∷ Keyword keyword.Min ∷ Keyword keyword.Max ∷ Sign sign.Open ∷ Keyword keyword.CurrentSnapshot ∷ Name ∷ Integer ∷ Sign sign.Minus ∷ ShortText ∷ Text ∷ []
-first rule.Counted = Sign sign.Star ∷ Sign sign.Open ∷ Keyword keyword.CurrentSnapshot ∷ Name ∷ Integer ∷ Sign sign.Minus ∷ ShortText ∷ Text ∷ []
+first rule.Output =
+    Keyword keyword.Count ∷ Keyword keyword.Sum ∷ Keyword keyword.Min ∷ Keyword keyword.Max ∷ Sign sign.Open
+    ∷ Keyword keyword.CurrentSnapshot ∷ Name ∷ Integer ∷ Sign sign.Minus ∷ ShortText ∷ Text ∷ []
+first rule.OutputValue =
+    Keyword keyword.Count ∷ Keyword keyword.Sum ∷ Keyword keyword.Min ∷ Keyword keyword.Max ∷ Sign sign.Open
+    ∷ Keyword keyword.CurrentSnapshot ∷ Name ∷ Integer ∷ Sign sign.Minus ∷ ShortText ∷ Text ∷ []
+first rule.Counted =
+    Sign sign.Star ∷ Sign sign.Open ∷ Keyword keyword.CurrentSnapshot ∷ Name ∷ Integer ∷ Sign sign.Minus ∷ ShortText
+    ∷ Text ∷ []
 first rule.OutputName = Keyword keyword.As ∷ []
-first rule.Clauses = Sign sign.Comma ∷ Keyword keyword.Where ∷ Keyword keyword.Group ∷ Keyword keyword.Order ∷ Keyword keyword.Limit ∷ []
+first rule.Clauses =
+    Sign sign.Comma ∷ Keyword keyword.Where ∷ Keyword keyword.Group ∷ Keyword keyword.Order ∷ Keyword keyword.Limit ∷ []
 first rule.Second = Sign sign.Comma ∷ []
 first rule.Grouping = Keyword keyword.Group ∷ []
 first rule.MoreGroups = Sign sign.Comma ∷ []
@@ -65,22 +85,34 @@ first rule.MoreKeys = Sign sign.Comma ∷ []
 first rule.Key = Name ∷ []
 first rule.SortDirection = Keyword keyword.Asc ∷ Keyword keyword.Desc ∷ []
 first rule.Limit = Keyword keyword.Limit ∷ []
-first rule.Value = Sign sign.Open ∷ Keyword keyword.CurrentSnapshot ∷ Name ∷ Integer ∷ Sign sign.Minus ∷ ShortText ∷ Text ∷ []
-first rule.Expression = Sign sign.Open ∷ Keyword keyword.CurrentSnapshot ∷ Name ∷ Integer ∷ Sign sign.Minus ∷ ShortText ∷ Text ∷ []
+first rule.Value =
+    Sign sign.Open ∷ Keyword keyword.CurrentSnapshot ∷ Name ∷ Integer ∷ Sign sign.Minus ∷ ShortText ∷ Text ∷ []
+first rule.Expression =
+    Sign sign.Open ∷ Keyword keyword.CurrentSnapshot ∷ Name ∷ Integer ∷ Sign sign.Minus ∷ ShortText ∷ Text ∷ []
 first rule.MoreTerms = Sign sign.Plus ∷ Sign sign.Minus ∷ []
-first rule.Term = Sign sign.Open ∷ Keyword keyword.CurrentSnapshot ∷ Name ∷ Integer ∷ Sign sign.Minus ∷ ShortText ∷ Text ∷ []
+first rule.Term =
+    Sign sign.Open ∷ Keyword keyword.CurrentSnapshot ∷ Name ∷ Integer ∷ Sign sign.Minus ∷ ShortText ∷ Text ∷ []
 first rule.MoreFactors = Sign sign.Star ∷ []
-first rule.Factor = Sign sign.Open ∷ Keyword keyword.CurrentSnapshot ∷ Name ∷ Integer ∷ Sign sign.Minus ∷ ShortText ∷ Text ∷ []
+first rule.Factor =
+    Sign sign.Open ∷ Keyword keyword.CurrentSnapshot ∷ Name ∷ Integer ∷ Sign sign.Minus ∷ ShortText ∷ Text ∷ []
 first rule.Operand = Keyword keyword.CurrentSnapshot ∷ Name ∷ Integer ∷ Sign sign.Minus ∷ ShortText ∷ Text ∷ []
 first rule.ColumnName = Name ∷ []
 first rule.Qualifier = Sign sign.Dot ∷ []
 first rule.Literal = Integer ∷ Sign sign.Minus ∷ ShortText ∷ Text ∷ []
-first rule.Condition = Keyword keyword.Not ∷ Sign sign.Open ∷ Keyword keyword.CurrentSnapshot ∷ Name ∷ Integer ∷ Sign sign.Minus ∷ ShortText ∷ Text ∷ []
+first rule.Condition =
+    Keyword keyword.Not ∷ Sign sign.Open ∷ Keyword keyword.CurrentSnapshot ∷ Name ∷ Integer ∷ Sign sign.Minus
+    ∷ ShortText ∷ Text ∷ []
 first rule.MoreConjunctions = Keyword keyword.Or ∷ []
-first rule.Conjunction = Keyword keyword.Not ∷ Sign sign.Open ∷ Keyword keyword.CurrentSnapshot ∷ Name ∷ Integer ∷ Sign sign.Minus ∷ ShortText ∷ Text ∷ []
+first rule.Conjunction =
+    Keyword keyword.Not ∷ Sign sign.Open ∷ Keyword keyword.CurrentSnapshot ∷ Name ∷ Integer ∷ Sign sign.Minus
+    ∷ ShortText ∷ Text ∷ []
 first rule.MoreNegations = Keyword keyword.And ∷ []
-first rule.Negation = Keyword keyword.Not ∷ Sign sign.Open ∷ Keyword keyword.CurrentSnapshot ∷ Name ∷ Integer ∷ Sign sign.Minus ∷ ShortText ∷ Text ∷ []
-first rule.Compared = Sign sign.Equal ∷ Sign sign.NotEqual ∷ Sign sign.Less ∷ Sign sign.AtMost ∷ Sign sign.Greater ∷ Sign sign.AtLeast ∷ []
+first rule.Negation =
+    Keyword keyword.Not ∷ Sign sign.Open ∷ Keyword keyword.CurrentSnapshot ∷ Name ∷ Integer ∷ Sign sign.Minus
+    ∷ ShortText ∷ Text ∷ []
+first rule.Compared =
+    Sign sign.Equal ∷ Sign sign.NotEqual ∷ Sign sign.Less ∷ Sign sign.AtMost ∷ Sign sign.Greater ∷ Sign sign.AtLeast
+    ∷ []
 first rule.SnapshotChoice = Keyword keyword.With ∷ []
 first rule.Argument = ShortText ∷ Text ∷ LongText ∷ []
 first rule.LabelChoice = ShortText ∷ []
@@ -100,14 +132,17 @@ follow rule.MoreAssignments = Keyword keyword.Where ∷ End ∷ []
 follow rule.Where = End ∷ Keyword keyword.Group ∷ Keyword keyword.Order ∷ Keyword keyword.Limit ∷ []
 follow rule.Selected = End ∷ []
 follow rule.Query = End ∷ []
-follow rule.List = Sign sign.Comma ∷ Keyword keyword.Where ∷ Keyword keyword.Group ∷ Keyword keyword.Order ∷ Keyword keyword.Limit ∷ End ∷ []
+follow rule.List =
+    Sign sign.Comma ∷ Keyword keyword.Where ∷ Keyword keyword.Group ∷ Keyword keyword.Order ∷ Keyword keyword.Limit
+    ∷ End ∷ []
 follow rule.MoreOutputs = Keyword keyword.From ∷ []
 follow rule.Output = Sign sign.Comma ∷ Keyword keyword.From ∷ []
 follow rule.OutputValue = Keyword keyword.As ∷ Sign sign.Comma ∷ Keyword keyword.From ∷ []
 follow rule.Counted = Keyword keyword.As ∷ Sign sign.Comma ∷ Keyword keyword.From ∷ []
 follow rule.OutputName = Sign sign.Comma ∷ Keyword keyword.From ∷ []
 follow rule.Clauses = End ∷ []
-follow rule.Second = Keyword keyword.Where ∷ Keyword keyword.Group ∷ Keyword keyword.Order ∷ Keyword keyword.Limit ∷ End ∷ []
+follow rule.Second =
+    Keyword keyword.Where ∷ Keyword keyword.Group ∷ Keyword keyword.Order ∷ Keyword keyword.Limit ∷ End ∷ []
 follow rule.Grouping = Keyword keyword.Order ∷ Keyword keyword.Limit ∷ End ∷ []
 follow rule.MoreGroups = Keyword keyword.Order ∷ Keyword keyword.Limit ∷ End ∷ []
 follow rule.Ordering = Keyword keyword.Limit ∷ End ∷ []
@@ -115,22 +150,59 @@ follow rule.MoreKeys = Keyword keyword.Limit ∷ End ∷ []
 follow rule.Key = Sign sign.Comma ∷ Keyword keyword.Limit ∷ End ∷ []
 follow rule.SortDirection = Sign sign.Comma ∷ Keyword keyword.Limit ∷ End ∷ []
 follow rule.Limit = End ∷ []
-follow rule.Value = Sign sign.Close ∷ Sign sign.Comma ∷ Keyword keyword.Where ∷ End ∷ Keyword keyword.As ∷ Keyword keyword.From ∷ []
-follow rule.Expression = Sign sign.Close ∷ Sign sign.Comma ∷ Keyword keyword.Where ∷ End ∷ Keyword keyword.As ∷ Keyword keyword.From ∷ []
-follow rule.MoreTerms = Sign sign.Close ∷ Sign sign.Comma ∷ Keyword keyword.Where ∷ End ∷ Keyword keyword.As ∷ Keyword keyword.From ∷ []
-follow rule.Term = Sign sign.Plus ∷ Sign sign.Minus ∷ Sign sign.Close ∷ Sign sign.Comma ∷ Keyword keyword.Where ∷ End ∷ Keyword keyword.As ∷ Keyword keyword.From ∷ []
-follow rule.MoreFactors = Sign sign.Plus ∷ Sign sign.Minus ∷ Sign sign.Close ∷ Sign sign.Comma ∷ Keyword keyword.Where ∷ End ∷ Keyword keyword.As ∷ Keyword keyword.From ∷ []
-follow rule.Factor = Sign sign.Star ∷ Sign sign.Plus ∷ Sign sign.Minus ∷ Sign sign.Close ∷ Sign sign.Comma ∷ Keyword keyword.Where ∷ End ∷ Keyword keyword.As ∷ Keyword keyword.From ∷ []
-follow rule.Operand = Sign sign.Star ∷ Keyword keyword.And ∷ Sign sign.Plus ∷ Sign sign.Minus ∷ Sign sign.Close ∷ Sign sign.Comma ∷ Keyword keyword.Where ∷ End ∷ Keyword keyword.As ∷ Keyword keyword.From ∷ Sign sign.Equal ∷ Sign sign.NotEqual ∷ Sign sign.Less ∷ Sign sign.AtMost ∷ Sign sign.Greater ∷ Sign sign.AtLeast ∷ Keyword keyword.Or ∷ Keyword keyword.Group ∷ Keyword keyword.Order ∷ Keyword keyword.Limit ∷ []
-follow rule.ColumnName = Sign sign.Comma ∷ Sign sign.Star ∷ Keyword keyword.Order ∷ Keyword keyword.Limit ∷ End ∷ Keyword keyword.Asc ∷ Keyword keyword.Desc ∷ Keyword keyword.And ∷ Sign sign.Plus ∷ Sign sign.Minus ∷ Sign sign.Close ∷ Keyword keyword.Where ∷ Keyword keyword.As ∷ Keyword keyword.From ∷ Sign sign.Equal ∷ Sign sign.NotEqual ∷ Sign sign.Less ∷ Sign sign.AtMost ∷ Sign sign.Greater ∷ Sign sign.AtLeast ∷ Keyword keyword.Or ∷ Keyword keyword.Group ∷ []
-follow rule.Qualifier = Sign sign.Comma ∷ Sign sign.Star ∷ Keyword keyword.Order ∷ Keyword keyword.Limit ∷ End ∷ Keyword keyword.Asc ∷ Keyword keyword.Desc ∷ Keyword keyword.And ∷ Sign sign.Plus ∷ Sign sign.Minus ∷ Sign sign.Close ∷ Keyword keyword.Where ∷ Keyword keyword.As ∷ Keyword keyword.From ∷ Sign sign.Equal ∷ Sign sign.NotEqual ∷ Sign sign.Less ∷ Sign sign.AtMost ∷ Sign sign.Greater ∷ Sign sign.AtLeast ∷ Keyword keyword.Or ∷ Keyword keyword.Group ∷ []
-follow rule.Literal = Sign sign.Comma ∷ Sign sign.Star ∷ Sign sign.Close ∷ Keyword keyword.And ∷ Sign sign.Plus ∷ Sign sign.Minus ∷ Keyword keyword.Where ∷ End ∷ Keyword keyword.As ∷ Keyword keyword.From ∷ Sign sign.Equal ∷ Sign sign.NotEqual ∷ Sign sign.Less ∷ Sign sign.AtMost ∷ Sign sign.Greater ∷ Sign sign.AtLeast ∷ Keyword keyword.Or ∷ Keyword keyword.Group ∷ Keyword keyword.Order ∷ Keyword keyword.Limit ∷ []
-follow rule.Condition = End ∷ Sign sign.Close ∷ Keyword keyword.Group ∷ Keyword keyword.Order ∷ Keyword keyword.Limit ∷ []
-follow rule.MoreConjunctions = End ∷ Sign sign.Close ∷ Keyword keyword.Group ∷ Keyword keyword.Order ∷ Keyword keyword.Limit ∷ []
-follow rule.Conjunction = Keyword keyword.Or ∷ End ∷ Sign sign.Close ∷ Keyword keyword.Group ∷ Keyword keyword.Order ∷ Keyword keyword.Limit ∷ []
-follow rule.MoreNegations = Keyword keyword.Or ∷ End ∷ Sign sign.Close ∷ Keyword keyword.Group ∷ Keyword keyword.Order ∷ Keyword keyword.Limit ∷ []
-follow rule.Negation = Keyword keyword.And ∷ Keyword keyword.Or ∷ End ∷ Sign sign.Close ∷ Keyword keyword.Group ∷ Keyword keyword.Order ∷ Keyword keyword.Limit ∷ []
-follow rule.Compared = Keyword keyword.And ∷ Keyword keyword.Or ∷ End ∷ Sign sign.Close ∷ Keyword keyword.Group ∷ Keyword keyword.Order ∷ Keyword keyword.Limit ∷ []
+follow rule.Value =
+    Sign sign.Close ∷ Sign sign.Comma ∷ Keyword keyword.Where ∷ End ∷ Keyword keyword.As ∷ Keyword keyword.From ∷ []
+follow rule.Expression =
+    Sign sign.Close ∷ Sign sign.Comma ∷ Keyword keyword.Where ∷ End ∷ Keyword keyword.As ∷ Keyword keyword.From ∷ []
+follow rule.MoreTerms =
+    Sign sign.Close ∷ Sign sign.Comma ∷ Keyword keyword.Where ∷ End ∷ Keyword keyword.As ∷ Keyword keyword.From ∷ []
+follow rule.Term =
+    Sign sign.Plus ∷ Sign sign.Minus ∷ Sign sign.Close ∷ Sign sign.Comma ∷ Keyword keyword.Where ∷ End
+    ∷ Keyword keyword.As ∷ Keyword keyword.From ∷ []
+follow rule.MoreFactors =
+    Sign sign.Plus ∷ Sign sign.Minus ∷ Sign sign.Close ∷ Sign sign.Comma ∷ Keyword keyword.Where ∷ End
+    ∷ Keyword keyword.As ∷ Keyword keyword.From ∷ []
+follow rule.Factor =
+    Sign sign.Star ∷ Sign sign.Plus ∷ Sign sign.Minus ∷ Sign sign.Close ∷ Sign sign.Comma ∷ Keyword keyword.Where ∷ End
+    ∷ Keyword keyword.As ∷ Keyword keyword.From ∷ []
+follow rule.Operand =
+    Sign sign.Star ∷ Keyword keyword.And ∷ Sign sign.Plus ∷ Sign sign.Minus ∷ Sign sign.Close ∷ Sign sign.Comma
+    ∷ Keyword keyword.Where ∷ End ∷ Keyword keyword.As ∷ Keyword keyword.From ∷ Sign sign.Equal ∷ Sign sign.NotEqual
+    ∷ Sign sign.Less ∷ Sign sign.AtMost ∷ Sign sign.Greater ∷ Sign sign.AtLeast ∷ Keyword keyword.Or
+    ∷ Keyword keyword.Group ∷ Keyword keyword.Order ∷ Keyword keyword.Limit ∷ []
+follow rule.ColumnName =
+    Sign sign.Comma ∷ Sign sign.Star ∷ Keyword keyword.Order ∷ Keyword keyword.Limit ∷ End ∷ Keyword keyword.Asc
+    ∷ Keyword keyword.Desc ∷ Keyword keyword.And ∷ Sign sign.Plus ∷ Sign sign.Minus ∷ Sign sign.Close
+    ∷ Keyword keyword.Where ∷ Keyword keyword.As ∷ Keyword keyword.From ∷ Sign sign.Equal ∷ Sign sign.NotEqual
+    ∷ Sign sign.Less ∷ Sign sign.AtMost ∷ Sign sign.Greater ∷ Sign sign.AtLeast ∷ Keyword keyword.Or
+    ∷ Keyword keyword.Group ∷ []
+follow rule.Qualifier =
+    Sign sign.Comma ∷ Sign sign.Star ∷ Keyword keyword.Order ∷ Keyword keyword.Limit ∷ End ∷ Keyword keyword.Asc
+    ∷ Keyword keyword.Desc ∷ Keyword keyword.And ∷ Sign sign.Plus ∷ Sign sign.Minus ∷ Sign sign.Close
+    ∷ Keyword keyword.Where ∷ Keyword keyword.As ∷ Keyword keyword.From ∷ Sign sign.Equal ∷ Sign sign.NotEqual
+    ∷ Sign sign.Less ∷ Sign sign.AtMost ∷ Sign sign.Greater ∷ Sign sign.AtLeast ∷ Keyword keyword.Or
+    ∷ Keyword keyword.Group ∷ []
+follow rule.Literal =
+    Sign sign.Comma ∷ Sign sign.Star ∷ Sign sign.Close ∷ Keyword keyword.And ∷ Sign sign.Plus ∷ Sign sign.Minus
+    ∷ Keyword keyword.Where ∷ End ∷ Keyword keyword.As ∷ Keyword keyword.From ∷ Sign sign.Equal ∷ Sign sign.NotEqual
+    ∷ Sign sign.Less ∷ Sign sign.AtMost ∷ Sign sign.Greater ∷ Sign sign.AtLeast ∷ Keyword keyword.Or
+    ∷ Keyword keyword.Group ∷ Keyword keyword.Order ∷ Keyword keyword.Limit ∷ []
+follow rule.Condition =
+    End ∷ Sign sign.Close ∷ Keyword keyword.Group ∷ Keyword keyword.Order ∷ Keyword keyword.Limit ∷ []
+follow rule.MoreConjunctions =
+    End ∷ Sign sign.Close ∷ Keyword keyword.Group ∷ Keyword keyword.Order ∷ Keyword keyword.Limit ∷ []
+follow rule.Conjunction =
+    Keyword keyword.Or ∷ End ∷ Sign sign.Close ∷ Keyword keyword.Group ∷ Keyword keyword.Order ∷ Keyword keyword.Limit
+    ∷ []
+follow rule.MoreNegations =
+    Keyword keyword.Or ∷ End ∷ Sign sign.Close ∷ Keyword keyword.Group ∷ Keyword keyword.Order ∷ Keyword keyword.Limit
+    ∷ []
+follow rule.Negation =
+    Keyword keyword.And ∷ Keyword keyword.Or ∷ End ∷ Sign sign.Close ∷ Keyword keyword.Group ∷ Keyword keyword.Order
+    ∷ Keyword keyword.Limit ∷ []
+follow rule.Compared =
+    Keyword keyword.And ∷ Keyword keyword.Or ∷ End ∷ Sign sign.Close ∷ Keyword keyword.Group ∷ Keyword keyword.Order
+    ∷ Keyword keyword.Limit ∷ []
 follow rule.SnapshotChoice = End ∷ []
 follow rule.Argument = Sign sign.Comma ∷ Sign sign.Close ∷ []
 follow rule.LabelChoice = End ∷ []

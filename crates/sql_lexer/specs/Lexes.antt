@@ -17,10 +17,13 @@ abbrev pub EndsBefore : (ℕ → Bool) → List ℕ → Type 0
 EndsBefore test [] = Unit {0}
 EndsBefore test (b ∷ bs) = test b ≡ false
 
--- The byte at this offset is the first that is part of no token: it begins none and is no blank, or it stands in a text and is not printable.
+-- The byte at this offset is the first that is part of no token: it begins none and is no blank, or it stands in a text
+-- and is not printable.
 pub data IsBadAt : ℕ → List ℕ → Type 0 where
-  outside : {b : ℕ} {rest : List ℕ} → is_blank b ≡ false → ((token : Token) (more : List ℕ) → Spells (b ∷ more) token → ⊥) → IsBadAt 0 (b ∷ rest)
-  inside : {bytes : List ℕ} (text : List ℕ) (b : ℕ) (rest : List ℕ) → AllByRecursion IsPrintable text → ¬ IsPrintable b → bytes ≡ quote ∷ doubled text ++ b ∷ rest → IsBadAt (1 + length (doubled text)) bytes
+  outside : {b : ℕ} {rest : List ℕ} → is_blank b ≡ false →
+      ((token : Token) (more : List ℕ) → Spells (b ∷ more) token → ⊥) → IsBadAt 0 (b ∷ rest)
+  inside : {bytes : List ℕ} (text : List ℕ) (b : ℕ) (rest : List ℕ) → AllByRecursion IsPrintable text →
+      ¬ IsPrintable b → bytes ≡ quote ∷ doubled text ++ b ∷ rest → IsBadAt (1 + length (doubled text)) bytes
 
 -- the bytes are a text that has no end
 abbrev pub IsUnclosed : List ℕ → Type 0
@@ -29,14 +32,20 @@ IsUnclosed bytes = (text : List ℕ) × AllByRecursion IsPrintable text × (byte
 -- The tokens of the bytes that stand from a place on, each with the place of its first byte, and how they end.
 pub data Lexes : ℕ → List ℕ → List Placed → Ending → Type 0 where
   whole : {place : ℕ} → Lexes place [] [] Whole
-  blank : {place b : ℕ} {rest : List ℕ} {tokens : List Placed} {ending : Ending} → is_blank b ≡ true → Lexes (place + 1) rest tokens ending → Lexes place (b ∷ rest) tokens ending
-  token : {place : ℕ} {bytes : List ℕ} {tokens : List Placed} {ending : Ending} (t : Token) (spelt rest : List ℕ) → bytes ≡ spelt ++ rest → Spells spelt t → EndsBefore (goes_on t) rest → Lexes (place + length spelt) rest tokens ending → Lexes place bytes (record { token = t; place = place } ∷ tokens) ending
-  bad_byte : {place offset : ℕ} {bytes : List ℕ} → IsBadAt offset bytes → Lexes place bytes [] (BadByte (place + offset))
+  blank : {place b : ℕ} {rest : List ℕ} {tokens : List Placed} {ending : Ending} → is_blank b ≡ true →
+      Lexes (place + 1) rest tokens ending → Lexes place (b ∷ rest) tokens ending
+  token : {place : ℕ} {bytes : List ℕ} {tokens : List Placed} {ending : Ending} (t : Token) (spelt rest : List ℕ) →
+      bytes ≡ spelt ++ rest → Spells spelt t → EndsBefore (goes_on t) rest →
+      Lexes (place + length spelt) rest tokens ending →
+      Lexes place bytes (record { token = t; place = place } ∷ tokens) ending
+  bad_byte : {place offset : ℕ} {bytes : List ℕ} → IsBadAt offset bytes →
+      Lexes place bytes [] (BadByte (place + offset))
   unclosed : {place : ℕ} {bytes : List ℕ} → IsUnclosed bytes → Lexes place bytes [] Unclosed
 
 -- no line has two lists of tokens or two endings
 abbrev pub HasOneReading : Type 0
-HasOneReading = (line : List ℕ) (tokens others : List Placed) (ending other : Ending) → Lexes 0 line tokens ending → Lexes 0 line others other → (tokens ≡ others) × (ending ≡ other)
+HasOneReading = (line : List ℕ) (tokens others : List Placed) (ending other : Ending) → Lexes 0 line tokens ending →
+    Lexes 0 line others other → (tokens ≡ others) × (ending ≡ other)
 
 -- every line has a list of tokens and an ending
 abbrev pub EveryLineLexes : Type 0

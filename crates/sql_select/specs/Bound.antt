@@ -25,7 +25,8 @@ use Rattle.sql_select.specs.Select.{groups_by}
 use Rattle.sql_select.specs.declared.outputs.BoundList.{BoundList}
 use Rattle.sql_select.specs.declared.outputs.BoundList.TheVariants.{All, Outputs}
 use Rattle.sql_select.specs.declared.outputs.BoundOutput.{BoundOutput}
-use Rattle.sql_select.specs.declared.outputs.BoundOutput.TheVariants.{Value as ValueOutput, CountRows, Count, Sum, Extreme}
+use Rattle.sql_select.specs.declared.outputs.BoundOutput.TheVariants.{Value as ValueOutput, CountRows, Count, Sum,
+    Extreme}
 
 -- whether a row is kept
 abbrev pub keeps_by : Option BoundCondition → List Value → Result Bool Refusal
@@ -46,7 +47,8 @@ summed_over at rows = do
   values ← each at rows
   sum_of values
 
-abbrev pub best_over : (Value → Value → Value) → (List Value → Result Value Refusal) → List (List Value) → Result Value Refusal
+abbrev pub best_over : (Value → Value → Value) → (List Value → Result Value Refusal) → List (List Value) →
+    Result Value Refusal
 best_over choose at rows = do
   values ← each at rows
   best_of choose values
@@ -93,12 +95,14 @@ row_by gives row = do
   outputs ← gives (row ∷ [])
   Ok (record { outputs = outputs; origin = row })
 
-abbrev pub row_by_group : (List (List Value) → Result (List Value) Refusal) → List (List Value) → Result OutputRow Refusal
+abbrev pub row_by_group : (List (List Value) → Result (List Value) Refusal) → List (List Value) →
+    Result OutputRow Refusal
 row_by_group gives rows = do
   outputs ← gives rows
   Ok (record { outputs = outputs; origin = [] })
 
-abbrev pub grouped_by : List TableSchema → List ColumnName → SelectList → (List (List Value) → Result (List Value) Refusal) → List (List Value) → Result (List OutputRow) Refusal
+abbrev pub grouped_by : List TableSchema → List ColumnName → SelectList →
+    (List (List Value) → Result (List Value) Refusal) → List (List Value) → Result (List OutputRow) Refusal
 grouped_by scope columns list.All gives rows = Err WrongType
 grouped_by scope columns (list.Outputs outputs) gives rows = do
   groups ← groups_by scope columns outputs rows

@@ -25,7 +25,8 @@ keys_of rows = firsts same_row (map (λ (keyed : KeyedRow). keyed.key) rows)
 
 -- the rows of a key, in order
 abbrev pub rows_of_key : List KeyedRow → List Value → List (List Value)
-rows_of_key rows key = map (λ (keyed : KeyedRow). keyed.row) (filter (λ (keyed : KeyedRow). same_row key keyed.key) rows)
+rows_of_key rows key =
+    map (λ (keyed : KeyedRow). keyed.row) (filter (λ (keyed : KeyedRow). same_row key keyed.key) rows)
 
 -- GROUP BY: one group for each key, in order of first appearance
 abbrev pub groups : List KeyedRow → List (List (List Value))

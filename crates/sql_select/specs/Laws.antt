@@ -29,7 +29,8 @@ OrderKeepsRows = (keys : List SortKey) (rows : List OutputRow) → IsInOrder key
 
 -- LIMIT gives a front of the rows
 abbrev pub LimitGivesAFront : Type 0
-LimitGivesAFront = (limit : Option ℕ) (rows : List OutputRow) → (others : List OutputRow) × (limited limit rows ++ others ≡ rows)
+LimitGivesAFront = (limit : Option ℕ) (rows : List OutputRow) → (others : List OutputRow)
+    × (limited limit rows ++ others ≡ rows)
 
 -- DISTINCT leaves each row's outputs, and no two rows with the same ones
 pub record IsDistinctOf (before after : List OutputRow) : Type 0 where
@@ -41,7 +42,8 @@ DistinctLeavesOne = (rows : List OutputRow) → IsDistinctOf rows (distinct rows
 
 -- no group of GROUP BY is empty
 abbrev pub GroupsAreNotEmpty : Type 0
-GroupsAreNotEmpty = (rows : List KeyedRow) → AllByRecursion (λ (group : List (List Value)). 1 ≤ length group) (groups rows)
+GroupsAreNotEmpty =
+    (rows : List KeyedRow) → AllByRecursion (λ (group : List (List Value)). 1 ≤ length group) (groups rows)
 
 -- MIN is one of the values, and none of them is less
 pub record IsLeast (values : List Value) (least : Value) : Type 0 where
@@ -53,6 +55,10 @@ MinIsLeast = (values : List Value) (least : Value) → least_of values ≡ Ok le
 
 -- `SELECT * FROM table [ , second ]` gives the joined rows
 abbrev pub StarGivesRows : Type 0
-StarGivesRows = (table : List ℕ) (second : Option (List ℕ)) (scope : List TableSchema) (columns : List Column) (snapshot : Option ℕ) (firsts : List (List Value)) (seconds : Option (List (List Value))) →
-    answer (record { distinct = false; list = star; table = table; second = second; condition = None; group_by = []; order_by = []; limit = None }) scope columns snapshot firsts seconds
+StarGivesRows =
+    (table : List ℕ) (second : Option (List ℕ)) (scope : List TableSchema) (columns : List Column) (snapshot : Option ℕ)
+    (firsts : List (List Value)) (seconds : Option (List (List Value))) →
+    answer (record
+    { distinct = false; list = star; table = table; second = second; condition = None; group_by = []; order_by = [];
+    limit = None }) scope columns snapshot firsts seconds
     ≡ Ok (record { columns = columns; rows = joined_rows firsts seconds })

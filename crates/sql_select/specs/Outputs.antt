@@ -47,7 +47,8 @@ output_over scope snapshot rows (value.Aggregate aggregate) = aggregate_over sco
 -- the outputs over the rows of a group; `*` gives all columns of the first
 abbrev pub outputs_over : List TableSchema → Option ℕ → SelectList → List (List Value) → Result (List Value) Refusal
 outputs_over scope snapshot All rows = Ok (first_row rows)
-outputs_over scope snapshot (Outputs outputs) rows = each (λ (output : Output). output_over scope snapshot rows output.value) outputs
+outputs_over scope snapshot (Outputs outputs) rows =
+    each (λ (output : Output). output_over scope snapshot rows output.value) outputs
 
 -- whether an output has a value over no rows
 abbrev pub is_there_over_none : OutputValue → Bool

@@ -1,6 +1,8 @@
--- The answer of a select. The first refusal stands: of WHERE, row by row; then of the outputs, row by row and from left to right
--- (over groups: of the columns of GROUP BY, row by row, then of the outputs, group by group); then of the keys of ORDER BY.
-use Rattle.std.specs.Prelude.{◌||◌, ℕ, Bool, true, false, not, List, [], ◌∷◌, map, take, Option, Some, None, Result, Ok, Err, if◌then◌else◌}
+-- The answer of a select. The first refusal stands: of WHERE, row by row; then of the outputs, row by row and from left
+-- to right (over groups: of the columns of GROUP BY, row by row, then of the outputs, group by group); then of the keys
+-- of ORDER BY.
+use Rattle.std.specs.Prelude.{◌||◌, ℕ, Bool, true, false, not, List, [], ◌∷◌, map, take, Option, Some, None, Result, Ok,
+    Err, if◌then◌else◌}
 use Rattle.std.specs.List.{list_all}
 use Rattle.retro_base.specs.Gives.{◌>>=◌}
 use Rattle.retro_base.specs.declared.refusal.Refusal.{Refusal}
@@ -37,10 +39,12 @@ keyed_row scope columns row = do
 
 -- the one group of a select without GROUP BY: all rows; of no rows only where each output has a value over none
 abbrev pub single_group : List Output → List (List Value) → List (List (List Value))
-single_group outputs [] = if list_all (λ (output : Output). is_there_over_none output.value) outputs then [] ∷ [] else []
+single_group outputs [] = if list_all (λ (output : Output). is_there_over_none output.value) outputs then [] ∷ []
+    else []
 single_group outputs (row ∷ rows) = (row ∷ rows) ∷ []
 
-abbrev pub groups_by : List TableSchema → List ColumnName → List Output → List (List Value) → Result (List (List (List Value))) Refusal
+abbrev pub groups_by : List TableSchema → List ColumnName → List Output → List (List Value) →
+    Result (List (List (List Value))) Refusal
 groups_by scope [] outputs rows = Ok (single_group outputs rows)
 groups_by scope (column ∷ columns) outputs rows = do
   keyed ← each (keyed_row scope (column ∷ columns)) rows
@@ -59,7 +63,8 @@ row_of_row scope snapshot list row = do
   Ok (record { outputs = outputs; origin = row })
 
 -- one row of the answer for each group; `*` is no output of a group
-abbrev pub rows_of_groups : List TableSchema → Option ℕ → List ColumnName → SelectList → List (List Value) → Result (List OutputRow) Refusal
+abbrev pub rows_of_groups : List TableSchema → Option ℕ → List ColumnName → SelectList → List (List Value) →
+    Result (List OutputRow) Refusal
 rows_of_groups scope snapshot columns All rows = Err WrongType
 rows_of_groups scope snapshot columns (Outputs outputs) rows = do
   groups ← groups_by scope columns outputs rows
@@ -86,7 +91,8 @@ key_place false None column = Err UnknownName
 -- where the value of a key stands
 abbrev pub sort_key : Select → List TableSchema → List Column → OrderKey → Result SortKey Refusal
 sort_key select scope columns key = do
-  place ← key_place (not (is_grouped select || select.distinct)) (output_place columns key.column.table key.column.column) (place_of scope key.column)
+  place ← key_place (not (is_grouped select || select.distinct))
+      (output_place columns key.column.table key.column.column) (place_of scope key.column)
   Ok (record { place = place; direction = key.direction })
 
 -- LIMIT
@@ -103,7 +109,8 @@ finished select keys rows =
     map outputs_of (limited select.limit (sorted_by keys (if select.distinct then distinct rows else rows)))
 
 -- the answer with these columns, over the rows of the first table and, where there is one, of the second
-abbrev pub answer : Select → List TableSchema → List Column → Option ℕ → List (List Value) → Option (List (List Value)) → Result Answer Refusal
+abbrev pub answer : Select → List TableSchema → List Column → Option ℕ → List (List Value) →
+    Option (List (List Value)) → Result Answer Refusal
 answer select scope columns snapshot firsts seconds = do
   rows ← kept (holds_at scope snapshot select.condition) (joined_rows firsts seconds)
   found ← output_rows scope snapshot select rows

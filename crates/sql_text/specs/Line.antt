@@ -25,16 +25,18 @@ Says ts p = (os : List Op) × IsSentence rule.Sentence ts os × (built os ≡ So
 abbrev pub Spells : List ℕ → Parsed → Type 0
 Spells line p = (ts : List Placed) × Lexes 0 line ts Whole × Says (tokens_of ts) p
 
--- The place at which the syntax of the tokens of a line breaks: a byte of no token before all else, then the first token
--- with which those so far begin no sentence, and then the line's end.
+-- The place at which the syntax of the tokens of a line breaks: a byte of no token before all else, then the first
+-- token with which those so far begin no sentence, and then the line's end.
 abbrev pub FaultAt : List Placed → Ending → ℕ → ℕ → Type 0
 FaultAt ts Whole end place = (count : ℕ) × Breaks rule.Sentence (tokens_of ts) count × (place ≡ place_at ts count end)
 FaultAt ts (BadByte bad) end place = place ≡ bad
-FaultAt ts Unclosed end place = (count : ℕ) × Reaches rule.Sentence (tokens_of ts) count × (place ≡ place_at ts count end)
+FaultAt ts Unclosed end place = (count : ℕ) × Reaches rule.Sentence (tokens_of ts) count
+    × (place ≡ place_at ts count end)
 
 -- the syntax of the line breaks at the place
 abbrev pub SyntaxAt : List ℕ → ℕ → Type 0
-SyntaxAt line place = (ts : List Placed) × (ending : Ending) × Lexes 0 line ts ending × FaultAt ts ending (length line) place
+SyntaxAt line place = (ts : List Placed) × (ending : Ending) × Lexes 0 line ts ending
+    × FaultAt ts ending (length line) place
 
 -- what a line may be refused for
 abbrev pub IsRefused : List ℕ → Refusal → Type 0

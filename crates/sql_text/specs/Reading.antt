@@ -20,7 +20,8 @@ pub record IsSaid (ts : List Token) (p : Parsed) : Type 0 where
 
 -- the token at the place is the first with which those so far begin no sentence
 abbrev pub StopsAt : List Placed → ℕ → Type 0
-StopsAt ts place = (count : ℕ) × (count < length ts) × Reaches rule.Sentence (tokens_of ts) count × ((end : ℕ) → place ≡ place_at ts count end)
+StopsAt ts place = (count : ℕ) × (count < length ts) × Reaches rule.Sentence (tokens_of ts) count
+    × ((end : ℕ) → place ≡ place_at ts count end)
 
 -- why tokens were not taken
 abbrev pub IsRefusedAmong : List Placed → Refusal → Type 0

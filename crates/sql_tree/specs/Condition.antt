@@ -29,7 +29,8 @@ grown step.And (b ∷ a ∷ ts) = Some (And a b ∷ ts)
 grown step.Or (b ∷ a ∷ ts) = Some (Or a b ∷ ts)
 grown _ _ = None
 
-abbrev pub goes_on : Option (List ConditionTree) → (List ConditionTree → Option (List ConditionTree)) → Option (List ConditionTree)
+abbrev pub goes_on : Option (List ConditionTree) → (List ConditionTree → Option (List ConditionTree)) →
+    Option (List ConditionTree)
 goes_on None f = None
 goes_on (Some ts) f = f ts
 

@@ -28,7 +28,8 @@ grown step.CurrentSnapshot ts = Some (CurrentSnapshot ∷ ts)
 grown (step.Apply o) (b ∷ a ∷ ts) = Some (Apply o a b ∷ ts)
 grown (step.Apply o) _ = None
 
-abbrev pub goes_on : Option (List ExpressionTree) → (List ExpressionTree → Option (List ExpressionTree)) → Option (List ExpressionTree)
+abbrev pub goes_on : Option (List ExpressionTree) → (List ExpressionTree → Option (List ExpressionTree)) →
+    Option (List ExpressionTree)
 goes_on None f = None
 goes_on (Some ts) f = f ts
 

@@ -1,5 +1,6 @@
 -- The columns that a column name may stand for: those of one table, or of two side by side.
-use Rattle.std.specs.Prelude.{◌+◌, ◌++◌, ◌<◌, ◌==◌, ◌^◌, ℕ, Bool, true, Option, Some, None, List, [], ◌∷◌, length, slice_get, if◌then◌else◌}
+use Rattle.std.specs.Prelude.{◌+◌, ◌++◌, ◌<◌, ◌==◌, ◌^◌, ℕ, Bool, true, Option, Some, None, List, [], ◌∷◌, length,
+    slice_get, if◌then◌else◌}
 use Rattle.std.specs.Cmp.Lexicographic.{pointwise}
 use Rattle.std.specs.List.{position}
 use Rattle.std.specs.Option.{option_map, option_to_list}
@@ -24,7 +25,8 @@ place_within source name = if may_be_of name.table source then column_place name
 abbrev pub places : ℕ → List TableSchema → ColumnName → List ℕ
 places at [] name = []
 places at (source ∷ sources) name =
-    option_to_list (option_map (λ place. at + place) (place_within source name)) ++ places (at + length source.columns) sources name
+    option_to_list (option_map (λ place. at + place) (place_within source name)) ++ places
+    (at + length source.columns) sources name
 
 -- a plain name is that of one column alone; behind a table's name it is that of the first
 abbrev pub chosen : Option (List ℕ) → List ℕ → Option ℕ

@@ -21,7 +21,8 @@ IsSelect s = IsList s.list
 abbrev pub IsStatement : Statement → Type 0
 IsStatement (statement.CreateTable t) = (1 ≤ length t.columns) × (length t.columns ≤ 16)
 IsStatement (statement.CreateIndex i) = Unit {0}
-IsStatement (statement.Insert i) = (1 ≤ length i.tuples) × AllByRecursion (λ (tuple : List Value). 1 ≤ length tuple) i.tuples
+IsStatement (statement.Insert i) =
+    (1 ≤ length i.tuples) × AllByRecursion (λ (tuple : List Value). 1 ≤ length tuple) i.tuples
 IsStatement (statement.Update u) = 1 ≤ length u.assignments
 IsStatement (statement.Delete d) = Unit {0}
 IsStatement (statement.Select s) = IsSelect s

@@ -57,13 +57,15 @@ pushed value stack = do
   x ← value
   Ok (x ∷ stack)
 
-abbrev pub stepped : List TableSchema → Option ℕ → List Value → ExpressionStep → List Value → Result (List Value) Refusal
+abbrev pub stepped : List TableSchema → Option ℕ → List Value → ExpressionStep → List Value →
+    Result (List Value) Refusal
 stepped scope snapshot row (Literal value) stack = Ok (value ∷ stack)
 stepped scope snapshot row (Column name) stack = pushed (column_value scope row name) stack
 stepped scope snapshot row CurrentSnapshot stack = pushed (snapshot_value snapshot) stack
 stepped scope snapshot row (Apply operator) stack = apply_top operator stack
 
-abbrev pub run : List TableSchema → Option ℕ → List Value → List ExpressionStep → List Value → Result (List Value) Refusal
+abbrev pub run : List TableSchema → Option ℕ → List Value → List ExpressionStep → List Value →
+    Result (List Value) Refusal
 run scope snapshot row [] stack = Ok stack
 run scope snapshot row (s ∷ ss) stack = do
   next ← stepped scope snapshot row s stack
@@ -78,7 +80,8 @@ abbrev pub two_truths : (Bool → Bool → Bool) → List Bool → Result (List 
 two_truths f (b ∷ a ∷ stack) = Ok (f a b ∷ stack)
 two_truths f _ = Err WrongType
 
-abbrev pub comparison_value : List TableSchema → Option ℕ → List Value → Operand → Comparison → Operand → Result Bool Refusal
+abbrev pub comparison_value : List TableSchema → Option ℕ → List Value → Operand → Comparison → Operand →
+    Result Bool Refusal
 comparison_value scope snapshot row left comparison right = do
   a ← operand_value scope snapshot row left
   b ← operand_value scope snapshot row right
@@ -90,7 +93,8 @@ judged scope snapshot row Not stack = one_truth not stack
 judged scope snapshot row And stack = two_truths ◌&&◌ stack
 judged scope snapshot row Or stack = two_truths ◌||◌ stack
 
-abbrev pub judge : List TableSchema → Option ℕ → List Value → List ConditionStep → List Bool → Result (List Bool) Refusal
+abbrev pub judge : List TableSchema → Option ℕ → List Value → List ConditionStep → List Bool →
+    Result (List Bool) Refusal
 judge scope snapshot row [] stack = Ok stack
 judge scope snapshot row (s ∷ ss) stack = do
   next ← judged scope snapshot row s stack

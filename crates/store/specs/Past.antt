@@ -130,7 +130,8 @@ module _ {D : Type 0} (is_honest : D → Type 0) (state : D → State) (faults :
     pub visited : Visited is_honest state faults z old asked before after
     pub refused : IsPastRefusal new covered before.core.desk.queue.first fault
 
-module _ {D : Type 0} (is_honest : D → Type 0) (state : D → State) (faults : D → ℕ) (z : TableId) (covered before after : ℕ)
+module _ {D : Type 0} (is_honest : D → Type 0) (state : D → State) (faults : D → ℕ) (z : TableId)
+    (covered before after : ℕ)
   where
     -- In one visit to the vault no entry of the Maplog's levels was read where the table covered the mappings below a
     -- number; else no more than the bound of a scan of them from what it covered on.
@@ -139,7 +140,8 @@ module _ {D : Type 0} (is_honest : D → Type 0) (state : D → State) (faults :
       pub left : Running D
       pub visited : VisitedVault is_honest state faults z old new archive left
       pub none : upto ≤ covered → after ≡ before
-      pub cost : AddsAtMost (scan_bound covered upto (different (pages_in archive.side.levels covered upto))) before after
+      pub cost : AddsAtMost (scan_bound covered upto (different (pages_in archive.side.levels covered upto))) before
+          after
 
     -- No entry was read where the table covered all that the seat has seen the vault hold, or where the desk refused;
     -- else no more than the bound of a scan below a number that it had seen the vault hold.

@@ -10,7 +10,8 @@ use Rattle.history.specs.Lines.{doubt_in}
 use Rattle.history.specs.Right.{MayFollow}
 use Rattle.race_model.specs.Desk.{Desk}
 use Rattle.race_model.specs.Fits.{BatchFits}
-use Rattle.race_model.specs.Machine.{MayCut, MayEnter, MayLay, MayWrite, change_failed, cut_failed, enter_failed, stopped, write_failed}
+use Rattle.race_model.specs.Machine.{MayCut, MayEnter, MayLay, MayWrite, change_failed, cut_failed, enter_failed,
+    stopped, write_failed}
 use Rattle.race_model.specs.Vault.{Batch, Vault}
 use Rattle.archive.specs.Archive.{Running}
 use Rattle.archive.specs.Side.{ListsMaplogOf}
@@ -61,9 +62,9 @@ module _ {D : Type 0} (is_honest : D → Type 0) (state : D → State) where
     pub vault : VaultStands is_honest state archive side.start (journal side)
     pub acked : side.core.desk.queue.first ≤ archive.side.held
 
-  -- Whatever a crash leaves of the four within a call of the desk's devices, one of the archive's, or both, they open to
-  -- the history behind the journal, or to it with the change in doubt. The bytes of the pages and of the slots have the
-  -- sizes of these devices' files.
+  -- Whatever a crash leaves of the four within a call of the desk's devices, one of the archive's, or both, they open
+  -- to the history behind the journal, or to it with the change in doubt. The bytes of the pages and of the slots have
+  -- the sizes of these devices' files.
   abbrev pub LeftOpens : Type 0
   LeftOpens = (side : DeskSide D) (archive : Running D) (origin : Origin) (devices : Four (List ℕ))
       (doubt : Option Change) → StandTogether side archive origin →

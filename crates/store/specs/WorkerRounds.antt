@@ -1,6 +1,7 @@
 -- What a worker leaves, whose rounds come one behind the other.
 use Rattle.std.specs.declared.sync.OnceToken.{OnceToken}
-use Rattle.std.specs.Prelude.{◌≡◌, ◌⊎◌, ◌<◌, ◌≤◌, ◌+◌, ◌++◌, ℕ, Bool, true, false, List, [], ◌∷◌, Option, Some, None, is_some, Result, Ok, Err, IfOk, IfSome, OnOk}
+use Rattle.std.specs.Prelude.{◌≡◌, ◌⊎◌, ◌<◌, ◌≤◌, ◌+◌, ◌++◌, ℕ, Bool, true, false, List, [], ◌∷◌, Option, Some, None,
+    is_some, Result, Ok, Err, IfOk, IfSome, OnOk}
 use Rattle.atomic_table.specs.Seated.{TableId}
 use Rattle.disk_model.specs.Disk.{State}
 use Rattle.disk_model.specs.Moments.{Clock}
@@ -53,7 +54,8 @@ lines_left who result = []
 -- What a worker leaves at a seat, in the terms of the law: lines of others have come, and behind them the line of the
 -- fault that ended it, if one did, which is new.
 abbrev pub WorkerGives : {T : Type 0} → Who → View → View → Result T Refusal → Type 0
-WorkerGives who old new (Err (DiskFault device count)) = Adds old new who (Fault device count Write) Idle × IsNew new device count
+WorkerGives who old new (Err (DiskFault device count)) = Adds old new who (Fault device count Write) Idle
+    × IsNew new device count
 WorkerGives who old new result = Waits old new old.work
 
 -- the seat has recorded no line, or the store has stopped
@@ -136,8 +138,8 @@ module _ {D : Type 0} (is_honest : D → Type 0) (state : D → State) (faults :
   WorkerEnds Flusher result old new =
       EndsWith (WritesRound is_honest state faults z remembers clock who) flag result old new
 
-  -- The store had stopped when the seat asked, which did no more; or the worker ran, and left the line of the fault that
-  -- ended it, if one did.
+  -- The store had stopped when the seat asked, which did no more; or the worker ran, and left the line of the fault
+  -- that ended it, if one did.
   pub data HasWorked (kind : Worker) (answer : Option (Result Ended Refusal)) (old new : Sat D) : Type 0 where
     FoundStopped : answer ≡ None → Passes z old new → is_some (first_stop (seen new)) ≡ true →
         HasWorked kind answer old new

@@ -35,7 +35,8 @@ zero_pages count = replicate count (replicate PAGE_BYTES 0)
 
 -- its log lists a base alone, its Maplog no mapping, and its pages and slots are zero
 abbrev pub empty_contents : Version → Sizes → Contents
-empty_contents version sizes = contents_of (base_alone version (empty_base sizes)) (zero_pages sizes.pages) none_yet (zero_pages sizes.capacity)
+empty_contents version sizes =
+    contents_of (base_alone version (empty_base sizes)) (zero_pages sizes.pages) none_yet (zero_pages sizes.capacity)
 
 -- the store that is read of it
 abbrev pub empty_store : Sizes → Opened
@@ -65,7 +66,8 @@ pub record IsSettledZero (size : ℕ) (state : State) : Type 0 where
   pub durable : IsDurable state
 
 -- both logs are listed, pages and slots are zero, and nothing is loose
-pub record AreFilled {D : Type 0} (extent : D → ℕ) (state : D → State) (version : Version) (sizes : Sizes) (disks : Four D) : Type 0 where
+pub record AreFilled {D : Type 0} (extent : D → ℕ) (state : D → State) (version : Version) (sizes : Sizes)
+    (disks : Four D) : Type 0 where
   pub log : ListsLog (base_alone version (empty_base sizes)) (state disks.log).seen
   pub log_durable : IsDurable (state disks.log)
   pub pages : IsSettledZero (extent disks.pages) (state disks.pages)

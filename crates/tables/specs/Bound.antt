@@ -35,7 +35,8 @@ abbrev pub assigns : BoundAssignments → List Value → Result (List Value) Ref
 assigns bound row = assigns_all bound.assignments row row
 
 -- what UPDATE and DELETE make of a row, by what keeps rows and what sets their values
-abbrev pub updated_by : (List Value → Result Bool Refusal) → (List Value → Result (List Value) Refusal) → NumberedRow → Result (List NumberedRow × ℕ) Refusal
+abbrev pub updated_by : (List Value → Result Bool Refusal) → (List Value → Result (List Value) Refusal) → NumberedRow →
+    Result (List NumberedRow × ℕ) Refusal
 updated_by keeps sets row = do
   holds ← keeps row.row
   if holds then set_row row (sets row.row) else Ok (row ∷ [], 0)

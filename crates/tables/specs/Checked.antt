@@ -24,8 +24,13 @@ abbrev pub IsAnswerOf : List Column → Result Answer Refusal → Type 0
 IsAnswerOf columns (Ok answer) = (answer.columns ≡ columns) × AllFit columns answer.rows
 IsAnswerOf columns (Err why) = why ≡ Overflow
 
--- where its names are known and its types are right, a select has an answer whose rows fit its columns, unless a number leaves i64
+-- where its names are known and its types are right, a select has an answer whose rows fit its columns, unless a number
+-- leaves i64
 abbrev pub CheckedSelectsAnswer : Type 0
-CheckedSelectsAnswer = (select : Select) (scope : List TableSchema) (snapshot : Option ℕ) (firsts : List (List Value)) (seconds : Option (List (List Value))) →
-    select_has_unknown snapshot select scope ≡ false → select_is_mistyped select scope ≡ false → RowsFit scope firsts seconds →
-    IsAnswerOf (answer_columns scope select.list) (answer select scope (answer_columns scope select.list) snapshot firsts seconds)
+CheckedSelectsAnswer =
+    (select : Select) (scope : List TableSchema) (snapshot : Option ℕ) (firsts : List (List Value))
+    (seconds : Option (List (List Value))) →
+    select_has_unknown snapshot select scope ≡ false → select_is_mistyped select scope ≡ false →
+    RowsFit scope firsts seconds →
+    IsAnswerOf (answer_columns scope select.list)
+    (answer select scope (answer_columns scope select.list) snapshot firsts seconds)

@@ -1,5 +1,6 @@
 -- The meaning of a statement: what it does to the tables, and what it replies.
-use Rattle.std.specs.Prelude.{◌+◌, ◌-◌, ◌^◌, ◌++◌, ℕ, Bool, List, [], ◌∷◌, length, Option, Some, None, Result, Ok, Err, if◌then◌else◌, nat_le, slice_set}
+use Rattle.std.specs.Prelude.{◌+◌, ◌-◌, ◌^◌, ◌++◌, ℕ, Bool, List, [], ◌∷◌, length, Option, Some, None, Result, Ok, Err,
+    if◌then◌else◌, nat_le, slice_set}
 use Rattle.retro_base.specs.Gives.{◌>>=◌}
 use Rattle.retro_base.specs.declared.limits.TheConstants.{ROW_BYTES}
 use Rattle.retro_base.specs.declared.refusal.Refusal.{Refusal}
@@ -12,7 +13,8 @@ use Rattle.sql_tree.specs.declared.select.Select.{Select as SelectRecord}
 use Rattle.sql_tree.specs.declared.statement.Assignment.{Assignment}
 use Rattle.sql_tree.specs.declared.statement.Delete.{Delete as DeleteRecord}
 use Rattle.sql_tree.specs.declared.statement.Statement.{Statement}
-use Rattle.sql_tree.specs.declared.statement.Statement.TheVariants.{CreateTable, CreateIndex, Insert, Update, Delete, Select}
+use Rattle.sql_tree.specs.declared.statement.Statement.TheVariants.{CreateTable, CreateIndex, Insert, Update, Delete,
+    Select}
 use Rattle.sql_tree.specs.declared.statement.Update.{Update as UpdateRecord}
 use Rattle.sql_check.specs.Check.{checked}
 use Rattle.sql_check.specs.Outputs.{answer_columns}
@@ -39,17 +41,20 @@ known (Some x) = Ok x
 -- goes on where each encoded row takes at most 900 bytes; else the first that takes more is told
 abbrev pub check_lengths : List (List Value) → Result (Unit {0}) Refusal
 check_lengths [] = Ok tt
-check_lengths (row ∷ rows) = if nat_le (row_bytes row) ROW_BYTES then check_lengths rows else Err (RowTooLong (row_bytes row))
+check_lengths (row ∷ rows) =
+    if nat_le (row_bytes row) ROW_BYTES then check_lengths rows else Err (RowTooLong (row_bytes row))
 
 -- the tuples become the last rows, in their order, under the next row numbers; there must be numbers left for them
 abbrev pub inserted : List (List Value) → Contents → Result (Contents × ℕ) Refusal
 inserted tuples contents = do
   _ ← check (nat_le (contents.next + length tuples) (2 ^ 64 - 1)) Overflow
   _ ← check_lengths tuples
-  Ok (record { next = contents.next + length tuples; rows = contents.rows ++ numbered contents.next tuples }, length tuples)
+  Ok (record { next = contents.next + length tuples; rows = contents.rows ++ numbered contents.next tuples },
+      length tuples)
 
 -- what becomes of rows, each by itself, and how many are counted; the first refusal stands
-abbrev pub reworked : (NumberedRow → Result (List NumberedRow × ℕ) Refusal) → List NumberedRow → Result (List NumberedRow × ℕ) Refusal
+abbrev pub reworked : (NumberedRow → Result (List NumberedRow × ℕ) Refusal) → List NumberedRow →
+    Result (List NumberedRow × ℕ) Refusal
 reworked step [] = Ok ([], 0)
 reworked step (row ∷ rows) = do
   here ← step row
@@ -106,7 +111,8 @@ answer_over select snapshot first None =
 answer_over select snapshot first (Some None) = Err UnknownName
 answer_over select snapshot first (Some (Some second)) =
     let scope = first.schema ∷ second.schema ∷ [] in
-    answer select scope (answer_columns scope select.list) snapshot (rows_of first.contents.rows) (Some (rows_of second.contents.rows))
+    answer select scope (answer_columns scope select.list) snapshot (rows_of first.contents.rows)
+    (Some (rows_of second.contents.rows))
 
 abbrev pub second_named : Option (List ℕ) → Tables → Option (Option Found)
 second_named None tables = None
@@ -120,7 +126,8 @@ answer_of select snapshot tables = do
 
 -- what a statement does that was checked
 abbrev pub performed : Statement → Option ℕ → Tables → Result (Tables × Reply) Refusal
-performed (CreateTable create) snapshot tables = Ok (with_table (record { name = create.table; columns = create.columns }) tables, Plain)
+performed (CreateTable create) snapshot tables =
+    Ok (with_table (record { name = create.table; columns = create.columns }) tables, Plain)
 performed (CreateIndex create) snapshot tables =
     Ok (with_index (record { name = create.index; table = create.table; column = create.column }) tables, Plain)
 performed (Insert insert) snapshot tables = do
@@ -136,8 +143,8 @@ performed (Select select) snapshot tables = do
   answer ← answer_of select snapshot tables
   Ok (tables, Rows answer)
 
--- The tables after a statement and its reply, or why it is refused: first its names and types are checked. `snapshot` is the number of
--- `current_snapshot()`, where there is one. A refused statement leaves the tables as they were.
+-- The tables after a statement and its reply, or why it is refused: first its names and types are checked. `snapshot`
+-- is the number of `current_snapshot()`, where there is one. A refused statement leaves the tables as they were.
 abbrev pub does : Statement → Option ℕ → Tables → Result (Tables × Reply) Refusal
 does statement snapshot tables = do
   _ ← checked statement snapshot tables.schema

@@ -1,5 +1,6 @@
 -- Tables: their schema, and what each of them holds, in the order of the schema.
-use Rattle.std.specs.Prelude.{◌≡◌, ◌<◌, ◌≤◌, ◌+◌, ◌++◌, ◌==◌, ℕ, IsTrue, List, [], ◌∷◌, length, Option, Some, None, position, slice_get, slice_index_or, slice_set}
+use Rattle.std.specs.Prelude.{◌≡◌, ◌<◌, ◌≤◌, ◌+◌, ◌++◌, ◌==◌, ℕ, IsTrue, List, [], ◌∷◌, length, Option, Some, None,
+    position, slice_get, slice_index_or, slice_set}
 use Rattle.std.specs.Cmp.Lexicographic.{pointwise}
 use Rattle.std.specs.List.{AllByRecursion, AllZip}
 use Rattle.std.specs.Option.{option_and_then}
@@ -40,7 +41,8 @@ place_named name tables = position (λ (table : TableSchema). pointwise ◌==◌
 -- the table of that name
 abbrev pub table_named : List ℕ → Tables → Option Found
 table_named name tables =
-    option_and_then (λ place. found_with place (slice_get tables.schema.tables place) (slice_get tables.contents place)) (place_named name tables)
+    option_and_then (λ place. found_with place (slice_get tables.schema.tables place) (slice_get tables.contents place))
+    (place_named name tables)
 
 -- the tables with a new one, without rows
 abbrev pub with_table : TableSchema → Tables → Tables
@@ -51,7 +53,8 @@ with_table table tables = record {
 
 -- the tables with a new index
 abbrev pub with_index : IndexSchema → Tables → Tables
-with_index index tables = record tables { schema = record tables.schema { indexes = tables.schema.indexes ++ index ∷ [] } }
+with_index index tables =
+    record tables { schema = record tables.schema { indexes = tables.schema.indexes ++ index ∷ [] } }
 
 -- the tables, of which the one at that place now holds this
 abbrev pub with_contents : ℕ → Contents → Tables → Tables
@@ -66,7 +69,8 @@ NumbersRise low (row ∷ rows) high = (low ≤ row.number) × NumbersRise (row.n
 abbrev pub AllShort : List (List Value) → Type 0
 AllShort rows = AllByRecursion (λ (row : List Value). row_bytes row ≤ ROW_BYTES) rows
 
--- what holds of every table: at most 16 columns, row numbers that rise below the next one, rows that fit the columns and are not too long
+-- what holds of every table: at most 16 columns, row numbers that rise below the next one, rows that fit the columns
+-- and are not too long
 pub record IsTable (table : TableSchema) (contents : Contents) : Type 0 where
   pub few_columns : length table.columns ≤ 16
   pub rising : NumbersRise 0 contents.rows contents.next
@@ -81,4 +85,8 @@ IsTables tables = AllZip IsTable tables.schema.tables tables.contents
 pub record IsPlace (name : List ℕ) (tables : Tables) (place : ℕ) : Type 0 where
   pub in_schema : place < length tables.schema.tables
   pub in_contents : place < length tables.contents
-  pub found : (s : TableSchema) (c : Contents) → table_named name tables ≡ Some (record { place = place; schema = slice_index_or tables.schema.tables place s; contents = slice_index_or tables.contents place c })
+  pub found : (s : TableSchema) (c : Contents) →
+      table_named name tables
+      ≡ Some (record
+      { place = place; schema = slice_index_or tables.schema.tables place s;
+      contents = slice_index_or tables.contents place c })

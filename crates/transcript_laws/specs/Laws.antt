@@ -99,7 +99,8 @@ pub record BeginsAs (size : ℕ) (plan : Plan) (o : Opening (sql size)) (text : 
   pub is : text ≡ visible_text plan (newest o.tables) front
 
 -- a run of this plan may leave this journal, and this is the text of its visible lines
-pub record LeavesAs (size : ℕ) (plan : Plan) (o : Opening (sql size)) (text : List ℕ) (journal : List Line) : Type 0 where
+pub record LeavesAs (size : ℕ) (plan : Plan) (o : Opening (sql size)) (text : List ℕ)
+    (journal : List Line) : Type 0 where
   pub leaves : MayLeave size plan o journal
   pub seats : AreOfSeats journal
   pub is : text ≡ visible_text plan (newest o.tables) journal

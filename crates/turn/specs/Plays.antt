@@ -24,10 +24,12 @@ At A B = Step (Option (Kept A B))
 
 module _ {O W A B : Type 0} where
   abbrev pub draws_desk : At A B → Sat O W A B → ℕ → Sat O W A B → Type 0
-  draws_desk st m found m' = (m'.1 ≡ m.1) × ((n : ℕ) × (found ≡ n % 18446744073709551616) × (m'.0 ≡ record m.0 { desk = Waits n }))
+  draws_desk st m found m' =
+      (m'.1 ≡ m.1) × ((n : ℕ) × (found ≡ n % 18446744073709551616) × (m'.0 ≡ record m.0 { desk = Waits n }))
 
   abbrev pub draws_vault : At A B → Sat O W A B → ℕ → Sat O W A B → Type 0
-  draws_vault st m found m' = (m'.1 ≡ m.1) × ((n : ℕ) × (found ≡ n % 18446744073709551616) × (m'.0 ≡ record m.0 { vault = Waits n }))
+  draws_vault st m found m' =
+      (m'.1 ≡ m.1) × ((n : ℕ) × (found ≡ n % 18446744073709551616) × (m'.0 ≡ record m.0 { vault = Waits n }))
 
   abbrev pub serves_desk : At A B → Sat O W A B → ℕ → Sat O W A B → Type 0
   serves_desk st m found m' = (m'.1 ≡ []) × (m'.0 ≡ record m.0 { desk = Outside })
@@ -58,7 +60,8 @@ module _ {O W A B : Type 0} where
     -- it is served, and finds the value; or it is not, and waits on
     abbrev pub reads_desk : At A B → Sat O W A B → ℕ → Sat O W A B → Type 0
     reads_desk st m found m' =
-        (n : ℕ) → m.0.desk ≡ Waits n → (found ≡ n % 18446744073709551616 → HasDesk n m m') × (found ≢ n % 18446744073709551616 → m' ≡ m)
+        (n : ℕ) → m.0.desk ≡ Waits n → (found ≡ n % 18446744073709551616 → HasDesk n m m')
+        × (found ≢ n % 18446744073709551616 → m' ≡ m)
 
     -- the journal as it is was seen
     pub record HasSeen (m m' : Sat O W A B) : Type 0 where
@@ -70,7 +73,8 @@ module _ {O W A B : Type 0} where
       pub own : AreOwn m'.0.seen works m.0.holds
 
     abbrev pub sees_horizon : At A B → Sat O W A B → ℕ → Sat O W A B → Type 0
-    sees_horizon st m found m' = HasSeen m m' × ((x : O) → m.0.opening ≡ Some x → IsHorizon found (horizon_of (o.base x) m'.0.seen))
+    sees_horizon st m found m' =
+        HasSeen m m' × ((x : O) → m.0.opening ≡ Some x → IsHorizon found (horizon_of (o.base x) m'.0.seen))
 
     -- the longest front of which the seat heard is seen, and begins the journal
     pub record HasSettled (m m' : Sat O W A B) : Type 0 where
@@ -89,11 +93,13 @@ module _ {O W A B : Type 0} where
 
   -- the value in hand takes the place of the one that was found
   abbrev pub records : DeskMeaning O W A → At A B → Sat O W A B → ℕ → Sat O W A B → Type 0
-  records a st m found m' = (m'.1 ≡ m.1) × ((n : ℕ) (old new : A) → m.0.desk ≡ Inside n old → m.1 ≡ (0, Some (Desk new)) ∷ [] →
+  records a st m found m' =
+      (m'.1 ≡ m.1) × ((n : ℕ) (old new : A) → m.0.desk ≡ Inside n old → m.1 ≡ (0, Some (Desk new)) ∷ [] →
       m'.0 ≡ record m.0 { desk = Inside n new; seen = a.journal new; holds = map (behind_desk a old new) m.0.holds })
 
   abbrev pub raises : VaultMeaning O B → At A B → Sat O W A B → ℕ → Sat O W A B → Type 0
-  raises b st m found m' = (m'.1 ≡ m.1) × ((n : ℕ) (old new : B) → m.0.vault ≡ Inside n old → m.1 ≡ (1, Some (Vault new)) ∷ [] →
+  raises b st m found m' =
+      (m'.1 ≡ m.1) × ((n : ℕ) (old new : B) → m.0.vault ≡ Inside n old → m.1 ≡ (1, Some (Vault new)) ∷ [] →
       m'.0 ≡ record m.0 { vault = Inside n new; held = b.held new; holds = map (behind_vault b old new) m.0.holds })
 
   module _ (o : OpeningMeaning O) (b : VaultMeaning O B) where
@@ -110,4 +116,5 @@ module _ {O W A B : Type 0} where
 
     abbrev pub reads_vault : At A B → Sat O W A B → ℕ → Sat O W A B → Type 0
     reads_vault st m found m' =
-        (n : ℕ) → m.0.vault ≡ Waits n → (found ≡ n % 18446744073709551616 → HasVault n m m') × (found ≢ n % 18446744073709551616 → m' ≡ m)
+        (n : ℕ) → m.0.vault ≡ Waits n → (found ≡ n % 18446744073709551616 → HasVault n m m')
+        × (found ≢ n % 18446744073709551616 → m' ≡ m)

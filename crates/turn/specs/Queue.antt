@@ -43,10 +43,13 @@ module _ {X : Type 0} where
     pub ticket_is : ticket ≡ next % 18446744073709551616
     pub serving_is : serving ≡ now % 18446744073709551616
     pub out : now + total tickets_in places ≡ next
-    pub held : (n : ℕ) → now ≤ n → n < next → (p : Place X) × (get_elem? places (owner n) ≡ some p) × (tickets_in p ≡ 1) × (ticket_of p ≡ n)
+    pub held : (n : ℕ) → now ≤ n → n < next → (p : Place X) × (get_elem? places (owner n) ≡ some p) × (tickets_in p ≡ 1)
+        × (ticket_of p ≡ n)
     pub each : (i : ℕ) (p : Place X) → get_elem? places i ≡ some p → Stands next now owner i p
 
   -- a lock whose value is at home while nobody is inside, and else out with the one that is inside
-  pub record Lock {S : Type 0} (ticket serving : ℕ) (value : S) (slot : maybe.Option (Option S)) (places : List (Place X)) : Type 0 where
+  pub record Lock {S : Type 0} (ticket serving : ℕ) (value : S) (slot : maybe.Option (Option S))
+      (places : List (Place X)) : Type 0 where
     pub queue : Queue ticket serving places
-    pub home : ((slot ≡ some (Some value)) × (total is_inside places ≡ 0)) ⊎ ((slot ≡ none) × (total is_inside places ≡ 1))
+    pub home : ((slot ≡ some (Some value)) × (total is_inside places ≡ 0))
+        ⊎ ((slot ≡ none) × (total is_inside places ≡ 1))

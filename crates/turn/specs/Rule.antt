@@ -53,8 +53,9 @@ IsNewer h = (d : Device) (c e : ℕ) → c < LAST → 0 < fault_times d c h.faul
 abbrev pub AreNewer : {W : Type 0} → List (Holding W) → Type 0
 AreNewer {W} hs = (k : ℕ) (h : Holding W) → get_elem? hs k ≡ some h → IsNewer h
 
--- What the desk's value tells of faults, where a seat has this holding: no two of its lines tell one fault; none tells one above the desk's own counts; and a fault
--- that the seat was told is new: no line tells it, and its count is above each that the seat's lines tell of that device.
+-- What the desk's value tells of faults, where a seat has this holding: no two of its lines tell one fault; none tells
+-- one above the desk's own counts; and a fault that the seat was told is new: no line tells it, and its count is above
+-- each that the seat's lines tell of that device.
 pub record TellsFaults {O W A : Type 0} (a : DeskMeaning O W A) (desk : A) (h : Holding W) : Type 0 where
   pub differ : FaultsDiffer (a.journal desk)
   pub counted : (d : Device) (c : ℕ) → is_of_desk d ≡ true → 0 < fault_lines d c (a.journal desk) → c ≤ a.counts desk d
@@ -65,7 +66,8 @@ pub record TellsFaults {O W A : Type 0} (a : DeskMeaning O W A) (desk : A) (h : 
 abbrev pub told_times : {O W A B : Type 0} → Device → ℕ → View O W A B → ℕ
 told_times {W = W} d c v = total (λ (h : Holding W). fault_times d c h.faults) v.holds
 
--- A fault stands n times, in lines or told: but for the last value once at most, above the opening's count; and never above the count.
+-- A fault stands n times, in lines or told: but for the last value once at most, above the opening's count; and never
+-- above the count.
 pub record IsCounted (opened count c n : ℕ) : Type 0 where
   pub once : c < LAST → n ≤ 1
   pub above : c < LAST → 0 < n → opened < c
@@ -108,7 +110,9 @@ module _ {O W A B : Type 0} (o : OpeningMeaning O) (a : DeskMeaning O W A) (b : 
     pub parts : total parts_of views ≡ PARTS * limit
     pub numbers : (n : ℕ) → AreParts limit n (total (parts_at n) views)
     pub foreign : (n : ℕ) → limit ≤ n → (lines_of n (a.journal desk) ≡ []) × (a.work_of desk n ≡ None)
-    pub faults : (d : Device) (c : ℕ) → IsCounted (o.counts (a.opening desk) d) (count_now desk vault d) c (fault_lines d c (a.journal desk) + total (told_times d c) views)
+    pub faults : (d : Device) (c : ℕ) →
+        IsCounted (o.counts (a.opening desk) d) (count_now desk vault d) c
+        (fault_lines d c (a.journal desk) + total (told_times d c) views)
     pub differ : FaultsDiffer (a.journal desk)
     pub known : (i : ℕ) (v : View O W A B) → get_elem? views i ≡ some v → Knows desk vault v
 

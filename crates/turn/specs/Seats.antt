@@ -1,5 +1,6 @@
 -- What contracts say of a seat.
-use Rattle.std.specs.Prelude.{◌≡◌, ℕ, ◌<◌, ◌≤◌, ◌⊎◌, ◌≢◌, ◌+◌, ◌++◌, true, is_some, List, [], ◌∷◌, slice_get, Option, Some, None}
+use Rattle.std.specs.Prelude.{◌≡◌, ℕ, ◌<◌, ◌≤◌, ◌⊎◌, ◌≢◌, ◌+◌, ◌++◌, true, is_some, List, [], ◌∷◌, slice_get, Option,
+    Some, None}
 use mathlib.Core.List.{IsPrefix}
 use Rattle.atomic_table.specs.Seated.{TableId}
 use Rattle.retro_base.specs.declared.device.Device.{Device}
@@ -72,7 +73,8 @@ module _ {O W A B : Type 0} where
 
   -- the seats of a new table
   abbrev pub AreNew : TableId → O → List (SeatOver O W A B) → Type 0
-  AreNew z o seats = (k : ℕ) (s : SeatOver O W A B) → slice_get seats k ≡ Some s → Rests z s × (s.number ≡ k) × (mine s ≡ fresh k) × (seen s ≡ []) × (opening s ≡ Some o)
+  AreNew z o seats = (k : ℕ) (s : SeatOver O W A B) → slice_get seats k ≡ Some s → Rests z s × (s.number ≡ k)
+      × (mine s ≡ fresh k) × (seen s ≡ []) × (opening s ≡ Some o)
 
   -- seats with no helper out, outside both locks
   abbrev pub AreWhole : TableId → List (SeatOver O W A B) → Type 0
@@ -96,7 +98,8 @@ module _ {O W A : Type 0} (a : DeskMeaning O W A) where
     pub line : Line
     pub number : line.who.session ≡ mine.number
     pub journal : a.journal new ≡ a.journal old ++ line ∷ []
-    pub told : (d : Device) (c : ℕ) → 0 < line_fault d c line.what → 0 < fault_times d c (mine.faults ++ desk_faults (a.counts old) (a.counts new))
+    pub told : (d : Device) (c : ℕ) → 0 < line_fault d c line.what →
+        0 < fault_times d c (mine.faults ++ desk_faults (a.counts old) (a.counts new))
 
   -- a seat with no helper out may record a line of its number and change its work
   pub record IsOwnChange (mine : Holding W) (old new : A) : Type 0 where
@@ -114,15 +117,18 @@ module _ {O W A : Type 0} (a : DeskMeaning O W A) where
     pub acked : a.acked new ≤ held
 
 -- the seat is in the desk, and may leave this value
-abbrev pub LeavesDesk : {O W A B : Type 0} → OpeningMeaning O → DeskMeaning O W A → TableId → SeatOver O W A B → A → Type 0
+abbrev pub LeavesDesk : {O W A B : Type 0} → OpeningMeaning O → DeskMeaning O W A → TableId → SeatOver O W A B → A →
+    Type 0
 LeavesDesk {A = A} o a z s desk = (old : A) × IsInDesk z s old × MayLeave a o (held s) (mine s) old desk
 
 -- what a seat has under its number, behind an entry that left this value
-abbrev pub IsBehindDesk : {O W A B : Type 0} → DeskMeaning O W A → TableId → SeatOver O W A B → A → SeatOver O W A B → Type 0
+abbrev pub IsBehindDesk : {O W A B : Type 0} → DeskMeaning O W A → TableId → SeatOver O W A B → A → SeatOver O W A B →
+    Type 0
 IsBehindDesk {A = A} a z s desk new = (old : A) → IsInDesk z s old → mine new ≡ behind_desk a old desk (mine s)
 
 -- what an entry of a seat may do to the vault
-pub record MayLeaveVault {O B : Type 0} (b : VaultMeaning O B) (opening : Option O) (seen : List Line) (old new : B) : Type 0 where
+pub record MayLeaveVault {O B : Type 0} (b : VaultMeaning O B) (opening : Option O) (seen : List Line)
+    (old new : B) : Type 0 where
   pub held : b.held old ≤ b.held new
   pub counts : (d : Device) → b.counts old d ≤ b.counts new d
   pub fits : (x : O) → opening ≡ Some x → b.Fits new x seen
@@ -131,26 +137,31 @@ pub record MayLeaveVault {O B : Type 0} (b : VaultMeaning O B) (opening : Option
 abbrev pub LeavesVault : {O W A B : Type 0} → VaultMeaning O B → TableId → SeatOver O W A B → B → Type 0
 LeavesVault {B = B} b z s vault = (old : B) × IsInVault z s old × MayLeaveVault b (opening s) (seen s) old vault
 
-abbrev pub IsBehindVault : {O W A B : Type 0} → VaultMeaning O B → TableId → SeatOver O W A B → B → SeatOver O W A B → Type 0
+abbrev pub IsBehindVault : {O W A B : Type 0} → VaultMeaning O B → TableId → SeatOver O W A B → B → SeatOver O W A B →
+    Type 0
 IsBehindVault {B = B} b z s vault new = (old : B) → IsInVault z s old → mine new ≡ behind_vault b old vault (mine s)
 
 -- what a seat has is what the two values have of its number
-pub record IsRight {O W A B : Type 0} (a : DeskMeaning O W A) (b : VaultMeaning O B) (desk : A) (vault : B) (s : SeatOver O W A B) : Type 0 where
+pub record IsRight {O W A B : Type 0} (a : DeskMeaning O W A) (b : VaultMeaning O B) (desk : A) (vault : B)
+    (s : SeatOver O W A B) : Type 0 where
   pub front : IsPrefix (seen s) (a.journal desk)
   pub held : held s ≤ b.held vault
   pub lines : (mine s).lines ≡ lines_of s.number (a.journal desk)
   pub work : (mine s).work ≡ a.work_of desk s.number
   pub newer : IsNewer (mine s)
 
-abbrev pub AreRight : {O W A B : Type 0} → DeskMeaning O W A → VaultMeaning O B → A → B → List (SeatOver O W A B) → Type 0
-AreRight {O = O} {W = W} {A = A} {B = B} a b desk vault seats = (k : ℕ) (s : SeatOver O W A B) → slice_get seats k ≡ Some s → IsRight a b desk vault s
+abbrev pub AreRight : {O W A B : Type 0} → DeskMeaning O W A → VaultMeaning O B → A → B → List (SeatOver O W A B) →
+    Type 0
+AreRight {O = O} {W = W} {A = A} {B = B} a b desk vault seats =
+    (k : ℕ) (s : SeatOver O W A B) → slice_get seats k ≡ Some s → IsRight a b desk vault s
 
 -- how often a fault was told to these seats, since the last line of each
 abbrev pub told_to : {O W A B : Type 0} → Device → ℕ → List (SeatOver O W A B) → ℕ
 told_to d c seats = total (λ (s : SeatOver _ _ _ _). fault_times d c (mine s).faults) seats
 
 -- what is so of the two values at the start
-pub record MayOpen {O W A B : Type 0} (o : OpeningMeaning O) (a : DeskMeaning O W A) (b : VaultMeaning O B) (desk : A) (vault : B) : Type 0 where
+pub record MayOpen {O W A B : Type 0} (o : OpeningMeaning O) (a : DeskMeaning O W A) (b : VaultMeaning O B) (desk : A)
+    (vault : B) : Type 0 where
   pub empty : a.journal desk ≡ []
   pub idle : (n : ℕ) → a.work_of desk n ≡ None
   pub lawful : o.Lawful (a.opening desk) (a.journal desk)
@@ -159,8 +170,10 @@ pub record MayOpen {O W A B : Type 0} (o : OpeningMeaning O) (a : DeskMeaning O 
   pub acked : a.acked desk ≤ b.held vault
   pub counts : (d : Device) → o.counts (a.opening desk) d ≤ count_now o a b desk vault d
 
--- what is so of the two values at the end, of a table with so many seats, which were told each fault so often since their last lines
-pub record AreClosed {O W A B : Type 0} (o : OpeningMeaning O) (a : DeskMeaning O W A) (b : VaultMeaning O B) (limit : ℕ) (told : Device → ℕ → ℕ) (desk : A) (vault : B) : Type 0 where
+-- what is so of the two values at the end, of a table with so many seats, which were told each fault so often since
+-- their last lines
+pub record AreClosed {O W A B : Type 0} (o : OpeningMeaning O) (a : DeskMeaning O W A) (b : VaultMeaning O B)
+    (limit : ℕ) (told : Device → ℕ → ℕ) (desk : A) (vault : B) : Type 0 where
   pub lawful : o.Lawful (a.opening desk) (a.journal desk)
   pub desk_fits : a.Fits desk
   pub vault_fits : b.Fits vault (a.opening desk) (a.journal desk)
@@ -168,10 +181,14 @@ pub record AreClosed {O W A B : Type 0} (o : OpeningMeaning O) (a : DeskMeaning 
   -- no line and no work is of another number
   pub foreign : (n : ℕ) → limit ≤ n → (lines_of n (a.journal desk) ≡ []) × (a.work_of desk n ≡ None)
   pub counts : (d : Device) → o.counts (a.opening desk) d ≤ count_now o a b desk vault d
-  -- A fault is told by one line, or was told to one seat that has no line of it: it is new since the opening, and not above the count at the end.
-  pub faults : (d : Device) (c : ℕ) → IsCounted (o.counts (a.opening desk) d) (count_now o a b desk vault d) c (fault_lines d c (a.journal desk) + told d c)
+  -- A fault is told by one line, or was told to one seat that has no line of it: it is new since the opening, and not
+  -- above the count at the end.
+  pub faults : (d : Device) (c : ℕ) →
+      IsCounted (o.counts (a.opening desk) d) (count_now o a b desk vault d) c
+      (fault_lines d c (a.journal desk) + told d c)
   pub differ : FaultsDiffer (a.journal desk)
 
 -- what is right of a gathered view is right of each of these seats
-abbrev pub Covers : {O W A B : Type 0} → OpeningMeaning O → DeskMeaning O W A → VaultMeaning O B → View O W A B → List (SeatOver O W A B) → Type 0
+abbrev pub Covers : {O W A B : Type 0} → OpeningMeaning O → DeskMeaning O W A → VaultMeaning O B → View O W A B →
+    List (SeatOver O W A B) → Type 0
 Covers {A = A} {B = B} o a b v seats = (desk : A) (vault : B) → Knows o a b desk vault v → AreRight a b desk vault seats

@@ -1,5 +1,6 @@
 -- The views of seats, and how they are cut and joined.
-use Rattle.std.specs.Prelude.{◌==◌, nat_lt, ℕ, zero, suc, ◌+◌, ◌-◌, max, List, [], ◌∷◌, ◌++◌, map, length, Option, Some, None, if◌then◌else◌}
+use Rattle.std.specs.Prelude.{◌==◌, nat_lt, ℕ, zero, suc, ◌+◌, ◌-◌, max, List, [], ◌∷◌, ◌++◌, map, length, Option, Some,
+    None, if◌then◌else◌}
 use Rattle.retro_base.specs.declared.device.Device.{Device}
 use Rattle.history.specs.declared.journal.Line.{Line}
 use Rattle.turn.specs.declared.view.Holding.{Holding}
@@ -62,7 +63,8 @@ still_told old new faults = if length new == length old then faults else []
 -- a holding behind an entry to the desk, whose value changed so
 abbrev pub behind_desk : {O W A : Type 0} → DeskMeaning O W A → A → A → Holding W → Holding W
 behind_desk a old new h =
-    holding h.number h.parts (lines_of h.number (a.journal new)) (a.work_of new h.number) (still_told (a.journal old) (a.journal new) (h.faults ++ desk_faults (a.counts old) (a.counts new)))
+    holding h.number h.parts (lines_of h.number (a.journal new)) (a.work_of new h.number)
+    (still_told (a.journal old) (a.journal new) (h.faults ++ desk_faults (a.counts old) (a.counts new)))
 
 -- a holding behind an entry to the vault, whose value changed so
 abbrev pub behind_vault : {O W B : Type 0} → VaultMeaning O B → B → B → Holding W → Holding W
@@ -77,7 +79,8 @@ longest front (other ∷ fronts) = longest (longer front other) fronts
 
 module _ {O W A B : Type 0} where
   abbrev pub view : Option O → Place A → Place B → List Line → List (List Line) → ℕ → List (Holding W) → View O W A B
-  view o d v seen heard held hs = record { opening = o; desk = d; vault = v; seen = seen; heard = heard; held = held; holds = hs }
+  view o d v seen heard held hs =
+      record { opening = o; desk = d; vault = v; seen = seen; heard = heard; held = held; holds = hs }
 
   abbrev pub desk_of : View O W A B → Place A
   desk_of v = v.desk
@@ -120,7 +123,9 @@ module _ {O W A B : Type 0} where
 
   -- a view with its helper's
   abbrev pub returned_view : View O W A B → View O W A B → View O W A B
-  returned_view v w = record v { heard = v.heard ++ w.seen ∷ w.heard; held = max v.held w.held; holds = map (returned (first_of w.holds)) v.holds }
+  returned_view v w =
+      record v { heard = v.heard ++ w.seen ∷ w.heard; held = max v.held w.held;
+      holds = map (returned (first_of w.holds)) v.holds }
 
   -- what is left of a view that was joined into another
   abbrev pub spent : View O W A B

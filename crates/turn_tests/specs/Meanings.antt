@@ -1,5 +1,6 @@
 -- What the locks know of the small desk and the small vault.
-use Rattle.std.specs.Prelude.{◌≡◌, ◌+◌, ℕ, zero, suc, Bool, true, false, List, [], ◌∷◌, ◌++◌, None, Some, slice_index_or, if◌then◌else◌}
+use Rattle.std.specs.Prelude.{◌≡◌, ◌+◌, ℕ, zero, suc, Bool, true, false, List, [], ◌∷◌, ◌++◌, None, Some,
+    slice_index_or, if◌then◌else◌}
 use Rattle.std.specs.List.{AllByRecursion}
 use Rattle.retro_base.specs.declared.device.Device.{Device}
 use Rattle.retro_base.specs.declared.device.Device.TheVariants.{Log, Pagelog}
@@ -14,7 +15,8 @@ use Rattle.turn_tests.specs.declared.small.Book.{Book}
 use Rattle.turn_tests.specs.declared.small.Shelf.{Shelf}
 use Rattle.turn_tests.specs.declared.small.Start.{Start}
 
--- a line that writes no page and drops no snapshot: of a transaction that is rolled back, or declares one, or meets a fault
+-- a line that writes no page and drops no snapshot: of a transaction that is rolled back, or declares one, or meets a
+-- fault
 abbrev pub is_quiet : What → Bool
 is_quiet Began = true
 is_quiet RolledBack = true
@@ -36,7 +38,8 @@ quiet_front (line ∷ lines) more quiet = (quiet.0, quiet_front lines more quiet
 
 -- a store of that many pages in which nothing was declared
 abbrev pub base_at : Start → Base
-base_at start = record { page_count = start.page_count; capacity = 64; changes = 0; captures = 0; marks = []; captured = [] }
+base_at start =
+    record { page_count = start.page_count; capacity = 64; changes = 0; captures = 0; marks = []; captured = [] }
 
 abbrev pub of_start : OpeningMeaning Start
 of_start = record { base = base_at; counts = λ start device. 0; Lawful = λ start lines. AreQuiet lines }

@@ -52,7 +52,8 @@ pub record Keeps (old new : Sat) : Type 0 where
 
 -- each of these is ready, with all parts of its number
 abbrev pub AreReady : TableId → List Sat → Type 0
-AreReady z seats = (k : ℕ) (d : Sat) → k < length seats → IsReady z 0 (slice_index_or seats k d) × ((mine (slice_index_or seats k d)).parts ≡ PARTS)
+AreReady z seats = (k : ℕ) (d : Sat) → k < length seats → IsReady z 0 (slice_index_or seats k d)
+    × ((mine (slice_index_or seats k d)).parts ≡ PARTS)
 
 -- a helper of that number, with so many lines or more
 pub record IsHelper (z : TableId) (session own : ℕ) (s : Sat) : Type 0 where
@@ -61,4 +62,5 @@ pub record IsHelper (z : TableId) (session own : ℕ) (s : Sat) : Type 0 where
   pub part : (mine s).parts ≡ 1
 
 abbrev pub AreHelpers : TableId → ℕ → ℕ → List Sat → Type 0
-AreHelpers z number own helpers = (k : ℕ) (d : Sat) → k < length helpers → IsHelper z number own (slice_index_or helpers k d)
+AreHelpers z number own helpers = (k : ℕ) (d : Sat) → k < length helpers →
+    IsHelper z number own (slice_index_or helpers k d)
