@@ -1,14 +1,15 @@
 #!/usr/bin/env python3
-"""refused_memory.py PROGRAM | --try [FIRST LAST]: want of memory at every place of a run, outside the gate.
+"""refused_memory.py PROGRAM [--each]: want of memory at every place of a run, outside the gate.
 
-With a program it runs one script under each limit of memory, 64 KiB apart (or STEP bytes, from the environment), from
-where the program is not begun up to where it ends as with no limit, in memory and over a store: some minutes. With
---try it has the Nth allocation refused, by `rt try --fail-alloc N` in crates/retro, which builds the program for each
-N: for 1, 2, 4 and so on until none is refused, or for each from FIRST to LAST. Each run has to end by itself: with
-status 8 and a front of the line that tells it, or with 0 or 8 and a transcript that is the good one or tells
-OutOfMemory; a store has to open again, to a beginning of the commits.
+It runs one script under each limit of memory, 64 KiB apart (or STEP bytes, from the environment), from where the program
+is not begun up to where it ends as with no limit, in memory and over a store: some minutes. With --each it has the first
+allocation refused, then the second, and so on until none is left, by a library that cc makes of the lines below and that
+the loader puts before the C library's. Each run has to end by itself: with status 8 and a front of the line that tells
+it, with 0 or 8 and a transcript that is the good one or tells OutOfMemory, or with 6 where the cabinet had no memory for
+a path; a store has to open again, to a beginning of the commits.
 
     python3 tests/refused_memory.py crates/retro/out/retro
+    python3 tests/refused_memory.py crates/retro/out/retro --each
 """
 import os
 import resource
@@ -16,9 +17,23 @@ import subprocess
 import sys
 import tempfile
 
-REPOSITORY = os.path.dirname(os.path.dirname(os.path.abspath(__file__)))
 STEP = int(os.environ.get("STEP", "65536"))
 LINE = b"retro: out of memory\n"
+# A cabinet that has no memory for a path has a call that failed.
+FAULT = b"retro: disk fault on cabinet 1\n"
+# Refuses the allocation of that number, and tells on standard error that it came.
+ALLOCATOR = """
+#include <stdlib.h>
+#include <unistd.h>
+void *__libc_malloc(size_t), *__libc_realloc(void *, size_t);
+static long number, count;
+__attribute__((constructor)) static void begin(void) { number = atol(getenv("REFUSED")); }
+static int is_refused(void) {
+    return number && __atomic_add_fetch(&count, 1, __ATOMIC_RELAXED) == number && write(2, "refused\\n", 8) == 8;
+}
+void *malloc(size_t bytes) { return is_refused() ? 0 : __libc_malloc(bytes); }
+void *realloc(void *old, size_t bytes) { return is_refused() ? 0 : __libc_realloc(old, bytes); }
+"""
 
 # Snapshot n has the values 1 to n, so their sum is n * (n + 1) / 2.
 COMMITS = 6
@@ -47,79 +62,86 @@ def judge(what, status, text):
     is_cut = status == 8 and LINE.startswith(text)
     is_told = status in (0, 8) and text.startswith(b"phase 1\n") and b"refused 1 OutOfMemory\n" in text
     is_uncopied = status == 8 and text.startswith(good())
-    if not (is_good or is_cut or is_told or is_uncopied):
+    is_fault = status == 6 and text == FAULT
+    if not (is_good or is_cut or is_told or is_uncopied or is_fault):
         sys.exit(f"{what}: status {status}, and it said {text[-400:]!r}")
     return is_good
 
 
-def run(program, words, limit=None, script=SCRIPT):
+def run(program, words, limit=None, script=SCRIPT, environment=None):
     def bound():
         if limit is not None:
             resource.setrlimit(resource.RLIMIT_AS, (limit, limit))
 
     given = script.encode()
-    done = subprocess.run([program, *words], input=given, capture_output=True, timeout=110, preexec_fn=bound)
-    return done.returncode, done.stdout
+    how = {"capture_output": True, "timeout": 110, "preexec_fn": bound, "env": environment}
+    return subprocess.run([program, *words], input=given, **how)
 
 
 def holds_commits(program, acknowledged):
     """The store of a run holds at least what the run acknowledged, and as of each snapshot what was declared."""
     asked = "CollateData('SELECT snap_id FROM SnapIds','SELECT current_snapshot() AS n, SUM(v) AS s FROM t','rql_c')"
-    status, text = run(program, ["run", "store"], None, f"SESSION b\n{asked}\nSELECT * FROM rql_c\n")
-    lines = text.decode().splitlines()
+    done = run(program, ["run", "store"], None, f"SESSION b\n{asked}\nSELECT * FROM rql_c\n")
+    lines = done.stdout.decode().splitlines()
     found = int(lines[3].split()[1])
     rows = [f"{n},{n * (n + 1) // 2}" for n in range(1, found + 1)]
-    if status != 0 or not acknowledged <= found or lines[5 : 6 + found] != [f"rows {found}", *rows]:
-        sys.exit(f"{acknowledged} commits were told, and then status {status} and {lines}")
+    if done.returncode != 0 or not acknowledged <= found or lines[5 : 6 + found] != [f"rows {found}", *rows]:
+        sys.exit(f"{acknowledged} commits were told, and then status {done.returncode} and {lines}")
+
+
+def ended(program, words, what, **how):
+    """A run from a new store: whether it was the good one, whether a transcript told the want, and what else it said."""
+    if words[1:]:
+        run(program, ["format", words[1], "16", "64"])
+    done = run(program, words, **how)
+    is_good = judge(what, done.returncode, done.stdout)
+    if words[1:]:
+        holds_commits(program, done.stdout.count(b"\ncommitted as "))
+    return is_good, done.stdout.startswith(b"phase 1\n"), done.stderr
+
+
+def starts(program, limit):
+    try:
+        return run(program, ["run"], limit).returncode not in (127, -9, -11)
+    except (OSError, subprocess.SubprocessError):
+        return False
 
 
 def limited(program, words):
     runs = told = 0
     limit = STEP
-    while True:
-        if words[1:]:
-            run(program, ["format", words[1], "16", "64"])
-        try:
-            status, text = run(program, words, limit)
-        except (OSError, subprocess.SubprocessError):
-            status = 127
+    # The system's loader finds no memory for the program itself.
+    while not starts(program, limit):
         limit += STEP
-        # The system's loader found no memory for the program itself.
-        if status in (127, -9, -11) and runs == 0:
-            continue
-        runs += 1
-        is_good = judge(f"{words} in {limit - STEP} bytes", status, text)
-        if words[1:]:
-            holds_commits(program, text.count(b"\ncommitted as "))
-        if is_good:
-            return runs, told
-        told += status == 0 or not LINE.startswith(text)
+    is_good = False
+    while not is_good:
+        is_good, tells, _ = ended(program, words, f"{words} in {limit} bytes", limit=limit)
+        runs, told, limit = runs + 1, told + (tells and not is_good), limit + STEP
+    return f"{runs} limits, {told} of them told in a transcript, until the run was whole"
 
 
-def tried(number):
-    words = ["rt", "try", "--fail-alloc", str(number), "--", "run"]
-    done = subprocess.run(words, cwd=f"{REPOSITORY}/crates/retro", input=SCRIPT.encode(), capture_output=True)
-    is_good = judge(f"allocation {number} refused", done.returncode, done.stdout)
-    print(f"allocation {number}: status {done.returncode}", flush=True)
-    return is_good
+def each(program, words, library):
+    number = told = good = 0
+    came = b"refused"
+    while came:
+        number += 1
+        environment = {"LD_PRELOAD": library, "REFUSED": str(number)}
+        is_good, tells, came = ended(program, words, f"{words}, allocation {number}", environment=environment)
+        told, good = told + (tells and not is_good), good + is_good
+    return f"{number - 1} allocations, {told} told in a transcript, {good - 1} done without"
 
 
 def main():
-    if sys.argv[1] == "--try":
-        if len(sys.argv) > 3:
-            for number in range(int(sys.argv[2]), int(sys.argv[3]) + 1):
-                tried(number)
-        else:
-            number = 1
-            while not tried(number):
-                number *= 2
-        return
     program = os.path.abspath(sys.argv[1])
     with tempfile.TemporaryDirectory() as room:
         os.chdir(room)
+        library = f"{room}/allocator.so"
+        if sys.argv[2:] == ["--each"]:
+            cc = ["cc", "-shared", "-fPIC", "-O1", "-x", "c", "-", "-o", library]
+            subprocess.run(cc, input=ALLOCATOR.encode(), check=True)
         for words in (["run"], ["run", "store"]):
-            runs, told = limited(program, words)
-            print(f"{' '.join(words)}: {runs} limits, {told} of them told in a transcript, until the run was whole")
+            told = each(program, words, library) if sys.argv[2:] else limited(program, words)
+            print(f"{' '.join(words)}: {told}", flush=True)
         os.chdir("/")
 
 

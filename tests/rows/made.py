@@ -54,19 +54,71 @@ def large():
 
 
 def full_journal():
-    """Empty commits of two lines each that leave two lines of the 65,534: a refused drop takes one, a call needs two, and
-    what stands behind a call that was cut short is not run, also a call that the grammar refuses. The next phase has one
-    line left."""
+    """As many commits with a snapshot as the journal has room for, at two lines each, beside a list and a sum of all their
+    numbers: two of the 65,534 lines are left. A refused drop takes one, a call needs two, and what stands behind a call
+    that was cut short is not run, also a call that the grammar refuses. The next phase has one line left."""
+    count = 32_764
     call = "CollateData('SELECT snap_id FROM SnapIds','SELECT 1 FROM t','rql_c')\n"
-    script = "SESSION a\n" + 32_766 * "COMMIT\n" + "DROP SNAPSHOTS BELOW 1\n" + call + "SELECT * FROM rql_c\nCOMMIT\n"
-    script += "PHASE\nSESSION b\nSELECT * FROM rql_c\nDROP SNAPSHOTS BELOW 0\nDROP SNAPSHOTS BELOW 0\n"
+    every = "AggregateDataInVariable('SELECT snap_id FROM SnapIds','SELECT current_snapshot() FROM t','rql_v','SUM')\n"
+    script = "SESSION a\nCREATE TABLE t(v INT)\nINSERT INTO t VALUES (1)\n" + count * "COMMIT WITH SNAPSHOT\n"
+    script += f"SELECT COUNT(*), SUM(snap_id), MIN(snap_id) FROM SnapIds\n{every}SELECT * FROM rql_v\n"
+    script += "DROP SNAPSHOTS BELOW 0\n" + call + "SELECT * FROM rql_c\nCOMMIT\n"
+    script += "PHASE\nSESSION b\nSELECT * FROM rql_v\nDROP SNAPSHOTS BELOW 0\nDROP SNAPSHOTS BELOW 0\n"
     script += "CollateData('x','y','z')\nCOMMIT\n"
-    cut_short = "refused 13 JournalFull"
-    first = replies([*(32_766 * ["committed"]), "refused 9 NoSuchSnapshot 1 0", cut_short, "not run", "not run"])
-    second = replies(["refused 20 UnknownName", "refused 9 NoSuchSnapshot 0 0", cut_short, "not run", "not run"])
-    journal = "".join(f"1 a {n} done\n" for n in range(1, 32_767)) + "1 a 32767 refused 9\n2 b 2 refused 9\n"
-    text = f"phase 1\nsession a\n{first}phase 2\nsession b\n{second}journal\n{journal}"
+    cut_short, no_such, total = "refused 13 JournalFull", f"refused 9 NoSuchSnapshot 0 {count}", count * (count + 1) // 2
+    items = ["ok\nok 1\ncommitted as 1", *(f"committed as {n}" for n in range(2, count + 1))]
+    items += [rows_of([(count, total, 1)]), "ok 1", rows_of([(total,)]), no_such, cut_short, "not run", "not run"]
+    second = replies(["refused 20 UnknownName", no_such, cut_short, "not run", "not run"])
+    journal = [*(f"{n} done as {n}" for n in range(1, count + 1)), *looked(count + 1, "all"), *looked(count + 2, "all")]
+    journal = "".join(f"1 a {line}\n" for line in [*journal, f"{count + 4} refused 9"]) + "2 b 2 refused 9\n"
+    text = f"phase 1\nsession a\n{replies(items)}phase 2\nsession b\n{second}journal\n{journal}"
     return script, text, {"args": "run\n"}
+
+
+def wide_calls():
+    """Calls over twelve snapshots of a row that is raised before each: three hundred columns, of which forty are told by
+    pairs, and twenty result tables of one session, the last of which takes the place of the first."""
+    columns = lambda count: ",".join("v + 0" for _ in range(count))
+    pairs = ",".join(f"(col{at},{('MIN', 'MAX', 'SUM', 'COUNT')[at % 4]})" for at in range(1, 41))
+    of_pair = lambda at: (1, 12, 78, 12)[at % 4]
+    every, upto = "'SELECT snap_id FROM SnapIds'", lambda n: f"'SELECT snap_id FROM SnapIds WHERE snap_id <= {n}'"
+    collated = [f"CollateData({every},'SELECT {columns(300)} FROM t','rql_w')", "SELECT * FROM rql_w"]
+    folded = [f"AggregateDataInTable({every},'SELECT {columns(40)} FROM t','rql_p','{pairs}')", "SELECT * FROM rql_p"]
+    tables = [f"CollateData({upto(n % 13)},'SELECT v FROM t','rql_{n % 19}')" for n in range(1, 21)]
+    asked = [f"SELECT COUNT(*) FROM rql_{n}" for n in range(19)]
+    script = "SESSION a\nCREATE TABLE t(v INT)\nINSERT INTO t VALUES (0)\nCOMMIT\n"
+    script += 12 * "UPDATE t SET v = v + 1\nCOMMIT WITH SNAPSHOT\n" + lines_of([*collated, *folded, *tables, *asked])
+    counts = {n % 19: n % 13 for n in range(1, 21)}
+    items = ["ok\nok 1\ncommitted", *(f"ok 1\ncommitted as {n}" for n in range(1, 13))]
+    items += ["ok 12", rows_of(300 * (n,) for n in range(1, 13)), "ok 1", rows_of([[of_pair(at) for at in range(1, 41)]])]
+    items += [f"ok {n % 13}" for n in range(1, 21)]
+    items += [rows_of([(counts[n],)]) for n in range(19)]
+    journal = ["1 done", *(f"{n + 1} done as {n}" for n in range(1, 13)), *looked(14, "all"), *looked(16, "all")]
+    journal += [line for n in range(20) for line in looked(18 + n, "all")]
+    return script, transcript(items, journal), {"args": "run\n"}
+
+
+def most_phases():
+    """4,096 phases of one session each, as many as a script may have."""
+    script = "SESSION a\nCREATE TABLE t(v INT)\nINSERT INTO t VALUES (0)\nCOMMIT\n"
+    script += 4094 * "PHASE\nSESSION a\nUPDATE t SET v = v + 1\nCOMMIT\n" + "PHASE\nSESSION b\nSELECT v FROM t\nCOMMIT\n"
+    parts = ["ok\nok 1\ncommitted", *(4094 * ["ok 1\ncommitted"]), "rows 1\n4094\ncommitted"]
+    names = [*(4095 * "a"), "b"]
+    text = "".join(f"phase {at}\nsession {name}\nitem 1\n{part}\n" for at, (name, part) in enumerate(zip(names, parts), 1))
+    journal = "".join(f"{at} {name} 1 done\n" for at, name in enumerate(names, 1))
+    return script, f"{text}journal\n{journal}", {"args": "run\n"}
+
+
+def most_items():
+    """65,536 items, as many as a session may have, in a script of 4,194,304 bytes, as many as it may have: selects of a
+    result table that is not there, which leave no line in the journal, a filter as long as its line among them, and a
+    statement in the last item."""
+    filters = 700 * [f"SELECT * FROM rql_x WHERE {2000 * '('}a = 1{2000 * ')'}"]
+    lines = [*filters, *((65_535 - len(filters)) * ["SELECT * FROM rql_x"]), "CREATE TABLE t(v INT)", "COMMIT"]
+    script = "SESSION a\n" + lines_of(lines)
+    script += "\n" * (4_194_304 - len(script))
+    items = [*(65_535 * ["refused 20 UnknownName"]), "ok\ncommitted"]
+    return script, transcript(items, ["65536 done"]), {"args": "run\n"}
 
 
 def thousand():
@@ -159,9 +211,10 @@ def many_rows():
     script = "SESSION a\nCREATE TABLE t(k INT, v INT)\nCREATE TABLE u(k INT, w INT)\n"
     script += lines_of([*added, *inserted("u", five, 5)[0], *asked, "COMMIT WITH SNAPSHOT"])
     script += "DELETE FROM t\nSELECT COUNT(*), SUM(v) FROM t\nCOMMIT\nSELECT AS OF 1 COUNT(*), SUM(v) FROM t\n"
+    script += "SELECT AS OF 1 k, v FROM t\n"
     items = ["\n".join(["ok", "ok", *added_replies, "ok 5", *asked.values(), "committed as 1"])]
-    items += [f"ok {len(left)}\nrows 1\n0,0\ncommitted", rows_of([(len(left), sum(v for _, v in left))])]
-    return script, transcript(items, ["1 done as 1", "2 done", *looked(3, 1)]), {"args": "run\n", "store": "512 4096\n"}
+    items += [f"ok {len(left)}\nrows 1\n0,0\ncommitted", rows_of([(len(left), sum(v for _, v in left))]), rows_of(left)]
+    return script, transcript(items, ["1 done as 1", "2 done", *looked(3, 1), *looked(4, 1)]), {"args": "run\n", "store": "512 4096\n"}
 
 
 def wide_rows():
@@ -195,7 +248,8 @@ def wide_rows():
 
 
 def main():
-    for made in (full_archive, large, full_journal, thousand, long_journal, longest_line, deep, many_rows, wide_rows):
+    full = (full_archive, full_journal, most_phases, most_items)
+    for made in (*full, large, thousand, long_journal, longest_line, wide_calls, deep, many_rows, wide_rows):
         script, text, more = made()
         for ending, held in {"": script, ".stdout": text, **{f".{it}": more[it] for it in more}}.items():
             with open(os.path.join(sys.argv[1], made.__name__ + ending), "w") as file:

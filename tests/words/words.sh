@@ -135,6 +135,16 @@ while read -r line script; do
     ends 3 "retro: bad script at line $line\n" run < <(printf '%b' "$script")
 done <"$tests/bad_scripts"
 ends 3 'retro: bad script at line 2\n' run < <(printf 'SESSION a\n' && head -c 4194294 /dev/zero | tr '\0' '(')
+
+# one past each limit: bytes, phases, sessions of a phase, and items, begun in each of their ways
+bad_at() { ends 3 "retro: bad script at line $1\n" run; }
+bad_at 4194296 < <(printf 'SESSION a\n' && head -c 4194295 /dev/zero | tr '\0' '\n')
+bad_at 4097 < <(printf 'SESSION a\n' && yes PHASE | head -n 4096)
+bad_at 17 < <(printf 'SESSION %s\n' a b c d e f g h i j k l m n o p q)
+for last in COMMIT 'CREATE TABLE t(v INT)' 'SELECT * FROM rql_x' 'SELECT AS OF 1 * FROM t' 'DROP SNAPSHOTS BELOW 1'; do
+    bad_at 65538 < <(printf 'SESSION a\n' && yes COMMIT | head -n 65536 && printf '%s\n' "$last" COMMIT)
+done
+
 refused='phase 1\nsession a\nitem 1\nrefused 19 Syntax 0\ncommitted\njournal\n1 a 1 done\n'
 ends 0 "$refused" run < <(printf 'SESSION a\n' && head -c 4096 /dev/zero | tr '\0' '(' && printf '\nCOMMIT')
 
