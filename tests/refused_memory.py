@@ -12,6 +12,7 @@ a path; a store has to open again, to a beginning of the commits.
     python3 tests/refused_memory.py crates/retro/out/retro --each
 """
 import os
+import re
 import resource
 import subprocess
 import sys
@@ -78,15 +79,22 @@ def run(program, words, limit=None, script=SCRIPT, environment=None):
     return subprocess.run([program, *words], input=given, **how)
 
 
-def holds_commits(program, acknowledged):
-    """The store of a run holds at least what the run acknowledged, and as of each snapshot what was declared."""
+def told_sums(text):
+    """The sum at each snapshot that a transcript tells: an item that was refused has added nothing."""
+    sums, total = {}, 0
+    for number, value in re.findall(rb"ok 1\ncommitted as (\d+)\n(?=item (\d+)\n)", text):
+        total += int(value) - 1
+        sums[int(number)] = total
+    return sums
+
+
+def holds_commits(program, text):
+    """The store of a run opens again, and has as of each snapshot what the run told."""
     asked = "CollateData('SELECT snap_id FROM SnapIds','SELECT current_snapshot() AS n, SUM(v) AS s FROM t','rql_c')"
     done = run(program, ["run", "store"], None, f"SESSION b\n{asked}\nSELECT * FROM rql_c\n")
-    lines = done.stdout.decode().splitlines()
-    found = int(lines[3].split()[1])
-    rows = [f"{n},{n * (n + 1) // 2}" for n in range(1, found + 1)]
-    if done.returncode != 0 or not acknowledged <= found or lines[5 : 6 + found] != [f"rows {found}", *rows]:
-        sys.exit(f"{acknowledged} commits were told, and then status {done.returncode} and {lines}")
+    lines, sums = done.stdout.decode().splitlines(), told_sums(text)
+    if done.returncode != 0 or not {f"{n},{s}" for n, s in sums.items()} <= set(lines):
+        sys.exit(f"{sums} were told, and then status {done.returncode} and {lines}")
 
 
 def ended(program, words, what, **how):
@@ -96,7 +104,7 @@ def ended(program, words, what, **how):
     done = run(program, words, **how)
     is_good = judge(what, done.returncode, done.stdout)
     if words[1:]:
-        holds_commits(program, done.stdout.count(b"\ncommitted as "))
+        holds_commits(program, done.stdout)
     return is_good, done.stdout.startswith(b"phase 1\n"), done.stderr
 
 

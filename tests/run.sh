@@ -72,6 +72,7 @@ all_of "$tests/rows" 16 64
 all_of made 16 64
 printf '%d cases, %d runs\n' "$cases" "$runs"
 beside words.sh "$tests/words/words.sh" "$program"
+beside judge python3 "$tests/judge/run.py" --program "$program" --seeds 1 6 --edges
 beside sums.py python3 "$tests/at_once/sums.py" "$program" 10
 beside at_once.py python3 "$tests/at_once/at_once.py" "$program" 100
 beside files.py python3 "$tests/files/files.py" "$program"
