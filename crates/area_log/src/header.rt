@@ -26,7 +26,7 @@ pub struct Counting {
     pub is_other_open: bool,
 }
 
-// Finds the half that counts. Where neither does, the device is refused at its first place.
+/// Finds the half that counts. Where neither does, the device is refused at its first place.
 pub fn find_counting<D: Disk>(disk: &mut D, device: Device, size: u64) -> Result<Counting, Refusal>
     requires inside { 2 * size ≤ D.extent disk.old }
     requires least { 17 ≤ size }

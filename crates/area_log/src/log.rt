@@ -101,7 +101,7 @@ impl AreaLog {
         Ok((area, bodies))
     }
 
-    // The device of the log.
+    /// The device of the log.
     pub(crate) fn device(&self) -> Device
         ensures { result ≡ self.now.log.device }
     {

@@ -13,9 +13,9 @@ use disk_model::Disk;
 use gate_log::{GateLog, Prepared, put_durably};
 use retro_base::{Device, OPEN_GATE, Refusal};
 
-// Closes the gate of a region's header if it is open, fills the region, and opens the gate: six calls of the
-// device, or the last four of them. A closed gate is not closed again, since a crash within that write might
-// leave it open before whatever stands behind it.
+/// Closes the gate of a region's header if it is open, fills the region, and opens the gate: six calls of the
+/// device, or the last four of them. A closed gate is not closed again, since a crash within that write might
+/// leave it open before whatever stands behind it.
 pub fn rewrite<D: Disk>(
     disk: &mut D,
     device: Device,

@@ -1,7 +1,6 @@
 -- Steps over places in place of names. No promise above cites more of it than `seen`, `source_value`, `value_at` and
 -- `truth_at`.
-use Rattle.std.specs.Prelude.{◌&&◌, ◌||◌, ℕ, pos, Bool, not, Option, Some, None, List, [], ◌∷◌, Result, Ok, Err,
-    slice_get}
+use Rattle.std.specs.Prelude.{◌&&◌, ◌||◌, ℕ, pos, Bool, not, Option, Some, None, List, [], ◌∷◌, Result, Ok, Err, slice_get}
 use denote.Ref.{Bor}
 use Rattle.retro_base.specs.Gives.{◌>>=◌}
 use Rattle.retro_base.specs.declared.refusal.Refusal.{Refusal}

@@ -1,4 +1,5 @@
-//! Numbers combined by closures that are handed in, each beside the fact that it answers as it should.
+//! How the calls over snapshots combine numbers (MIN, MAX, SUM): by closures that are handed in, each beside the fact
+//! that it answers as it should.
 #![tactic(auto)]
 
 mod combiner;

@@ -57,7 +57,7 @@ impl Framed {
         &self.bytes
     }
 
-    // The length of the body, and the body.
+    /// The length of the body, and the body.
     pub(crate) fn sized(&self) -> &[u8]
         ensures { result.now ≡ sized self.now }
     {

@@ -45,7 +45,7 @@ impl Model for GateLog {
 }
 
 impl GateLog {
-    // The log whose closed gate stands there.
+    /// The log whose closed gate stands there.
     pub(crate) fn at(device: Device, place: u64, size: u64, gate: u64) -> GateLog
         requires inside { gate < size }
         requires fits { place + size < 2 ^ 64 }

@@ -39,8 +39,8 @@ pub fn read_bytes<D: Disk>(
     }
 }
 
-// The bodies of the records up to the first closed gate, and how many bytes stand before it. The bytes stand
-// from that place of the device on.
+/// The bodies of the records up to the first closed gate, and how many bytes stand before it. The bytes stand
+/// from that place of the device on.
 pub fn read_records(
     alloc: Global,
     device: Device,

@@ -1,6 +1,5 @@
 -- Pages that hold rows.
-use Rattle.std.specs.Prelude.{◌≡◌, ◌<◌, ◌≤◌, ◌-◌, ◌^◌, ◌++◌, ℕ, Bool, IsTrue, List, [], ◌∷◌, length, drop, replicate,
-    nat_le, slice_index, Option, Some, None}
+use Rattle.std.specs.Prelude.{◌≡◌, ◌<◌, ◌≤◌, ◌-◌, ◌^◌, ◌++◌, ℕ, Bool, IsTrue, List, [], ◌∷◌, length, drop, replicate, nat_le, slice_index, Option, Some, None}
 use Rattle.std.specs.List.{flat_map, AllByRecursion}
 use Rattle.retro_base.specs.Fields.{number_at, field_bytes}
 use Rattle.retro_base.specs.declared.limits.TheConstants.{ROW_BYTES}

@@ -14,7 +14,7 @@ use retro_base::Refusal;
 use std::alloc::{AllocFailed, Global};
 use values::{Duplicate, Row, Seq};
 
-// The last page of the chain that begins with a page, as that page names it.
+/// The last page of the chain that begins with a page, as that page names it.
 pub(crate) fn last_page(first: u32, head: &HeapPage) -> u32
     ensures { result ≡ last_page first head.now }
 {
@@ -134,8 +134,8 @@ fn append_first<P: Pager>(
     Ok((first, held))
 }
 
-// Drafts an entry at the end of the chain whose first page is read already. Answers the entry's page, and what the
-// first page then holds.
+/// Drafts an entry at the end of the chain whose first page is read already. Answers the entry's page, and what the
+/// first page then holds.
 pub fn append_with_head<P: Pager>(
     alloc: Global,
     pager: &mut P,
@@ -174,7 +174,7 @@ pub fn append_with_head<P: Pager>(
     Ok((last, head.held))
 }
 
-// Drafts an entry at the end of the chain, and answers its page.
+/// Drafts an entry at the end of the chain, and answers its page.
 pub fn append<P: Pager>(
     alloc: Global,
     pager: &mut P,

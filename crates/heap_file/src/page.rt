@@ -85,7 +85,7 @@ pub fn has_room(entries: &[Entry], entry: &Entry) -> bool
     entries_length(entries) + entry_length(entry) <= PAGE_BYTES - HEADER_BYTES
 }
 
-// How many bytes entries take.
+/// How many bytes entries take.
 pub(crate) fn entries_length(entries: &[Entry]) -> usize
     requires entries { AllByRecursion IsEntry entries.now }
     requires fits { HaveRoom entries.now }
@@ -98,7 +98,7 @@ pub(crate) fn entries_length(entries: &[Entry]) -> usize
     length
 }
 
-// How many bytes an entry takes.
+/// How many bytes an entry takes.
 pub(crate) fn entry_length(entry: &Entry) -> usize
     requires { IsShort entry.now.row }
     ensures length { length (entry_code entry.now) ≡ result }

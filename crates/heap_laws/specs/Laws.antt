@@ -1,6 +1,5 @@
 -- What the calls do to well-formed pages.
-use Rattle.std.specs.Prelude.{◌≡◌, ◌<◌, ◌≤◌, ◌+◌, ◌-◌, ◌^◌, ◌++◌, ℕ, List, [], ◌∷◌, length, replicate, slice_index,
-    Some, Result, Ok, Err}
+use Rattle.std.specs.Prelude.{◌≡◌, ◌<◌, ◌≤◌, ◌+◌, ◌-◌, ◌^◌, ◌++◌, ℕ, List, [], ◌∷◌, length, replicate, slice_index, Some, Result, Ok, Err}
 use Rattle.std.specs.List.{Contains}
 use Rattle.std.specs.List.Sorted.{IsPermutation}
 use Rattle.retro_base.specs.declared.refusal.Refusal.{Refusal}
@@ -18,8 +17,7 @@ use Rattle.heap_file.specs.HeapPage.{HoldsRows}
 use Rattle.heap_file.specs.Laws.{IsOne}
 use Rattle.heap_file.specs.Work.{added, changed, got, made, next_of, removed}
 use Rattle.heap_laws.specs.Store.{IsSized, WellFormed, end_of, free_pages, times_numbered}
-use Rattle.heap_laws.specs.Table.{AllStay, EditsExactly, EndsAt, Table, TakesPage, IsNumbered, IsTable, IsStorable,
-    AddsRow, AddIsFull, MakesTable, RemovesRow, ChangesRow, ChangeIsFull}
+use Rattle.heap_laws.specs.Table.{AllStay, EditsExactly, EndsAt, Table, TakesPage, IsNumbered, IsTable, IsStorable, AddsRow, AddIsFull, MakesTable, RemovesRow, ChangesRow, ChangeIsFull}
 
 -- an answer with the pages after it is this, and a refusal is want of pages, as this says
 abbrev pub DoesOrIsFull : {A : Type 0} → ℕ → (A → Pages → Type 0) → Type 0 → Result (A × Pages) Refusal → Type 0

@@ -1,6 +1,5 @@
 -- What changes make of the pages of a store and of the list of its captures.
-use Rattle.std.specs.Prelude.{◌+◌, ◌-◌, ◌%◌, ◌^◌, ◌==◌, nat_lt, ℕ, Bool, true, false, not, ◌&&◌, List, [], ◌∷◌, ◌++◌,
-    length, map, filter, drop, Option, Some, None, slice_get, unwrap_or, option_map, if◌then◌else◌}
+use Rattle.std.specs.Prelude.{◌+◌, ◌-◌, ◌%◌, ◌^◌, ◌==◌, nat_lt, ℕ, Bool, true, false, not, ◌&&◌, List, [], ◌∷◌, ◌++◌, length, map, filter, drop, Option, Some, None, slice_get, unwrap_or, option_map, if◌then◌else◌}
 use Rattle.retro_base.specs.FirstMet.{first_met}
 use Rattle.history.specs.declared.entry.Mark.{Mark}
 use Rattle.history.specs.declared.entry.Base.{Base}
@@ -57,9 +56,12 @@ captured_behind captured (Some label) pages = []
 abbrev pub behind_commit : Base → Option (List ℕ) → List ℕ → Base
 behind_commit base label pages =
     let count : ℕ = base.captures + length pages in
-    record base
-    { changes = (base.changes + 1) % 2 ^ 64; captures = count; marks = declared base.marks count label;
-    captured = captured_behind base.captured label pages }
+    record base {
+      changes = (base.changes + 1) % 2 ^ 64;
+      captures = count;
+      marks = declared base.marks count label;
+      captured = captured_behind base.captured label pages;
+    }
 
 -- what the log says behind a change
 abbrev pub base_after : Base → Change → Base

@@ -1,6 +1,5 @@
 -- What one line more tells, behind the lines before it.
-use Rattle.std.specs.Prelude.{◌⊎◌, ◌↔◌, ◌≡◌, ◌≤◌, ◌<◌, ◌+◌, ◌==◌, nat_le, ℕ, Bool, true, false, List, [], ◌∷◌, ◌++◌,
-    length, map, filter, Option, Some, None, if◌then◌else◌}
+use Rattle.std.specs.Prelude.{◌⊎◌, ◌↔◌, ◌≡◌, ◌≤◌, ◌<◌, ◌+◌, ◌==◌, nat_le, ℕ, Bool, true, false, List, [], ◌∷◌, ◌++◌, length, map, filter, Option, Some, None, if◌then◌else◌}
 use Rattle.std.specs.Option.{option_or}
 use Rattle.std.specs.List.{AllByRecursion}
 use Rattle.retro_base.specs.declared.device.Device.{Device}
@@ -10,14 +9,11 @@ use Rattle.history.specs.declared.entry.Change.TheVariants.{Commit}
 use Rattle.history.specs.declared.journal.FailedCall.{FailedCall}
 use Rattle.history.specs.declared.journal.Line.{Line}
 use Rattle.history.specs.declared.journal.What.{What}
-use Rattle.history.specs.declared.journal.What.TheVariants.{Began, Done, Looked, LookedAll, Unlooked, Dropped, Refused,
-    Fault}
+use Rattle.history.specs.declared.journal.What.TheVariants.{Began, Done, Looked, LookedAll, Unlooked, Dropped, Refused, Fault}
 use Rattle.history.specs.declared.writes.PageImage.{PageImage}
 use Rattle.history.specs.Journal.{base_behind, changes_of, pages_after_journal, after_journal}
 use Rattle.history.specs.Laws.{IsConsistent}
-use Rattle.history.specs.Lines.{base_of, lines_of, pinned_by, images_of, images_in, open_behind, open_in, is_open,
-    change_by, last_change, changed_since, DeviceFault, fault_of, faults_of, IsNewer, FaultsDiffer, is_write, stop_of,
-    first_stop, doubt_in, doubt_of}
+use Rattle.history.specs.Lines.{base_of, lines_of, pinned_by, images_of, images_in, open_behind, open_in, is_open, change_by, last_change, changed_since, DeviceFault, fault_of, faults_of, IsNewer, FaultsDiffer, is_write, stop_of, first_stop, doubt_in, doubt_of}
 use Rattle.history.specs.Marks.{oldest, newest, is_retained}
 use Rattle.history.specs.History.{History, now, pages_as_of}
 use Rattle.history.specs.Right.{IsBase, MayFollow, AllMayFollow}

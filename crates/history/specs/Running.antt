@@ -26,8 +26,14 @@ captured_in (mark ∷ marks) stamps = stamped (newest (mark ∷ marks)) 0 stamps
 -- the base that the running form stands for
 abbrev pub stamped_base : ℕ → ℕ → ℕ → List Mark → List ℕ → Base
 stamped_base capacity changes captures marks stamps =
-    record { page_count = length stamps; capacity = capacity; changes = changes; captures = captures; marks = marks;
-    captured = captured_in marks stamps }
+    record {
+      page_count = length stamps;
+      capacity = capacity;
+      changes = changes;
+      captures = captures;
+      marks = marks;
+      captured = captured_in marks stamps;
+    }
 
 -- At most half of the marks are dropped ones, there are places for twice as many as may be retained, the pages have
 -- stamps, and none is above the newest number.

@@ -56,6 +56,7 @@ impl Book {
         })
     }
 
+    /// The lines of the journal, in order.
     pub fn lines(&self) -> &[Line]
         ensures { result.now ≡ self.now.lines }
     {

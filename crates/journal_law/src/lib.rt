@@ -1,4 +1,5 @@
-//! The law of the journal: what each session knows of its own lines makes the whole journal lawful over tables.
+//! The law of the journal: what each session knows of its own lines makes the whole journal lawful over tables. Beside
+//! it the trait `Seat`: what a store owes to one session.
 #![tactic(auto)]
 
 mod laws;

@@ -1,4 +1,5 @@
 //! What the four devices of a store open to, computed plainly: the store, or the first device that breaks and where.
+//! Contracts and tests cite it; a run opens its store by `store`.
 #![tactic(auto)]
 
 mod devices;

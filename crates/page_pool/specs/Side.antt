@@ -1,6 +1,5 @@
 -- The pages' device with the pages in memory, and when they are those of plain data.
-use Rattle.std.specs.Prelude.{◌≡◌, ◌==◌, ◌||◌, ◌<◌, ◌^◌, ℕ, Bool, true, false, List, Option, Contains, IfSome, IsSome,
-    if◌then◌else◌}
+use Rattle.std.specs.Prelude.{◌≡◌, ◌==◌, ◌||◌, ◌<◌, ◌^◌, ℕ, Bool, true, false, List, Option, Contains, IfSome, IsSome, if◌then◌else◌}
 use Rattle.disk_model.specs.Disk.{State}
 use Rattle.block_file.specs.Blocks.{block_at, File, IsSettled}
 use Rattle.history.specs.declared.writes.PageImage.{PageImage}

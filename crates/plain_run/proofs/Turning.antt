@@ -3,7 +3,7 @@ use Rattle.std.proofs.Common.{◌≡◌, ◌<◌, ◌≤◌, ◌+◌, ◌++◌, 
 use Rattle.std.specs.Option.{option_map_or}
 use Rattle.std.specs.List.{AllByRecursion}
 use Rattle.retro_base.specs.declared.device.Device.{Device}
-use Rattle.retro_base.specs.declared.limits.TheConstants.{DEFAULT_CAPACITY, MEMORY_PAGES}
+use Rattle.retro_base.specs.declared.limits.TheConstants.{MEMORY_CAPACITY, MEMORY_PAGES}
 use Rattle.history.specs.declared.journal.Line.{Line}
 use Rattle.journal_law.specs.Lawful.{Ground}
 use Rattle.journal_law.specs.Seats as seat
@@ -153,22 +153,22 @@ phase_ends plan ground store done kept phase sessions long is sat came = record 
 
 -- ---- a run
 
-pub run_begins : (plan : Plan) (store : Plain) → view_of store ≡ record { session = 0; opened = zero_ground MEMORY_PAGES DEFAULT_CAPACITY; front = []; work = seat.Idle; told = [] }
-    → CameThrough plan (zero_ground MEMORY_PAGES DEFAULT_CAPACITY) store [] 1 0
+pub run_begins : (plan : Plan) (store : Plain) → view_of store ≡ record { session = 0; opened = zero_ground MEMORY_PAGES MEMORY_CAPACITY; front = []; work = seat.Idle; told = [] }
+    → CameThrough plan (zero_ground MEMORY_PAGES MEMORY_CAPACITY) store [] 1 0
 run_begins plan store is = record {
   idle = ap (λ (v : seat.View). v.work) is;
   opened = ap (λ (v : seat.View). v.opened) is;
-  come = subst (λ (lines : List Line). HasCome MEMORY_PAGES plan (zero_ground MEMORY_PAGES DEFAULT_CAPACITY) lines (kept_by_place []) 1 0) (sym (ap (λ (v : seat.View). v.front) is))
-      (starts MEMORY_PAGES plan (zero_ground MEMORY_PAGES DEFAULT_CAPACITY) (kept_by_place []) (λ session. refl));
+  come = subst (λ (lines : List Line). HasCome MEMORY_PAGES plan (zero_ground MEMORY_PAGES MEMORY_CAPACITY) lines (kept_by_place []) 1 0) (sym (ap (λ (v : seat.View). v.front) is))
+      (starts MEMORY_PAGES plan (zero_ground MEMORY_PAGES MEMORY_CAPACITY) (kept_by_place []) (λ session. refl));
 }
 
-pub run_ends : (plan : Plan) (store : Plain) (kept : List (List (List Kept))) (text : List ℕ) → StoreLaw → length kept ≡ length plan → CameThrough plan (zero_ground MEMORY_PAGES DEFAULT_CAPACITY) store kept (length plan + 1) 0
+pub run_ends : (plan : Plan) (store : Plain) (kept : List (List (List Kept))) (text : List ℕ) → StoreLaw → length kept ≡ length plan → CameThrough plan (zero_ground MEMORY_PAGES MEMORY_CAPACITY) store kept (length plan + 1) 0
     → text ≡ printed plan (kept_by_place kept) 0 store.book.lines → RanPlainly plan store.book.lines text
 run_ends plan store kept text zeros long came is = record {
   wanting = wanting_by (kept_by_place kept);
   lawful = subst (λ (t : List ℕ). RunIsLawful MEMORY_PAGES plan (wanting_by (kept_by_place kept)) (empty_store MEMORY_PAGES) (λ (device : Device). 0) store.book.lines t) (sym is)
       (law_of_runs MEMORY_PAGES plan (wanting_by (kept_by_place kept)) (empty_store MEMORY_PAGES) (λ device. 0) store.book.lines (kept_by_place kept) shown
-      (ends MEMORY_PAGES plan (zero_ground MEMORY_PAGES DEFAULT_CAPACITY) (λ device. 0) store.book.lines (kept_by_place kept) (length plan + 1) (omega arith) none came.come));
+      (ends MEMORY_PAGES plan (zero_ground MEMORY_PAGES MEMORY_CAPACITY) (λ device. 0) store.book.lines (kept_by_place kept) (length plan + 1) (omega arith) none came.come));
 }
   where
     shown : Shows (sql MEMORY_PAGES) (empty_store MEMORY_PAGES).opened.pages (empty_store MEMORY_PAGES).tables

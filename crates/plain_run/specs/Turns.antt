@@ -2,7 +2,7 @@
 use Rattle.std.specs.Prelude.{◌≡◌, ◌⊎◌, ◌<◌, ◌≤◌, ◌+◌, ◌++◌, ℕ, Bool, List, [], ◌∷◌, length, Some, Ok}
 use Rattle.std.specs.List.{AllByRecursion}
 use Rattle.retro_base.specs.declared.device.Device.{Device}
-use Rattle.retro_base.specs.declared.limits.TheConstants.{DEFAULT_CAPACITY, MEMORY_PAGES}
+use Rattle.retro_base.specs.declared.limits.TheConstants.{MEMORY_CAPACITY, MEMORY_PAGES}
 use Rattle.retro_base.specs.declared.who.Who.{Who}
 use Rattle.history.specs.declared.journal.Line.{Line}
 use Rattle.journal_law.specs.Facts.{OwnFit}
@@ -97,7 +97,7 @@ PhaseRan plan phase old new kept = (ground : Ground) (done : List (List (List Ke
 -- an empty store in memory, as each run begins
 abbrev pub empty_store : (size : ℕ) → Opening (sql size)
 empty_store size =
-    record { opened = zero_ground size DEFAULT_CAPACITY; tables = record { current = no_tables; marks = [] } }
+    record { opened = zero_ground size MEMORY_CAPACITY; tables = record { current = no_tables; marks = [] } }
 
 -- the journal is one that a run of the plan over an empty store may leave, and the text is its transcript
 pub record RanPlainly (plan : Plan) (journal : List Line) (text : List ℕ) : Type 0 where

@@ -11,7 +11,7 @@ ghost use Rattle.plain_run.specs.Turns.{CameThrough, PhaseRan, RanPlainly, TookT
 use history::Journal;
 use plain_store::PlainStore;
 use relation_laws::store_law;
-use retro_base::{DEFAULT_CAPACITY, MEMORY_PAGES};
+use retro_base::{MEMORY_CAPACITY, MEMORY_PAGES};
 use script::SessionName;
 use session::{Kept, Plan, RunItems, SessionPlan, names_of, print, run_session};
 use std::alloc::{AllocError, Global};
@@ -88,7 +88,7 @@ pub fn run_plan<R: RunItems>(alloc: Global, runner: &R, plan: &Plan) -> Result<F
 {
     // A law for the proof: pages of zeros hold no tables.
     store_law();
-    let mut store = PlainStore::new(alloc, MEMORY_PAGES, DEFAULT_CAPACITY)?;
+    let mut store = PlainStore::new(alloc, MEMORY_PAGES, MEMORY_CAPACITY)?;
     let mut kept = Seq::new(alloc);
     for (index, sessions) in plan.as_slice().iter().enumerate() {
         let phase = index as u16 + 1;

@@ -1,5 +1,5 @@
-//! Runs a plan over the plain store, a list of pages and a list as journal: the definition's own plain program. Its tests are
-//! those of a session: a plan and a transcript written out by hand, and the points at which a run may be held.
+//! Runs a plan over the plain store, a list of pages and a list as journal, for the tests of a session: a plan and a
+//! transcript written out by hand, and the points at which a run may be held.
 #![tactic(auto)]
 
 mod driving;

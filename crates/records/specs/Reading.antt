@@ -1,7 +1,6 @@
 -- Reading an entry from the front of bytes, field by field. That it gives exactly the entries whose bytes these are is
 -- said where an entry is decoded.
-use Rattle.std.specs.Prelude.{◌≡◌, ◌+◌, ◌-◌, ◌==◌, ◌&&◌, nat_lt, nat_le, ℕ, zero, suc, Bool, List, [], ◌∷◌, length,
-    take, drop, Option, Some, None, Result, Ok, Err, if◌then◌else◌}
+use Rattle.std.specs.Prelude.{◌≡◌, ◌+◌, ◌-◌, ◌==◌, ◌&&◌, nat_lt, nat_le, ℕ, zero, suc, Bool, List, [], ◌∷◌, length, take, drop, Option, Some, None, Result, Ok, Err, if◌then◌else◌}
 use Rattle.retro_base.specs.declared.limits.TheConstants.{EDITED_PAGES, PAGE_BYTES}
 use Rattle.retro_base.specs.Fields.{number_at}
 use Rattle.history.specs.declared.entry.Base.{Base}
@@ -106,9 +105,17 @@ unfoldable pub base_from : Version → List ℕ → Option (Base × List ℕ)
 base_from version bytes = do
   marks ← take_marks (number_at 4 bytes 27) (number_at 4 bytes 31) (drop 39 bytes)
   captured ← take_list (take_page version) after_page (number_at 4 bytes 35) 0 marks.1
-  Some (record
-      { page_count = number_at 4 bytes 3; capacity = number_at 4 bytes 7; changes = number_at 8 bytes 11;
-      captures = number_at 8 bytes 19; marks = marks.0; captured = captured.0 }, captured.1)
+  Some (
+    record {
+      page_count = number_at 4 bytes 3;
+      capacity = number_at 4 bytes 7;
+      changes = number_at 8 bytes 11;
+      captures = number_at 8 bytes 19;
+      marks = marks.0;
+      captured = captured.0;
+    },
+    captured.1,
+  )
 
 unfoldable pub take_base : Version → List ℕ → Option (Base × List ℕ)
 take_base version bytes = if nat_lt (length bytes) 39 then None else if number_at 2 bytes 1 == version_number version

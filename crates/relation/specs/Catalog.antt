@@ -1,6 +1,5 @@
 -- What the catalog says: the tables, with their first pages and columns, and the indexes.
-use Rattle.std.specs.Prelude.{◌≡◌, ◌≤◌, ◌<◌, ◌==◌, ℕ, List, length, map, Option, Some, None, Result, Ok, Err, slice_get,
-    slice_index_or, if◌then◌else◌, position}
+use Rattle.std.specs.Prelude.{◌≡◌, ◌≤◌, ◌<◌, ◌==◌, ℕ, List, length, map, Option, Some, None, Result, Ok, Err, slice_get, slice_index_or, if◌then◌else◌, position}
 use Rattle.std.specs.List.{AllByRecursion, filter_map, find}
 use Rattle.retro_base.specs.declared.refusal.Refusal.{Refusal}
 use Rattle.sql_tree.specs.declared.schema.IndexSchema.{IndexSchema}

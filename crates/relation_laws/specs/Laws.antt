@@ -1,6 +1,5 @@
 -- What the calls on tables by name do to the tables of well-formed pages.
-use Rattle.std.specs.Prelude.{◌≡◌, ◌≢◌, ◌<◌, ◌≤◌, ◌+◌, ◌++◌, ◌^◌, ◌==◌, ◌&&◌, not, ℕ, Bool, List, [], ◌∷◌, length, map,
-    slice_get, slice_index_or, true, false, Option, Some, None, Result, Ok, Err, if◌then◌else◌}
+use Rattle.std.specs.Prelude.{◌≡◌, ◌≢◌, ◌<◌, ◌≤◌, ◌+◌, ◌++◌, ◌^◌, ◌==◌, ◌&&◌, not, ℕ, Bool, List, [], ◌∷◌, length, map, slice_get, slice_index_or, true, false, Option, Some, None, Result, Ok, Err, if◌then◌else◌}
 use Rattle.std.specs.List.{AllByRecursion, Contains, filter, list_any}
 use Rattle.retro_base.specs.declared.refusal.Refusal.{Refusal}
 use Rattle.retro_base.specs.declared.refusal.Refusal.TheVariants.{PagesFull}
@@ -22,8 +21,7 @@ use Rattle.relation.specs.declared.catalog.StoredTable.{StoredTable}
 use Rattle.relation.specs.Each.{each}
 use Rattle.tree_index.specs.Work.{added, made, ranged, removed}
 use Rattle.relation.specs.declared.drafting.RowChange.{RowChange}
-use Rattle.relation.specs.Work.{all_placed, change_of, created, deleted, indexed, inserted, next_in, placed_of,
-    ranged_at, rows_at, rows_in, schema_in, table_in, updated}
+use Rattle.relation.specs.Work.{all_placed, change_of, created, deleted, indexed, inserted, next_in, placed_of, ranged_at, rows_at, rows_in, schema_in, table_in, updated}
 use Rattle.sql_tree.specs.Rows.{fits}
 use Rattle.relation_laws.specs.Needs.{CreateNeeds, IndexNeeds, InsertNeeds, TakesNeeded, UpdateNeeds}
 use Rattle.relation_laws.specs.Reach.{EditsEnds, Reaches, ReachesCatalog}

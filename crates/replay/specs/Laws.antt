@@ -27,8 +27,8 @@ PastByFirstCapture = (contents : Contents) (snapshot page : ℕ) → AreRightCon
     is_retained snapshot (now (opened contents)).base.marks ≡ true →
     let history : History = opened contents in
     let first : Option ℕ =
-        first_met (pages_of (captures history)) (start_of snapshot (now history).base.marks)
-        (length (captures history)) page in
+    first_met (pages_of (captures history)) (start_of snapshot (now history).base.marks)
+    (length (captures history)) page in
     ((number : ℕ) → first ≡ Some number → number < end_of contents.mappings → (contents.mappings.low ≤ number)
     × (pages_as_of history snapshot page ≡ contents.slots (number % contents.log.base.capacity)))
     × (first ≡ None → pages_as_of history snapshot page ≡ (now history).pages page)

@@ -2,7 +2,7 @@
 use Rattle.std.specs.Prelude.{◌≡◌, ℕ, [], IfOk, MatchResult, Result}
 use Rattle.disk_model.specs.declared.four.Sizes.{Sizes}
 use Rattle.retro_base.specs.declared.device.Device.{Device}
-use Rattle.retro_base.specs.declared.limits.TheConstants.{DEFAULT_CAPACITY, MEMORY_PAGES}
+use Rattle.retro_base.specs.declared.limits.TheConstants.{MEMORY_CAPACITY, MEMORY_PAGES}
 use Rattle.retro_base.specs.declared.refusal.Refusal.{Refusal}
 use Rattle.retro_base.specs.declared.refusal.Refusal.TheVariants.{OutOfMemory}
 use Rattle.history.specs.Lines.{base_of}
@@ -19,7 +19,7 @@ use Rattle.retro.specs.declared.storing.Ended.{Ended}
 
 -- the store of a run that names no folder
 abbrev pub memory_sizes : Sizes
-memory_sizes = record { pages = MEMORY_PAGES; capacity = DEFAULT_CAPACITY }
+memory_sizes = record { pages = MEMORY_PAGES; capacity = MEMORY_CAPACITY }
 
 -- What an empty store of these sizes is opened with: so says its log, its pages are zero, no snapshot is retained, and
 -- its devices have counted so many faults.

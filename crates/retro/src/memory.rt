@@ -13,7 +13,7 @@ use disk_model::{Disk, Four, Sizes};
 use history::Version;
 use opening::devices_are_read_one_way;
 use relation_laws::store_law;
-use retro_base::{DEFAULT_CAPACITY, MEMORY_PAGES, Refusal};
+use retro_base::{MEMORY_CAPACITY, MEMORY_PAGES, Refusal};
 use session::{Plan, RunItems};
 use std::alloc::Global;
 use std::sync::Wait;
@@ -88,7 +88,7 @@ pub fn run_in_memory<R: Threads + Wait + Sync, I: RunItems + Sync>(
 {
     let sizes = Sizes {
         pages: MEMORY_PAGES,
-        capacity: DEFAULT_CAPACITY,
+        capacity: MEMORY_CAPACITY,
     };
     let disks = zero_disks(alloc, sizes)?;
     let (_, ended) = run_from_empty(alloc, rt, threads, disks, sizes, runner, plan);

@@ -10,8 +10,8 @@ pub const MAX_PAGES: u32 = 65536;
 pub const MIN_CAPACITY: u32 = 64;
 /// The largest capacity of a store, in page images.
 pub const MAX_CAPACITY: u32 = 1048576;
-/// The capacity of a store that is made without a word about it, in page images.
-pub const DEFAULT_CAPACITY: u32 = 16384;
+/// The capacity of a store in memory, in page images.
+pub const MEMORY_CAPACITY: u32 = 16384;
 /// Pages of a store in memory.
 pub const MEMORY_PAGES: u32 = 4096;
 /// The byte of an open gate; every other byte is a closed one.

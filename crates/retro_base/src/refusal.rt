@@ -4,7 +4,7 @@ use crate::Device;
 use std::alloc::{AllocError, AllocFailed};
 use thiserror::Error;
 
-/// Why a call was refused.
+/// Why a call was refused. A transcript shows its number, name and values (`session`), not the texts here.
 #[derive(Clone, Copy, Debug, PartialEq, Eq, Error)]
 pub enum Refusal {
     #[error("out of memory")]

@@ -1,6 +1,5 @@
 -- What an edit of one page or two leaves of a chain and of the pages beside it: proofs.
-use Rattle.std.proofs.Common.{◌≡◌, ◌<◌, ◌^◌, ◌++◌, ◌∙◌, ℕ, zero, suc, false, eqb, List, [], ◌∷◌, Ok, refl, sym, ap,
-    subst, inl, inr, arith, append_assoc}
+use Rattle.std.proofs.Common.{◌≡◌, ◌<◌, ◌^◌, ◌++◌, ◌∙◌, ℕ, zero, suc, false, eqb, List, [], ◌∷◌, Ok, refl, sym, ap, subst, inl, inr, arith, append_assoc}
 use Rattle.std.specs.Prelude.{nat_eq}
 use Rattle.std.specs.List.{AllByRecursion, Contains, IsDistinct}
 use Rattle.std.specs.List.Sorted.{IsPermutation}
@@ -31,9 +30,10 @@ edits-two before n p bytes more list one two = λ q. elim (eqb_tells q p) [
   | inl is ↦ inl (subst (λ (x : ℕ). Contains list x) (sym is.1) two)
   | inr differ ↦ elim (eqb_tells q n) [
     | inl is ↦ inl (subst (λ (x : ℕ). Contains list x) (sym is.1) one)
-    | inr apart ↦ inr
-    (written-other (with_bytes before n bytes) p q more differ.0 ∙ written-other before n q bytes apart.0,
-    unmarked-other (with_bytes before n bytes) p q more differ.0 ∙ unmarked-other before n q bytes apart.0)
+    | inr apart ↦ inr (
+      written-other (with_bytes before n bytes) p q more differ.0 ∙ written-other before n q bytes apart.0,
+      unmarked-other (with_bytes before n bytes) p q more differ.0 ∙ unmarked-other before n q bytes apart.0,
+    )
   ]
 ]
 

@@ -1,6 +1,5 @@
 -- The laws of a sorted chain: proofs.
-use Rattle.std.proofs.Common.{◌≡◌, ◌<◌, ◌≤◌, ◌^◌, ◌++◌, ◌∙◌, not, ℕ, Bool, true, false, cond, eqb, List, [], ◌∷◌,
-    length, map, take, drop, Result, Ok, Err, refl, sym, ap, subst, inl, inr, arith}
+use Rattle.std.proofs.Common.{◌≡◌, ◌<◌, ◌≤◌, ◌^◌, ◌++◌, ◌∙◌, not, ℕ, Bool, true, false, cond, eqb, List, [], ◌∷◌, length, map, take, drop, Result, Ok, Err, refl, sym, ap, subst, inl, inr, arith}
 use Rattle.std.specs.Prelude.{nat_eq}
 use Rattle.std.specs.List.{flat_map, AllByRecursion, Contains, IsDistinct}
 use Rattle.std.specs.List.Sorted.{IsPermutation, IsStrictlySortedBy}
@@ -19,8 +18,7 @@ use Rattle.values.proofs.Orders.{value_total}
 use Rattle.values.specs.Value.{kind_of, value_cmp}
 use Rattle.values.specs.declared.value.Value.{Value}
 use Rattle.pager.specs.Allows.{◌>>=◌, only, either}
-use Rattle.pager.specs.Index.{AddsFound, AreOfKind, EditsOnly, IsApart, IsFound, IsIndexing, IsInOrder, IsListed,
-    MakesIndex, RemovesFound, between, found_cmp}
+use Rattle.pager.specs.Index.{AddsFound, AreOfKind, EditsOnly, IsApart, IsFound, IsIndexing, IsInOrder, IsListed, MakesIndex, RemovesFound, between, found_cmp}
 use Rattle.pager.specs.Pages.{Pages, with_bytes}
 use Rattle.pager.specs.Root.{all_taken, root_bytes, taken}
 use Rattle.pager.specs.declared.index.Found.{Found}
@@ -31,14 +29,10 @@ use Rattle.index_page.proofs.Ordered.{inserted-all, order-right, taken_out-all}
 use Rattle.index_page.proofs.Placing.{taken_out-width}
 use Rattle.index_page.proofs.Taking.{at-other, at-own, no-refusal, taken-is, written-other}
 use Rattle.run_index.specs.declared.walk.Met.{Met}
-use Rattle.run_index.specs.Editing.{all-same, all-two, apart-back, apart-front, contains-front, contains-middle,
-    edits-one, edits-two, flip-false, held-moves, link-narrow, same-answer, same-pages, skips-all}
-use Rattle.run_index.specs.Leading.{Ending, all-from_each, all-more, ending, leads-inside, leads-join, leads-one,
-    leads-same, walked-never}
-use Rattle.run_index.specs.Run.{IsShape, IsWay, Lists, at_target, entries_of, opens, paged, put, run_of, target,
-    without}
-use Rattle.run_index.specs.Shaping.{all-join, all-left, all-right, at_target-is, back-writable, empty-shape,
-    entries-middle, fits-any_page, front-writable, inserted-most, shaped, target-is}
+use Rattle.run_index.specs.Editing.{all-same, all-two, apart-back, apart-front, contains-front, contains-middle, edits-one, edits-two, flip-false, held-moves, link-narrow, same-answer, same-pages, skips-all}
+use Rattle.run_index.specs.Leading.{Ending, all-from_each, all-more, ending, leads-inside, leads-join, leads-one, leads-same, walked-never}
+use Rattle.run_index.specs.Run.{IsShape, IsWay, Lists, at_target, entries_of, opens, paged, put, run_of, target, without}
+use Rattle.run_index.specs.Shaping.{all-join, all-left, all-right, at_target-is, back-writable, empty-shape, entries-middle, fits-any_page, front-writable, inserted-most, shaped, target-is}
 use Rattle.run_index.specs.Work.{added, made, ranged, removed, stored, taken_page}
 
 rooted-in : (size : ℕ) (pages : Pages) (root : ℕ) (shape : List (List Found)) (held : List ℕ) → 1 ≤ length shape →
@@ -94,8 +88,8 @@ module _ (size root : ℕ) (entry : Found) (pages : Pages) (shape : List (List F
   opens-is =
       let low : Found = record { value = entry.value; number = entry.number; page = 0 } in
       let aim : target low shape ≡ met.held.entries =
-          ap (target low) end.shape_is ∙
-          target-is low end.before met.held.entries end.behind (skips-all entry end.before end.skips) end.stops in
+      ap (target low) end.shape_is ∙
+      target-is low end.before met.held.entries end.behind (skips-all entry end.before end.skips) end.stops in
       ap (λ (l : List Found). cond (have_room (entry_inserted low l)) 0 1) aim ∙
       ap (λ (b : Bool). cond b 0 1) (fits-any_page entry met.held.entries)
 
@@ -131,10 +125,12 @@ module _ (size root : ℕ) (entry : Found) (pages : Pages) (shape : List (List F
     relisted entries writable =
         let bytes = page_bytes (run_of met.held.link entries) in
         leads-join size (with_bytes base met.page bytes) root met.page 0 end.before (entries ∷ end.behind) end.front
-        (met.page ∷ end.back) (to-page bytes)
-        (refl, met.held.link,
-        at-own size base met.page (run_of met.held.link entries) end.at.low end.at.there narrow-link writable,
-        behind-page bytes)
+        (met.page ∷ end.back) (to-page bytes) (
+          refl,
+          met.held.link,
+          at-own size base met.page (run_of met.held.link entries) end.at.low end.at.there narrow-link writable,
+          behind-page bytes,
+        )
 
   -- the chain after the page is written with the first half of the entries, and a new page with the second
   relisted-two : (base : Pages) (next : ℕ) (front back : List Found) →
@@ -149,25 +145,30 @@ module _ (size root : ℕ) (entry : Found) (pages : Pages) (shape : List (List F
       let more = page_bytes (run_of next front) in
       let mid : Pages = with_bytes base next bytes in
       let kept : AllByRecursion (λ (q : ℕ). mid.at q ≡ pages.at q) held =
-          all-two (λ (q : ℕ). base.at q ≡ pages.at q) (λ (q : ℕ). eqb q next ≡ false)
-          (λ (q : ℕ). (with_bytes base next bytes).at q ≡ pages.at q) held
-          (λ q e other. written-other base next q bytes other ∙ e) same apart in
+      all-two (λ (q : ℕ). base.at q ≡ pages.at q) (λ (q : ℕ). eqb q next ≡ false)
+      (λ (q : ℕ). (with_bytes base next bytes).at q ≡ pages.at q) held
+      (λ q e other. written-other base next q bytes other ∙ e) same apart in
       let differ : eqb met.page next ≡ false =
-          (all-right (λ (q : ℕ). eqb q next ≡ false) end.front (met.page ∷ end.back)
-          (subst (λ (l : List ℕ). AllByRecursion (λ (q : ℕ). eqb q next ≡ false) l) end.held_is apart)).0 in
+      (all-right (λ (q : ℕ). eqb q next ≡ false) end.front (met.page ∷ end.back)
+      (subst (λ (l : List ℕ). AllByRecursion (λ (q : ℕ). eqb q next ≡ false) l) end.held_is apart)).0 in
       let behind : IsIndexAt size (with_bytes mid met.page more) next (run_of met.held.link back) =
-          at-other size mid next met.page more (run_of met.held.link back) (flip-false met.page next differ)
-          (at-own size base next (run_of met.held.link back) low there narrow-link second) in
+      at-other size mid next met.page more (run_of met.held.link back) (flip-false met.page next differ)
+      (at-own size base next (run_of met.held.link back) low there narrow-link second) in
       leads-join size (with_bytes mid met.page more) root met.page 0 end.before (front ∷ back ∷ end.behind) end.front
-      (met.page ∷ next ∷ end.back) (to-page mid kept more)
-      (refl, next, at-own size mid met.page (run_of next front) end.at.low end.at.there small first,
-      (refl, met.held.link, behind, behind-page mid kept more))
+      (met.page ∷ next ∷ end.back) (to-page mid kept more) (
+        refl,
+        next,
+        at-own size mid met.page (run_of next front) end.at.low end.at.there small first,
+        (refl, met.held.link, behind, behind-page mid kept more),
+      )
 
   -- what adding does where the entries fit on the page
   one-page : IsFound entry → AreOfKind (kind_of entry.value) (entries_of shape) →
       have_room (entry_inserted entry met.held.entries) ≡ true → (answer : Unit {0} × Pages) →
-      only (Ok (tt,
-      with_bytes pages met.page (page_bytes (run_of met.held.link (entry_inserted entry met.held.entries)))))
+      only (Ok (
+        tt,
+        with_bytes pages met.page (page_bytes (run_of met.held.link (entry_inserted entry met.held.entries))),
+      ))
       (Ok answer) →
       AddsFound (λ after behind. Lists size after root (put entry shape) behind) size
       (opens entry.value entry.number shape) held pages (Ok answer)
@@ -178,26 +179,24 @@ module _ (size root : ℕ) (entry : Found) (pages : Pages) (shape : List (List F
       let same : after ≡ answer.1 = same-pages after answer e in
       let none : opens entry.value entry.number shape ≡ 0 = opens-is ∙ (rw fit refl) in
       let put-is : put entry shape ≡ end.before ++ entries ∷ end.behind =
-          changed-is (λ page. paged (entry_inserted entry page)) ∙ (rw fit refl) in
+      changed-is (λ page. paged (entry_inserted entry page)) ∙ (rw fit refl) in
       let writable : AreWritable entries =
-          record { lawful = inserted-all IsFound entry met.held.entries found page-writable.lawful;
-          fits = leb-true (width entries) 1016 fit } in
+      record { lawful = inserted-all IsFound entry met.held.entries found page-writable.lawful; fits = leb-true (width entries) 1016 fit } in
       let leads : IsWay size after root (put entry shape) held 0 =
       subst (λ (s : List (List Found)). IsWay size after root s held 0) (sym put-is)
       (subst (λ (l : List ℕ). IsWay size after root (end.before ++ entries ∷ end.behind) l 0) (sym end.held_is)
       (relisted pages (all-same pages held) entries writable)) in
       let lists : Lists size after root (put entry shape) held =
-          record { narrow = is.narrow; is_shape = (shaped.of_put entry shape is.is_shape found kinds).0; leads = leads;
-          distinct = is.distinct } in
+      record { narrow = is.narrow; is_shape = (shaped.of_put entry shape is.is_shape found kinds).0; leads = leads; distinct = is.distinct } in
       let there : Contains held met.page =
-          subst (λ (l : List ℕ). Contains l met.page) (sym end.held_is) (contains-middle end.front met.page end.back) in
+      subst (λ (l : List ℕ). Contains l met.page) (sym end.held_is) (contains-middle end.front met.page end.back) in
       let edits : EditsOnly (held ++ []) pages after =
-          edits-one pages met.page bytes (held ++ [])
-          (subst (λ (l : List ℕ). Contains l met.page) (sym (append-nil held)) there) in
+      edits-one pages met.page bytes (held ++ [])
+      (subst (λ (l : List ℕ). Contains l met.page) (sym (append-nil held)) there) in
       let moves : IsPermutation (held ++ []) held =
-          subst (λ (l : List ℕ). IsPermutation l held) (sym (append-nil held)) (IsPermutation-refl held) in
+      subst (λ (l : List ℕ). IsPermutation l held) (sym (append-nil held)) (IsPermutation-refl held) in
       let all : AddsFound (λ after behind. Lists size after root (put entry shape) behind) size 0 held pages
-          (Ok (tt, after)) = ([], pages, refl, edits, held, moves, lists) in
+      (Ok (tt, after)) = ([], pages, refl, edits, held, moves, lists) in
       subst (λ (k : ℕ). AddsFound (λ after behind. Lists size after root (put entry shape) behind) size k held pages
       (Ok answer)) (sym none)
       (subst (λ (p : Pages). AddsFound (λ after behind. Lists size after root (put entry shape) behind) size 0 held
@@ -207,14 +206,16 @@ module _ (size root : ℕ) (entry : Found) (pages : Pages) (shape : List (List F
   two-pages : IsApart size pages held → IsFound entry → AreOfKind (kind_of entry.value) (entries_of shape) →
       have_room (entry_inserted entry met.held.entries) ≡ false → (next : ℕ × Pages) → taken size pages ≡ Ok next →
       next.0 < 2 ^ 32 → (answer : Unit {0} × Pages) →
-      only (Ok (tt,
-      with_bytes
-      (with_bytes next.1 next.0
-      (page_bytes
-      (run_of met.held.link
-      (drop (half (entry_inserted entry met.held.entries)) (entry_inserted entry met.held.entries))))) met.page
-      (page_bytes
-      (run_of next.0 (take (half (entry_inserted entry met.held.entries)) (entry_inserted entry met.held.entries))))))
+      only (Ok (
+        tt,
+        with_bytes
+            (with_bytes next.1 next.0
+            (page_bytes
+            (run_of met.held.link
+            (drop (half (entry_inserted entry met.held.entries)) (entry_inserted entry met.held.entries))))) met.page
+            (page_bytes
+            (run_of next.0 (take (half (entry_inserted entry met.held.entries)) (entry_inserted entry met.held.entries)))),
+      ))
       (Ok answer) →
       AddsFound (λ after behind. Lists size after root (put entry shape) behind) size
       (opens entry.value entry.number shape) held pages (Ok answer)
@@ -228,9 +229,9 @@ module _ (size root : ℕ) (entry : Found) (pages : Pages) (shape : List (List F
       let same : after ≡ answer.1 = same-pages after answer e in
       let one : opens entry.value entry.number shape ≡ 1 = opens-is ∙ (rw full refl) in
       let put-is : put entry shape ≡ end.before ++ first ∷ second ∷ end.behind =
-          changed-is (λ page. paged (entry_inserted entry page)) ∙ (rw full refl) in
+      changed-is (λ page. paged (entry_inserted entry page)) ∙ (rw full refl) in
       let lawful : AllByRecursion IsFound entries =
-          inserted-all IsFound entry met.held.entries found page-writable.lawful in
+      inserted-all IsFound entry met.held.entries found page-writable.lawful in
       let most = inserted-most entry met.held.entries found page-writable in
       let facts = taken-is size pages next.0 next.1 took in
       let base : AllByRecursion (λ (q : ℕ). next.1.at q ≡ pages.at q) held =
@@ -243,8 +244,8 @@ module _ (size root : ℕ) (entry : Found) (pages : Pages) (shape : List (List F
       let took-one : all_taken size 1 pages ≡ Ok (next.0 ∷ [], next.1) = rw took refl in
       let differ : IsDistinct nat_eq list = apart 1 (next.0 ∷ []) next.1 took-one in
       let moves : IsPermutation list behind =
-          subst (λ (l : List ℕ). IsPermutation (l ++ next.0 ∷ []) behind) (sym end.held_is)
-          (held-moves end.front met.page next.0 end.back) in
+      subst (λ (l : List ℕ). IsPermutation (l ++ next.0 ∷ []) behind) (sym end.held_is)
+      (held-moves end.front met.page next.0 end.back) in
       let leads : IsWay size after root (put entry shape) behind 0 =
       subst (λ (s : List (List Found)). IsWay size after root s behind 0) (sym put-is)
       (relisted-two next.1 next.0 first second base (apart-front held next.0 [] differ) facts.low facts.there small
@@ -259,12 +260,12 @@ module _ (size root : ℕ) (entry : Found) (pages : Pages) (shape : List (List F
         distinct = IsDistinct-IsPermutation nat_eq (λ x y. nat_eq_equiv.symm x y) list behind moves differ;
       } in
       let there : Contains held met.page =
-          subst (λ (l : List ℕ). Contains l met.page) (sym end.held_is) (contains-middle end.front met.page end.back) in
+      subst (λ (l : List ℕ). Contains l met.page) (sym end.held_is) (contains-middle end.front met.page end.back) in
       let edits : EditsOnly list next.1 after =
-          edits-two next.1 next.0 met.page bytes more list (contains-middle held next.0 [])
-          (contains-front held (next.0 ∷ []) met.page there) in
+      edits-two next.1 next.0 met.page bytes more list (contains-middle held next.0 [])
+      (contains-front held (next.0 ∷ []) met.page there) in
       let all : AddsFound (λ after behind. Lists size after root (put entry shape) behind) size 1 held pages
-          (Ok (tt, after)) = (next.0 ∷ [], next.1, took-one, edits, behind, moves, lists) in
+      (Ok (tt, after)) = (next.0 ∷ [], next.1, took-one, edits, behind, moves, lists) in
       subst (λ (k : ℕ). AddsFound (λ after behind. Lists size after root (put entry shape) behind) size k held pages
       (Ok answer)) (sym one)
       (subst (λ (p : Pages). AddsFound (λ after behind. Lists size after root (put entry shape) behind) size 1 held
@@ -283,14 +284,17 @@ module _ (size root : ℕ) (entry : Found) (pages : Pages) (shape : List (List F
           (only (Ok
           (tt, with_bytes pages met.page (page_bytes (run_of met.held.link (entry_inserted entry met.held.entries))))))
           (taken_page size pages >>= λ next. only
-          (Ok (tt, with_bytes
-          (with_bytes next.1 next.0
-          (page_bytes
-          (run_of met.held.link
-          (drop (half (entry_inserted entry met.held.entries)) (entry_inserted entry met.held.entries))))) met.page
-          (page_bytes
-          (run_of next.0
-          (take (half (entry_inserted entry met.held.entries)) (entry_inserted entry met.held.entries)))))))
+          (Ok (
+            tt,
+            with_bytes
+                (with_bytes next.1 next.0
+                (page_bytes
+                (run_of met.held.link
+                (drop (half (entry_inserted entry met.held.entries)) (entry_inserted entry met.held.entries))))) met.page
+                (page_bytes
+                (run_of next.0
+                (take (half (entry_inserted entry met.held.entries)) (entry_inserted entry met.held.entries)))),
+          )))
           (Ok answer) →
           AddsFound (λ after behind. Lists size after root (put entry shape) behind) size
           (opens entry.value entry.number shape) held pages (Ok answer)
@@ -303,14 +307,17 @@ module _ (size root : ℕ) (entry : Found) (pages : Pages) (shape : List (List F
           (only (Ok
           (tt, with_bytes pages met.page (page_bytes (run_of met.held.link (entry_inserted entry met.held.entries))))))
           (taken_page size pages >>= λ next. only
-          (Ok (tt, with_bytes
-          (with_bytes next.1 next.0
-          (page_bytes
-          (run_of met.held.link
-          (drop (half (entry_inserted entry met.held.entries)) (entry_inserted entry met.held.entries))))) met.page
-          (page_bytes
-          (run_of next.0
-          (take (half (entry_inserted entry met.held.entries)) (entry_inserted entry met.held.entries))))))) (Err why) →
+          (Ok (
+            tt,
+            with_bytes
+                (with_bytes next.1 next.0
+                (page_bytes
+                (run_of met.held.link
+                (drop (half (entry_inserted entry met.held.entries)) (entry_inserted entry met.held.entries))))) met.page
+                (page_bytes
+                (run_of next.0
+                (take (half (entry_inserted entry met.held.entries)) (entry_inserted entry met.held.entries)))),
+          ))) (Err why) →
           all_taken size (opens entry.value entry.number shape) pages ≡ Err why
       step true fit k = no-refusal _ why k
       step false full (inl none) =
@@ -329,21 +336,19 @@ module _ (size root : ℕ) (entry : Found) (pages : Pages) (shape : List (List F
       let after : Pages = with_bytes pages met.page bytes in
       let same : after ≡ answer.1 = same-pages after answer e in
       let rest-is : without entry shape ≡ end.before ++ entries ∷ end.behind =
-          changed-is (λ page. taken_out entry page ∷ []) in
+      changed-is (λ page. taken_out entry page ∷ []) in
       let writable : AreWritable entries =
-          record { lawful = taken_out-all IsFound entry met.held.entries page-writable.lawful;
-          fits = omega (arith, taken_out-width entry met.held.entries, page-writable.fits) } in
+      record { lawful = taken_out-all IsFound entry met.held.entries page-writable.lawful; fits = omega (arith, taken_out-width entry met.held.entries, page-writable.fits) } in
       let leads : IsWay size after root (without entry shape) held 0 =
       subst (λ (s : List (List Found)). IsWay size after root s held 0) (sym rest-is)
       (subst (λ (l : List ℕ). IsWay size after root (end.before ++ entries ∷ end.behind) l 0) (sym end.held_is)
       (relisted pages (all-same pages held) entries writable)) in
       let lists : Lists size after root (without entry shape) held =
-          record { narrow = is.narrow; is_shape = (shaped.of_without entry shape is.is_shape).0; leads = leads;
-          distinct = is.distinct } in
+      record { narrow = is.narrow; is_shape = (shaped.of_without entry shape is.is_shape).0; leads = leads; distinct = is.distinct } in
       let there : Contains held met.page =
-          subst (λ (l : List ℕ). Contains l met.page) (sym end.held_is) (contains-middle end.front met.page end.back) in
+      subst (λ (l : List ℕ). Contains l met.page) (sym end.held_is) (contains-middle end.front met.page end.back) in
       let all : RemovesFound (λ after. Lists size after root (without entry shape) held) held pages (Ok (tt, after)) =
-          (edits-one pages met.page bytes held there, lists) in
+      (edits-one pages met.page bytes held there, lists) in
       subst (λ (p : Pages). RemovesFound (λ after. Lists size after root (without entry shape) held) held pages
       (Ok (tt, p))) same all
 
@@ -365,7 +370,7 @@ makes size pages (Ok answer) m =
       distinct = (tt, tt);
     } in
     let all : MakesIndex (λ size pages root shape held. Lists size pages root shape held) ([] ∷ []) size pages
-        (Ok given) = (next.1, m.1.0, edits-one next.1 next.0 bytes (next.0 ∷ []) (0, omega arith, refl), lists) in
+    (Ok given) = (next.1, m.1.0, edits-one next.1 next.0 bytes (next.0 ∷ []) (0, omega arith, refl), lists) in
     subst (λ (a : ℕ × Pages). MakesIndex (λ size pages root shape held. Lists size pages root shape held)
     ([] ∷ []) size pages (Ok a)) same all
 makes size pages (Err why) m = elim m [
@@ -381,14 +386,14 @@ adds : (size root : ℕ) (entry : Found) (pages : Pages) (shape : List (List Fou
 adds size root entry pages shape held (Ok answer) is apart found kinds h =
     let way = h.1.1 in
     let end =
-        ending (reaches entry) (kind_of entry.value) size pages root shape held h.1.0 h.0 is.leads way.0 way.1 way.2 in
+    ending (reaches entry) (kind_of entry.value) size pages root shape held h.1.0 h.0 is.leads way.0 way.1 way.2 in
     stored-adds size root entry pages shape held is h.1.0 h.0 end apart found kinds (Ok answer) h.2
 adds size root entry pages shape held (Err why) is apart found kinds (inl refused) =
     absurd (walked-never (reaches entry) (kind_of entry.value) size pages root shape held why is kinds refused)
 adds size root entry pages shape held (Err why) is apart found kinds (inr h) =
     let way = h.1.1 in
     let end =
-        ending (reaches entry) (kind_of entry.value) size pages root shape held h.1.0 h.0 is.leads way.0 way.1 way.2 in
+    ending (reaches entry) (kind_of entry.value) size pages root shape held h.1.0 h.0 is.leads way.0 way.1 way.2 in
     stored-adds size root entry pages shape held is h.1.0 h.0 end apart found kinds (Err why) h.2
 
 removes : (size root : ℕ) (entry : Found) (pages : Pages) (shape : List (List Found)) (held : List ℕ)
@@ -398,7 +403,7 @@ removes : (size root : ℕ) (entry : Found) (pages : Pages) (shape : List (List 
 removes size root entry pages shape held (Ok answer) is kinds h =
     let way = h.1.1 in
     let end =
-        ending (reaches entry) (kind_of entry.value) size pages root shape held h.1.0 h.0 is.leads way.0 way.1 way.2 in
+    ending (reaches entry) (kind_of entry.value) size pages root shape held h.1.0 h.0 is.leads way.0 way.1 way.2 in
     taken-removes size root entry pages shape held is h.1.0 h.0 end answer h.2
 removes size root entry pages shape held (Err why) is kinds (inl refused) =
     absurd (walked-never (reaches entry) (kind_of entry.value) size pages root shape held why is kinds refused)
@@ -429,7 +434,7 @@ past-rest high [] rest order h = absurd cc
 past-rest high (x ∷ page) rest order h =
     elim (or_cases (is_gt (value_cmp x.value high)) (is_past high page) h) [
       | inl here ↦ all-past rest (all-right (λ (y : Found). found_cmp x y ≡ Less) page rest order.0)
-      (gt-from (value_cmp x.value high) here)
+          (gt-from (value_cmp x.value high) here)
       | inr more ↦ past-rest high page rest order.1 more
     ]
   where
@@ -465,15 +470,15 @@ ranges size root low high pages shape held (Ok list) is kinds kind h =
     let front = entries_of end.before in
     let rest = entries_of end.behind in
     let whole : entries_of shape ≡ front ++ (page ++ rest) =
-        ap entries_of end.shape_is ∙ entries-middle end.before page end.behind in
+    ap entries_of end.shape_is ∙ entries-middle end.before page end.behind in
     let order : IsInOrder (page ++ rest) =
-        order-right front (page ++ rest) (subst IsInOrder whole is.is_shape.in_order) in
+    order-right front (page ++ rest) (subst IsInOrder whole is.is_shape.in_order) in
     let none : between low high rest ≡ [] = elim end.stops [
       | inl last ↦ ap (λ (s : List (List Found)). between low high (entries_of s)) last
       | inr past ↦ none-between low high rest (past-rest high page rest order past)
     ] in
     let found : flat_map (λ (m : Met). between low high m.held.entries) (passed ++ met ∷ [])
-        ≡ between low high front ++ between low high page =
+    ≡ between low high front ++ between low high page =
     flat_map-append (λ (m : Met). between low high m.held.entries) passed (met ∷ [])
     ∙ ap (λ (l : List Found). l ++ (between low high page ++ []))
     (passed-between low high passed ∙ ap (λ (s : List (List Found)). between low high (entries_of s)) end.passed_is)

@@ -1,6 +1,5 @@
 -- The pages of a sorted chain, and the way along them: proofs.
-use Rattle.std.proofs.Common.{◌⊎◌, ◌≡◌, ◌<◌, ◌≤◌, ◌++◌, ◌∙◌, ℕ, suc, Bool, true, false, eqb, List, [], ◌∷◌, length, map,
-    Err, refl, sym, ap, subst, inl, inr, arith}
+use Rattle.std.proofs.Common.{◌⊎◌, ◌≡◌, ◌<◌, ◌≤◌, ◌++◌, ◌∙◌, ℕ, suc, Bool, true, false, eqb, List, [], ◌∷◌, length, map, Err, refl, sym, ap, subst, inl, inr, arith}
 use Rattle.std.specs.List.{AllByRecursion, Contains, list_any}
 use Rattle.std.proofs.lemmas.Bool.{both_ways, eqb-true, eqb-false, or_parts, or_cases}
 use Rattle.std.proofs.lemmas.Map.Steps.{length-le_from_distinct_below}
@@ -29,8 +28,7 @@ at-one size pages page p q is also = holds_one (pages.at page) p q is.holds also
 pub at-same : (size : ℕ) (pages after : Pages) (page : ℕ) (held : IndexPage) → after.at page ≡ pages.at page →
     IsIndexAt size pages page held → IsIndexAt size after page held
 at-same size pages after page held same is =
-    record { low = is.low; there = is.there;
-    holds = subst (λ (bytes : List ℕ). HoldsIndex bytes held) (sym same) is.holds }
+    record { low = is.low; there = is.there; holds = subst (λ (bytes : List ℕ). HoldsIndex bytes held) (sym same) is.holds }
 
 pub leads-same : (size : ℕ) (pages after : Pages) (from : ℕ) (shape : List (List Found)) (held : List ℕ) (to : ℕ) →
     AllByRecursion (λ (page : ℕ). after.at page ≡ pages.at page) held → IsWay size pages from shape held to →
@@ -38,9 +36,12 @@ pub leads-same : (size : ℕ) (pages after : Pages) (from : ℕ) (shape : List (
 leads-same size pages after from [] [] to same leads = leads
 leads-same size pages after from [] (page ∷ held) to same leads = leads
 leads-same size pages after from (entries ∷ shape) [] to same leads = leads
-leads-same size pages after from (entries ∷ shape) (page ∷ held) to same leads =
-    (leads.0, leads.1, at-same size pages after page (run_of leads.1 entries) same.0 leads.2,
-    leads-same size pages after leads.1 shape held to same.1 leads.3)
+leads-same size pages after from (entries ∷ shape) (page ∷ held) to same leads = (
+  leads.0,
+  leads.1,
+  at-same size pages after page (run_of leads.1 entries) same.0 leads.2,
+  leads-same size pages after leads.1 shape held to same.1 leads.3,
+)
 
 pub leads-join : (size : ℕ) (pages : Pages) (from mid to : ℕ) (a b : List (List Found)) (ha hb : List ℕ) →
     IsWay size pages from a ha mid → IsWay size pages mid b hb to → IsWay size pages from (a ++ b) (ha ++ hb) to
@@ -83,13 +84,13 @@ leads-one size pages from (entries ∷ shape) [] (page ∷ held) [] one two =
 leads-one size pages from (entries ∷ shape) (more ∷ other) (page ∷ held) (next ∷ others) one two =
     let same : page ≡ next = sym one.0 ∙ two.0 in
     let there : IsIndexAt size pages page (run_of two.1 more) =
-        subst (λ (p : ℕ). IsIndexAt size pages p (run_of two.1 more)) (sym same) two.2 in
+    subst (λ (p : ℕ). IsIndexAt size pages p (run_of two.1 more)) (sym same) two.2 in
     let parts =
-        same-entries one.1 two.1 entries more
-        (at-one size pages page (run_of one.1 entries) (run_of two.1 more) one.2 there) in
+    same-entries one.1 two.1 entries more
+    (at-one size pages page (run_of one.1 entries) (run_of two.1 more) one.2 there) in
     let rest =
-        leads-one size pages one.1 shape other held others one.3
-        (subst (λ (l : ℕ). IsWay size pages l other others 0) (sym parts.0) two.3) in
+    leads-one size pages one.1 shape other held others one.3
+    (subst (λ (l : ℕ). IsWay size pages l other others 0) (sym parts.0) two.3) in
     (cc (parts.1, rest.0), cc (same, rest.1))
 
 -- what holds of each page that is held
@@ -143,12 +144,12 @@ ending test kind size pages from (entries ∷ shape) [] passed met leads way run
 ending test kind size pages from (entries ∷ shape) (page ∷ held) [] met leads way run end =
     let same : page ≡ met.page = sym leads.0 ∙ way in
     let there : IsIndexAt size pages met.page (run_of leads.1 entries) =
-        subst (λ (p : ℕ). IsIndexAt size pages p (run_of leads.1 entries)) same leads.2 in
+    subst (λ (p : ℕ). IsIndexAt size pages p (run_of leads.1 entries)) same leads.2 in
     let is : run_of leads.1 entries ≡ met.held =
-        at-one size pages met.page (run_of leads.1 entries) met.held there run.0.0 in
+    at-one size pages met.page (run_of leads.1 entries) met.held there run.0.0 in
     let link : leads.1 ≡ met.held.link = ap (λ (p : IndexPage). p.link) is in
     let on : IsWay size pages met.held.link shape held 0 =
-        subst (λ (l : ℕ). IsWay size pages l shape held 0) link leads.3 in
+    subst (λ (l : ℕ). IsWay size pages l shape held 0) link leads.3 in
     record {
       before = [];
       behind = shape;
@@ -169,13 +170,13 @@ ending test kind size pages from (entries ∷ shape) (page ∷ held) [] met lead
 ending test kind size pages from (entries ∷ shape) (page ∷ held) (m ∷ ms) met leads way run end =
     let same : page ≡ m.page = sym leads.0 ∙ way.0 in
     let there : IsIndexAt size pages m.page (run_of leads.1 entries) =
-        subst (λ (p : ℕ). IsIndexAt size pages p (run_of leads.1 entries)) same leads.2 in
+    subst (λ (p : ℕ). IsIndexAt size pages p (run_of leads.1 entries)) same leads.2 in
     let is : run_of leads.1 entries ≡ m.held =
-        at-one size pages m.page (run_of leads.1 entries) m.held there way.1.0.0 in
+    at-one size pages m.page (run_of leads.1 entries) m.held there way.1.0.0 in
     let link : leads.1 ≡ m.held.link = ap (λ (p : IndexPage). p.link) is in
     let inner : entries ≡ m.held.entries = ap (λ (p : IndexPage). p.entries) is in
     let on : IsWay size pages m.held.link shape held 0 =
-        subst (λ (l : ℕ). IsWay size pages l shape held 0) link leads.3 in
+    subst (λ (l : ℕ). IsWay size pages l shape held 0) link leads.3 in
     let more = ending test kind size pages m.held.link shape held ms met on way.3 run end in
     let parts = or_parts (eqb m.held.link 0) (test m.held.entries) way.2 in
     record {
@@ -186,8 +187,12 @@ ending test kind size pages from (entries ∷ shape) (page ∷ held) (m ∷ ms) 
       shape_is = cc (inner, more.shape_is);
       held_is = cc (same, more.held_is);
       passed_is = ap (λ (l : List (List Found)). m.held.entries ∷ l) more.passed_is;
-      to = (way.0, m.held.link,
-          subst (λ (p : IndexPage). IsIndexAt size pages m.page p) (run-is m.held way.1.1) way.1.0.0, more.to);
+      to = (
+        way.0,
+        m.held.link,
+        subst (λ (p : IndexPage). IsIndexAt size pages m.page p) (run-is m.held way.1.1) way.1.0.0,
+        more.to,
+      );
       at = more.at;
       on = more.on;
       skips = (parts.1, more.skips);
@@ -204,23 +209,25 @@ goes-on test kind size pages from (entries ∷ shape) [] passed to some leads ki
 goes-on test kind size pages from (entries ∷ shape) (page ∷ held) [] to some leads kinds way =
     let same : page ≡ to = sym leads.0 ∙ way in
     let there : IsIndexAt size pages to (run_of leads.1 entries) =
-        subst (λ (p : ℕ). IsIndexAt size pages p (run_of leads.1 entries)) same leads.2 in
-    (omega arith, run_of leads.1 entries,
-    ((there, all-left (λ (found : Found). kind_of found.value ≡ kind) entries (entries_of shape) kinds), refl))
+    subst (λ (p : ℕ). IsIndexAt size pages p (run_of leads.1 entries)) same leads.2 in (
+      omega arith,
+      run_of leads.1 entries,
+      ((there, all-left (λ (found : Found). kind_of found.value ≡ kind) entries (entries_of shape) kinds), refl),
+    )
 goes-on test kind size pages from (entries ∷ shape) (page ∷ held) (m ∷ ms) to some leads kinds way =
     let same : page ≡ m.page = sym leads.0 ∙ way.0 in
     let there : IsIndexAt size pages m.page (run_of leads.1 entries) =
-        subst (λ (p : ℕ). IsIndexAt size pages p (run_of leads.1 entries)) same leads.2 in
+    subst (λ (p : ℕ). IsIndexAt size pages p (run_of leads.1 entries)) same leads.2 in
     let is : run_of leads.1 entries ≡ m.held =
-        at-one size pages m.page (run_of leads.1 entries) m.held there way.1.0.0 in
+    at-one size pages m.page (run_of leads.1 entries) m.held there way.1.0.0 in
     let link : leads.1 ≡ m.held.link = ap (λ (p : IndexPage). p.link) is in
     let parts = or_parts (eqb m.held.link 0) (test m.held.entries) way.2 in
     let on : IsWay size pages m.held.link shape held 0 =
-        subst (λ (l : ℕ). IsWay size pages l shape held 0) link leads.3 in
+    subst (λ (l : ℕ). IsWay size pages l shape held 0) link leads.3 in
     let more =
-        goes-on test kind size pages m.held.link shape held ms to
-        (left shape held on (eqb-false m.held.link 0 parts.0)) on
-        (all-right (λ (found : Found). kind_of found.value ≡ kind) entries (entries_of shape) kinds) way.3 in
+    goes-on test kind size pages m.held.link shape held ms to
+    (left shape held on (eqb-false m.held.link 0 parts.0)) on
+    (all-right (λ (found : Found). kind_of found.value ≡ kind) entries (entries_of shape) kinds) way.3 in
     (omega (arith, more.0), more.1, more.2)
   where
     left : (rest : List (List Found)) (hs : List ℕ) → IsWay size pages m.held.link rest hs 0 → (m.held.link ≡ 0 → ⊥) →

@@ -1,6 +1,5 @@
 -- What adding and taking out make of the entries of pages: proofs.
-use Rattle.std.proofs.Common.{◌⊎◌, ◌≡◌, ◌≤◌, ◌+◌, ◌++◌, ◌∙◌, ◌||◌, ℕ, Bool, true, false, cond, eqb, leb, List, [], ◌∷◌,
-    length, take, drop, refl, sym, ap, subst, inl, inr, arith}
+use Rattle.std.proofs.Common.{◌⊎◌, ◌≡◌, ◌≤◌, ◌+◌, ◌++◌, ◌∙◌, ◌||◌, ℕ, Bool, true, false, cond, eqb, leb, List, [], ◌∷◌, length, take, drop, refl, sym, ap, subst, inl, inr, arith}
 use Rattle.std.specs.List.{AllByRecursion, Contains, list_any}
 use Rattle.std.specs.List.Sorted.{IsStrictlySortedBy}
 use Rattle.std.proofs.lemmas.Bool.{le-leb, leb-true, ne_eqb, or_right, or_from, or_parts}
@@ -12,8 +11,7 @@ use Rattle.pager.specs.declared.index.Found.{Found}
 use Rattle.index_page.specs.Entries.{entry_inserted, is_behind, reaches, taken_out}
 use Rattle.index_page.specs.IndexPage.{AreOneMore, AreWritable, have_room, half, width}
 use Rattle.index_page.proofs.Halving.{halves_fit}
-use Rattle.index_page.proofs.Ordered.{inserted-all, inserted-in_order, inserted-is, inserted-same, inserted-skip,
-    inserted-stop, taken_out-all, taken_out-in_order, taken_out-is, taken_out-skip, taken_out-stop}
+use Rattle.index_page.proofs.Ordered.{inserted-all, inserted-in_order, inserted-is, inserted-same, inserted-skip, inserted-stop, taken_out-all, taken_out-in_order, taken_out-is, taken_out-skip, taken_out-stop}
 use Rattle.index_page.proofs.Packing.{entry-short}
 use Rattle.index_page.proofs.Placing.{inserted-same_width, inserted-width, taken_out-width}
 use Rattle.run_index.specs.Run.{IsShape, at_target, entries_of, opens, paged, put, target, without}
@@ -211,26 +209,26 @@ put-in entry shape is found t =
     let page = t.page in
     let pages = paged (entry_inserted entry page) in
     let put-is : put entry shape ≡ t.before ++ (pages ++ t.behind) =
-        ap (put entry) t.whole ∙
-        at_target-is entry (λ p. paged (entry_inserted entry p)) t.before page t.behind t.skips t.stops in
+    ap (put entry) t.whole ∙
+    at_target-is entry (λ p. paged (entry_inserted entry p)) t.before page t.behind t.skips t.stops in
     let here : IsShape (t.before ++ page ∷ t.behind) = subst IsShape t.whole is in
     let writable : AreWritable page = (all-right AreWritable t.before (page ∷ t.behind) here.writable).0 in
     let made : entries_of (t.before ++ (pages ++ t.behind))
-        ≡ entry_inserted entry (entries_of (t.before ++ page ∷ t.behind)) =
+    ≡ entry_inserted entry (entries_of (t.before ++ page ∷ t.behind)) =
     entries-parts t.before pages t.behind ∙ ap (λ (l : List Found). entries_of t.before ++ (l ++ entries_of t.behind))
     (entries-paged (entry_inserted entry page)) ∙
     sym (inserted-there entry (entries_of t.before) page (entries_of t.behind) t.skips
     (rest-stops entry page t.behind t.stops)) ∙
     ap (entry_inserted entry) (sym (entries-middle t.before page t.behind)) in
     let order : IsInOrder (entries_of (t.before ++ (pages ++ t.behind))) =
-        subst IsInOrder (sym made) (inserted-in_order entry (entries_of (t.before ++ page ∷ t.behind)) here.in_order) in
+    subst IsInOrder (sym made) (inserted-in_order entry (entries_of (t.before ++ page ∷ t.behind)) here.in_order) in
     let lawful = inserted-all IsFound entry page found writable.lawful in (
       subst IsShape (sym put-is)
-      (changed-shape t.before pages t.behind page here
-      (paged-writable (entry_inserted entry page) lawful (inserted-most entry page found writable))
-      (paged-some (entry_inserted entry page)) order),
+          (changed-shape t.before pages t.behind page here
+          (paged-writable (entry_inserted entry page) lawful (inserted-most entry page found writable))
+          (paged-some (entry_inserted entry page)) order),
       ap entries_of put-is ∙ made ∙ ap (λ (s : List (List Found)). entry_inserted entry (entries_of s)) (sym t.whole) ∙
-      inserted-is entry (entries_of shape) is.in_order,
+          inserted-is entry (entries_of shape) is.in_order,
     )
 
 without-in : (entry : Found) (shape : List (List Found)) → IsShape shape → Target entry shape →
@@ -239,25 +237,24 @@ without-in entry shape is t =
     let page = t.page in
     let pages : List (List Found) = taken_out entry page ∷ [] in
     let without-is : without entry shape ≡ t.before ++ (pages ++ t.behind) =
-        ap (without entry) t.whole ∙
-        at_target-is entry (λ p. taken_out entry p ∷ []) t.before page t.behind t.skips t.stops in
+    ap (without entry) t.whole ∙
+    at_target-is entry (λ p. taken_out entry p ∷ []) t.before page t.behind t.skips t.stops in
     let here : IsShape (t.before ++ page ∷ t.behind) = subst IsShape t.whole is in
     let writable : AreWritable page = (all-right AreWritable t.before (page ∷ t.behind) here.writable).0 in
     let made : entries_of (t.before ++ (pages ++ t.behind))
-        ≡ taken_out entry (entries_of (t.before ++ page ∷ t.behind)) =
+    ≡ taken_out entry (entries_of (t.before ++ page ∷ t.behind)) =
     entries-parts t.before pages t.behind ∙ ap (λ (l : List Found). entries_of t.before ++ (l ++ entries_of t.behind))
     (append-nil (taken_out entry page)) ∙
     sym (taken_out-there entry (entries_of t.before) page (entries_of t.behind) t.skips
     (rest-stops entry page t.behind t.stops)) ∙ ap (taken_out entry) (sym (entries-middle t.before page t.behind)) in
     let order : IsInOrder (entries_of (t.before ++ (pages ++ t.behind))) =
-        subst IsInOrder (sym made)
-        (taken_out-in_order entry (entries_of (t.before ++ page ∷ t.behind)) here.in_order) in
+    subst IsInOrder (sym made)
+    (taken_out-in_order entry (entries_of (t.before ++ page ∷ t.behind)) here.in_order) in
     let one : AreWritable (taken_out entry page) =
-        record { lawful = taken_out-all IsFound entry page writable.lawful;
-        fits = omega (arith, taken_out-width entry page, writable.fits) } in (
+    record { lawful = taken_out-all IsFound entry page writable.lawful; fits = omega (arith, taken_out-width entry page, writable.fits) } in (
       subst IsShape (sym without-is) (changed-shape t.before pages t.behind page here (one, tt) (omega arith) order),
       ap entries_of without-is ∙ made ∙ ap (λ (s : List (List Found)). taken_out entry (entries_of s)) (sym t.whole) ∙
-      taken_out-is entry (entries_of shape) is.in_order,
+          taken_out-is entry (entries_of shape) is.in_order,
     )
 
 -- whether the entries fit does not depend on the page of the one that is added
@@ -296,22 +293,22 @@ opens-none-in entry shape is there t =
     let here : IsShape (t.before ++ page ∷ t.behind) = subst IsShape t.whole is in
     let writable : AreWritable page = (all-right AreWritable t.before (page ∷ t.behind) here.writable).0 in
     let whole : entries_of shape ≡ front ++ (page ++ rest) =
-        ap entries_of t.whole ∙ entries-middle t.before page t.behind in
+    ap entries_of t.whole ∙ entries-middle t.before page t.behind in
     let same : entry_inserted entry (front ++ (page ++ rest)) ≡ front ++ (page ++ rest) =
-        subst (λ (l : List Found). entry_inserted entry l ≡ l) whole
-        (inserted-same entry (entries_of shape) there.0 is.in_order there.1 there.2) in
+    subst (λ (l : List Found). entry_inserted entry l ≡ l) whole
+    (inserted-same entry (entries_of shape) there.0 is.in_order there.1 there.2) in
     let moved : front ++ (entry_inserted entry page ++ rest) ≡ front ++ (page ++ rest) =
-        sym (inserted-there entry front page rest t.skips (rest-stops entry page t.behind t.stops)) ∙ same in
+    sym (inserted-there entry front page rest t.skips (rest-stops entry page t.behind t.stops)) ∙ same in
     let one : entry_inserted entry page ≡ page =
-        cancel-back (entry_inserted entry page) page rest
-        (cancel-front front (entry_inserted entry page ++ rest) (page ++ rest) moved) in
+    cancel-back (entry_inserted entry page) page rest
+    (cancel-front front (entry_inserted entry page ++ rest) (page ++ rest) moved) in
     let low : target (record { value = entry.value; number = entry.number; page = 0 }) shape ≡ page =
-        ap (target (record { value = entry.value; number = entry.number; page = 0 })) t.whole ∙
-        target-is (record { value = entry.value; number = entry.number; page = 0 }) t.before page t.behind t.skips
-        t.stops in
+    ap (target (record { value = entry.value; number = entry.number; page = 0 })) t.whole ∙
+    target-is (record { value = entry.value; number = entry.number; page = 0 }) t.before page t.behind t.skips
+    t.stops in
     let fit : have_room
-        (entry_inserted (record { value = entry.value; number = entry.number; page = 0 })
-        (target (record { value = entry.value; number = entry.number; page = 0 }) shape)) ≡ true =
+    (entry_inserted (record { value = entry.value; number = entry.number; page = 0 })
+    (target (record { value = entry.value; number = entry.number; page = 0 }) shape)) ≡ true =
     ap (λ (l : List Found). have_room
     (entry_inserted (record { value = entry.value; number = entry.number; page = 0 }) l)) low ∙
     fits-any_page entry page ∙ ap have_room one ∙ le-leb (width page) 1016 writable.fits in

@@ -1,4 +1,4 @@
-//! An index as a sorted chain of pages.
+//! An index as a sorted chain of pages: the plainer body of the trait `Index`, which no program uses.
 #![tactic(auto)]
 
 mod index;

@@ -13,6 +13,7 @@ pub struct Refused {
 }
 
 impl Refused {
+    /// Nothing was refused so far.
     pub fn none() -> Refused
         ensures { result ≡ record { last = None; count = 0 } }
     {

@@ -39,9 +39,7 @@ use Rattle.sql_parts.specs.declared.part.Part.TheVariants as part
 use Rattle.sql_parts.specs.declared.parsed.Mechanism.{Mechanism}
 use Rattle.sql_parts.specs.declared.parsed.Mechanism.TheVariants as mechanism
 use Rattle.sql_parts.specs.declared.parsed.Parsed.TheVariants as parsed
-use Rattle.sql_parts.specs.Taking.{◌>>=◌, a_column, a_column_name, a_condition, a_create_table, a_literal, a_name,
-    a_number, a_query, a_row, a_text, an_argument, an_assignment, an_expression, an_insert, an_output, an_output_value,
-    an_update, done, outputs}
+use Rattle.sql_parts.specs.Taking.{◌>>=◌, a_column, a_column_name, a_condition, a_create_table, a_literal, a_name, a_number, a_query, a_row, a_text, an_argument, an_assignment, an_expression, an_insert, an_output, an_output_value, an_update, done, outputs}
 
 -- the part is what is put together, above those that are left, or nothing is
 abbrev pub Makes : Option Part → List Part → Option (List Part) → Type 0
@@ -188,8 +186,16 @@ output output_action.Unnamed = do
 -- a select without the parts that may be left out
 abbrev pub plain_query : SelectList → List ℕ → Select
 plain_query l t =
-    record { distinct = false; list = l; table = t; second = None; condition = None; group_by = []; order_by = [];
-    limit = None }
+    record {
+      distinct = false;
+      list = l;
+      table = t;
+      second = None;
+      condition = None;
+      group_by = [];
+      order_by = [];
+      limit = None;
+    }
 
 -- the list of a select, and its first table
 abbrev pub select_list : ListAction → List Part → Option (List Part)
@@ -210,33 +216,81 @@ select_list list_action.From = do
 
 abbrev pub made_distinct : Select → Select
 made_distinct q =
-    record { distinct = true; list = q.list; table = q.table; second = q.second; condition = q.condition;
-    group_by = q.group_by; order_by = q.order_by; limit = q.limit }
+    record {
+      distinct = true;
+      list = q.list;
+      table = q.table;
+      second = q.second;
+      condition = q.condition;
+      group_by = q.group_by;
+      order_by = q.order_by;
+      limit = q.limit;
+    }
 
 abbrev pub with_second : List ℕ → Select → Select
 with_second t q =
-    record { distinct = q.distinct; list = q.list; table = q.table; second = Some t; condition = q.condition;
-    group_by = q.group_by; order_by = q.order_by; limit = q.limit }
+    record {
+      distinct = q.distinct;
+      list = q.list;
+      table = q.table;
+      second = Some t;
+      condition = q.condition;
+      group_by = q.group_by;
+      order_by = q.order_by;
+      limit = q.limit;
+    }
 
 abbrev pub with_condition : Option ConditionTree → Select → Select
 with_condition c q =
-    record { distinct = q.distinct; list = q.list; table = q.table; second = q.second; condition = c;
-    group_by = q.group_by; order_by = q.order_by; limit = q.limit }
+    record {
+      distinct = q.distinct;
+      list = q.list;
+      table = q.table;
+      second = q.second;
+      condition = c;
+      group_by = q.group_by;
+      order_by = q.order_by;
+      limit = q.limit;
+    }
 
 abbrev pub with_group : ColumnName → Select → Select
 with_group c q =
-    record { distinct = q.distinct; list = q.list; table = q.table; second = q.second; condition = q.condition;
-    group_by = q.group_by ++ c ∷ []; order_by = q.order_by; limit = q.limit }
+    record {
+      distinct = q.distinct;
+      list = q.list;
+      table = q.table;
+      second = q.second;
+      condition = q.condition;
+      group_by = q.group_by ++ c ∷ [];
+      order_by = q.order_by;
+      limit = q.limit;
+    }
 
 abbrev pub with_key : Direction → ColumnName → Select → Select
 with_key d c q =
-    record { distinct = q.distinct; list = q.list; table = q.table; second = q.second; condition = q.condition;
-    group_by = q.group_by; order_by = q.order_by ++ record { column = c; direction = d } ∷ []; limit = q.limit }
+    record {
+      distinct = q.distinct;
+      list = q.list;
+      table = q.table;
+      second = q.second;
+      condition = q.condition;
+      group_by = q.group_by;
+      order_by = q.order_by ++ record { column = c; direction = d } ∷ [];
+      limit = q.limit;
+    }
 
 abbrev pub with_limit : ℤ → Select → Select
 with_limit n q =
-    record { distinct = q.distinct; list = q.list; table = q.table; second = q.second; condition = q.condition;
-    group_by = q.group_by; order_by = q.order_by; limit = Some (unsigned_abs n) }
+    record {
+      distinct = q.distinct;
+      list = q.list;
+      table = q.table;
+      second = q.second;
+      condition = q.condition;
+      group_by = q.group_by;
+      order_by = q.order_by;
+      limit = Some (unsigned_abs n);
+    }
 
 -- the other parts of a select
 abbrev pub query : QueryAction → List Part → Option (List Part)

@@ -1,4 +1,4 @@
-//! What the operations of a sentence build.
+//! Builds the tree of a line from what the machine of the grammar puts out.
 #![tactic(auto)]
 
 mod draft;

@@ -1,4 +1,4 @@
-//! The names and types of statements.
+//! Checks the names and types of a statement before it is done, and tells the first that is unknown, taken or wrong.
 #![tactic(auto)]
 
 mod checking;

@@ -1,4 +1,4 @@
-//! The tokens of the SQL.
+//! Splits a line of the SQL into tokens, each with its place.
 #![tactic(auto)]
 
 mod keyword;

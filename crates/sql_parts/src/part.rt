@@ -58,6 +58,7 @@ impl Model for Parts {
 }
 
 impl Parts {
+    /// No parts.
     pub fn new(alloc: Global) -> Parts
         ensures { result ≡ [] }
     {
@@ -66,6 +67,7 @@ impl Parts {
         }
     }
 
+    /// Adds a part behind the others.
     pub fn push(&mut self, part: Part) -> Result<(), AllocError>
         ensures { OnOk result (self.new ≡ part ∷ self.old) }
     {
@@ -73,6 +75,7 @@ impl Parts {
         Ok(())
     }
 
+    /// Takes the last part, if there is one.
     pub fn pop(&mut self) -> Option<Part>
         ensures { MatchOption result ((self.old ≡ []) × (self.new ≡ [])) (λ part. self.old ≡ part ∷ self.new) }
     {
@@ -87,8 +90,8 @@ fn none_of<T>(_other: Part) -> Option<T>
     None
 }
 
-/// The last part, where it is one of that kind.
 impl Parts {
+    /// Takes the last part, where it is a name.
     pub fn name(&mut self) -> Option<Name>
         ensures { Takes result self.new (a_name self.old) }
     {
@@ -98,6 +101,7 @@ impl Parts {
         }
     }
 
+    /// Takes the last part, where it is a number.
     pub fn number(&mut self) -> Option<i64>
         ensures { Takes result self.new (a_number self.old) }
     {
@@ -107,6 +111,7 @@ impl Parts {
         }
     }
 
+    /// Takes the last part, where it is a text.
     pub fn text(&mut self) -> Option<Text>
         ensures { Takes result self.new (a_text self.old) }
     {
@@ -116,6 +121,7 @@ impl Parts {
         }
     }
 
+    /// Takes the last part, where it is an argument of a call.
     pub fn argument(&mut self) -> Option<Seq<u8>>
         ensures { Takes result self.new (an_argument self.old) }
     {
@@ -125,6 +131,7 @@ impl Parts {
         }
     }
 
+    /// Takes the last part, where it is a literal.
     pub fn literal(&mut self) -> Option<Value>
         ensures { Takes result self.new (a_literal self.old) }
     {
@@ -134,6 +141,7 @@ impl Parts {
         }
     }
 
+    /// Takes the last part, where it is a name of a column.
     pub fn column_name(&mut self) -> Option<ColumnName>
         ensures { Takes result self.new (a_column_name self.old) }
     {
@@ -143,6 +151,7 @@ impl Parts {
         }
     }
 
+    /// Takes the last part, where it is a side of a comparison.
     pub fn operand(&mut self) -> Option<Operand>
         ensures { Takes result self.new (an_operand self.old) }
     {
@@ -152,6 +161,7 @@ impl Parts {
         }
     }
 
+    /// Takes the last part, where it is an expression.
     pub fn expression(&mut self) -> Option<Expression>
         ensures { Takes result self.new (an_expression self.old) }
     {
@@ -161,6 +171,7 @@ impl Parts {
         }
     }
 
+    /// Takes the last part, where it is a condition, which a sentence may lack.
     pub fn condition(&mut self) -> Option<Option<Condition>>
         ensures { Takes result self.new (a_condition self.old) }
     {
@@ -170,6 +181,7 @@ impl Parts {
         }
     }
 
+    /// Takes the last part, where it is a column of a new table.
     pub fn column(&mut self) -> Option<Column>
         ensures { Takes result self.new (a_column self.old) }
     {
@@ -179,6 +191,7 @@ impl Parts {
         }
     }
 
+    /// Takes the last part, where it is a table to be made, so far.
     pub fn create_table(&mut self) -> Option<CreateTable>
         ensures { Takes result self.new (a_create_table self.old) }
     {
@@ -188,6 +201,7 @@ impl Parts {
         }
     }
 
+    /// Takes the last part, where it is a tuple of values.
     pub fn row(&mut self) -> Option<Row>
         ensures { Takes result self.new (a_row self.old) }
     {
@@ -197,6 +211,7 @@ impl Parts {
         }
     }
 
+    /// Takes the last part, where it is an INSERT, so far.
     pub fn insert(&mut self) -> Option<Insert>
         ensures { Takes result self.new (an_insert self.old) }
     {
@@ -206,6 +221,7 @@ impl Parts {
         }
     }
 
+    /// Takes the last part, where it is an assignment.
     pub fn assignment(&mut self) -> Option<Assignment>
         ensures { Takes result self.new (an_assignment self.old) }
     {
@@ -215,6 +231,7 @@ impl Parts {
         }
     }
 
+    /// Takes the last part, where it is an UPDATE, so far.
     pub fn update(&mut self) -> Option<Update>
         ensures { Takes result self.new (an_update self.old) }
     {
@@ -224,6 +241,7 @@ impl Parts {
         }
     }
 
+    /// Takes the last part, where it is a value of an output.
     pub fn output_value(&mut self) -> Option<OutputValue>
         ensures { Takes result self.new (an_output_value self.old) }
     {
@@ -233,6 +251,7 @@ impl Parts {
         }
     }
 
+    /// Takes the last part, where it is an output.
     pub fn output(&mut self) -> Option<Output>
         ensures { Takes result self.new (an_output self.old) }
     {
@@ -242,6 +261,7 @@ impl Parts {
         }
     }
 
+    /// Takes the last part, where it is a list of outputs.
     pub fn outputs(&mut self) -> Option<Seq<Output>>
         ensures { Takes result self.new (outputs self.old) }
     {
@@ -251,6 +271,7 @@ impl Parts {
         }
     }
 
+    /// Takes the last part, where it is a query.
     pub fn query(&mut self) -> Option<Select>
         ensures { Takes result self.new (a_query self.old) }
     {
@@ -260,6 +281,7 @@ impl Parts {
         }
     }
 
+    /// Takes the last part, where it is a line.
     pub fn parsed(&mut self) -> Option<Parsed>
         ensures { Takes result self.new (a_line self.old) }
     {

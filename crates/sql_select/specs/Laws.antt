@@ -58,7 +58,14 @@ abbrev pub StarGivesRows : Type 0
 StarGivesRows =
     (table : List ℕ) (second : Option (List ℕ)) (scope : List TableSchema) (columns : List Column) (snapshot : Option ℕ)
     (firsts : List (List Value)) (seconds : Option (List (List Value))) →
-    answer (record
-    { distinct = false; list = star; table = table; second = second; condition = None; group_by = []; order_by = [];
-    limit = None }) scope columns snapshot firsts seconds
+    answer (record {
+      distinct = false;
+      list = star;
+      table = table;
+      second = second;
+      condition = None;
+      group_by = [];
+      order_by = [];
+      limit = None;
+    }) scope columns snapshot firsts seconds
     ≡ Ok (record { columns = columns; rows = joined_rows firsts seconds })

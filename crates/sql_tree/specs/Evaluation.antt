@@ -1,7 +1,6 @@
 -- The value of an expression and the truth of a condition at a row, whose values are those of all tables side by side.
 -- Left goes before right, and the first refusal stands.
-use Rattle.std.specs.Prelude.{◌+ℤ◌, ◌-ℤ◌, ◌*ℤ◌, ◌&&◌, ◌||◌, ◌^◌, ℕ, ℤ, pos, negsuc, Bool, not, Option, Some, None, List,
-    Result, Ok, Err, nat_lt, slice_get, if◌then◌else◌}
+use Rattle.std.specs.Prelude.{◌+ℤ◌, ◌-ℤ◌, ◌*ℤ◌, ◌&&◌, ◌||◌, ◌^◌, ℕ, ℤ, pos, negsuc, Bool, not, Option, Some, None, List, Result, Ok, Err, nat_lt, slice_get, if◌then◌else◌}
 use Rattle.std.specs.Ordering.{is_eq, is_ne, is_lt, is_le, is_gt, is_ge}
 use Rattle.std.specs.declared.cmp.Ordering.{Ordering}
 use Rattle.retro_base.specs.Gives.{◌>>=◌}

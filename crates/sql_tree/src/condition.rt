@@ -103,6 +103,7 @@ impl Condition {
         }
     }
 
+    /// The steps of the tree, in postfix order.
     pub fn steps(&self) -> &[ConditionStep]
         ensures { result.now ≡ postfix self.now }
     {

@@ -71,6 +71,7 @@ impl Expression {
         }
     }
 
+    /// The steps of the tree, in postfix order.
     pub fn steps(&self) -> &[ExpressionStep]
         ensures { result.now ≡ postfix self.now }
     {

@@ -14,8 +14,7 @@ use Rattle.store.specs.declared.desk_side.DeskSide.{DeskSide}
 use Rattle.store.specs.declared.start.Start.{Start}
 use Rattle.store.specs.Tried.{AreTried}
 use Rattle.store.specs.Workers.{WorkersFit}
-use Rattle.store.specs.Start.{AreAsHonest, IsAsHonest, IsCoreFrom, IsLaterArchive, IsLaterCore, IsOpenedTo, IsVaultFrom,
-    Origin, desk_counts, opened_base, vault_counts, with_slots}
+use Rattle.store.specs.Start.{AreAsHonest, IsAsHonest, IsCoreFrom, IsLaterArchive, IsLaterCore, IsOpenedTo, IsVaultFrom, Origin, desk_counts, opened_base, vault_counts, with_slots}
 
 module _ {D : Type 0} (is_honest : D → Type 0) (state : D → State) where
   -- The store was opened to some history, and the core is a plain desk behind each to which it was opened. Its

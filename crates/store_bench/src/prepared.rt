@@ -10,7 +10,7 @@ ghost use Rattle.turn.specs.Tables.{table_of};
 use crate::measured::{PHASE, fills, read_often};
 use disk_model::{Disk, Sizes};
 use race_model::Batch;
-use retro_base::DEFAULT_CAPACITY;
+use retro_base::MEMORY_CAPACITY;
 use std::alloc::Global;
 use std::sync::Wait;
 use store::{Done, Seat, Store, copier, flusher};
@@ -28,7 +28,7 @@ impl Setting {
     pub fn sizes(self) -> Sizes {
         Sizes {
             pages: self.pages,
-            capacity: DEFAULT_CAPACITY,
+            capacity: MEMORY_CAPACITY,
         }
     }
 

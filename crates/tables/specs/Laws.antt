@@ -6,8 +6,7 @@ use Rattle.sql_tree.specs.declared.select.Select.{Select as SelectRecord}
 use Rattle.sql_tree.specs.declared.select.SelectList.TheVariants.{All}
 use Rattle.sql_tree.specs.declared.statement.Column.{Column}
 use Rattle.sql_tree.specs.declared.statement.Statement.{Statement}
-use Rattle.sql_tree.specs.declared.statement.Statement.TheVariants.{CreateTable, CreateIndex, Insert, Update, Delete,
-    Select}
+use Rattle.sql_tree.specs.declared.statement.Statement.TheVariants.{CreateTable, CreateIndex, Insert, Update, Delete, Select}
 use Rattle.sql_tree.specs.declared.statement.Update.{Update as UpdateRecord}
 use Rattle.sql_tree.specs.Statement.{IsStatement}
 use Rattle.tables.specs.declared.contents.NumberedRow.{NumberedRow}
@@ -29,8 +28,16 @@ table_of (Select select) = select.table
 -- SELECT * FROM name
 abbrev pub star_of : List ℕ → SelectRecord
 star_of name =
-    record { distinct = false; list = All; table = name; second = None; condition = None; group_by = []; order_by = [];
-    limit = None }
+    record {
+      distinct = false;
+      list = All;
+      table = name;
+      second = None;
+      condition = None;
+      group_by = [];
+      order_by = [];
+      limit = None;
+    }
 
 -- SELECT * FROM name gives these columns and rows, and changes nothing
 abbrev pub Shows : Tables → List ℕ → List Column → List (List Value) → Type 0

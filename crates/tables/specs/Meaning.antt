@@ -1,6 +1,5 @@
 -- The meaning of a statement: what it does to the tables, and what it replies.
-use Rattle.std.specs.Prelude.{◌+◌, ◌-◌, ◌^◌, ◌++◌, ℕ, Bool, List, [], ◌∷◌, length, Option, Some, None, Result, Ok, Err,
-    if◌then◌else◌, nat_le, slice_set}
+use Rattle.std.specs.Prelude.{◌+◌, ◌-◌, ◌^◌, ◌++◌, ℕ, Bool, List, [], ◌∷◌, length, Option, Some, None, Result, Ok, Err, if◌then◌else◌, nat_le, slice_set}
 use Rattle.retro_base.specs.Gives.{◌>>=◌}
 use Rattle.retro_base.specs.declared.limits.TheConstants.{ROW_BYTES}
 use Rattle.retro_base.specs.declared.refusal.Refusal.{Refusal}
@@ -13,8 +12,7 @@ use Rattle.sql_tree.specs.declared.select.Select.{Select as SelectRecord}
 use Rattle.sql_tree.specs.declared.statement.Assignment.{Assignment}
 use Rattle.sql_tree.specs.declared.statement.Delete.{Delete as DeleteRecord}
 use Rattle.sql_tree.specs.declared.statement.Statement.{Statement}
-use Rattle.sql_tree.specs.declared.statement.Statement.TheVariants.{CreateTable, CreateIndex, Insert, Update, Delete,
-    Select}
+use Rattle.sql_tree.specs.declared.statement.Statement.TheVariants.{CreateTable, CreateIndex, Insert, Update, Delete, Select}
 use Rattle.sql_tree.specs.declared.statement.Update.{Update as UpdateRecord}
 use Rattle.sql_check.specs.Check.{checked}
 use Rattle.sql_check.specs.Outputs.{answer_columns}
@@ -49,8 +47,10 @@ abbrev pub inserted : List (List Value) → Contents → Result (Contents × ℕ
 inserted tuples contents = do
   _ ← check (nat_le (contents.next + length tuples) (2 ^ 64 - 1)) Overflow
   _ ← check_lengths tuples
-  Ok (record { next = contents.next + length tuples; rows = contents.rows ++ numbered contents.next tuples },
-      length tuples)
+  Ok (
+    record { next = contents.next + length tuples; rows = contents.rows ++ numbered contents.next tuples },
+    length tuples,
+  )
 
 -- what becomes of rows, each by itself, and how many are counted; the first refusal stands
 abbrev pub reworked : (NumberedRow → Result (List NumberedRow × ℕ) Refusal) → List NumberedRow →

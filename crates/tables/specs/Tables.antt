@@ -1,6 +1,5 @@
 -- Tables: their schema, and what each of them holds, in the order of the schema.
-use Rattle.std.specs.Prelude.{◌≡◌, ◌<◌, ◌≤◌, ◌+◌, ◌++◌, ◌==◌, ℕ, IsTrue, List, [], ◌∷◌, length, Option, Some, None,
-    position, slice_get, slice_index_or, slice_set}
+use Rattle.std.specs.Prelude.{◌≡◌, ◌<◌, ◌≤◌, ◌+◌, ◌++◌, ◌==◌, ℕ, IsTrue, List, [], ◌∷◌, length, Option, Some, None, position, slice_get, slice_index_or, slice_set}
 use Rattle.std.specs.Cmp.Lexicographic.{pointwise}
 use Rattle.std.specs.List.{AllByRecursion, AllZip}
 use Rattle.std.specs.Option.{option_and_then}
@@ -87,6 +86,8 @@ pub record IsPlace (name : List ℕ) (tables : Tables) (place : ℕ) : Type 0 wh
   pub in_contents : place < length tables.contents
   pub found : (s : TableSchema) (c : Contents) →
       table_named name tables
-      ≡ Some (record
-      { place = place; schema = slice_index_or tables.schema.tables place s;
-      contents = slice_index_or tables.contents place c })
+      ≡ Some (record {
+        place = place;
+        schema = slice_index_or tables.schema.tables place s;
+        contents = slice_index_or tables.contents place c;
+      })

@@ -1,4 +1,5 @@
-//! Plain tables, and what statements do to them.
+//! Plain tables, and what statements do to them: the meaning that statements on pages are proved to have. The program
+//! keeps none.
 #![tactic(auto)]
 
 mod assigning;

@@ -1,13 +1,11 @@
 -- An entry that is added to a tree that pages hold: proofs.
-use Rattle.std.proofs.Common.{◌≡◌, ◌<◌, ◌≤◌, ◌^◌, ◌++◌, ◌∙◌, ℕ, zero, suc, Bool, true, false, eqb, List, [], ◌∷◌,
-    length, Option, Some, None, Ok, refl, sym, ap, subst, arith, append_assoc}
+use Rattle.std.proofs.Common.{◌≡◌, ◌<◌, ◌≤◌, ◌^◌, ◌++◌, ◌∙◌, ℕ, zero, suc, Bool, true, false, eqb, List, [], ◌∷◌, length, Option, Some, None, Ok, refl, sym, ap, subst, arith, append_assoc}
 use Rattle.std.specs.List.{flat_map, AllByRecursion}
 use Rattle.std.specs.List.Sorted.{IsPermutation}
 use Rattle.std.proofs.lemmas.Bool.{leb-true}
 use Rattle.std.proofs.lemmas.List.{append-nil, length-append, map-append}
 use Rattle.std.proofs.lemmas.List.Elements.{All-from_recursion, recursion_from_All}
-use Rattle.std.proofs.lemmas.List.Sorted.{All-permutation, IsPermutation-append_left, IsPermutation-append_right,
-    IsPermutation-cons, IsPermutation-refl, IsPermutation-to_front, IsPermutation-trans}
+use Rattle.std.proofs.lemmas.List.Sorted.{All-permutation, IsPermutation-append_left, IsPermutation-append_right, IsPermutation-cons, IsPermutation-refl, IsPermutation-to_front, IsPermutation-trans}
 use Rattle.pager.specs.Allows.{either, only}
 use Rattle.pager.specs.Index.{IsFound}
 use Rattle.pager.specs.Pages.{Pages}
@@ -25,11 +23,9 @@ use Rattle.tree_index.specs.declared.walk.Met.{Met}
 use Rattle.tree_index.specs.Climbing.{Climbs, IsReady, IsTaken, RowClimbs, bare-behind, row-founds, with_up}
 use Rattle.tree_index.specs.Growing.{all-drop}
 use Rattle.tree_index.specs.Marking.{all-join, all-left, all-right}
-use Rattle.tree_index.specs.Placing.{Halves, any-room, any-width, below, inner-halves, inners-room, leaf-halves,
-    leaves-room, nodes-are, parts-writable, perm-kept, perm-one, perm-two}
+use Rattle.tree_index.specs.Placing.{Halves, any-room, any-width, below, inner-halves, inners-room, leaf-halves, leaves-room, nodes-are, parts-writable, perm-kept, perm-one, perm-two}
 use Rattle.tree_index.specs.Taking.{taken-more}
-use Rattle.tree_index.specs.Tree.{Body, Key, Row, Tree, bare, content, inners, leaves, nodes, numbers, row_keys,
-    row_nodes}
+use Rattle.tree_index.specs.Tree.{Body, Key, Row, Tree, bare, content, inners, leaves, nodes, numbers, row_keys, row_nodes}
 use Rattle.tree_index.specs.declared.climb.Climb.{Climb}
 use Rattle.tree_index.specs.Work.{parted, placed, split, with_entries}
 
@@ -72,34 +68,34 @@ module _ (size root : ℕ) (pages : Pages) where
       let begun : Climb × Pages = (record { edits = (edits ++ r ∷ []) ++ l ∷ []; up = Some parts.key }, next.1) in
       let given : Climb × Pages = (record { edits = edits ++ r ∷ l ∷ []; up = Some parts.key }, next.1) in
       let same : given ≡ answer =
-          ap (λ (x : List Met). (record { edits = x; up = Some parts.key }, next.1))
-          (sym (append_assoc edits (r ∷ []) (l ∷ []))) ∙ only-is begun answer (rw place.other at s.2.2) in
+      ap (λ (x : List Met). (record { edits = x; up = Some parts.key }, next.1))
+      (sym (append_assoc edits (r ∷ []) (l ∷ []))) ∙ only-is begun answer (rw place.other at s.2.2) in
       let more = taken-more size pages mid opened next is_taken s.1.0 s.1.1 in
       let first : l ∷ below n h.left ≡ nodes n (t.0, h.left) =
-          ap (λ (c : IndexPage). record { page = t.0; held = c } ∷ below n h.left) h.left_is ∙
-          sym (nodes-are n t.0 h.left) in
+      ap (λ (c : IndexPage). record { page = t.0; held = c } ∷ below n h.left) h.left_is ∙
+      sym (nodes-are n t.0 h.left) in
       let last : r ∷ below n h.right ≡ nodes n (next.0, h.right) =
-          ap (λ (c : IndexPage). record { page = next.0; held = c } ∷ below n h.right) h.right_is ∙
-          sym (nodes-are n next.0 h.right) in
+      ap (λ (c : IndexPage). record { page = next.0; held = c } ∷ below n h.right) h.right_is ∙
+      sym (nodes-are n next.0 h.right) in
       let row : Row (ℕ × Body n) = ((t.0, h.left), (h.key, (next.0, h.right)) ∷ []) in
       let all : (l ∷ below n h.left) ++ (r ∷ below n h.right) ≡ row_nodes (nodes n) row =
       ap (λ (m : List Met). m ++ (r ∷ below n h.right)) first ∙
       ap (λ (m : List Met). nodes n (t.0, h.left) ++ m) (last ∙ sym (append-nil (nodes n (next.0, h.right)))) in
       let two =
-          perm-two edits others (below n h.left) (below n h.right) r l
-          (subst (IsPermutation (edits ++ others)) h.nodes_are nodes_kept) in
+      perm-two edits others (below n h.left) (below n h.right) r l
+      (subst (IsPermutation (edits ++ others)) h.nodes_are nodes_kept) in
       let A = numbers (below n h.left) in
       let B = numbers (below n h.right) in
       let held : numbers rest ≡ A ++ B =
-          ap numbers h.nodes_are ∙ map-append (λ (met : Met). met.page) (below n h.left) (below n h.right) in
+      ap numbers h.nodes_are ∙ map-append (λ (met : Met). met.page) (below n h.left) (below n h.right) in
       let count : IsPermutation ((numbers (nodes n t) ++ opened) ++ next.0 ∷ []) ((t.0 ∷ (A ++ B)) ++ next.0 ∷ []) =
-          IsPermutation-append_left (next.0 ∷ []) (numbers (nodes n t) ++ opened) (t.0 ∷ (A ++ B))
-          (subst (λ (x : List ℕ). IsPermutation (numbers (nodes n t) ++ opened) (t.0 ∷ x)) held numbers_kept) in
+      IsPermutation-append_left (next.0 ∷ []) (numbers (nodes n t) ++ opened) (t.0 ∷ (A ++ B))
+      (subst (λ (x : List ℕ). IsPermutation (numbers (nodes n t) ++ opened) (t.0 ∷ x)) held numbers_kept) in
       let moved : IsPermutation ((t.0 ∷ (A ++ B)) ++ next.0 ∷ []) (t.0 ∷ (A ++ (next.0 ∷ B))) =
       subst (λ (x : List ℕ). IsPermutation (t.0 ∷ x) (t.0 ∷ (A ++ (next.0 ∷ B)))) (sym (append_assoc A B (next.0 ∷ [])))
       (IsPermutation-append_right (t.0 ∷ A) (B ++ next.0 ∷ []) (next.0 ∷ B) (IsPermutation-to_front B next.0)) in
       let named_all : t.0 ∷ (A ++ (next.0 ∷ B)) ≡ numbers (row_nodes (nodes n) row) =
-          sym (map-append (λ (met : Met). met.page) (l ∷ below n h.left) (r ∷ below n h.right)) ∙ ap numbers all in
+      sym (map-append (λ (met : Met). met.page) (l ∷ below n h.left) (r ∷ below n h.right)) ∙ ap numbers all in
       let climbs : Climbs size pages n made_is t given.0 given.1 = record {
         row = row;
         first_bare = h.first_bare;
@@ -120,9 +116,10 @@ module _ (size root : ℕ) (pages : Pages) where
         in_place = λ none. absurd (omega (arith, ap length none, length-append opened (next.0 ∷ [])));
         ready =
             let within = (all-right (λ page. (2 ≤ page) × (page < size)) opened (next.0 ∷ []) more.within).0 in
-            all-join (IsReady size) edits (r ∷ l ∷ []) ready
-            (record { low = within.0; there = within.1; link = link.1; writable = writable.1 },
-            (record { low = place.low; there = place.there; link = link.0; writable = writable.0 }, tt));
+            all-join (IsReady size) edits (r ∷ l ∷ []) ready (
+              record { low = within.0; there = within.1; link = link.1; writable = writable.1 },
+              (record { low = place.low; there = place.there; link = link.0; writable = writable.0 }, tt),
+            );
       } in
       subst (λ (a : Climb × Pages). Climbs size pages n made_is t a.0 a.1) same climbs
 
@@ -164,9 +161,11 @@ module _ (size root : ℕ) (pages : Pages) where
             nodes_are = IsPermutation-refl (met ∷ []);
             numbers_are = IsPermutation-refl (t.0 ∷ []);
             in_place = λ none. refl;
-            ready = (record
-                { low = place.low; there = place.there; link = omega arith;
-                writable = record { lawful = lawful; fits = leb-true (width (entry_inserted e t.1)) 1016 room } }, tt);
+            ready = (
+              record
+                  { low = place.low; there = place.there; link = omega arith; writable = record { lawful = lawful; fits = leb-true (width (entry_inserted e t.1)) 1016 room } },
+              tt,
+            );
           } in
           subst (λ (a : Climb × Pages). Climbs size pages 0 (leaves (entry_inserted e t.1)) t a.0 a.1)
           (only-is given answer k) climbs
@@ -175,9 +174,10 @@ module _ (size root : ℕ) (pages : Pages) where
           (λ parts next p. leaf-halves (entry_inserted e t.1) parts next full p) (λ P all. tt) (IsPermutation-refl [])
           (IsPermutation-refl (t.0 ∷ [])) tt lawful
           (omega (arith, inserted-width e t.1, entry-short e found, writable.fits))
-          (λ parts next p.
-          (subst (λ (q : Parts). q.left.link < 2 ^ 32) (sym p.3) (omega arith),
-          subst (λ (q : Parts). q.right.link < 2 ^ 32) (sym p.3) (omega arith))) answer k
+          (λ parts next p. (
+            subst (λ (q : Parts). q.left.link < 2 ^ 32) (sym p.3) (omega arith),
+            subst (λ (q : Parts). q.right.link < 2 ^ 32) (sym p.3) (omega arith),
+          )) answer k
 
   pub founds-lawful : (n : ℕ) (rest : List (Key × (ℕ × Body n))) →
       AllByRecursion IsFound (row_keys (bare-behind n rest)) →
@@ -196,11 +196,12 @@ module _ (size root : ℕ) (pages : Pages) where
   row-numbers P n [] all = tt
   row-numbers P n (b ∷ rest) all =
       let two =
-          subst (AllByRecursion P)
-          (map-append (λ (met : Met). met.page) (nodes n b.1) (flat_map (λ (c : Key × (ℕ × Body n)). nodes n c.1) rest))
-          all in
-      (first-number P n b.1 (all-left P (numbers (nodes n b.1)) _ two),
-      row-numbers P n rest (all-right P (numbers (nodes n b.1)) _ two))
+      subst (AllByRecursion P)
+      (map-append (λ (met : Met). met.page) (nodes n b.1) (flat_map (λ (c : Key × (ℕ × Body n)). nodes n c.1) rest))
+      all in (
+        first-number P n b.1 (all-left P (numbers (nodes n b.1)) _ two),
+        row-numbers P n rest (all-right P (numbers (nodes n b.1)) _ two),
+      )
 
   -- a key on an inner page, or none
   pub inner-climbs : (n : ℕ) (made_is : Row (Tree n)) (t : ℕ × Body (suc n)) (state : Climb) (mid : Pages)
@@ -218,7 +219,7 @@ module _ (size root : ℕ) (pages : Pages) where
       narrow_row : AllByRecursion (λ page. page < 2 ^ 32) (numbers (row_nodes (nodes n) rc.row))
       narrow_row =
           let before =
-              all-join (λ page. page < 2 ^ 32) (numbers (row_nodes (nodes n) t.1)) rc.opened narrow rc.taken_is.small in
+          all-join (λ page. page < 2 ^ 32) (numbers (row_nodes (nodes n) t.1)) rc.opened narrow rc.taken_is.small in
           recursion_from_All (λ page. page < 2 ^ 32) (numbers (row_nodes (nodes n) rc.row))
           (All-permutation (λ page. page < 2 ^ 32) (numbers (row_nodes (nodes n) t.1) ++ rc.opened)
           (numbers (row_nodes (nodes n) rc.row)) rc.numbers_are
@@ -292,23 +293,22 @@ module _ (size root : ℕ) (pages : Pages) where
       go None q k =
           let given : Climb × Pages = (record { edits = state.edits; up = None }, mid) in
           let same : row-founds n rc.row.1 ≡ row-founds n t.1.1 =
-              rc.keys_are ∙ ap (λ (u : Option Found). with_up u (row-founds n t.1.1)) q in
+          rc.keys_are ∙ ap (λ (u : Option Found). with_up u (row-founds n t.1.1)) q in
           let met : node-of (suc n) t ≡ met_after =
-              λ i. record { page = t.0;
-              held = record { form = form.Inner; link = (sym rc.first_is) i; entries = (sym same) i } } in
+          λ i. record { page = t.0; held = record { form = form.Inner; link = (sym rc.first_is) i; entries = (sym same) i } } in
           let perm =
-              subst (λ (m : Met). IsPermutation (state.edits ++ node-of (suc n) t ∷ rc.others)
-              (m ∷ row_nodes (nodes n) rc.row)) met
-              (perm-kept state.edits rc.others (row_nodes (nodes n) rc.row) (node-of (suc n) t) rc.nodes_are) in
+          subst (λ (m : Met). IsPermutation (state.edits ++ node-of (suc n) t ∷ rc.others)
+          (m ∷ row_nodes (nodes n) rc.row)) met
+          (perm-kept state.edits rc.others (row_nodes (nodes n) rc.row) (node-of (suc n) t) rc.nodes_are) in
           subst (λ (a : Climb × Pages). Climbs size pages (suc n) (inners made_is) t a.0 a.1) (only-is given answer k)
           (stays (ap have_room same ∙ room) state.edits (node-of (suc n) t ∷ rc.others) perm
           (λ P all. (all.0, rc.kept P all.1)) rc.ready)
       go (Some key) q k =
           let whole : IndexPage = with_entries (content (suc n) t.1) (entry_inserted key (row-founds n t.1.1)) in
           let same : row-founds n rc.row.1 ≡ entry_inserted key (row-founds n t.1.1) =
-              rc.keys_are ∙ ap (λ (u : Option Found). with_up u (row-founds n t.1.1)) q in
+          rc.keys_are ∙ ap (λ (u : Option Found). with_up u (row-founds n t.1.1)) q in
           let is : whole ≡ content (suc n) rc.row =
-              λ i. record { form = form.Inner; link = (sym rc.first_is) i; entries = (sym same) i } in
+          λ i. record { form = form.Inner; link = (sym rc.first_is) i; entries = (sym same) i } in
           placing whole is k
         where
           placing : (whole : IndexPage) → whole ≡ content (suc n) rc.row →
@@ -330,9 +330,7 @@ module _ (size root : ℕ) (pages : Pages) where
               step true fit m =
                   let given : Climb × Pages = (record { edits = state.edits ++ met_after ∷ []; up = None }, mid) in
                   let place_ready : IsReady size met_after =
-                      record { low = place.low; there = place.there; link = link_small;
-                      writable =
-                      record { lawful = lawful; fits = leb-true (width (row-founds n rc.row.1)) 1016 fit } } in
+                  record { low = place.low; there = place.there; link = link_small; writable = record { lawful = lawful; fits = leb-true (width (row-founds n rc.row.1)) 1016 fit } } in
                   subst (λ (a : Climb × Pages). Climbs size pages (suc n) (inners made_is) t a.0 a.1)
                   (only-is given answer m)
                   (stays fit (state.edits ++ met_after ∷ []) rc.others
@@ -344,8 +342,9 @@ module _ (size root : ℕ) (pages : Pages) where
                   (row_nodes (nodes n) rc.row) rc.opened mid rc.taken_is
                   (λ parts next p. inner-halves n made_is rc.row parts next rc.first_bare rc.rest_bare full p)
                   (λ P all. rc.kept P all.1) rc.nodes_are kept_numbers rc.ready lawful short
-                  (λ parts next p.
-                  (subst (λ (x : Parts). x.left.link < 2 ^ 32) (sym p.3) link_small,
-                  subst (λ (x : Parts). x.right.link < 2 ^ 32) (sym p.3)
-                  (subst (AllByRecursion IsFound) p.2
-                  (all-drop IsFound (half (row-founds n rc.row.1)) (row-founds n rc.row.1) lawful)).0.page)) answer m
+                  (λ parts next p. (
+                    subst (λ (x : Parts). x.left.link < 2 ^ 32) (sym p.3) link_small,
+                    subst (λ (x : Parts). x.right.link < 2 ^ 32) (sym p.3)
+                        (subst (AllByRecursion IsFound) p.2
+                        (all-drop IsFound (half (row-founds n rc.row.1)) (row-founds n rc.row.1) lawful)).0.page,
+                  )) answer m

@@ -1,14 +1,12 @@
 -- The way back up a tree that pages hold: proofs.
-use Rattle.std.proofs.Common.{◌≡◌, ◌<◌, ◌≤◌, ◌^◌, ◌++◌, ◌∙◌, ℕ, Bool, true, false, cond, List, [], ◌∷◌, length, map,
-    Option, Some, None, Ok, refl, sym, ap, subst, append_assoc}
+use Rattle.std.proofs.Common.{◌≡◌, ◌<◌, ◌≤◌, ◌^◌, ◌++◌, ◌∙◌, ℕ, Bool, true, false, cond, List, [], ◌∷◌, length, map, Option, Some, None, Ok, refl, sym, ap, subst, append_assoc}
 use Rattle.std.specs.List.{flat_map, AllByRecursion}
 use Rattle.std.specs.List.Sorted.{IsPermutation}
 use Rattle.std.specs.Ordering.{is_lt, ordering_reverse}
 use Rattle.std.specs.declared.cmp.Ordering.TheVariants.{Less, Greater}
 use Rattle.std.proofs.lemmas.List.{append-nil, map-append}
 use Rattle.std.proofs.lemmas.List.Concat.{flat_map-append}
-use Rattle.std.proofs.lemmas.List.Sorted.{IsPermutation-append_comm, IsPermutation-append_left,
-    IsPermutation-append_right, IsPermutation-refl, IsPermutation-trans}
+use Rattle.std.proofs.lemmas.List.Sorted.{IsPermutation-append_comm, IsPermutation-append_left, IsPermutation-append_right, IsPermutation-refl, IsPermutation-trans}
 use Rattle.pager.specs.Index.{found_cmp}
 use Rattle.pager.specs.Pages.{Pages}
 use Rattle.pager.specs.Root.{all_taken}
@@ -18,8 +16,7 @@ use Rattle.index_page.specs.IndexPage.{AreWritable}
 use Rattle.index_page.proofs.Ordered.{inserted-one}
 use Rattle.tree_index.specs.declared.walk.Met.{Met}
 use Rattle.tree_index.specs.Marking.{all-join, all-left, all-right, rising-behind, rising-right}
-use Rattle.tree_index.specs.Tree.{Body, IsRising, Key, Mark, Precedes, Row, Tree, at_key, bare, changed, marks, named,
-    nodes, numbers, row_marks, row_nodes}
+use Rattle.tree_index.specs.Tree.{Body, IsRising, Key, Mark, Precedes, Row, Tree, at_key, bare, changed, marks, named, nodes, numbers, row_marks, row_nodes}
 use Rattle.tree_index.specs.declared.climb.Climb.{Climb}
 use Rattle.pager.proofs.Orders.{found_total}
 
@@ -189,14 +186,14 @@ row-climbs size pages n change e first (b ∷ rest) state after rises climbs =
     before (Some key) behind g is h =
         let c = is.0 in
         let whole : IsRising
-            (row_marks (marks n) (g, (c.0, bare n c.1.1) ∷ ((b.0, bare n b.1.1) ∷ bare-behind n rest))) =
-            subst (λ (l : List (Key × (ℕ × Body n))). IsRising
-            (row_marks (marks n) (g, bare-behind n l ++ (b.0, bare n b.1.1) ∷ bare-behind n rest))) is.1 h in
+        (row_marks (marks n) (g, (c.0, bare n c.1.1) ∷ ((b.0, bare n b.1.1) ∷ bare-behind n rest))) =
+        subst (λ (l : List (Key × (ℕ × Body n))). IsRising
+        (row_marks (marks n) (g, bare-behind n l ++ (b.0, bare n b.1.1) ∷ bare-behind n rest))) is.1 h in
         let above =
-            rising-behind (marks n g) (row_marks (marks n) (bare n c.1.1, (b.0, bare n b.1.1) ∷ bare-behind n rest))
-            (at_key c.0) whole in
+        rising-behind (marks n g) (row_marks (marks n) (bare n c.1.1, (b.0, bare n b.1.1) ∷ bare-behind n rest))
+        (at_key c.0) whole in
         let less : found_cmp (named c.0 0) (named b.0 0) ≡ Less =
-            (all-right (Precedes (at_key c.0)) (marks n (bare n c.1.1)) _ above).0 in
+        (all-right (Precedes (at_key c.0)) (marks n (bare n c.1.1)) _ above).0 in
         ap (λ (l : List (Key × (ℕ × Body n))). row-founds n (l ++ b ∷ rest)) is.1 ∙
         sym (inserted-before (named c.0 c.1.0) (named b.0 b.1.0) (row-founds n rest) less) ∙
         ap (λ (f : Found). entry_inserted f (row-founds n (b ∷ rest))) (sym is.2)
@@ -209,8 +206,8 @@ row-climbs size pages n change e first (b ∷ rest) state after rises climbs =
         ap (λ (p : ℕ). named b.0 p ∷ row-founds n row.1) at ∙ ap (λ (l : List Found). named b.0 b.1.0 ∷ l) keys
     behind (Some key) row at keys less =
         let under =
-            inserted-one (λ (f : Found). found_cmp (named b.0 0) f ≡ Less) key (row-founds n rest)
-            (subst (AllByRecursion (λ (f : Found). found_cmp (named b.0 0) f ≡ Less)) keys less) in
+        inserted-one (λ (f : Found). found_cmp (named b.0 0) f ≡ Less) key (row-founds n rest)
+        (subst (AllByRecursion (λ (f : Found). found_cmp (named b.0 0) f ≡ Less)) keys less) in
         ap (λ (p : ℕ). named b.0 p ∷ row-founds n row.1) at ∙ ap (λ (l : List Found). named b.0 b.1.0 ∷ l) keys ∙
         sym (inserted-behind key (named b.0 b.1.0) (row-founds n rest) under)
 
@@ -250,11 +247,11 @@ row-climbs size pages n change e first (b ∷ rest) state after rises climbs =
       numbers_are =
           let F = numbers (nodes n first) in
           let from : numbers (nodes n first ++ S) ++ climbs.opened ≡ (F ++ numbers S) ++ climbs.opened =
-              ap (λ (l : List ℕ). l ++ climbs.opened) (numbers-append (nodes n first) S) in
+          ap (λ (l : List ℕ). l ++ climbs.opened) (numbers-append (nodes n first) S) in
           let to : numbers (row_nodes (nodes n) climbs.row) ++ numbers S
-              ≡ numbers (row_nodes (nodes n) (climbs.row.0, climbs.row.1 ++ b ∷ rest)) =
-              sym (ap numbers (row-nodes-more n climbs.row (b ∷ rest)) ∙
-              numbers-append (row_nodes (nodes n) climbs.row) S) in
+          ≡ numbers (row_nodes (nodes n) (climbs.row.0, climbs.row.1 ++ b ∷ rest)) =
+          sym (ap numbers (row-nodes-more n climbs.row (b ∷ rest)) ∙
+          numbers-append (row_nodes (nodes n) climbs.row) S) in
           subst (λ (l : List ℕ). IsPermutation l
           (numbers (row_nodes (nodes n) (climbs.row.0, climbs.row.1 ++ b ∷ rest)))) (sym from)
           (subst (IsPermutation ((F ++ numbers S) ++ climbs.opened)) to
@@ -271,12 +268,12 @@ row-climbs size pages n change e first (b ∷ rest) state after rises climbs =
         let more = go (rising-right (marks n (bare n first.1)) (at_key b.0 ∷ row_marks (marks n) made) h).1 climbs in
         let above = rising-behind (marks n (bare n first.1)) (row_marks (marks n) made) (at_key b.0) h in
         let keys =
-            keys-all (marks n) (Precedes (at_key b.0)) (λ k. found_cmp (named b.0 0) (named k 0) ≡ Less) made.1
-            (λ k p. p) (all-right (Precedes (at_key b.0)) (marks n made.0) _ above) in
+        keys-all (marks n) (Precedes (at_key b.0)) (λ k. found_cmp (named b.0 0) (named k 0) ≡ Less) made.1
+        (λ k p. p) (all-right (Precedes (at_key b.0)) (marks n made.0) _ above) in
         let less =
-            founds-all n b.0 more.row.1
-            (subst (AllByRecursion (λ (c : Key × Tree n). found_cmp (named b.0 0) (named c.0 0) ≡ Less))
-            (sym more.rest_bare) keys) in
+        founds-all n b.0 more.row.1
+        (subst (AllByRecursion (λ (c : Key × Tree n). found_cmp (named b.0 0) (named c.0 0) ≡ Less))
+        (sym more.rest_bare) keys) in
         let G = row_nodes (nodes n) (b.1, rest) in
         record {
           row = (first, (b.0, more.row.0) ∷ more.row.1);
@@ -299,11 +296,11 @@ row-climbs size pages n change e first (b ∷ rest) state after rises climbs =
           numbers_are =
               let F = numbers (nodes n first) in
               let from : numbers (nodes n first ++ G) ++ more.opened ≡ F ++ (numbers G ++ more.opened) =
-                  ap (λ (l : List ℕ). l ++ more.opened) (numbers-append (nodes n first) G) ∙
-                  append_assoc F (numbers G) more.opened in
+              ap (λ (l : List ℕ). l ++ more.opened) (numbers-append (nodes n first) G) ∙
+              append_assoc F (numbers G) more.opened in
               let to : F ++ numbers (row_nodes (nodes n) more.row)
-                  ≡ numbers (nodes n first ++ row_nodes (nodes n) more.row) =
-                  sym (numbers-append (nodes n first) (row_nodes (nodes n) more.row)) in
+              ≡ numbers (nodes n first ++ row_nodes (nodes n) more.row) =
+              sym (numbers-append (nodes n first) (row_nodes (nodes n) more.row)) in
               subst (λ (l : List ℕ). IsPermutation l (numbers (nodes n first ++ row_nodes (nodes n) more.row)))
               (sym from)
               (subst (IsPermutation (F ++ (numbers G ++ more.opened))) to

@@ -1,6 +1,5 @@
 -- How many pages a tree with one more entry has: proofs.
-use Rattle.std.proofs.Common.{◌≡◌, ◌<◌, ◌≤◌, ◌+◌, ◌*◌, ◌++◌, ◌∙◌, ℕ, zero, suc, Bool, true, false, cond, leb, List, [],
-    ◌∷◌, length, map, take, drop, refl, sym, ap, arith}
+use Rattle.std.proofs.Common.{◌≡◌, ◌<◌, ◌≤◌, ◌+◌, ◌*◌, ◌++◌, ◌∙◌, ℕ, zero, suc, Bool, true, false, cond, leb, List, [], ◌∷◌, length, map, take, drop, refl, sym, ap, arith}
 use Rattle.std.specs.List.{flat_map, drop-map, AllByRecursion}
 use Rattle.std.specs.Ordering.{is_lt}
 use Rattle.std.specs.declared.cmp.Ordering.{Ordering}
@@ -15,8 +14,7 @@ use Rattle.index_page.proofs.Halving.{halves_fit}
 use Rattle.index_page.proofs.Packing.{length-entry, width-cons}
 use Rattle.tree_index.specs.Climbing.{bare-behind, picked}
 use Rattle.tree_index.specs.Shaping.{count-append}
-use Rattle.tree_index.specs.Tree.{Body, Key, Row, Tree, bare, changed, count_behind, grown, inners, key_of, leaves,
-    named, next_inner, next_leaf, nodes, page_count, rooted, row_keys, row_nodes}
+use Rattle.tree_index.specs.Tree.{Body, Key, Row, Tree, bare, changed, count_behind, grown, inners, key_of, leaves, named, next_inner, next_leaf, nodes, page_count, rooted, row_keys, row_nodes}
 
 abbrev pub row-count : (n : ℕ) → Row (Tree n) → ℕ
 row-count n row = page_count n row.0 + count_behind (page_count n) row.1
@@ -30,8 +28,8 @@ back-some es all most full = step (drop (half es) es) refl
     step [] e =
         let front = take (half es) es in
         let whole : width front ≡ width es =
-            ap width (sym (append-nil front) ∙ ap (λ (l : List Found). front ++ l) (sym e) ∙
-            take-append-drop (half es) es) in
+        ap width (sym (append-nil front) ∙ ap (λ (l : List Found). front ++ l) (sym e) ∙
+        take-append-drop (half es) es) in
         absurd (omega (arith, whole, (halves_fit es all most).0, leb-false (width es) 1016 full))
     step (m ∷ back) e = omega arith
 
@@ -59,9 +57,12 @@ inners-count n row = step (have_room (row_keys row.1))
         ((row.0, take (half (row_keys row.1)) row.1), next_inner (drop (half (row_keys row.1)) row.1))))))
     step true = omega arith
     step false =
-        omega (arith, next_inner-count (page_count n) (drop (half (row_keys row.1)) row.1),
-        count-append (page_count n) (take (half (row_keys row.1)) row.1) (drop (half (row_keys row.1)) row.1),
-        ap (count_behind (page_count n)) (take-append-drop (half (row_keys row.1)) row.1))
+        omega (
+          arith,
+          next_inner-count (page_count n) (drop (half (row_keys row.1)) row.1),
+          count-append (page_count n) (take (half (row_keys row.1)) row.1) (drop (half (row_keys row.1)) row.1),
+          ap (count_behind (page_count n)) (take-append-drop (half (row_keys row.1)) row.1),
+        )
 
 next_leaf-count : (l : List Found) → count_behind (page_count 0) (next_leaf l) ≡ length (row_keys (next_leaf l))
 next_leaf-count [] = refl
@@ -141,27 +142,45 @@ behind-count : (n : ℕ) → ((t : ℕ × Body n) → page_count n (bare n t.1) 
     count_behind (page_count n) (bare-behind n rest) ≡ length (flat_map (λ (b : Key × (ℕ × Body n)). nodes n b.1) rest)
 behind-count n each [] = refl
 behind-count n each (b ∷ rest) =
-    omega (arith, each b.1, behind-count n each rest,
-    length-append (nodes n b.1) (flat_map (λ (c : Key × (ℕ × Body n)). nodes n c.1) rest))
+    omega (
+      arith,
+      each b.1,
+      behind-count n each rest,
+      length-append (nodes n b.1) (flat_map (λ (c : Key × (ℕ × Body n)). nodes n c.1) rest),
+    )
 
 pub nodes-count : (n : ℕ) (t : ℕ × Body n) → page_count n (bare n t.1) ≡ length (nodes n t)
 nodes-count zero t = refl
 nodes-count (suc n) t =
-    omega (arith, nodes-count n t.1.0, behind-count n (nodes-count n) t.1.1,
-    length-append (nodes n t.1.0) (flat_map (λ (c : Key × (ℕ × Body n)). nodes n c.1) t.1.1))
+    omega (
+      arith,
+      nodes-count n t.1.0,
+      behind-count n (nodes-count n) t.1.1,
+      length-append (nodes n t.1.0) (flat_map (λ (c : Key × (ℕ × Body n)). nodes n c.1) t.1.1),
+    )
 
 pub row-nodes-count : (n : ℕ) (row : Row (ℕ × Body n)) →
     row-count n (bare n row.0.1, bare-behind n row.1) ≡ length (row_nodes (nodes n) row)
 row-nodes-count n row =
-    omega (arith, nodes-count n row.0, behind-count n (nodes-count n) row.1,
-    length-append (nodes n row.0) (flat_map (λ (c : Key × (ℕ × Body n)). nodes n c.1) row.1))
+    omega (
+      arith,
+      nodes-count n row.0,
+      behind-count n (nodes-count n) row.1,
+      length-append (nodes n row.0) (flat_map (λ (c : Key × (ℕ × Body n)). nodes n c.1) row.1),
+    )
 
 -- how many more there are does not depend on the page of the entry
 pub pageless-width : (es : List Found) → width es ≡ width (map (λ (f : Found). named (key_of f) 0) es)
 pageless-width [] = refl
 pageless-width (f ∷ es) =
-    omega (arith, width-cons f es, width-cons (named (key_of f) 0) (map (λ (g : Found). named (key_of g) 0) es),
-    length-entry f, length-entry (named (key_of f) 0), pageless-width es)
+    omega (
+      arith,
+      width-cons f es,
+      width-cons (named (key_of f) 0) (map (λ (g : Found). named (key_of g) 0) es),
+      length-entry f,
+      length-entry (named (key_of f) 0),
+      pageless-width es,
+    )
 
 pageless-more : (total filled : ℕ) (es : List Found) →
     more_for_half total filled es ≡ more_for_half total filled (map (λ (f : Found). named (key_of f) 0) es)
@@ -263,9 +282,11 @@ changed-same {X} one two e page same first (b ∷ rest) =
 
     step : (t : Bool) →
         row_keys (changed one (named (key_of e) page) b.1 rest).1 ≡ row_keys (changed two e b.1 rest).1 →
-        keys (cond t ((one first).0, (one first).1 ++ b ∷ rest)
-        (first, (b.0, (changed one (named (key_of e) page) b.1 rest).0)
-        ∷ (changed one (named (key_of e) page) b.1 rest).1))
+        keys (cond t ((one first).0, (one first).1 ++ b ∷ rest) (
+          first,
+          (b.0, (changed one (named (key_of e) page) b.1 rest).0)
+              ∷ (changed one (named (key_of e) page) b.1 rest).1,
+        ))
         ≡ keys (cond t ((two first).0, (two first).1 ++ b ∷ rest)
         (first, (b.0, (changed two e b.1 rest).0) ∷ (changed two e b.1 rest).1))
     step true more = map-append (λ (c : Key × X). named c.0 0) (one first).1 (b ∷ rest) ∙
@@ -292,26 +313,42 @@ same-picked e page first (b ∷ rest) =
 pub grown-count : (e : Found) (page n : ℕ) (tree : Tree n) →
     row-count n (grown (named (key_of e) page) n tree) ≡ row-count n (grown e n tree)
 grown-count e page zero es =
-    omega (arith, leaves-count (entry_inserted (named (key_of e) page) es), leaves-count (entry_inserted e es),
-    ap length (grown-keys e page 0 es))
+    omega (
+      arith,
+      leaves-count (entry_inserted (named (key_of e) page) es),
+      leaves-count (entry_inserted e es),
+      ap length (grown-keys e page 0 es),
+    )
 grown-count e page (suc n) row =
     let low = named (key_of e) page in
     let at = picked e row.0 row.1 in
     let moved : row-count n (grown low n (picked low row.0 row.1)) ≡ row-count n (grown low n at) =
-        ap (λ (t : Tree n). row-count n (grown low n t)) (same-picked e page row.0 row.1) in
+    ap (λ (t : Tree n). row-count n (grown low n t)) (same-picked e page row.0 row.1) in
     let counted : page_count n (picked low row.0 row.1) ≡ page_count n at =
-        ap (page_count n) (same-picked e page row.0 row.1) in
-    omega (arith, inners-count n (changed (grown low n) low row.0 row.1),
-    inners-count n (changed (grown e n) e row.0 row.1), ap length (grown-keys e page (suc n) row),
-    changed-counts (page_count n) (grown low n) low row.0 row.1,
-    changed-counts (page_count n) (grown e n) e row.0 row.1, grown-count e page n at, moved, counted)
+    ap (page_count n) (same-picked e page row.0 row.1) in
+    omega (
+      arith,
+      inners-count n (changed (grown low n) low row.0 row.1),
+      inners-count n (changed (grown e n) e row.0 row.1),
+      ap length (grown-keys e page (suc n) row),
+      changed-counts (page_count n) (grown low n) low row.0 row.1,
+      changed-counts (page_count n) (grown e n) e row.0 row.1,
+      grown-count e page n at,
+      moved,
+      counted,
+    )
 
 -- at most one a level is opened
 pub grown-most : (e : Found) (n : ℕ) (tree : Tree n) → row-count n (grown e n tree) ≤ page_count n tree + suc n
 grown-most e zero es = omega (arith, leaves-count (entry_inserted e es), leaves-few (entry_inserted e es))
 grown-most e (suc n) row =
-    omega (arith, inners-count n (changed (grown e n) e row.0 row.1), inners-few (changed (grown e n) e row.0 row.1),
-    changed-counts (page_count n) (grown e n) e row.0 row.1, grown-most e n (picked e row.0 row.1))
+    omega (
+      arith,
+      inners-count n (changed (grown e n) e row.0 row.1),
+      inners-few (changed (grown e n) e row.0 row.1),
+      changed-counts (page_count n) (grown e n) e row.0 row.1,
+      grown-most e n (picked e row.0 row.1),
+    )
 
 -- a tree under its root page
 pub rooted-count : (n : ℕ) (first : Tree n) (behind : List (Key × Tree n)) →

@@ -1,6 +1,5 @@
 -- The way down a tree that pages hold: proofs.
-use Rattle.std.proofs.Common.{◌≡◌, ◌≤◌, ◌+◌, ◌++◌, ◌∙◌, ℕ, zero, suc, Bool, true, false, cond, List, [], ◌∷◌, length,
-    map, refl, sym, ap, subst, arith, append_assoc}
+use Rattle.std.proofs.Common.{◌≡◌, ◌≤◌, ◌+◌, ◌++◌, ◌∙◌, ℕ, zero, suc, Bool, true, false, cond, List, [], ◌∷◌, length, map, refl, sym, ap, subst, arith, append_assoc}
 use Rattle.std.specs.List.{flat_map, AllByRecursion}
 use Rattle.std.specs.Ordering.{is_lt}
 use Rattle.std.specs.declared.cmp.Ordering.TheVariants.{Less}
@@ -15,11 +14,9 @@ use Rattle.index_page.specs.Paging.{IsIndexAt}
 use Rattle.index_page.specs.declared.page.IndexPage.{IndexPage}
 use Rattle.tree_index.specs.declared.walk.Met.{Met}
 use Rattle.tree_index.specs.Listing.{IsThere, at-one, first-there}
-use Rattle.tree_index.specs.Marking.{all-join, all-left, all-right, entries-all, entries-append, entries-map,
-    rising-before, rising-behind, rising-left, rising-right}
+use Rattle.tree_index.specs.Marking.{all-join, all-left, all-right, entries-all, entries-append, entries-map, rising-before, rising-behind, rising-left, rising-right}
 use Rattle.tree_index.specs.Shaping.{row-one}
-use Rattle.tree_index.specs.Tree.{Body, IsRising, Key, Mark, Precedes, Row, Tree, at_key, bare, content, entries_in,
-    marks, named, nodes, row_marks, row_nodes}
+use Rattle.tree_index.specs.Tree.{Body, IsRising, Key, Mark, Precedes, Row, Tree, at_key, bare, content, entries_in, marks, named, nodes, row_marks, row_nodes}
 use Rattle.tree_index.specs.Walk.{IsOfTree, Meets, children, chosen}
 use Rattle.tree_index.specs.Work.{along, on_leaf}
 
@@ -44,10 +41,10 @@ chosen-picks n low high first (b ∷ rest) =
     let one : List (ℕ × Body n) = cond (is_lt (found_cmp low (named b.0 0))) (first ∷ []) [] in
     let two : List (ℕ × Body n) = cond (is_lt (found_cmp high (named b.0 0))) [] (picks low high b.1 rest) in
     let more =
-        ap (λ (l : List ℕ). cond (is_lt (found_cmp low (named b.0 0))) (first.0 ∷ []) [] ++ cond
-        (is_lt (found_cmp high (named b.0 0))) [] l) (chosen-picks n low high b.1 rest) in
+    ap (λ (l : List ℕ). cond (is_lt (found_cmp low (named b.0 0))) (first.0 ∷ []) [] ++ cond
+    (is_lt (found_cmp high (named b.0 0))) [] l) (chosen-picks n low high b.1 rest) in
     let back : map number (one ++ two) ≡ cond (is_lt (found_cmp low (named b.0 0))) (first.0 ∷ []) [] ++ cond
-        (is_lt (found_cmp high (named b.0 0))) [] (map number (picks low high b.1 rest)) =
+    (is_lt (found_cmp high (named b.0 0))) [] (map number (picks low high b.1 rest)) =
     map-append number one two ∙
     ap (λ (l : List ℕ). l ++ map number two) (map-cond number (is_lt (found_cmp low (named b.0 0))) (first ∷ []) [])
     ∙ ap (λ (l : List ℕ). cond (is_lt (found_cmp low (named b.0 0))) (first.0 ∷ []) [] ++ l)
@@ -86,11 +83,18 @@ picks-few {X} f low high first (b ∷ rest) =
     let one : List X = cond (is_lt (found_cmp low (named b.0 0))) (first ∷ []) [] in
     let two : List X = cond (is_lt (found_cmp high (named b.0 0))) [] (picks low high b.1 rest) in
     let behind : length (f b.1 ++ flat_map (λ (c : Key × X). f c.1) rest)
-        ≡ length (flat_map (λ (c : Key × X). f c.1) (b ∷ rest)) = refl in
-    omega (arith, ap length (flat_map-append f one two), length-append (flat_map f one) (flat_map f two),
-    cond-least f (is_lt (found_cmp low (named b.0 0))) (first ∷ []),
-    cond-most f (is_lt (found_cmp high (named b.0 0))) (picks low high b.1 rest), ap length (append-nil (f first)),
-    picks-few f low high b.1 rest, behind, length-append (f first) (flat_map (λ (c : Key × X). f c.1) (b ∷ rest)))
+    ≡ length (flat_map (λ (c : Key × X). f c.1) (b ∷ rest)) = refl in
+    omega (
+      arith,
+      ap length (flat_map-append f one two),
+      length-append (flat_map f one) (flat_map f two),
+      cond-least f (is_lt (found_cmp low (named b.0 0))) (first ∷ []),
+      cond-most f (is_lt (found_cmp high (named b.0 0))) (picks low high b.1 rest),
+      ap length (append-nil (f first)),
+      picks-few f low high b.1 rest,
+      behind,
+      length-append (f first) (flat_map (λ (c : Key × X). f c.1) (b ∷ rest)),
+    )
 
 -- A view of entries that shows none below the low end, and none above the high one.
 pub record IsView (low high : Found) (view : List Found → List Found) : Type 0 where
@@ -205,11 +209,11 @@ module _ (size : ℕ) (pages : Pages) (kind : Kind) where
       let found = subst (AllByRecursion IsFound) e lawful in
       let same = subst (AreOfKind kind) e kinds in
       let more =
-          row-good n b.1 rest (all-right (IsThere size pages) (nodes n first) _ there)
-          (rising-right (body-marks n first) tail h).1
-          (all-right IsFound (entries_in (body-marks n first)) (entries_in tail) found)
-          (all-right (λ (f : Found). kind_of f.value ≡ kind) (entries_in (body-marks n first))
-          (entries_in tail) same) in (
+      row-good n b.1 rest (all-right (IsThere size pages) (nodes n first) _ there)
+      (rising-right (body-marks n first) tail h).1
+      (all-right IsFound (entries_in (body-marks n first)) (entries_in tail) found)
+      (all-right (λ (f : Found). kind_of f.value ≡ kind) (entries_in (body-marks n first))
+      (entries_in tail) same) in (
         record {
           there = all-left (IsThere size pages) (nodes n first) _ there;
           rises = rising-left (body-marks n first) tail h;
@@ -265,17 +269,19 @@ module _ (size : ℕ) (pages : Pages) (kind : Kind) where
         let h = subst IsRising e good.rises in
         let lawful = subst (λ (m : List Mark). AllByRecursion IsFound (entries_in m)) e good.lawful in
         let children-good =
-            row-good n row.0 row.1 good.there.1 h lawful
-            (subst (λ (m : List Mark). AreOfKind kind (entries_in m)) e good.kinds) in
+        row-good n row.0 row.1 good.there.1 h lawful
+        (subst (λ (m : List Mark). AreOfKind kind (entries_in m)) e good.kinds) in
         let ts = picks low high row.0 row.1 in
         record {
           below = map (λ (t : ℕ × Body n). record { levels = n; tree = t }) ts;
           named_is = chosen-picks n low high row.0 row.1 ∙ subtrees-numbers n ts;
           good = subtrees-good n ts
               (picks-all (IsGood size pages kind n) low high row.0 row.1 children-good.0 children-good.1);
-          fewer = omega
-              (arith, ap length (subtrees-flat n (λ (s : Subtree). nodes s.levels s.tree) ts),
-              picks-few (nodes n) low high row.0 row.1);
+          fewer = omega (
+            arith,
+            ap length (subtrees-flat n (λ (s : Subtree). nodes s.levels s.tree) ts),
+            picks-few (nodes n) low high row.0 row.1,
+          );
           shows = ap (λ (m : List Mark). view (entries_in m)) e ∙
               sym (picks-seen (body-marks n) low high view is row.0 row.1 h lawful) ∙ sym (subtrees-flat n look ts);
           tree = tt;
@@ -300,9 +306,9 @@ module _ (size : ℕ) (pages : Pages) (kind : Kind) where
     walk-left (met ∷ way) (s ∷ forest) todo left names good meets =
         let p : s.tree.0 ∷ root-numbers forest ≡ met.page ∷ meets.0 = sym names ∙ meets.1 in
         let held : content s.levels s.tree.1 ≡ met.held =
-            at-one size pages met.page (content s.levels s.tree.1) met.held
-            (subst (λ (page : ℕ). IsIndexAt size pages page (content s.levels s.tree.1)) (first p)
-            (first-there size pages s.levels s.tree good.0.there)) meets.2.0 in
+        at-one size pages met.page (content s.levels s.tree.1) met.held
+        (subst (λ (page : ℕ). IsIndexAt size pages page (content s.levels s.tree.1)) (first p)
+        (first-there size pages s.levels s.tree good.0.there)) meets.2.0 in
         let here = step s.levels s.tree good.0 in
         let more : children low high met.held ++ meets.0 ≡ root-numbers (here.below ++ forest) =
         ap (λ (h : IndexPage). children low high h ++ meets.0) (sym held) ∙
@@ -310,16 +316,19 @@ module _ (size : ℕ) (pages : Pages) (kind : Kind) where
         ap (λ (l : List ℕ). root-numbers here.below ++ l) (sym (second p)) ∙
         sym (map-append (λ (s : Subtree). s.tree.0) here.below forest) in
         let on = walk-left way (here.below ++ forest) (children low high met.held ++ meets.0) left more
-            (all-join Good here.below forest here.good good.1) meets.3 in
+        (all-join Good here.below forest here.good good.1) meets.3 in
         record {
           rest = on.rest;
           left_is = on.left_is;
           good = on.good;
-          fewer = omega
-              (arith, on.fewer, here.fewer,
-              ap length (flat_map-append (λ (s : Subtree). nodes s.levels s.tree) here.below forest),
-              length-append (forest-nodes here.below) (forest-nodes forest),
-              length-append (nodes s.levels s.tree) (forest-nodes forest));
+          fewer = omega (
+            arith,
+            on.fewer,
+            here.fewer,
+            ap length (flat_map-append (λ (s : Subtree). nodes s.levels s.tree) here.below forest),
+            length-append (forest-nodes here.below) (forest-nodes forest),
+            length-append (nodes s.levels s.tree) (forest-nodes forest),
+          );
           shows = shown s.levels s.tree (content s.levels s.tree.1) met.held held here.below here.shows on.rest
               on.shows;
         }

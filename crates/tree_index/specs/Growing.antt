@@ -1,6 +1,5 @@
 -- A tree with one more entry, and with one less: proofs.
-use Rattle.std.proofs.Common.{◌≡◌, ◌≤◌, ◌+◌, ◌*◌, ◌++◌, ◌∙◌, ℕ, zero, suc, Bool, true, false, cond, eqb, leb, List, [],
-    ◌∷◌, length, map, take, drop, refl, sym, ap, subst, arith}
+use Rattle.std.proofs.Common.{◌≡◌, ◌≤◌, ◌+◌, ◌*◌, ◌++◌, ◌∙◌, ℕ, zero, suc, Bool, true, false, cond, eqb, leb, List, [], ◌∷◌, length, map, take, drop, refl, sym, ap, subst, arith}
 use Rattle.std.specs.List.{drop-map, AllByRecursion}
 use Rattle.std.specs.Ordering.{ordering_reverse}
 use Rattle.std.specs.declared.cmp.Ordering.{Ordering}
@@ -11,16 +10,14 @@ use Rattle.std.proofs.lemmas.List.Elements.{All-drop, All-from_recursion, All-ta
 use Rattle.pager.specs.Index.{IsFound, found_cmp}
 use Rattle.pager.specs.declared.index.Found.{Found}
 use Rattle.index_page.specs.Entries.{entry_inserted, taken_out}
-use Rattle.index_page.specs.IndexPage.{AreOneMore, HaveRoom, AreWritable, entry_code, have_room, half, more_for_half,
-    width}
+use Rattle.index_page.specs.IndexPage.{AreOneMore, HaveRoom, AreWritable, entry_code, have_room, half, more_for_half, width}
 use Rattle.index_page.proofs.Halving.{halves_fit}
 use Rattle.index_page.proofs.Ordered.{inserted-all, inserted-skip}
 use Rattle.index_page.proofs.Packing.{entry-short, width-cons}
 use Rattle.index_page.proofs.Placing.{inserted-width}
 use Rattle.tree_index.specs.Marking.{added-rises, entries-append, entries-map, key-rises}
 use Rattle.tree_index.specs.Shaping.{changed-all, changed-entries, changed-keys, changed-rises, row-more, row-one}
-use Rattle.tree_index.specs.Tree.{Fits, IsRising, Key, Mark, Precedes, Row, Tree, at_entry, at_key, changed, entries_in,
-    grown, inners, key_of, leaves, marks, named, next_inner, next_leaf, row_keys, row_marks}
+use Rattle.tree_index.specs.Tree.{Fits, IsRising, Key, Mark, Precedes, Row, Tree, at_entry, at_key, changed, entries_in, grown, inners, key_of, leaves, marks, named, next_inner, next_leaf, row_keys, row_marks}
 use Rattle.pager.proofs.Orders.{found_total}
 
 pub all-take : {X : Type 0} (P : X → Type 0) (n : ℕ) (xs : List X) → AllByRecursion P xs → AllByRecursion P (take n xs)
@@ -53,9 +50,11 @@ next_leaf-fits : (l : List Found) → AllByRecursion IsFound l → HaveRoom l �
 next_leaf-fits [] all fit = (tt, tt, omega arith)
 next_leaf-fits (m ∷ back) all fit =
     let key : IsFound (named (key_of m) 0) =
-        record { value = all.0.value; number = all.0.number; page = omega arith } in
-    ((record { lawful = all; fits = fit }, tt), (key, tt),
-    omega (arith, width-cons (named (key_of m) 0) [], entry-short (named (key_of m) 0) key))
+    record { value = all.0.value; number = all.0.number; page = omega arith } in (
+      (record { lawful = all; fits = fit }, tt),
+      (key, tt),
+      omega (arith, width-cons (named (key_of m) 0) [], entry-short (named (key_of m) 0) key),
+    )
 
 leaves-fit : (es : List Found) → AllByRecursion IsFound es → AreOneMore es → RowFits 0 (leaves es)
 leaves-fit es all most = step (have_room es) refl
@@ -63,20 +62,18 @@ leaves-fit es all most = step (have_room es) refl
     step : (t : Bool) → have_room es ≡ t →
         RowFits 0 (cond t (es, []) (take (half es) es, next_leaf (drop (half es) es)))
     step true q =
-        record { first = record { lawful = all; fits = leb-true (width es) 1016 q }; rest = tt; keys = tt;
-        short = omega arith }
+        record { first = record { lawful = all; fits = leb-true (width es) 1016 q }; rest = tt; keys = tt; short = omega arith }
     step false q =
         let two = next_leaf-fits (drop (half es) es) (all-drop IsFound (half es) es all) (halves_fit es all most).1 in
-        record { first = record { lawful = all-take IsFound (half es) es all; fits = (halves_fit es all most).0 };
-        rest = two.0; keys = two.1; short = two.2 }
+        record { first = record { lawful = all-take IsFound (half es) es all; fits = (halves_fit es all most).0 }; rest = two.0; keys = two.1; short = two.2 }
 
 split-rises : (front l : List Found) (a b : List Mark) → ((f : Found) × (fs : List Found) × (front ≡ f ∷ fs)) →
     IsRising (a ++ (map at_entry (front ++ l) ++ b)) → IsRising (a ++ (row_marks (marks 0) (front, next_leaf l) ++ b))
 split-rises front [] a b some h = subst (λ (m : List Mark). IsRising (a ++ (m ++ b))) (map-append at_entry front []) h
 split-rises front (m ∷ back) a b some h =
     let key =
-        key-rises some.0 some.1 m back a b
-        (subst (λ (g : List Found). IsRising (a ++ (map at_entry (g ++ m ∷ back) ++ b))) some.2 h) in
+    key-rises some.0 some.1 m back a b
+    (subst (λ (g : List Found). IsRising (a ++ (map at_entry (g ++ m ∷ back) ++ b))) some.2 h) in
     subst (λ (g : List Found). IsRising
     (a ++ ((map at_entry g ++ ((at_key (key_of m) ∷ map at_entry (m ∷ back)) ++ [])) ++ b))) (sym some.2)
     (subst (λ (r : List Mark). IsRising (a ++ ((map at_entry (some.0 ∷ some.1) ++ r) ++ b)))
@@ -115,9 +112,14 @@ next_inner-fits : (n : ℕ) (l : List (Key × Tree n)) → AllByRecursion (λ (b
     AllByRecursion (λ (b : Key × Row (Tree n)). Fits (suc n) b.1) (next_inner l)
     × AllByRecursion IsFound (row_keys (next_inner l)) × (width (row_keys (next_inner l)) ≤ 217)
 next_inner-fits n [] all keys fit = (tt, tt, omega arith)
-next_inner-fits n (b ∷ back) all keys fit =
-    ((((record { lawful = keys.1; fits = omega (arith, width-cons (named b.0 0) (row_keys back), fit) }, all.0, all.1)),
-    tt), (keys.0, tt), omega (arith, width-cons (named b.0 0) [], entry-short (named b.0 0) keys.0))
+next_inner-fits n (b ∷ back) all keys fit = (
+  (
+    ((record { lawful = keys.1; fits = omega (arith, width-cons (named b.0 0) (row_keys back), fit) }, all.0, all.1)),
+    tt,
+  ),
+  (keys.0, tt),
+  omega (arith, width-cons (named b.0 0) [], entry-short (named b.0 0) keys.0),
+)
 
 inners-fit : (n : ℕ) (row : Row (Tree n)) → Fits n row.0 → AllByRecursion (λ (b : Key × Tree n). Fits n b.1) row.1 →
     AllByRecursion IsFound (row_keys row.1) → AreOneMore (row_keys row.1) → RowFits (suc n) (inners row)
@@ -128,21 +130,19 @@ inners-fit n row first all keys most = step (have_room (row_keys row.1)) refl
         (cond t (row, [])
         ((row.0, take (half (row_keys row.1)) row.1), next_inner (drop (half (row_keys row.1)) row.1)))
     step true q =
-        record { first = (record { lawful = keys; fits = leb-true (width (row_keys row.1)) 1016 q }, first, all);
-        rest = tt; keys = tt; short = omega arith }
+        record { first = (record { lawful = keys; fits = leb-true (width (row_keys row.1)) 1016 q }, first, all); rest = tt; keys = tt; short = omega arith }
     step false q =
         let fit = halves_fit (row_keys row.1) keys most in
         let front = take-map (λ (b : Key × Tree n). named b.0 0) (half (row_keys row.1)) row.1 in
         let back = drop-map (λ (b : Key × Tree n). named b.0 0) (half (row_keys row.1)) row.1 in
         let two =
-            next_inner-fits n (drop (half (row_keys row.1)) row.1)
-            (all-drop (λ (b : Key × Tree n). Fits n b.1) (half (row_keys row.1)) row.1 all)
-            (subst (AllByRecursion IsFound) back (all-drop IsFound (half (row_keys row.1)) (row_keys row.1) keys))
-            (subst HaveRoom back fit.1) in
+        next_inner-fits n (drop (half (row_keys row.1)) row.1)
+        (all-drop (λ (b : Key × Tree n). Fits n b.1) (half (row_keys row.1)) row.1 all)
+        (subst (AllByRecursion IsFound) back (all-drop IsFound (half (row_keys row.1)) (row_keys row.1) keys))
+        (subst HaveRoom back fit.1) in
         record {
           first = (
-            record { lawful = subst (AllByRecursion IsFound) front
-            (all-take IsFound (half (row_keys row.1)) (row_keys row.1) keys); fits = subst HaveRoom front fit.0 },
+            record { lawful = subst (AllByRecursion IsFound) front (all-take IsFound (half (row_keys row.1)) (row_keys row.1) keys); fits = subst HaveRoom front fit.0 },
             first,
             all-take (λ (b : Key × Tree n). Fits n b.1) (half (row_keys row.1)) row.1 all,
           );
@@ -180,11 +180,11 @@ grown-fits e found zero es fits =
     (omega (arith, inserted-width e es, entry-short e found, fits.fits))
 grown-fits e found (suc n) row fits =
     let parts =
-        changed-all (marks n) (grown e n) e (Fits n)
-        (λ x is. let g = grown-fits e found n x is in (g.first, g.rest)) row.0 row.1 fits.1 fits.2 in
+    changed-all (marks n) (grown e n) e (Fits n)
+    (λ x is. let g = grown-fits e found n x is in (g.first, g.rest)) row.0 row.1 fits.1 fits.2 in
     let keys =
-        changed-keys (marks n) (grown e n) e (Fits n)
-        (λ x is. let g = grown-fits e found n x is in (g.keys, g.short)) row.0 row.1 fits.1 fits.2 fits.0.lawful in
+    changed-keys (marks n) (grown e n) e (Fits n)
+    (λ x is. let g = grown-fits e found n x is in (g.keys, g.short)) row.0 row.1 fits.1 fits.2 fits.0.lawful in
     inners-fit n (changed (grown e n) e row.0 row.1) parts.0 parts.1 keys.0 (omega (arith, keys.1, fits.0.fits))
 
 pub grown-rises : (e : Found) (n : ℕ) (tree : Tree n) (a b : List Mark) → Fits n tree →

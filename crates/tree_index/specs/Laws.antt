@@ -1,6 +1,5 @@
 -- The laws of a tree: proofs.
-use Rattle.std.proofs.Common.{◌⊎◌, ◌≡◌, ◌<◌, ◌+◌, ◌-◌, ◌^◌, ◌++◌, ◌∙◌, not, ℕ, zero, suc, Bool, true, false, cond, eqb,
-    leb, ltb, List, [], ◌∷◌, length, None, Result, Ok, Err, refl, sym, ap, subst, inl, inr, arith}
+use Rattle.std.proofs.Common.{◌⊎◌, ◌≡◌, ◌<◌, ◌+◌, ◌-◌, ◌^◌, ◌++◌, ◌∙◌, not, ℕ, zero, suc, Bool, true, false, cond, eqb, leb, ltb, List, [], ◌∷◌, length, None, Result, Ok, Err, refl, sym, ap, subst, inl, inr, arith}
 use Rattle.std.specs.Prelude.{nat_eq}
 use Rattle.std.specs.List.{flat_map, AllByRecursion, IsDistinct}
 use Rattle.std.specs.Ordering.{is_gt, is_lt, nat_cmp, ordering_reverse, ordering_then}
@@ -15,8 +14,7 @@ use Rattle.retro_base.specs.declared.refusal.Refusal.{Refusal}
 use Rattle.values.proofs.Orders.{value_total}
 use Rattle.values.specs.Value.{kind_of, value_cmp}
 use Rattle.values.specs.declared.value.Value.{Value}
-use Rattle.pager.specs.Index.{AddsFound, AreOfKind, EditsOnly, IsApart, IsFound, IsIndexing, MakesIndex, RemovesFound,
-    between, found_cmp}
+use Rattle.pager.specs.Index.{AddsFound, AreOfKind, EditsOnly, IsApart, IsFound, IsIndexing, MakesIndex, RemovesFound, between, found_cmp}
 use Rattle.pager.specs.Pages.{Pages, with_bytes}
 use Rattle.pager.specs.declared.index.Found.{Found}
 use Rattle.index_page.specs.IndexPage.{AreWritable, page_bytes}
@@ -35,13 +33,10 @@ use Rattle.tree_index.specs.RootPage.{RootWhole, from-climbs, root-climbs, root-
 use Rattle.tree_index.specs.Rooting.{path}
 use Rattle.tree_index.specs.Shaped.{empty-shape, put-in, without-in}
 use Rattle.tree_index.specs.Taking.{refused}
-use Rattle.tree_index.specs.Tree.{Body, Fits, IsRising, Key, Lists, Row, Shape, Tree, bare, empty, entries_in,
-    entries_of, grown, key_of, marks, named, nodes, numbers, opens, page_count, put, rooted, row_keys, row_nodes,
-    shrunk, without}
+use Rattle.tree_index.specs.Tree.{Body, Fits, IsRising, Key, Lists, Row, Shape, Tree, bare, empty, entries_in, entries_of, grown, key_of, marks, named, nodes, numbers, opens, page_count, put, rooted, row_keys, row_nodes, shrunk, without}
 use Rattle.tree_index.specs.Walk.{walked}
 use Rattle.tree_index.specs.Work.{added, all_written, along, climbed, cut, made, ranged, removed}
-use Rattle.tree_index.specs.Standing.{counted, edits-only, good-of, lists-after, moves, never-refused, none-sees,
-    path-is, walk-leaves}
+use Rattle.tree_index.specs.Standing.{counted, edits-only, good-of, lists-after, moves, never-refused, none-sees, path-is, walk-leaves}
 use Rattle.tree_index.specs.Writing.{flip-false}
 
 -- the page is made
@@ -69,10 +64,10 @@ makes size pages (Ok answer) m =
     let edits : EditsOnly (next.0 ∷ []) next.1 after = λ page. elim (eqb_tells page next.0) [
       | inl is ↦ inl (0, omega arith, sym is.1)
       | inr differ ↦ inr
-      (written-other next.1 next.0 page bytes differ.0, unmarked-other next.1 next.0 page bytes differ.0)
+          (written-other next.1 next.0 page bytes differ.0, unmarked-other next.1 next.0 page bytes differ.0)
     ] in
     let all : MakesIndex (λ size pages root shape held. Lists size pages root shape held) empty size pages (Ok given) =
-        (next.1, m.1.0, edits, lists) in
+    (next.1, m.1.0, edits, lists) in
     subst (λ (a : ℕ × Pages). MakesIndex (λ size pages root shape held. Lists size pages root shape held) empty size
     pages (Ok a)) same all
 makes size pages (Err why) m = elim m [
@@ -127,8 +122,8 @@ module _ (size root : ℕ) (e : Found) (pages : Pages) (shape : Shape) (held : L
       let two = rooted-count n (grown e n shape.tree).0 (grown e n shape.tree).1 in
       let rows = grown-count e 0 n shape.tree in
       let keys : cond {A = ℕ} (leb 1 (length (row_keys (grown low n shape.tree).1))) 1 0
-          ≡ cond {A = ℕ} (leb 1 (length (row_keys (grown e n shape.tree).1))) 1 0 =
-          ap (λ (l : List Found). cond {A = ℕ} (leb 1 (length l)) 1 0) (grown-keys e 0 n shape.tree) in
+      ≡ cond {A = ℕ} (leb 1 (length (row_keys (grown e n shape.tree).1))) 1 0 =
+      ap (λ (l : List Found). cond {A = ℕ} (leb 1 (length l)) 1 0) (grown-keys e 0 n shape.tree) in
       omega (arith, one, two, rows, keys, counts)
 
   put-is : {tree : Tree shape.levels} → tree ≡ shape.tree →
@@ -142,36 +137,36 @@ module _ (size root : ℕ) (e : Found) (pages : Pages) (shape : Shape) (held : L
   adds apart found (Ok answer) (way, w, (edits, (state, climb, k), last)) =
       let at = way-is way w in
       let roots =
-          root-climbs size pages (kind_of e.value) e found shape.levels (root, is.body) (root-whole found) state
-          (subst (λ (l : List Met). climbed size root e pages l (Ok state)) at climb) in
+      root-climbs size pages (kind_of e.value) e found shape.levels (root, is.body) (root-whole found) state
+      (subst (λ (l : List Met). climbed size root e pages l (Ok state)) at climb) in
       let distinct = apart (length roots.opened) roots.opened state.1 roots.taken_is.took in
       let shape_is = roots.shape_is ∙ put-is is.bare_is in
       let after = all_written state.1 state.0.edits in
       let lists =
-          lists-after size root pages shape held is
-          (grown e shape.levels (bare shape.levels is.body)) state.0.edits state.1 roots distinct (put e shape) shape_is
-          (put-in e shape is.is_shape found).0 in
+      lists-after size root pages shape held is
+      (grown e shape.levels (bare shape.levels is.body)) state.0.edits state.1 roots distinct (put e shape) shape_is
+      (put-in e shape is.is_shape found).0 in
       let count =
-          opens-of (length roots.opened)
-          (counted size root pages shape held is
-          (grown e shape.levels (bare shape.levels is.body)) state.0.edits state.1 roots distinct
-          (put e shape) shape_is) in
+      opens-of (length roots.opened)
+      (counted size root pages shape held is
+      (grown e shape.levels (bare shape.levels is.body)) state.0.edits state.1 roots distinct
+      (put e shape) shape_is) in
       let all : AddsFound (λ after behind. Lists size after root (put e shape) behind) size
-          (length roots.opened) held pages (Ok (tt, after)) = (
+      (length roots.opened) held pages (Ok (tt, after)) = (
         roots.opened,
         state.1,
         roots.taken_is.took,
         edits-only size root pages shape held is
-        (grown e shape.levels (bare shape.levels is.body)) state.0.edits state.1 roots distinct,
+            (grown e shape.levels (bare shape.levels is.body)) state.0.edits state.1 roots distinct,
         numbers (nodes roots.levels (root, roots.body)),
         moves size root pages shape held is (grown e shape.levels (bare shape.levels is.body)) state.0.edits state.1
-        roots distinct,
+            roots distinct,
         lists,
       ) in
       let first : List Met × Pages = (state.0.edits, state.1) in
       let given : Unit {0} × Pages = (tt, after) in
       let moved : given ≡ (tt, all_written edits.1 edits.0) =
-          ap (λ (x : List Met × Pages). (tt, all_written x.1 x.0)) (only-is first edits k) in
+      ap (λ (x : List Met × Pages). (tt, all_written x.1 x.0)) (only-is first edits k) in
       let second : Unit {0} × Pages = (tt, all_written edits.1 edits.0) in
       subst (λ (c : ℕ). AddsFound (λ after behind. Lists size after root (put e shape) behind) size c held pages
       (Ok answer)) (sym count)
@@ -183,17 +178,17 @@ module _ (size root : ℕ) (e : Found) (pages : Pages) (shape : Shape) (held : L
   adds apart found (Err why) (inr (way, w, inl (inl climb))) =
       let at = way-is way w in
       let fails =
-          root-fails size pages (kind_of e.value) e found shape.levels (root, is.body) (root-whole found) why
-          (subst (λ (l : List Met). climbed size root e pages l (Err why)) at climb) in
+      root-fails size pages (kind_of e.value) e found shape.levels (root, is.body) (root-whole found) why
+      (subst (λ (l : List Met). climbed size root e pages l (Err why)) at climb) in
       let n = shape.levels in
       let same : page_count (rooted n (grown e n (bare n is.body)).0 (grown e n (bare n is.body)).1).levels
-          (rooted n (grown e n (bare n is.body)).0 (grown e n (bare n is.body)).1).tree
-          ≡ page_count (put e shape).levels (put e shape).tree =
-          ap (λ (s : Shape). page_count s.levels s.tree) (put-is is.bare_is) in
+      (rooted n (grown e n (bare n is.body)).0 (grown e n (bare n is.body)).1).tree
+      ≡ page_count (put e shape).levels (put e shape).tree =
+      ap (λ (s : Shape). page_count s.levels s.tree) (put-is is.bare_is) in
       let before : page_count n (bare n is.body) ≡ page_count n shape.tree = ap (page_count n) is.bare_is in
       let count =
-          opens-of (page_count (put e shape).levels (put e shape).tree - page_count n shape.tree)
-          (omega (arith, same, before, fails.more)) in
+      opens-of (page_count (put e shape).levels (put e shape).tree - page_count n shape.tree)
+      (omega (arith, same, before, fails.more)) in
       refused size fails.opened (opens e.value e.number shape) pages fails.mid fails.list why
       (omega (arith, count, same, before, fails.more)) fails.took fails.none
 
@@ -201,8 +196,11 @@ module _ (size root : ℕ) (e : Found) (pages : Pages) (shape : Shape) (held : L
   shrunk-count : (n : ℕ) (tree : Tree n) → page_count n (shrunk e n tree) ≡ page_count n tree
   shrunk-count zero tree = refl
   shrunk-count (suc n) row =
-      omega (arith, changed-counts (page_count n) (λ x. (shrunk e n x, [])) e row.0 row.1,
-      shrunk-count n (picked e row.0 row.1))
+      omega (
+        arith,
+        changed-counts (page_count n) (λ x. (shrunk e n x, [])) e row.0 row.1,
+        shrunk-count n (picked e row.0 row.1),
+      )
 
   nothing-opened : (list : List ℕ) → length list ≡ 0 → list ≡ []
   nothing-opened [] q = refl
@@ -220,39 +218,44 @@ module _ (size root : ℕ) (e : Found) (pages : Pages) (shape : Shape) (held : L
       let made_is : Row (Tree n) = (shrunk e n (bare n is.body), []) in
       let edits = cut e (path e n (root, is.body)) in
       let shrinks : Shrinks size pages e n (root, is.body) =
-          record { there = is.at; rises = back (λ t. IsRising (marks n t)) is.is_shape.rises;
-          fits = back (Fits n) is.is_shape.fits } in
+      record { there = is.at; rises = back (λ t. IsRising (marks n t)) is.is_shape.rises; fits = back (Fits n) is.is_shape.fits } in
       let roots =
-          from-climbs size pages n made_is (root, is.body) (record { edits = edits; up = None }) pages refl
-          (shrink-climbs size pages e n (root, is.body) shrinks) in
+      from-climbs size pages n made_is (root, is.body) (record { edits = edits; up = None }) pages refl
+      (shrink-climbs size pages e n (root, is.body) shrinks) in
       let shape_is = roots.shape_is ∙ without-is is.bare_is in
       let lengths =
-          length_permutation (numbers (nodes n (root, is.body)) ++ roots.opened)
-          (numbers (nodes roots.levels (root, roots.body))) roots.numbers_are in
+      length_permutation (numbers (nodes n (root, is.body)) ++ roots.opened)
+      (numbers (nodes roots.levels (root, roots.body))) roots.numbers_are in
       let after_count : page_count roots.levels (bare roots.levels roots.body)
-          ≡ page_count n (shrunk e n (bare n is.body)) =
-          ap (λ (s : Shape). page_count s.levels s.tree) roots.shape_is in
+      ≡ page_count n (shrunk e n (bare n is.body)) =
+      ap (λ (s : Shape). page_count s.levels s.tree) roots.shape_is in
       let none : length roots.opened ≡ 0 =
-          omega (arith, lengths, after_count, shrunk-count n (bare n is.body),
-          nodes-count roots.levels (root, roots.body), nodes-count n (root, is.body),
-          length-append (numbers (nodes n (root, is.body))) roots.opened,
-          length-map (nodes n (root, is.body)) (λ (met : Met). met.page),
-          length-map (nodes roots.levels (root, roots.body)) (λ (met : Met). met.page)) in
+      omega (
+        arith,
+        lengths,
+        after_count,
+        shrunk-count n (bare n is.body),
+        nodes-count roots.levels (root, roots.body),
+        nodes-count n (root, is.body),
+        length-append (numbers (nodes n (root, is.body))) roots.opened,
+        length-map (nodes n (root, is.body)) (λ (met : Met). met.page),
+        length-map (nodes roots.levels (root, roots.body)) (λ (met : Met). met.page),
+      ) in
       let opened = nothing-opened roots.opened none in
       let whole : held ++ roots.opened ≡ held = ap (λ (l : List ℕ). held ++ l) opened ∙ append-nil held in
       let distinct : IsDistinct nat_eq (held ++ roots.opened) = subst (IsDistinct nat_eq) (sym whole) is.distinct in
       let place : numbers (nodes roots.levels (root, roots.body)) ≡ held = roots.in_place opened ∙ is.held_is in
       let after = all_written pages edits in
       let lists =
-          subst (Lists size after root (without e shape)) place
-          (lists-after size root pages shape held is made_is edits pages roots distinct (without e shape) shape_is
-          (without-in e shape is.is_shape).0) in
+      subst (Lists size after root (without e shape)) place
+      (lists-after size root pages shape held is made_is edits pages roots distinct (without e shape) shape_is
+      (without-in e shape is.is_shape).0) in
       let only_held : EditsOnly held pages after =
-          subst (λ (l : List ℕ). EditsOnly l pages after) whole
-          (edits-only size root pages shape held is made_is edits pages roots distinct) in
+      subst (λ (l : List ℕ). EditsOnly l pages after) whole
+      (edits-only size root pages shape held is made_is edits pages roots distinct) in
       let given : Unit {0} × Pages = (tt, all_written pages (cut e way)) in
       let moved : (tt, after) ≡ answer = ap (λ (l : List Met). (tt, all_written pages (cut e l))) (sym (way-is way w)) ∙
-          only-is given answer last in
+      only-is given answer last in
       subst (λ (x : Unit {0} × Pages). RemovesFound (λ after. Lists size after root (without e shape) held) held pages
       (Ok x)) moved (only_held, lists)
   removes (Err why) (inl w) = absurd (no-way why w)
@@ -314,20 +317,23 @@ between-sees low high = record {
         ≡ false → AllByRecursion (λ (f : Found). found_cmp f (named k 0) ≡ Less) es →
         AllByRecursion (λ (f : Found). (value_cmp f.value low ≡ Less) ⊎ (value_cmp f.value high ≡ Greater)) es
     below k [] q all = tt
-    below k (f ∷ es) q all =
-        (first f (value_cmp f.value low) refl
-        (under f (named k 0) (record { value = low; number = 0; page = 0 }) all.0 q), below k es q all.1)
+    below k (f ∷ es) q all = (
+      first f (value_cmp f.value low) refl
+          (under f (named k 0) (record { value = low; number = 0; page = 0 }) all.0 q),
+      below k es q all.1,
+    )
 
     above : (k : Key) (es : List Found) →
         is_lt (found_cmp (record { value = high; number = 18446744073709551615; page = 0 }) (named k 0)) ≡ true →
         AllByRecursion IsFound es → AllByRecursion (λ (f : Found). is_lt (found_cmp f (named k 0)) ≡ false) es →
         AllByRecursion (λ (f : Found). (value_cmp f.value low ≡ Less) ⊎ (value_cmp f.value high ≡ Greater)) es
     above k [] q lawful all = tt
-    above k (f ∷ es) q lawful all =
-        (last f lawful.0 (value_cmp high f.value) refl
-        (under (record { value = high; number = 18446744073709551615; page = 0 }) (named k 0) f
-        (lt-from (found_cmp (record { value = high; number = 18446744073709551615; page = 0 }) (named k 0)) q) all.0),
-        above k es q lawful.1 all.1)
+    above k (f ∷ es) q lawful all = (
+      last f lawful.0 (value_cmp high f.value) refl
+          (under (record { value = high; number = 18446744073709551615; page = 0 }) (named k 0) f
+          (lt-from (found_cmp (record { value = high; number = 18446744073709551615; page = 0 }) (named k 0)) q) all.0),
+      above k es q lawful.1 all.1,
+    )
 
 ranges : (size root : ℕ) (low high : Value) (pages : Pages) (shape : Shape) (held : List ℕ)
     (answer : Result (List Found) Refusal) → Lists size pages root shape held →
@@ -337,11 +343,11 @@ ranges size root low high pages shape held (Ok list) is kinds kind (way, w, last
     let least : Found = record { value = low; number = 0; page = 0 } in
     let most : Found = record { value = high; number = 18446744073709551615; page = 0 } in
     let left =
-        walk-leaves size root pages (kind_of low) shape held is kinds least most (between low high)
-        (between-sees low high) way [] w.0 in
+    walk-leaves size root pages (kind_of low) shape held is kinds least most (between low high)
+    (between-sees low high) way [] w.0 in
     let none : left.rest ≡ [] = empty-rest left.rest left.left_is in
     let all : between low high (entries_in (marks shape.levels (bare shape.levels is.body)))
-        ≡ along (between low high) way =
+    ≡ along (between low high) way =
     sym (append-nil (between low high (entries_in (marks shape.levels (bare shape.levels is.body))))) ∙ left.shows ∙
     ap (λ (r : List Subtree). along (between low high) way ++ flat_map
     (λ (s : Subtree). between low high (entries_in (body-marks s.levels s.tree))) r) none ∙

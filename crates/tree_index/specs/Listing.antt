@@ -22,8 +22,7 @@ at-one size pages page p q is also = holds_one (pages.at page) p q is.holds also
 pub at-same : (size : ℕ) (pages after : Pages) (page : ℕ) (held : IndexPage) → after.at page ≡ pages.at page →
     IsIndexAt size pages page held → IsIndexAt size after page held
 at-same size pages after page held same is =
-    record { low = is.low; there = is.there;
-    holds = subst (λ (bytes : List ℕ). HoldsIndex bytes held) (sym same) is.holds }
+    record { low = is.low; there = is.there; holds = subst (λ (bytes : List ℕ). HoldsIndex bytes held) (sym same) is.holds }
 
 abbrev pub IsThere : ℕ → Pages → Met → Type 0
 IsThere size pages met = IsIndexAt size pages met.page met.held
@@ -74,11 +73,11 @@ module _ (size : ℕ) (pages : Pages) where
       let h = head e in
       let key : b.0 ≡ c.0 = λ i. record { value = (h i).value; number = (h i).number } in
       let child : b.1 ≡ c.1 =
-          same b.1 c.1 (ap (λ (f : Found). f.page) h) (all-left (IsThere size pages) (nodes n b.1) _ one)
-          (all-left (IsThere size pages) (nodes n c.1) _ two) in
+      same b.1 c.1 (ap (λ (f : Found). f.page) h) (all-left (IsThere size pages) (nodes n b.1) _ one)
+      (all-left (IsThere size pages) (nodes n c.1) _ two) in
       let rest =
-          same-row n same r s (tail e) (all-right (IsThere size pages) (nodes n b.1) _ one)
-          (all-right (IsThere size pages) (nodes n c.1) _ two) in
+      same-row n same r s (tail e) (all-right (IsThere size pages) (nodes n b.1) _ one)
+      (all-right (IsThere size pages) (nodes n c.1) _ two) in
       cc (pair-same b c key child, rest)
     where
       head : map (λ (b : Key × (ℕ × Body n)). named b.0 b.1.0) (b ∷ r)
@@ -98,13 +97,13 @@ module _ (size : ℕ) (pages : Pages) where
   same-tree (suc n) p q e one two =
       let same = same-content (suc n) (suc n) p q e one two in
       let first =
-          same-tree n p.1.0 q.1.0 (ap (λ (page : IndexPage). page.link) same)
-          (all-left (IsThere size pages) (nodes n p.1.0) _ one.1)
-          (all-left (IsThere size pages) (nodes n q.1.0) _ two.1) in
+      same-tree n p.1.0 q.1.0 (ap (λ (page : IndexPage). page.link) same)
+      (all-left (IsThere size pages) (nodes n p.1.0) _ one.1)
+      (all-left (IsThere size pages) (nodes n q.1.0) _ two.1) in
       let rest =
-          same-row n (same-tree n) p.1.1 q.1.1 (ap (λ (page : IndexPage). page.entries) same)
-          (all-right (IsThere size pages) (nodes n p.1.0) _ one.1)
-          (all-right (IsThere size pages) (nodes n q.1.0) _ two.1) in
+      same-row n (same-tree n) p.1.1 q.1.1 (ap (λ (page : IndexPage). page.entries) same)
+      (all-right (IsThere size pages) (nodes n p.1.0) _ one.1)
+      (all-right (IsThere size pages) (nodes n q.1.0) _ two.1) in
       pair-same p q e (pair-same p.1 q.1 first rest)
 
   abbrev shape-of : (n : ℕ) → Body n → Shape
@@ -131,17 +130,20 @@ shape-is shape tree e = λ i. record { levels = shape.levels; tree = e i }
 one-shape : (size root : ℕ) (pages : Pages) (shape other : Shape) (held others : List ℕ) →
     Lists size pages root shape held → Lists size pages root other others → (shape ≡ other) × (held ≡ others)
 one-shape size root pages shape other held others is also =
-    let same = same-shape size pages root shape.levels other.levels is.body also.body is.at also.at in
-    (sym (shape-is shape (bare shape.levels is.body) is.bare_is) ∙ same.0 ∙
-    shape-is other (bare other.levels also.body) also.bare_is, sym is.held_is ∙ same.1 ∙ also.held_is)
+    let same = same-shape size pages root shape.levels other.levels is.body also.body is.at also.at in (
+      sym (shape-is shape (bare shape.levels is.body) is.bare_is) ∙ same.0 ∙
+          shape-is other (bare other.levels also.body) also.bare_is,
+      sym is.held_is ∙ same.1 ∙ also.held_is,
+    )
 
 pub all-framed : (size : ℕ) (pages after : Pages) (ms : List Met) →
     ((page : ℕ) → Contains (numbers ms) page → after.at page ≡ pages.at page) → AllByRecursion (IsThere size pages) ms →
     AllByRecursion (IsThere size after) ms
 all-framed size pages after [] same all = tt
-all-framed size pages after (met ∷ ms) same all =
-    (at-same size pages after met.page met.held (same met.page (0, omega arith, refl)) all.0,
-    all-framed size pages after ms (λ page there. same page (suc there.0, omega (arith, there.1), there.2)) all.1)
+all-framed size pages after (met ∷ ms) same all = (
+  at-same size pages after met.page met.held (same met.page (0, omega arith, refl)) all.0,
+  all-framed size pages after ms (λ page there. same page (suc there.0, omega (arith, there.1), there.2)) all.1,
+)
 
 pub all-inside : (size : ℕ) (pages : Pages) (ms : List Met) → AllByRecursion (IsThere size pages) ms →
     AllByRecursion (λ (page : ℕ). (2 ≤ page) × (page < size)) (numbers ms)

@@ -1,6 +1,5 @@
 -- Keys and entries that rise: proofs.
-use Rattle.std.proofs.Common.{◌≡◌, ◌++◌, ◌∙◌, Bool, true, false, cond, eqb, List, [], ◌∷◌, map, refl, sym, ap, subst,
-    append_assoc}
+use Rattle.std.proofs.Common.{◌≡◌, ◌++◌, ◌∙◌, Bool, true, false, cond, eqb, List, [], ◌∷◌, map, refl, sym, ap, subst, append_assoc}
 use Rattle.std.specs.List.{AllByRecursion}
 use Rattle.std.specs.Ordering.{is_lt, ordering_reverse}
 use Rattle.std.specs.declared.cmp.Ordering.{Ordering}
@@ -103,15 +102,17 @@ from-key m (at_entry g) h = not-below m g h
 pub rising-in : (a r : List Mark) (x : Mark) → IsRising (a ++ r) → AllByRecursion (λ m. Precedes m x) a →
     AllByRecursion (Precedes x) r → IsRising (a ++ x ∷ r)
 rising-in [] r x h low high = (high, h)
-rising-in (m ∷ a) r x h low high =
-    (all-join (Precedes m) a (x ∷ r) (all-left (Precedes m) a r h.0) (low.0, all-right (Precedes m) a r h.0),
-    rising-in a r x h.1 low.1 high)
+rising-in (m ∷ a) r x h low high = (
+  all-join (Precedes m) a (x ∷ r) (all-left (Precedes m) a r h.0) (low.0, all-right (Precedes m) a r h.0),
+  rising-in a r x h.1 low.1 high,
+)
 
 pub rising-out : (a r : List Mark) (x : Mark) → IsRising (a ++ x ∷ r) → IsRising (a ++ r)
 rising-out [] r x h = h.1
-rising-out (m ∷ a) r x h =
-    (all-join (Precedes m) a r (all-left (Precedes m) a (x ∷ r) h.0) (all-right (Precedes m) a (x ∷ r) h.0).1,
-    rising-out a r x h.1)
+rising-out (m ∷ a) r x h = (
+  all-join (Precedes m) a r (all-left (Precedes m) a (x ∷ r) h.0) (all-right (Precedes m) a (x ∷ r) h.0).1,
+  rising-out a r x h.1,
+)
 
 pub rising-right : (a r : List Mark) → IsRising (a ++ r) → IsRising r
 rising-right [] r h = h
@@ -152,9 +153,11 @@ added-rises e (f ∷ es) a b h low high = step (found_cmp f e) refl (λ c. added
         (rising-behind a (map at_entry es ++ b) (at_entry f) h)))
     step Greater q more =
         let less : found_cmp e f ≡ Less = found_total.antisymm e f ∙ ap ordering_reverse q in
-        rw q (rising-in a (at_entry f ∷ (map at_entry es ++ b)) (at_entry e) h low
-        (less, all-more (Precedes (at_entry f)) (Precedes (at_entry e)) (map at_entry es ++ b) (before-it e f less)
-        (rising-behind a (map at_entry es ++ b) (at_entry f) h)))
+        rw q (rising-in a (at_entry f ∷ (map at_entry es ++ b)) (at_entry e) h low (
+          less,
+          all-more (Precedes (at_entry f)) (Precedes (at_entry e)) (map at_entry es ++ b) (before-it e f less)
+              (rising-behind a (map at_entry es ++ b) (at_entry f) h),
+        ))
 
 -- an entry that is taken out of others
 pub taken-rises : (e : Found) (es : List Found) (a b : List Mark) → IsRising (a ++ (map at_entry es ++ b)) →
@@ -187,20 +190,20 @@ key-rises f front m back a b h =
     let whole : List Mark = map at_entry (f ∷ front) in
     let rest : List Mark = map at_entry back ++ b in
     let parts : IsRising (a ++ ((whole ++ at_entry m ∷ map at_entry back) ++ b)) =
-        subst (λ (l : List Mark). IsRising (a ++ (l ++ b))) (map-append at_entry (f ∷ front) (m ∷ back)) h in
+    subst (λ (l : List Mark). IsRising (a ++ (l ++ b))) (map-append at_entry (f ∷ front) (m ∷ back)) h in
     let split : IsRising ((a ++ whole) ++ at_entry m ∷ rest) =
-        subst IsRising (shift-one a whole (map at_entry back) b (at_entry m)) parts in
+    subst IsRising (shift-one a whole (map at_entry back) b (at_entry m)) parts in
     let before = rising-before (a ++ whole) rest (at_entry m) split in
     let behind = rising-behind (a ++ whole) rest (at_entry m) split in
     let inner = all-right (λ x. Precedes x (at_entry m)) a whole before in
     let least : AllByRecursion (λ x. Precedes x (at_entry f)) a =
-        rising-before a (map at_entry (front ++ m ∷ back) ++ b) (at_entry f) h in
+    rising-before a (map at_entry (front ++ m ∷ back) ++ b) (at_entry f) h in
     let low =
-        all-join (λ x. Precedes x (at_key (key_of m))) a whole
-        (all-more (λ x. Precedes x (at_entry f)) (λ x. Precedes x (at_key (key_of m))) a (up-to f m inner.0) least)
-        (low-entries m (f ∷ front) inner) in
+    all-join (λ x. Precedes x (at_key (key_of m))) a whole
+    (all-more (λ x. Precedes x (at_entry f)) (λ x. Precedes x (at_key (key_of m))) a (up-to f m inner.0) least)
+    (low-entries m (f ∷ front) inner) in
     let high : AllByRecursion (Precedes (at_key (key_of m))) (at_entry m ∷ rest) =
-        (not-itself m, all-more (Precedes (at_entry m)) (Precedes (at_key (key_of m))) rest (from-key m) behind) in
+    (not-itself m, all-more (Precedes (at_entry m)) (Precedes (at_key (key_of m))) rest (from-key m) behind) in
     subst IsRising (sym (shift-one a whole (map at_entry (m ∷ back)) b (at_key (key_of m))))
     (rising-in (a ++ whole) (at_entry m ∷ rest) (at_key (key_of m)) split low high)
 

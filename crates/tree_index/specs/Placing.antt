@@ -1,16 +1,13 @@
 -- Keys and entries placed on a page of a tree: proofs.
-use Rattle.std.proofs.Common.{◌≡◌, ◌+◌, ◌*◌, ◌++◌, ◌∙◌, ℕ, zero, suc, Bool, true, false, cond, leb, List, [], ◌∷◌,
-    length, take, drop, Ok, refl, sym, ap, subst, arith, append_assoc}
+use Rattle.std.proofs.Common.{◌≡◌, ◌+◌, ◌*◌, ◌++◌, ◌∙◌, ℕ, zero, suc, Bool, true, false, cond, leb, List, [], ◌∷◌, length, take, drop, Ok, refl, sym, ap, subst, arith, append_assoc}
 use Rattle.std.specs.List.{flat_map, drop-map, AllByRecursion}
 use Rattle.std.specs.List.Sorted.{IsPermutation}
 use Rattle.std.proofs.lemmas.List.{take-append-drop, take-map}
 use Rattle.std.proofs.lemmas.List.Concat.{flat_map-append}
-use Rattle.std.proofs.lemmas.List.Sorted.{IsPermutation-cons, IsPermutation-middle, IsPermutation-sym,
-    IsPermutation-trans}
+use Rattle.std.proofs.lemmas.List.Sorted.{IsPermutation-cons, IsPermutation-middle, IsPermutation-sym, IsPermutation-trans}
 use Rattle.pager.specs.Index.{IsFound}
 use Rattle.pager.specs.declared.index.Found.{Found}
-use Rattle.index_page.specs.IndexPage.{AreOneMore, HaveRoom, AreWritable, entry_code, have_room, half, more_for_half,
-    width}
+use Rattle.index_page.specs.IndexPage.{AreOneMore, HaveRoom, AreWritable, entry_code, have_room, half, more_for_half, width}
 use Rattle.index_page.specs.declared.page.Form.{Form}
 use Rattle.index_page.specs.declared.page.Form.TheVariants as form
 use Rattle.index_page.specs.declared.page.IndexPage.{IndexPage}
@@ -20,8 +17,7 @@ use Rattle.tree_index.specs.declared.climb.Parts.{Parts}
 use Rattle.tree_index.specs.declared.walk.Met.{Met}
 use Rattle.tree_index.specs.Climbing.{bare-behind, perm-eq, row-founds}
 use Rattle.tree_index.specs.Growing.{all-drop, all-take}
-use Rattle.tree_index.specs.Tree.{Body, Key, Row, Tree, bare, content, inners, key_of, leaves, named, next_inner,
-    next_leaf, nodes, row_keys, row_nodes}
+use Rattle.tree_index.specs.Tree.{Body, Key, Row, Tree, bare, content, inners, key_of, leaves, named, next_inner, next_leaf, nodes, row_keys, row_nodes}
 use Rattle.tree_index.specs.Work.{parted, second}
 
 -- an entry takes the same room whatever page it names
@@ -32,8 +28,13 @@ pub any-width : (n : ℕ) (rest : List (Key × (ℕ × Body n))) →
     width (row-founds n rest) ≡ width (row_keys (bare-behind n rest))
 any-width n [] = refl
 any-width n (b ∷ rest) =
-    omega (arith, width-cons (named b.0 b.1.0) (row-founds n rest),
-    width-cons (named b.0 0) (row_keys (bare-behind n rest)), any-entry b.0 b.1.0, any-width n rest)
+    omega (
+      arith,
+      width-cons (named b.0 b.1.0) (row-founds n rest),
+      width-cons (named b.0 0) (row_keys (bare-behind n rest)),
+      any-entry b.0 b.1.0,
+      any-width n rest,
+    )
 
 any-more : (n total filled : ℕ) (rest : List (Key × (ℕ × Body n))) →
     more_for_half total filled (row-founds n rest) ≡ more_for_half total filled (row_keys (bare-behind n rest))
@@ -98,7 +99,7 @@ leaf-halves es parts next full p =
     let first = p.0 in
     let back = p.1 in
     let e : leaves es ≡ (take (half es) es, (key_of first, first ∷ back) ∷ []) =
-        leaves-full es full ∙ ap (λ (l : List Found). (take (half es) es, next_leaf l)) p.2 in
+    leaves-full es full ∙ ap (λ (l : List Found). (take (half es) es, next_leaf l)) p.2 in
     record {
       left = take (half es) es;
       right = first ∷ back;
@@ -137,12 +138,12 @@ inner-halves n made_is row parts next first_bare rest_bare full p =
     let same_half : h ≡ half (row_keys made_is.1) = any-half n row.1 ∙ ap half keys in
     let no_room : have_room (row_keys made_is.1) ≡ false = ap have_room (sym keys) ∙ sym (any-room n row.1) ∙ full in
     let taken : take (half (row_keys made_is.1)) made_is.1 ≡ bare-behind n (take h row.1) =
-        ap (λ (k : ℕ). take k made_is.1) (sym same_half) ∙ ap (take h) (sym rest_bare) ∙ take-map bares h row.1 in
+    ap (λ (k : ℕ). take k made_is.1) (sym same_half) ∙ ap (take h) (sym rest_bare) ∙ take-map bares h row.1 in
     let dropped : drop (half (row_keys made_is.1)) made_is.1 ≡ (b.0, bare n b.1.1) ∷ bare-behind n rest =
-        ap (λ (k : ℕ). drop k made_is.1) (sym same_half) ∙ ap (drop h) (sym rest_bare) ∙ drop-map bares h row.1 ∙
-        ap (bare-behind n) split.2 in
+    ap (λ (k : ℕ). drop k made_is.1) (sym same_half) ∙ ap (drop h) (sym rest_bare) ∙ drop-map bares h row.1 ∙
+    ap (bare-behind n) split.2 in
     let e : inners made_is
-        ≡ ((made_is.0, bare-behind n (take h row.1)), (b.0, (bare n b.1.1, bare-behind n rest)) ∷ []) =
+    ≡ ((made_is.0, bare-behind n (take h row.1)), (b.0, (bare n b.1.1, bare-behind n rest)) ∷ []) =
     inners-full made_is no_room ∙
     ap (λ (l : List (Key × Tree n)). ((made_is.0, l), next_inner (drop (half (row_keys made_is.1)) made_is.1))) taken ∙
     ap (λ (l : List (Key × Tree n)). ((made_is.0, bare-behind n (take h row.1)), next_inner l)) dropped in
@@ -179,12 +180,13 @@ pub parts-writable : (whole : IndexPage) (next : ℕ) (parts : Parts) → AllByR
 parts-writable whole next parts lawful most p =
     let fit = halves_fit whole.entries lawful most in
     let front : AreWritable (take (half whole.entries) whole.entries) =
-        record { lawful = all-take IsFound (half whole.entries) whole.entries lawful; fits = fit.0 } in
+    record { lawful = all-take IsFound (half whole.entries) whole.entries lawful; fits = fit.0 } in
     let back : AllByRecursion IsFound (p.0 ∷ p.1) =
-        subst (AllByRecursion IsFound) p.2 (all-drop IsFound (half whole.entries) whole.entries lawful) in
-    let room : HaveRoom (p.0 ∷ p.1) = subst HaveRoom p.2 fit.1 in
-    (subst (λ (q : Parts). AreWritable q.left.entries) (sym p.3) front,
-    subst (λ (q : Parts). AreWritable q.right.entries) (sym p.3) (behind whole.form back room))
+    subst (AllByRecursion IsFound) p.2 (all-drop IsFound (half whole.entries) whole.entries lawful) in
+    let room : HaveRoom (p.0 ∷ p.1) = subst HaveRoom p.2 fit.1 in (
+      subst (λ (q : Parts). AreWritable q.left.entries) (sym p.3) front,
+      subst (λ (q : Parts). AreWritable q.right.entries) (sym p.3) (behind whole.form back room),
+    )
   where
     behind : (f : Form) → AllByRecursion IsFound (p.0 ∷ p.1) → HaveRoom (p.0 ∷ p.1) →
         AreWritable (second f whole.link p.0 p.1).entries

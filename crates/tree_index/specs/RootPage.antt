@@ -1,13 +1,11 @@
 -- An entry that is added on the root page: proofs.
-use Rattle.std.proofs.Common.{◌⊎◌, ◌≡◌, ◌<◌, ◌≤◌, ◌+◌, ◌^◌, ◌++◌, ◌∙◌, ℕ, zero, suc, Bool, true, false, cond, eqb, leb,
-    List, [], ◌∷◌, length, Option, Some, None, Ok, Err, refl, sym, ap, subst, inl, inr, arith, append_assoc}
+use Rattle.std.proofs.Common.{◌⊎◌, ◌≡◌, ◌<◌, ◌≤◌, ◌+◌, ◌^◌, ◌++◌, ◌∙◌, ℕ, zero, suc, Bool, true, false, cond, eqb, leb, List, [], ◌∷◌, length, Option, Some, None, Ok, Err, refl, sym, ap, subst, inl, inr, arith, append_assoc}
 use Rattle.std.specs.List.{flat_map, AllByRecursion}
 use Rattle.std.specs.List.Sorted.{IsPermutation}
 use Rattle.std.proofs.lemmas.Bool.{eq-eqb, ne_eqb}
 use Rattle.std.proofs.lemmas.List.{append-nil, length-append, map-append}
 use Rattle.std.proofs.lemmas.List.Elements.{All-from_recursion, recursion_from_All}
-use Rattle.std.proofs.lemmas.List.Sorted.{All-permutation, IsPermutation-append_left, IsPermutation-append_right,
-    IsPermutation-cons, IsPermutation-refl, IsPermutation-to_front, IsPermutation-trans}
+use Rattle.std.proofs.lemmas.List.Sorted.{All-permutation, IsPermutation-append_left, IsPermutation-append_right, IsPermutation-cons, IsPermutation-refl, IsPermutation-to_front, IsPermutation-trans}
 use Rattle.retro_base.specs.declared.refusal.Refusal.{Refusal}
 use Rattle.values.specs.declared.value.Kind.{Kind}
 use Rattle.pager.specs.Allows.{either, only}
@@ -25,22 +23,17 @@ use Rattle.index_page.proofs.Placing.{inserted-width}
 use Rattle.index_page.proofs.Taking.{no-refusal}
 use Rattle.tree_index.specs.declared.climb.Parts.{Parts}
 use Rattle.tree_index.specs.declared.walk.Met.{Met}
-use Rattle.tree_index.specs.Adding.{IsPlace, founds-lawful, first-number, inner-climbs, leaf-climbs, node-of,
-    none-taken, only-is, row-numbers}
-use Rattle.tree_index.specs.Climbing.{Climbs, IsReady, IsTaken, RowClimbs, UpIs, bare-behind, picked, row-founds,
-    with_up}
+use Rattle.tree_index.specs.Adding.{IsPlace, founds-lawful, first-number, inner-climbs, leaf-climbs, node-of, none-taken, only-is, row-numbers}
+use Rattle.tree_index.specs.Climbing.{Climbs, IsReady, IsTaken, RowClimbs, UpIs, bare-behind, picked, row-founds, with_up}
 use Rattle.tree_index.specs.Counting.{changed-counts, inners-count, leaves-count, row-count, rooted-count}
 use Rattle.tree_index.specs.Descending.{IsGood}
 use Rattle.tree_index.specs.Growing.{all-drop}
 use Rattle.tree_index.specs.Listing.{first-there}
 use Rattle.tree_index.specs.Marking.{all-join, all-left, all-right}
-use Rattle.tree_index.specs.Placing.{Halves, any-room, any-width, below, inner-halves, leaf-halves, nodes-are,
-    parts-writable, perm-one, perm-two}
-use Rattle.tree_index.specs.Rooting.{Under, child-whole, climb-fails, climb-tree, inner-full, inners-opened, leaf-step,
-    leaves-opened, made-keys, made-row, path, picked-bare, row-from, under-narrow, under-room}
+use Rattle.tree_index.specs.Placing.{Halves, any-room, any-width, below, inner-halves, leaf-halves, nodes-are, parts-writable, perm-one, perm-two}
+use Rattle.tree_index.specs.Rooting.{Under, child-whole, climb-fails, climb-tree, inner-full, inners-opened, leaf-step, leaves-opened, made-keys, made-row, path, picked-bare, row-from, under-narrow, under-room}
 use Rattle.tree_index.specs.Taking.{one-more, taken-more}
-use Rattle.tree_index.specs.Tree.{Body, Fits, Key, Row, Tree, bare, content, grown, inners, leaves, nodes, numbers,
-    page_count, rooted, row_keys, row_nodes}
+use Rattle.tree_index.specs.Tree.{Body, Fits, Key, Row, Tree, bare, content, grown, inners, leaves, nodes, numbers, page_count, rooted, row_keys, row_nodes}
 use Rattle.tree_index.specs.declared.climb.Climb.{Climb}
 use Rattle.tree_index.specs.Work.{climbed, parted, placed, root_over, split, taken_page}
 
@@ -116,18 +109,18 @@ split-roots size pages n made_is t low there whole edits others rest opened mid 
     let begun : Climb × Pages = (record { edits = (edits ++ r ∷ []) ++ l ∷ o ∷ []; up = None }, first.1) in
     let given : Climb × Pages = (record { edits = edits ++ r ∷ l ∷ o ∷ []; up = None }, first.1) in
     let same : given ≡ answer =
-        ap (λ (x : List Met). (record { edits = x; up = None }, first.1))
-        (sym (append_assoc edits (r ∷ []) (l ∷ o ∷ []))) ∙ only-is begun answer k.2 in
+    ap (λ (x : List Met). (record { edits = x; up = None }, first.1))
+    (sym (append_assoc edits (r ∷ []) (l ∷ o ∷ []))) ∙ only-is begun answer k.2 in
     let one = taken-more size pages mid opened next is_taken s.1.0 s.1.1 in
     let more = taken-more size pages next.1 (opened ++ next.0 ∷ []) first one k.1.0 k.1.1 in
     let A = numbers (below n h.left) in
     let B = numbers (below n h.right) in
     let left : l ∷ below n h.left ≡ nodes n (first.0, h.left) =
-        ap (λ (c : IndexPage). record { page = first.0; held = c } ∷ below n h.left) h.left_is ∙
-        sym (nodes-are n first.0 h.left) in
+    ap (λ (c : IndexPage). record { page = first.0; held = c } ∷ below n h.left) h.left_is ∙
+    sym (nodes-are n first.0 h.left) in
     let right : r ∷ below n h.right ≡ nodes n (next.0, h.right) =
-        ap (λ (c : IndexPage). record { page = next.0; held = c } ∷ below n h.right) h.right_is ∙
-        sym (nodes-are n next.0 h.right) in
+    ap (λ (c : IndexPage). record { page = next.0; held = c } ∷ below n h.right) h.right_is ∙
+    sym (nodes-are n next.0 h.right) in
     let inside : (l ∷ below n h.left) ++ (r ∷ below n h.right) ≡ row_nodes (nodes n) body =
     ap (λ (m : List Met). m ++ (r ∷ below n h.right)) left ∙
     ap (λ (m : List Met). nodes n (first.0, h.left) ++ m) (right ∙ sym (append-nil (nodes n (next.0, h.right)))) in
@@ -135,36 +128,36 @@ split-roots size pages n made_is t low there whole edits others rest opened mid 
     ap (λ (m : List Met). o ∷ m) inside ∙
     ap (λ (f : Found). root_over t.0 first.0 f ∷ row_nodes (nodes n) body) h.key_is in
     let two =
-        perm-two edits others (below n h.left) (below n h.right) r l
-        (subst (IsPermutation (edits ++ others)) h.nodes_are nodes_kept) in
+    perm-two edits others (below n h.left) (below n h.right) r l
+    (subst (IsPermutation (edits ++ others)) h.nodes_are nodes_kept) in
     let three = perm-one (edits ++ r ∷ l ∷ []) others ((l ∷ below n h.left) ++ (r ∷ below n h.right)) o two in
     let X = A ++ (next.0 ∷ B) in
     let held : numbers rest ≡ A ++ B =
-        ap numbers h.nodes_are ∙ map-append (λ (met : Met). met.page) (below n h.left) (below n h.right) in
+    ap numbers h.nodes_are ∙ map-append (λ (met : Met). met.page) (below n h.left) (below n h.right) in
     let count : IsPermutation ((numbers (nodes n t) ++ opened) ++ next.0 ∷ []) ((t.0 ∷ (A ++ B)) ++ next.0 ∷ []) =
-        IsPermutation-append_left (next.0 ∷ []) (numbers (nodes n t) ++ opened) (t.0 ∷ (A ++ B))
-        (subst (λ (x : List ℕ). IsPermutation (numbers (nodes n t) ++ opened) (t.0 ∷ x)) held numbers_kept) in
+    IsPermutation-append_left (next.0 ∷ []) (numbers (nodes n t) ++ opened) (t.0 ∷ (A ++ B))
+    (subst (λ (x : List ℕ). IsPermutation (numbers (nodes n t) ++ opened) (t.0 ∷ x)) held numbers_kept) in
     let moved : IsPermutation ((t.0 ∷ (A ++ B)) ++ next.0 ∷ []) (t.0 ∷ X) =
     subst (λ (x : List ℕ). IsPermutation (t.0 ∷ x) (t.0 ∷ X)) (sym (append_assoc A B (next.0 ∷ [])))
     (IsPermutation-append_right (t.0 ∷ A) (B ++ next.0 ∷ []) (next.0 ∷ B) (IsPermutation-to_front B next.0)) in
     let both : IsPermutation ((numbers (nodes n t) ++ opened) ++ next.0 ∷ []) (t.0 ∷ X) =
-        IsPermutation-trans ((numbers (nodes n t) ++ opened) ++ next.0 ∷ []) ((t.0 ∷ (A ++ B)) ++ next.0 ∷ [])
-        (t.0 ∷ X) count moved in
+    IsPermutation-trans ((numbers (nodes n t) ++ opened) ++ next.0 ∷ []) ((t.0 ∷ (A ++ B)) ++ next.0 ∷ [])
+    (t.0 ∷ X) count moved in
     let last : IsPermutation (((numbers (nodes n t) ++ opened) ++ next.0 ∷ []) ++ first.0 ∷ []) (t.0 ∷ (first.0 ∷ X)) =
     IsPermutation-trans (((numbers (nodes n t) ++ opened) ++ next.0 ∷ []) ++ first.0 ∷ []) ((t.0 ∷ X) ++ first.0 ∷ [])
     (t.0 ∷ (first.0 ∷ X))
     (IsPermutation-append_left (first.0 ∷ []) ((numbers (nodes n t) ++ opened) ++ next.0 ∷ []) (t.0 ∷ X) both)
     (IsPermutation-cons t.0 (X ++ first.0 ∷ []) (first.0 ∷ X) (IsPermutation-to_front X first.0)) in
     let assoc : ((numbers (nodes n t) ++ opened) ++ next.0 ∷ []) ++ first.0 ∷ []
-        ≡ numbers (nodes n t) ++ ((opened ++ next.0 ∷ []) ++ first.0 ∷ []) =
+    ≡ numbers (nodes n t) ++ ((opened ++ next.0 ∷ []) ++ first.0 ∷ []) =
     ap (λ (x : List ℕ). x ++ first.0 ∷ []) (append_assoc (numbers (nodes n t)) opened (next.0 ∷ [])) ∙
     append_assoc (numbers (nodes n t)) (opened ++ next.0 ∷ []) (first.0 ∷ []) in
     let named_all : t.0 ∷ (first.0 ∷ X) ≡ numbers (nodes (suc n) (t.0, body)) =
-        ap (λ (x : List ℕ). t.0 ∷ x)
-        (sym (map-append (λ (met : Met). met.page) (l ∷ below n h.left) (r ∷ below n h.right))) ∙ ap numbers all in
+    ap (λ (x : List ℕ). t.0 ∷ x)
+    (sym (map-append (λ (met : Met). met.page) (l ∷ below n h.left) (r ∷ below n h.right))) ∙ ap numbers all in
     let within_one = (all-right (λ page. (2 ≤ page) × (page < size)) opened (next.0 ∷ []) one.within).0 in
     let within_two =
-        (all-right (λ page. (2 ≤ page) × (page < size)) (opened ++ next.0 ∷ []) (first.0 ∷ []) more.within).0 in
+    (all-right (λ page. (2 ≤ page) × (page < size)) (opened ++ next.0 ∷ []) (first.0 ∷ []) more.within).0 in
     let roots : Roots size pages n made_is t given.0.edits given.1 = record {
       levels = suc n;
       body = body;
@@ -184,8 +177,10 @@ split-roots size pages n made_is t low there whole edits others rest opened mid 
       in_place = λ none. absurd (omega (arith, ap length none, length-append (opened ++ next.0 ∷ []) (first.0 ∷ [])));
       ready = all-join (IsReady size) edits (r ∷ l ∷ o ∷ []) ready (
         record { low = within_one.0; there = within_one.1; link = link.1; writable = writable.1 },
-        (record { low = within_two.0; there = within_two.1; link = link.0; writable = writable.0 },
-        (record { low = low; there = there; link = k.1.1; writable = key_lawful parts next.0 s.1.1 s.2.1 }, tt)),
+        (
+          record { low = within_two.0; there = within_two.1; link = link.0; writable = writable.0 },
+          (record { low = low; there = there; link = k.1.1; writable = key_lawful parts next.0 s.1.1 s.2.1 }, tt),
+        ),
       );
     } in
     subst (λ (a : Climb × Pages). Roots size pages n made_is t a.0.edits a.1) same roots
@@ -195,11 +190,11 @@ pub key-writable : (whole : IndexPage) (parts : Parts) (next : ℕ) → AllByRec
     next < 2 ^ 32 → parted whole next (Ok parts) → AreWritable (parts.key ∷ [])
 key-writable whole parts next lawful small p =
     let back : AllByRecursion IsFound (p.0 ∷ p.1) =
-        subst (AllByRecursion IsFound) p.2 (all-drop IsFound (half whole.entries) whole.entries lawful) in
+    subst (AllByRecursion IsFound) p.2 (all-drop IsFound (half whole.entries) whole.entries lawful) in
     let key : Found = record { value = p.0.value; number = p.0.number; page = next } in
     let is : IsFound key = record { value = back.0.value; number = back.0.number; page = small } in
     let fits : AreWritable (key ∷ []) =
-        record { lawful = (is, tt); fits = omega (arith, width-cons key [], entry-short key is) } in
+    record { lawful = (is, tt); fits = omega (arith, width-cons key [], entry-short key is) } in
     subst (λ (q : Parts). AreWritable (q.key ∷ [])) (sym p.3) fits
 
 module _ (size : ℕ) (pages : Pages) (kind : Kind) (e : Found) (found : IsFound e) where
@@ -237,8 +232,8 @@ module _ (size : ℕ) (pages : Pages) (kind : Kind) (e : Found) (found : IsFound
       step true room m =
           let given : Climb × Pages = (record { edits = record { page = t.0; held = whole } ∷ []; up = None }, pages) in
           let there : placed size (suc t.0) (node-of 0 t) [] (Some e) pages (Ok answer) =
-              subst (λ (b : Bool). either {A = Climb × Pages} b (only (Ok given))
-              (split size (suc t.0) t.0 whole [] pages) (Ok answer)) (sym room) m in
+          subst (λ (b : Bool). either {A = Climb × Pages} b (only (Ok given))
+          (split size (suc t.0) t.0 whole [] pages) (Ok answer)) (sym room) m in
           from-climbs size pages 0 (leaves (entry_inserted e t.1)) t answer.0 answer.1
           (sym (ap (λ (a : Climb × Pages). a.0.up) (only-is given answer m)))
           (leaf-climbs size (suc t.0) pages e t (elsewhere 0 t is) found is.fits answer there)
@@ -248,9 +243,10 @@ module _ (size : ℕ) (pages : Pages) (kind : Kind) (e : Found) (found : IsFound
           (λ parts next p. leaf-halves (entry_inserted e t.1) parts next full p) (λ P all. tt) (IsPermutation-refl [])
           (IsPermutation-refl (t.0 ∷ [])) tt lawful
           (omega (arith, inserted-width e t.1, entry-short e found, is.fits.fits))
-          (λ parts next p.
-          (subst (λ (q : Parts). q.left.link < 2 ^ 32) (sym p.3) (omega arith),
-          subst (λ (q : Parts). q.right.link < 2 ^ 32) (sym p.3) (omega arith)))
+          (λ parts next p. (
+            subst (λ (q : Parts). q.left.link < 2 ^ 32) (sym p.3) (omega arith),
+            subst (λ (q : Parts). q.right.link < 2 ^ 32) (sym p.3) (omega arith),
+          ))
           (λ parts next small p. key-writable whole parts next lawful small p) answer m
 
   -- a row that was changed can be written
@@ -261,25 +257,25 @@ module _ (size : ℕ) (pages : Pages) (kind : Kind) (e : Found) (found : IsFound
       let inside = under n t is in
       let keys = made-keys size t.0 pages kind e found n t inside in
       let same : row_keys (bare-behind n rc.row.1) ≡ row_keys (made-row size t.0 pages kind e found n t).1 =
-          ap row_keys rc.rest_bare in
+      ap row_keys rc.rest_bare in
       let before =
-          all-join (λ page. page < 2 ^ 32) (numbers (row_nodes (nodes n) t.1)) rc.opened
-          (under-narrow size t.0 pages kind e found n t inside) rc.taken_is.small in
+      all-join (λ page. page < 2 ^ 32) (numbers (row_nodes (nodes n) t.1)) rc.opened
+      (under-narrow size t.0 pages kind e found n t inside) rc.taken_is.small in
       let after =
-          recursion_from_All (λ page. page < 2 ^ 32) (numbers (row_nodes (nodes n) rc.row))
-          (All-permutation (λ page. page < 2 ^ 32) (numbers (row_nodes (nodes n) t.1) ++ rc.opened)
-          (numbers (row_nodes (nodes n) rc.row)) rc.numbers_are
-          (All-from_recursion (λ page. page < 2 ^ 32) (numbers (row_nodes (nodes n) t.1) ++ rc.opened) before)) in
+      recursion_from_All (λ page. page < 2 ^ 32) (numbers (row_nodes (nodes n) rc.row))
+      (All-permutation (λ page. page < 2 ^ 32) (numbers (row_nodes (nodes n) t.1) ++ rc.opened)
+      (numbers (row_nodes (nodes n) rc.row)) rc.numbers_are
+      (All-from_recursion (λ page. page < 2 ^ 32) (numbers (row_nodes (nodes n) t.1) ++ rc.opened) before)) in
       let parts =
-          subst (AllByRecursion (λ page. page < 2 ^ 32))
-          (map-append (λ (met : Met). met.page) (nodes n rc.row.0)
-          (flat_map (λ (b : Key × (ℕ × Body n)). nodes n b.1) rc.row.1)) after in (
+      subst (AllByRecursion (λ page. page < 2 ^ 32))
+      (map-append (λ (met : Met). met.page) (nodes n rc.row.0)
+      (flat_map (λ (b : Key × (ℕ × Body n)). nodes n b.1) rc.row.1)) after in (
         founds-lawful size t.0 pages n rc.row.1 (subst (AllByRecursion IsFound) (sym same) keys.0)
-        (row-numbers size t.0 pages (λ page. page < 2 ^ 32) n rc.row.1
-        (all-right (λ page. page < 2 ^ 32) (numbers (nodes n rc.row.0)) _ parts)),
+            (row-numbers size t.0 pages (λ page. page < 2 ^ 32) n rc.row.1
+            (all-right (λ page. page < 2 ^ 32) (numbers (nodes n rc.row.0)) _ parts)),
         omega (arith, any-width n rc.row.1, ap width same, keys.1),
         first-number size t.0 pages (λ page. page < 2 ^ 32) n rc.row.0
-        (all-left (λ page. page < 2 ^ 32) (numbers (nodes n rc.row.0)) _ parts),
+            (all-left (λ page. page < 2 ^ 32) (numbers (nodes n rc.row.0)) _ parts),
       )
 
   root-inner : (n : ℕ) (t : ℕ × Body (suc n)) → RootWhole (suc n) t →
@@ -323,10 +319,10 @@ module _ (size : ℕ) (pages : Pages) (kind : Kind) (e : Found) (found : IsFound
               Roots size pages (suc n) (inners (made-row size t.0 pages kind e found n t)) t answer.0.edits answer.1
           step true room h =
               let given : Climb × Pages =
-                  (record { edits = s.0.edits ++ record { page = t.0; held = whole } ∷ []; up = None }, s.1) in
+              (record { edits = s.0.edits ++ record { page = t.0; held = whole } ∷ []; up = None }, s.1) in
               let there : placed size (suc t.0) (node-of (suc n) t) s.0.edits (Some key) s.1 (Ok answer) =
-                  subst (λ (b : Bool). either {A = Climb × Pages} b (only (Ok given))
-                  (split size (suc t.0) t.0 whole s.0.edits s.1) (Ok answer)) (sym room) h in
+              subst (λ (b : Bool). either {A = Climb × Pages} b (only (Ok given))
+              (split size (suc t.0) t.0 whole s.0.edits s.1) (Ok answer)) (sym room) h in
               from-climbs size pages (suc n) (inners (made-row size t.0 pages kind e found n t)) t answer.0 answer.1
               (sym (ap (λ (a : Climb × Pages). a.0.up) (only-is given answer h)))
               (elsewhere-climbs
@@ -334,9 +330,9 @@ module _ (size : ℕ) (pages : Pages) (kind : Kind) (e : Found) (found : IsFound
               (sym q) there))
           step false full h =
               let same : row-founds n rc.row.1 ≡ entry_inserted key (row-founds n t.1.1) =
-                  rc.keys_are ∙ ap (λ (u : Option Found). with_up u (row-founds n t.1.1)) q in
+              rc.keys_are ∙ ap (λ (u : Option Found). with_up u (row-founds n t.1.1)) q in
               let now : whole ≡ content (suc n) rc.row =
-                  λ i. record { form = form.Inner; link = (sym rc.first_is) i; entries = (sym same) i } in
+              λ i. record { form = form.Inner; link = (sym rc.first_is) i; entries = (sym same) i } in
               let at = first-there size pages (suc n) t is.good.there in
               let lawful = row-lawful n t is s rc in
               let no_room : have_room (row-founds n rc.row.1) ≡ false = ap have_room same ∙ full in
@@ -346,11 +342,12 @@ module _ (size : ℕ) (pages : Pages) (kind : Kind) (e : Found) (found : IsFound
               rc.rest_bare no_room p) (λ P all. rc.kept P all.1) rc.nodes_are
               (IsPermutation-cons t.0 (numbers (row_nodes (nodes n) t.1) ++ rc.opened)
               (numbers (row_nodes (nodes n) rc.row)) rc.numbers_are) rc.ready lawful.0 lawful.1
-              (λ parts next p.
-              (subst (λ (x : Parts). x.left.link < 2 ^ 32) (sym p.3) lawful.2,
-              subst (λ (x : Parts). x.right.link < 2 ^ 32) (sym p.3)
-              (subst (AllByRecursion IsFound) p.2
-              (all-drop IsFound (half (row-founds n rc.row.1)) (row-founds n rc.row.1) lawful.0)).0.page))
+              (λ parts next p. (
+                subst (λ (x : Parts). x.left.link < 2 ^ 32) (sym p.3) lawful.2,
+                subst (λ (x : Parts). x.right.link < 2 ^ 32) (sym p.3)
+                    (subst (AllByRecursion IsFound) p.2
+                    (all-drop IsFound (half (row-founds n rc.row.1)) (row-founds n rc.row.1) lawful.0)).0.page,
+              ))
               (λ parts next small p. key-writable (content (suc n) rc.row) parts next lawful.0 small p) answer
               (subst (λ (w : IndexPage). split size t.0 t.0 w s.0.edits s.1 (Ok answer)) now h)
 
@@ -397,13 +394,13 @@ module _ (size : ℕ) (pages : Pages) (kind : Kind) (e : Found) (found : IsFound
       last : (taken_page size next.1 (Err why)
           ⊎ ((first : ℕ × Pages) × taken_page size next.1 (Ok first)
           × only {A = Climb × Pages}
-          (Ok (record
-          { edits = (edits ++ record { page = next.0; held = parts.right } ∷ [])
-          ++ record { page = first.0; held = parts.left } ∷ root_over t.0 first.0 parts.key ∷ []; up = None }, first.1))
-          (Err why))) → RootFails n t why
+          (Ok (
+            record
+                { edits = (edits ++ record { page = next.0; held = parts.right } ∷ []) ++ record { page = first.0; held = parts.left } ∷ root_over t.0 first.0 parts.key ∷ []; up = None },
+            first.1,
+          )) (Err why))) → RootFails n t why
       last (inl none) =
-          record { opened = suc count; list = list ++ next.0 ∷ []; mid = next.1;
-          took = one-more size count pages mid list next took one.0; none = none.0; more = more }
+          record { opened = suc count; list = list ++ next.0 ∷ []; mid = next.1; took = one-more size count pages mid list next took one.0; none = none.0; more = more }
       last (inr (first, two, h)) = no-refusal _ why h
 
   grown-rooted : (n : ℕ) (tree : Tree n) → length (row_keys (grown e n tree).1) ≡ 1 →
@@ -427,8 +424,8 @@ module _ (size : ℕ) (pages : Pages) (kind : Kind) (e : Found) (found : IsFound
       step true room m = no-refusal _ why m
       step false full m =
           let one =
-              leaves-opened (entry_inserted e t.1) (inserted-all IsFound e t.1 found is.fits.lawful)
-              (omega (arith, inserted-width e t.1, entry-short e found, is.fits.fits)) full in
+          leaves-opened (entry_inserted e t.1) (inserted-all IsFound e t.1 found is.fits.lawful)
+          (omega (arith, inserted-width e t.1, entry-short e found, is.fits.fits)) full in
           split-fails-at 0 t whole [] 0 [] pages why refl
           (omega (arith, grown-rooted 0 t.1 one, leaves-count (entry_inserted e t.1), one)) m
 
@@ -453,17 +450,20 @@ module _ (size : ℕ) (pages : Pages) (kind : Kind) (e : Found) (found : IsFound
           step true room h = no-refusal _ why h
           step false full h =
               let same : row-founds n rc.row.1 ≡ entry_inserted key (row-founds n t.1.1) =
-                  rc.keys_are ∙ ap (λ (u : Option Found). with_up u (row-founds n t.1.1)) q in
+              rc.keys_are ∙ ap (λ (u : Option Found). with_up u (row-founds n t.1.1)) q in
               let no_room : have_room (row-founds n rc.row.1) ≡ false = ap have_room same ∙ full in
               let inside = under n t is in
               let keys = made-keys size t.0 pages kind e found n t inside in
               let bare_full : have_room (row_keys (made-row size t.0 pages kind e found n t).1) ≡ false =
-                  ap (λ (l : List (Key × Tree n)). have_room (row_keys l)) (sym rc.rest_bare) ∙
-                  sym (any-room n rc.row.1) ∙ no_room in
+              ap (λ (l : List (Key × Tree n)). have_room (row_keys l)) (sym rc.rest_bare) ∙
+              sym (any-room n rc.row.1) ∙ no_room in
               let one = inners-opened (made-row size t.0 pages kind e found n t) keys.0 keys.1 bare_full in
               split-fails-at (suc n) t whole s.0.edits (length rc.opened) rc.opened s.1 why rc.taken_is.took
-              (omega (arith, grown-rooted (suc n) (bare (suc n) t.1) one,
-              inner-full size t.0 pages kind e found n t inside s rc no_room)) h
+              (omega (
+                arith,
+                grown-rooted (suc n) (bare (suc n) t.1) one,
+                inner-full size t.0 pages kind e found n t inside s rc no_room,
+              )) h
 
   pub root-fails : (n : ℕ) (t : ℕ × Body n) → RootWhole n t → (why : Refusal) →
       climbed size t.0 e pages (path e n t) (Err why) → RootFails n t why
@@ -474,17 +474,14 @@ module _ (size : ℕ) (pages : Pages) (kind : Kind) (e : Found) (found : IsFound
       let inside = under n t is in
       let child = picked e t.1.0 t.1.1 in
       let fails =
-          climb-fails size t.0 pages kind e found n child
-          (child-whole size t.0 pages kind e found n t inside) why below in
+      climb-fails size t.0 pages kind e found n child
+      (child-whole size t.0 pages kind e found n t inside) why below in
       let counts = changed-counts (page_count n) (grown e n) e (bare n t.1.0.1) (bare-behind n t.1.1) in
       let one : page_count n (picked e (bare n t.1.0.1) (bare-behind n t.1.1)) ≡ page_count n (bare n child.1) =
-          ap (page_count n) (picked-bare n e t.1.0 t.1.1) in
+      ap (page_count n) (picked-bare n e t.1.0 t.1.1) in
       let two : row-count n (grown e n (picked e (bare n t.1.0.1) (bare-behind n t.1.1)))
-          ≡ row-count n (grown e n (bare n child.1)) =
-          ap (λ (x : Tree n). row-count n (grown e n x)) (picked-bare n e t.1.0 t.1.1) in
+      ≡ row-count n (grown e n (bare n child.1)) =
+      ap (λ (x : Tree n). row-count n (grown e n x)) (picked-bare n e t.1.0 t.1.1) in
       let tree = bare (suc n) t.1 in
-      record { opened = fails.opened; list = fails.list; mid = fails.mid; took = fails.took; none = fails.none;
-      more = omega
-      (arith, inners-count n (made-row size t.0 pages kind e found n t), counts, one, two, fails.more,
-      rooted-count (suc n) (grown e (suc n) tree).0 (grown e (suc n) tree).1) }
+      record { opened = fails.opened; list = fails.list; mid = fails.mid; took = fails.took; none = fails.none; more = omega (arith, inners-count n (made-row size t.0 pages kind e found n t), counts, one, two, fails.more, rooted-count (suc n) (grown e (suc n) tree).0 (grown e (suc n) tree).1) }
   root-fails (suc n) t is why (inr (s, k, h)) = root-inner-fails n t is why s (child-climbs n t is s k) h

@@ -1,6 +1,5 @@
 -- An entry that is added under a root page: proofs.
-use Rattle.std.proofs.Common.{◌≡◌, ◌<◌, ◌≤◌, ◌+◌, ◌^◌, ◌++◌, ◌∙◌, ℕ, zero, suc, Bool, true, false, cond, eqb, List, [],
-    ◌∷◌, length, take, drop, Option, Some, None, Result, Ok, Err, refl, sym, ap, subst, inl, inr, arith}
+use Rattle.std.proofs.Common.{◌≡◌, ◌<◌, ◌≤◌, ◌+◌, ◌^◌, ◌++◌, ◌∙◌, ℕ, zero, suc, Bool, true, false, cond, eqb, List, [], ◌∷◌, length, take, drop, Option, Some, None, Result, Ok, Err, refl, sym, ap, subst, inl, inr, arith}
 use Rattle.std.specs.List.{flat_map, drop-map, AllByRecursion}
 use Rattle.std.specs.Ordering.{is_lt}
 use Rattle.std.proofs.lemmas.Bool.{le-leb}
@@ -30,8 +29,7 @@ use Rattle.tree_index.specs.Growing.{grown-fits, grown-rises}
 use Rattle.tree_index.specs.Marking.{all-left, all-more, all-right}
 use Rattle.tree_index.specs.Placing.{any-room, below}
 use Rattle.tree_index.specs.Shaping.{changed-keys, changed-rises}
-use Rattle.tree_index.specs.Tree.{entries_in, Body, Fits, IsRising, Key, Row, Tree, bare, changed, count_behind, grown,
-    inners, leaves, marks, named, next_inner, next_leaf, nodes, numbers, page_count, row_keys, row_marks, row_nodes}
+use Rattle.tree_index.specs.Tree.{entries_in, Body, Fits, IsRising, Key, Row, Tree, bare, changed, count_behind, grown, inners, leaves, marks, named, next_inner, next_leaf, nodes, numbers, page_count, row_keys, row_marks, row_nodes}
 use Rattle.tree_index.specs.declared.climb.Climb.{Climb}
 use Rattle.tree_index.specs.Work.{climbed, placed, split}
 
@@ -105,11 +103,12 @@ module _ (size root : ℕ) (pages : Pages) (kind : Kind) (e : Found) (found : Is
   wholes n [] goods fits others = tt
   wholes n (b ∷ rest) goods fits others =
       let two =
-          subst (AllByRecursion IsOther)
-          (map-append (λ (met : Met). met.page) (nodes n b.1) (flat_map (λ (c : Key × (ℕ × Body n)). nodes n c.1) rest))
-          others in
-      (record { good = goods.0; fits = fits.0; other = all-left IsOther (numbers (nodes n b.1)) _ two },
-      wholes n rest goods.1 fits.1 (all-right IsOther (numbers (nodes n b.1)) _ two))
+      subst (AllByRecursion IsOther)
+      (map-append (λ (met : Met). met.page) (nodes n b.1) (flat_map (λ (c : Key × (ℕ × Body n)). nodes n c.1) rest))
+      others in (
+        record { good = goods.0; fits = fits.0; other = all-left IsOther (numbers (nodes n b.1)) _ two },
+        wholes n rest goods.1 fits.1 (all-right IsOther (numbers (nodes n b.1)) _ two),
+      )
 
   -- what is under an inner page
   pub record Under (n : ℕ) (t : ℕ × Body (suc n)) : Type 0 where
@@ -122,13 +121,13 @@ module _ (size root : ℕ) (pages : Pages) (kind : Kind) (e : Found) (found : Is
       let row = t.1 in
       let m = bare-marks n row in
       let goods =
-          row-good size pages kind n row.0 row.1 is.good.there.1 (subst IsRising m is.good.rises)
-          (subst (λ l. AllByRecursion IsFound (entries_in l)) m is.good.lawful)
-          (subst (λ l. AreOfKind kind (entries_in l)) m is.good.kinds) in
+      row-good size pages kind n row.0 row.1 is.good.there.1 (subst IsRising m is.good.rises)
+      (subst (λ l. AllByRecursion IsFound (entries_in l)) m is.good.lawful)
+      (subst (λ l. AreOfKind kind (entries_in l)) m is.good.kinds) in
       let two =
-          subst (AllByRecursion IsOther)
-          (map-append (λ (met : Met). met.page) (nodes n row.0)
-          (flat_map (λ (c : Key × (ℕ × Body n)). nodes n c.1) row.1)) is.other in
+      subst (AllByRecursion IsOther)
+      (map-append (λ (met : Met). met.page) (nodes n row.0)
+      (flat_map (λ (c : Key × (ℕ × Body n)). nodes n c.1) row.1)) is.other in
       picked-all (Whole n) e row.0 row.1
       (record { good = goods.0; fits = is.fits.1; other = all-left IsOther (numbers (nodes n row.0)) _ two })
       (wholes n row.1 goods.1 is.fits.2 (all-right IsOther (numbers (nodes n row.0)) _ two))
@@ -149,9 +148,9 @@ module _ (size root : ℕ) (pages : Pages) (kind : Kind) (e : Found) (found : Is
   made-keys n t is =
       let bares = bare (suc n) t.1 in
       let keys =
-          changed-keys (marks n) (grown e n) e (Fits n)
-          (λ x fit. let g = grown-fits e found n x fit in (g.keys, g.short)) bares.0 bares.1 is.fits.1 is.fits.2
-          is.fits.0.lawful in
+      changed-keys (marks n) (grown e n) e (Fits n)
+      (λ x fit. let g = grown-fits e found n x fit in (g.keys, g.short)) bares.0 bares.1 is.fits.1 is.fits.2
+      is.fits.0.lawful in
       (keys.0, omega (arith, keys.1, is.fits.0.fits))
 
   pub under-room : (n : ℕ) (t : ℕ × Body (suc n)) → Under n t → have_room (row-founds n t.1.1) ≡ true
@@ -219,13 +218,18 @@ module _ (size root : ℕ) (pages : Pages) (kind : Kind) (e : Found) (found : Is
       (bare-behind n t.1.1) + length rc.opened
   row-grows n t s rc =
       let same : row-count n (made-row n t) ≡ length (row_nodes (nodes n) rc.row) =
-          ap (λ (r : Row (Tree n)). row-count n r) (λ i. ((sym rc.first_bare) i, (sym rc.rest_bare) i)) ∙
-          row-nodes-count n rc.row in
-      omega (arith, same, row-nodes-count n t.1, length_permutation (numbers (row_nodes (nodes n) t.1) ++ rc.opened)
-      (numbers (row_nodes (nodes n) rc.row)) rc.numbers_are,
-      length-append (numbers (row_nodes (nodes n) t.1)) rc.opened,
-      length-map (row_nodes (nodes n) t.1) (λ (met : Met). met.page),
-      length-map (row_nodes (nodes n) rc.row) (λ (met : Met). met.page))
+      ap (λ (r : Row (Tree n)). row-count n r) (λ i. ((sym rc.first_bare) i, (sym rc.rest_bare) i)) ∙
+      row-nodes-count n rc.row in
+      omega (
+        arith,
+        same,
+        row-nodes-count n t.1,
+        length_permutation (numbers (row_nodes (nodes n) t.1) ++ rc.opened)
+            (numbers (row_nodes (nodes n) rc.row)) rc.numbers_are,
+        length-append (numbers (row_nodes (nodes n) t.1)) rc.opened,
+        length-map (row_nodes (nodes n) t.1) (λ (met : Met). met.page),
+        length-map (row_nodes (nodes n) rc.row) (λ (met : Met). met.page),
+      )
 
   leaf-fails : (t : ℕ × Body 0) → Whole 0 t → (why : Refusal) →
       placed size root (node-of 0 t) [] (Some e) pages (Err why) → Fails 0 t why
@@ -241,11 +245,9 @@ module _ (size root : ℕ) (pages : Pages) (kind : Kind) (e : Found) (found : Is
       step true room m = no-refusal _ why m
       step false full m =
           let opened =
-              leaves-opened (entry_inserted e t.1) (inserted-all IsFound e t.1 found is.fits.lawful)
-              (omega (arith, inserted-width e t.1, entry-short e found, is.fits.fits)) full in
-          record { opened = 0; list = []; mid = pages; took = refl;
-          none = split-fails 0 t whole [] pages why is.other.0.1 m; more =
-          omega (arith, leaves-count (entry_inserted e t.1), opened) }
+          leaves-opened (entry_inserted e t.1) (inserted-all IsFound e t.1 found is.fits.lawful)
+          (omega (arith, inserted-width e t.1, entry-short e found, is.fits.fits)) full in
+          record { opened = 0; list = []; mid = pages; took = refl; none = split-fails 0 t whole [] pages why is.other.0.1 m; more = omega (arith, leaves-count (entry_inserted e t.1), opened) }
 
   -- a key that finds no room
   pub inner-full : (n : ℕ) (t : ℕ × Body (suc n)) → Under n t →
@@ -255,10 +257,14 @@ module _ (size root : ℕ) (pages : Pages) (kind : Kind) (e : Found) (found : Is
   inner-full n t is s rc full =
       let keys = made-keys n t is in
       let no_room : have_room (row_keys (made-row n t).1) ≡ false =
-          ap (λ (l : List (Key × Tree n)). have_room (row_keys l)) (sym rc.rest_bare) ∙ sym (any-room n rc.row.1) ∙
-          full in
-      omega (arith, inners-count n (made-row n t), inners-opened (made-row n t) keys.0 keys.1 no_room,
-      row-grows n t s rc)
+      ap (λ (l : List (Key × Tree n)). have_room (row_keys l)) (sym rc.rest_bare) ∙ sym (any-room n rc.row.1) ∙
+      full in
+      omega (
+        arith,
+        inners-count n (made-row n t),
+        inners-opened (made-row n t) keys.0 keys.1 no_room,
+        row-grows n t s rc,
+      )
 
   inner-fails : (n : ℕ) (t : ℕ × Body (suc n)) → Whole (suc n) t →
       (why : Refusal) (s : Climb × Pages) (rc : RowClimbs size pages n (made-row n t) t.1.0 t.1.1 s.0 s.1) →
@@ -270,7 +276,7 @@ module _ (size root : ℕ) (pages : Pages) (kind : Kind) (e : Found) (found : Is
       go None q m = no-refusal _ why m
       go (Some key) q m =
           let same : entry_inserted key (row-founds n t.1.1) ≡ row-founds n rc.row.1 =
-              sym (rc.keys_are ∙ ap (λ (u : Option Found). with_up u (row-founds n t.1.1)) q) in
+          sym (rc.keys_are ∙ ap (λ (u : Option Found). with_up u (row-founds n t.1.1)) q) in
           step (have_room (entry_inserted key (row-founds n t.1.1))) refl same m
         where
           whole : IndexPage
@@ -302,12 +308,11 @@ module _ (size root : ℕ) (pages : Pages) (kind : Kind) (e : Found) (found : Is
       let fails = climb-fails n child (child-whole n t inside) why below in
       let counts = changed-counts (page_count n) (grown e n) e (bare n t.1.0.1) (bare-behind n t.1.1) in
       let one : page_count n (picked e (bare n t.1.0.1) (bare-behind n t.1.1)) ≡ page_count n (bare n child.1) =
-          ap (page_count n) (picked-bare n e t.1.0 t.1.1) in
+      ap (page_count n) (picked-bare n e t.1.0 t.1.1) in
       let two : row-count n (grown e n (picked e (bare n t.1.0.1) (bare-behind n t.1.1)))
-          ≡ row-count n (grown e n (bare n child.1)) =
-          ap (λ (x : Tree n). row-count n (grown e n x)) (picked-bare n e t.1.0 t.1.1) in
-      record { opened = fails.opened; list = fails.list; mid = fails.mid; took = fails.took; none = fails.none;
-      more = omega (arith, inners-count n (made-row n t), counts, one, two, fails.more) }
+      ≡ row-count n (grown e n (bare n child.1)) =
+      ap (λ (x : Tree n). row-count n (grown e n x)) (picked-bare n e t.1.0 t.1.1) in
+      record { opened = fails.opened; list = fails.list; mid = fails.mid; took = fails.took; none = fails.none; more = omega (arith, inners-count n (made-row n t), counts, one, two, fails.more) }
   climb-fails (suc n) t is why (inr (s, k, h)) =
       let inside = whole-under n t is in
       inner-fails n t is why s

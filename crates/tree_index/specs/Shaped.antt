@@ -1,6 +1,5 @@
 -- The shapes of trees: proofs.
-use Rattle.std.proofs.Common.{◌≡◌, ◌<◌, ◌≤◌, ◌+◌, ◌++◌, ◌∙◌, ℕ, zero, suc, Bool, true, false, cond, leb, List, [], ◌∷◌,
-    length, refl, sym, ap, subst, arith, append_assoc}
+use Rattle.std.proofs.Common.{◌≡◌, ◌<◌, ◌≤◌, ◌+◌, ◌++◌, ◌∙◌, ℕ, zero, suc, Bool, true, false, cond, leb, List, [], ◌∷◌, length, refl, sym, ap, subst, arith, append_assoc}
 use Rattle.std.specs.List.{AllByRecursion, Contains}
 use Rattle.std.specs.List.Sorted.{IsStrictlySortedBy}
 use Rattle.std.specs.Ordering.{is_lt}
@@ -12,19 +11,15 @@ use Rattle.pager.specs.declared.index.Found.{Found}
 use Rattle.index_page.specs.Entries.{entry_inserted, reaches, taken_out}
 use Rattle.index_page.specs.IndexPage.{HaveRoom, AreWritable, have_room, width}
 use Rattle.index_page.proofs.Halving.{four_fit}
-use Rattle.index_page.proofs.Ordered.{inserted-all, inserted-is, inserted-same, inserted-skip, taken_out-all,
-    taken_out-is, taken_out-skip}
+use Rattle.index_page.proofs.Ordered.{inserted-all, inserted-is, inserted-same, inserted-skip, taken_out-all, taken_out-is, taken_out-skip}
 use Rattle.index_page.proofs.Placing.{inserted-length, inserted-same_width, taken_out-width}
 use Rattle.tree_index.specs.Counting.{grown-most, row-count}
 use Rattle.tree_index.specs.Growing.{RowFits, grown-entries, grown-fits, grown-rises, inserted-left, taken_out-left}
-use Rattle.tree_index.specs.Marking.{all-more, entries-all, entries-append, entries-map, lt-from, rising-before,
-    rising-behind, rising-left, rising-right, stop-key, taken-rises, under}
+use Rattle.tree_index.specs.Marking.{all-more, entries-all, entries-append, entries-map, lt-from, rising-before, rising-behind, rising-left, rising-right, stop-key, taken-rises, under}
 use Rattle.tree_index.specs.Opens.{OpensFew, in_row, target}
 use Rattle.tree_index.specs.Placing.{inners-room, leaves-room}
 use Rattle.tree_index.specs.Shaping.{changed-all, changed-entries, changed-rises, none-reach, row-one}
-use Rattle.tree_index.specs.Tree.{Fits, IsRising, IsShape, Key, Mark, Precedes, Row, Shape, Tree, at_entry, at_key,
-    changed, count_behind, empty, entries_in, entries_of, grown, key_of, marks, named, opens, page_count, put, rooted,
-    row_keys, row_marks, shrunk, without}
+use Rattle.tree_index.specs.Tree.{Fits, IsRising, IsShape, Key, Mark, Precedes, Row, Shape, Tree, at_entry, at_key, changed, count_behind, empty, entries_in, entries_of, grown, key_of, marks, named, opens, page_count, put, rooted, row_keys, row_marks, shrunk, without}
 
 rising-order : (ms : List Mark) → IsRising ms → IsInOrder (entries_in ms)
 unfolding IsStrictlySortedBy
@@ -57,8 +52,8 @@ shrunk-fits e zero es fits =
     record { lawful = taken_out-all IsFound e es fits.lawful; fits = omega (arith, taken_out-width e es, fits.fits) }
 shrunk-fits e (suc n) row fits =
     let parts =
-        changed-all (marks n) (λ t. (shrunk e n t, [])) e (Fits n)
-        (λ x is. (shrunk-fits e n x is, tt)) row.0 row.1 fits.1 fits.2 in
+    changed-all (marks n) (λ t. (shrunk e n t, [])) e (Fits n)
+    (λ x is. (shrunk-fits e n x is, tt)) row.0 row.1 fits.1 fits.2 in
     (subst AreWritable (sym (kept-keys (shrunk e n) e row.0 row.1)) fits.0, parts.0, parts.1)
 
 pub shrunk-rises : (e : Found) (n : ℕ) (tree : Tree n) (a b : List Mark) → IsRising (a ++ (marks n tree ++ b)) →
@@ -90,12 +85,12 @@ shrunk-entries e (suc n) row h =
 rooted-shape : (n : ℕ) (first : Tree n) (behind : List (Key × Tree n)) →
     IsRising (row_marks (marks n) (first, behind)) → RowFits n (first, behind) → IsShape (rooted n first behind)
     × (entries_of (rooted n first behind) ≡ entries_in (row_marks (marks n) (first, behind)))
-rooted-shape n first [] h fits =
-    (record { rises = subst IsRising (row-one (marks n) first) h; fits = fits.first },
-    ap entries_in (sym (row-one (marks n) first)))
+rooted-shape n first [] h fits = (
+  record { rises = subst IsRising (row-one (marks n) first) h; fits = fits.first },
+  ap entries_in (sym (row-one (marks n) first)),
+)
 rooted-shape n first (b ∷ rest) h fits =
-    (record { rises = h;
-    fits = (record { lawful = fits.keys; fits = omega (arith, fits.short) }, fits.first, fits.rest) }, refl)
+    (record { rises = h; fits = (record { lawful = fits.keys; fits = omega (arith, fits.short) }, fits.first, fits.rest) }, refl)
 
 pub put-in : (e : Found) (shape : Shape) → IsShape shape → IsFound e → IsShape (put e shape)
     × (entries_of (put e shape) ≡ with_found e (entries_of shape))
@@ -104,11 +99,13 @@ put-in e shape is found =
     let tree = shape.tree in
     let around : IsRising (marks n tree ++ []) = subst IsRising (sym (append-nil (marks n tree))) is.rises in
     let rises : IsRising (row_marks (marks n) (grown e n tree)) =
-        subst IsRising (append-nil (row_marks (marks n) (grown e n tree)))
-        (grown-rises e n tree [] [] is.fits around tt tt) in
-    let made = rooted-shape n (grown e n tree).0 (grown e n tree).1 rises (grown-fits e found n tree is.fits) in
-    (made.0, made.1 ∙ grown-entries e n tree is.fits is.rises ∙
-    inserted-is e (entries_of shape) (rising-order (marks n tree) is.rises))
+    subst IsRising (append-nil (row_marks (marks n) (grown e n tree)))
+    (grown-rises e n tree [] [] is.fits around tt tt) in
+    let made = rooted-shape n (grown e n tree).0 (grown e n tree).1 rises (grown-fits e found n tree is.fits) in (
+      made.0,
+      made.1 ∙ grown-entries e n tree is.fits is.rises ∙
+          inserted-is e (entries_of shape) (rising-order (marks n tree) is.rises),
+    )
 
 pub without-in : (e : Found) (shape : Shape) → IsShape shape → IsShape (without e shape)
     × (entries_of (without e shape) ≡ without_found e (entries_of shape))
@@ -117,9 +114,11 @@ without-in e shape is =
     let tree = shape.tree in
     let around : IsRising (marks n tree ++ []) = subst IsRising (sym (append-nil (marks n tree))) is.rises in
     let rises : IsRising (marks n (shrunk e n tree)) =
-        subst IsRising (append-nil (marks n (shrunk e n tree))) (shrunk-rises e n tree [] [] around tt tt) in
-    (record { rises = rises; fits = shrunk-fits e n tree is.fits }, shrunk-entries e n tree is.rises ∙
-    taken_out-is e (entries_of shape) (rising-order (marks n tree) is.rises))
+    subst IsRising (append-nil (marks n (shrunk e n tree))) (shrunk-rises e n tree [] [] around tt tt) in (
+      record { rises = rises; fits = shrunk-fits e n tree is.fits },
+      shrunk-entries e n tree is.rises ∙
+          taken_out-is e (entries_of shape) (rising-order (marks n tree) is.rises),
+    )
 
 -- where the leaf has room, no page is opened
 module _ {X : Type 0} (change : X → Row X) (inside : X → List Found) (count : X → ℕ) (e : Found) (P : X → Type 0)
@@ -153,9 +152,10 @@ module _ {X : Type 0} (change : X → Row X) (inside : X → List Found) (count 
           (first, (b.0, (changed change e b.1 rest).0) ∷ (changed change e b.1 rest).1))
           ≡ count first + count_behind count (b ∷ rest))
       step true q go =
-          let one = each first is q in
-          (ap (λ (l : List (Key × X)). row_keys (l ++ b ∷ rest)) one.0,
-          omega (arith, one.1, ap (λ (l : List (Key × X)). count_behind count (l ++ b ∷ rest)) one.0))
+          let one = each first is q in (
+            ap (λ (l : List (Key × X)). row_keys (l ++ b ∷ rest)) one.0,
+            omega (arith, one.1, ap (λ (l : List (Key × X)). count_behind count (l ++ b ∷ rest)) one.0),
+          )
       step false q go =
           let more = go q in
           (ap (λ (l : List Found). named b.0 0 ∷ l) more.0, omega (arith, more.1))
@@ -168,11 +168,13 @@ grown-stays e zero es fits room = let is = leaves-room (entry_inserted e es) roo
 grown-stays e (suc n) row fits room =
     let made = changed (grown e n) e row.0 row.1 in
     let more =
-        changed-stays (grown e n) (target e n) (page_count n) e (Fits n)
-        (λ x is q. grown-stays e n x is q) row.0 row.1 fits.1 fits.2 room in
-    let is = inners-room made (ap have_room more.0 ∙ le-leb (width (row_keys row.1)) 1016 fits.0.fits) in
-    (ap (λ (r : Row (Row (Tree n))). r.1) is, ap (λ (r : Row (Row (Tree n))). page_count (suc n) r.0) is ∙
-    ap (λ (k : ℕ). 1 + k) more.1)
+    changed-stays (grown e n) (target e n) (page_count n) e (Fits n)
+    (λ x is q. grown-stays e n x is q) row.0 row.1 fits.1 fits.2 room in
+    let is = inners-room made (ap have_room more.0 ∙ le-leb (width (row_keys row.1)) 1016 fits.0.fits) in (
+      ap (λ (r : Row (Row (Tree n))). r.1) is,
+      ap (λ (r : Row (Row (Tree n))). page_count (suc n) r.0) is ∙
+          ap (λ (k : ℕ). 1 + k) more.1,
+    )
 
 pub target-fits : (e : Found) (n : ℕ) (tree : Tree n) → Fits n tree → AreWritable (target e n tree)
 target-fits e zero es fits = fits
@@ -197,8 +199,8 @@ opens-of e shape room is =
     let n = shape.levels in
     let stays = grown-stays low n shape.tree is.fits room in
     let same : page_count (put low shape).levels (put low shape).tree ≡ page_count n (grown low n shape.tree).0 =
-        ap (λ (l : List (Key × Tree n)). page_count (rooted n (grown low n shape.tree).0 l).levels
-        (rooted n (grown low n shape.tree).0 l).tree) stays.0 in
+    ap (λ (l : List (Key × Tree n)). page_count (rooted n (grown low n shape.tree).0 l).levels
+    (rooted n (grown low n shape.tree).0 l).tree) stays.0 in
     omega (arith, same, stays.1)
 
 -- an entry that is there
@@ -255,8 +257,7 @@ among-back e leaf all back above is = record {
 among : (e : Found) (page n : ℕ) (tree : Tree n) → IsRising (marks n tree) →
     Among e (target (named (key_of e) page) n tree) (entries_in (marks n tree))
 among e page zero es h =
-    record { front = []; back = []; whole = entries-map es ∙ sym (append-nil es);
-    more = ap (entry_inserted e) (entries-map es) ∙ sym (append-nil (entry_inserted e es)) }
+    record { front = []; back = []; whole = entries-map es ∙ sym (append-nil es); more = ap (entry_inserted e) (entries-map es) ∙ sym (append-nil (entry_inserted e es)) }
 among e page (suc n) row h = inside row.0 row.1 h (among e page n)
   where
     low : Found
@@ -285,20 +286,22 @@ among e page (suc n) row h = inside row.0 row.1 h (among e page n)
             (entries_in (row_marks (marks n) (first, b ∷ rest)))
         step true q go =
             let less = lt-from (found_cmp e (named b.0 0)) q in
-            let high : AllByRecursion (Precedes (at_entry e)) tail =
-                (less, all-more (Precedes (at_key b.0)) (Precedes (at_entry e)) (row_marks (marks n) (b.1, rest))
-                (stop-key e b.0 less)
-                (rising-behind (marks n first) (row_marks (marks n) (b.1, rest)) (at_key b.0) rises)) in
+            let high : AllByRecursion (Precedes (at_entry e)) tail = (
+              less,
+              all-more (Precedes (at_key b.0)) (Precedes (at_entry e)) (row_marks (marks n) (b.1, rest))
+                  (stop-key e b.0 less)
+                  (rising-behind (marks n first) (row_marks (marks n) (b.1, rest)) (at_key b.0) rises),
+            ) in
             let above : AllByRecursion (λ (f : Found). found_cmp e f ≡ Less) (entries_in tail) =
-                entries-all (Precedes (at_entry e)) (λ (f : Found). found_cmp e f ≡ Less) tail (λ f p. p) high in
+            entries-all (Precedes (at_entry e)) (λ (f : Found). found_cmp e f ≡ Less) tail (λ f p. p) high in
             subst (Among e (target (named (key_of e) page) n first)) (sym (entries-append (marks n first) tail))
             (among-back e (target (named (key_of e) page) n first) (entries_in (marks n first)) (entries_in tail) above
             (each first (rising-left (marks n first) tail rises)))
         step false q go =
             let before = rising-before (marks n first) (row_marks (marks n) (b.1, rest)) (at_key b.0) rises in
             let below : AllByRecursion (λ (f : Found). found_cmp f e ≡ Less) (entries_in (marks n first)) =
-                entries-all (λ m. Precedes m (at_key b.0)) (λ (f : Found). found_cmp f e ≡ Less) (marks n first)
-                (λ f p. under f (named b.0 0) e p q) before in
+            entries-all (λ m. Precedes m (at_key b.0)) (λ (f : Found). found_cmp f e ≡ Less) (marks n first)
+            (λ f p. under f (named b.0 0) e p q) before in
             subst (Among e (in_row (target (named (key_of e) page) n) (named (key_of e) page) b.1 rest))
             (sym (entries-append (marks n first) tail))
             (among-front e (in_row (target (named (key_of e) page) n) (named (key_of e) page) b.1 rest)
@@ -316,11 +319,11 @@ opens-none e shape is there =
     let leaf = target low shape.levels shape.tree in
     let at = among e 0 shape.levels shape.tree is.rises in
     let same =
-        inserted-same e (entries_of shape) there.0
-        (rising-order (marks shape.levels shape.tree) is.rises) there.1 there.2 in
+    inserted-same e (entries_of shape) there.0
+    (rising-order (marks shape.levels shape.tree) is.rises) there.1 there.2 in
     let one : entry_inserted e leaf ≡ leaf =
-        cancel-back (entry_inserted e leaf) leaf at.back
-        (cancel-front at.front (entry_inserted e leaf ++ at.back) (leaf ++ at.back) (sym at.more ∙ same ∙ at.whole)) in
+    cancel-back (entry_inserted e leaf) leaf at.back
+    (cancel-front at.front (entry_inserted e leaf ++ at.back) (leaf ++ at.back) (sym at.more ∙ same ∙ at.whole)) in
     opens-of e shape
     (any-page-room e leaf ∙ ap have_room one ∙
     le-leb (width leaf) 1016 (target-fits low shape.levels shape.tree is.fits).fits) is
@@ -356,16 +359,19 @@ none-of-three e shape is found few =
     let same = same-target e 0 shape.levels shape.tree in
     let writable = target-fits low shape.levels shape.tree is.fits in
     let room : HaveRoom (entry_inserted e leaf) =
-        four_fit (entry_inserted e leaf) (inserted-all IsFound e leaf found writable.lawful)
-        (omega (arith, inserted-length e leaf, ap length same, few)) in
+    four_fit (entry_inserted e leaf) (inserted-all IsFound e leaf found writable.lawful)
+    (omega (arith, inserted-length e leaf, ap length same, few)) in
     opens-of e shape (any-page-room e leaf ∙ le-leb (width (entry_inserted e leaf)) 1016 room) is
 
 pub opens_few : OpensFew
 opens_few = record {
   at_most_levels = λ value number shape.
       let low : Found = record { value = value; number = number; page = 0 } in
-      omega (arith, few-rooted shape.levels (grown low shape.levels shape.tree).0 (grown low shape.levels shape.tree).1,
-      grown-most low shape.levels shape.tree);
+      omega (
+        arith,
+        few-rooted shape.levels (grown low shape.levels shape.tree).0 (grown low shape.levels shape.tree).1,
+        grown-most low shape.levels shape.tree,
+      );
   none_of_three = none-of-three;
 }
 

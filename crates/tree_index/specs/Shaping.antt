@@ -1,6 +1,5 @@
 -- What adding and taking out make of a tree: proofs.
-use Rattle.std.proofs.Common.{◌≡◌, ◌≤◌, ◌+◌, ◌++◌, ◌∙◌, not, ℕ, Bool, true, false, cond, List, [], ◌∷◌, refl, sym, ap,
-    subst, arith, append_assoc}
+use Rattle.std.proofs.Common.{◌≡◌, ◌≤◌, ◌+◌, ◌++◌, ◌∙◌, not, ℕ, Bool, true, false, cond, List, [], ◌∷◌, refl, sym, ap, subst, arith, append_assoc}
 use Rattle.std.specs.List.{flat_map, AllByRecursion}
 use Rattle.std.specs.Ordering.{is_lt}
 use Rattle.std.specs.declared.cmp.Ordering.{Ordering}
@@ -13,10 +12,8 @@ use Rattle.pager.specs.declared.index.Found.{Found}
 use Rattle.index_page.specs.Entries.{is_behind, reaches}
 use Rattle.index_page.specs.IndexPage.{width}
 use Rattle.index_page.proofs.Packing.{width-append, width-cons}
-use Rattle.tree_index.specs.Marking.{all-join, all-more, all-right, entries-all, entries-append, lt-from, pass-key,
-    rising-before, rising-behind, rising-left, rising-right, shift, shift-one, stop-key, under}
-use Rattle.tree_index.specs.Tree.{IsRising, Key, Mark, Precedes, Row, at_entry, at_key, changed, count_behind,
-    entries_in, named, row_keys, row_marks}
+use Rattle.tree_index.specs.Marking.{all-join, all-more, all-right, entries-all, entries-append, lt-from, pass-key, rising-before, rising-behind, rising-left, rising-right, shift, shift-one, stop-key, under}
+use Rattle.tree_index.specs.Tree.{IsRising, Key, Mark, Precedes, Row, at_entry, at_key, changed, count_behind, entries_in, named, row_keys, row_marks}
 
 -- a row that goes on
 pub row-more : {X : Type 0} (mark : X → List Mark) (row : Row X) (more : List (Key × X)) →
@@ -79,24 +76,26 @@ module _ {X : Type 0} (mark : X → List Mark) (change : X → Row X) (e : Found
           let less = lt-from (found_cmp e (named c.0 0)) q in
           let tail : List Mark = at_key c.0 ∷ row_marks mark (c.1, rest) in
           let h1 : IsRising (a ++ (mark first ++ (tail ++ b))) =
-              subst (λ (l : List Mark). IsRising (a ++ l)) (append_assoc (mark first) tail b) h in
-          let high1 : AllByRecursion (Precedes (at_entry e)) (tail ++ b) =
-              (less, all-more (Precedes (at_key c.0)) (Precedes (at_entry e)) (row_marks mark (c.1, rest) ++ b)
-              (stop-key e c.0 less) (behind-key a b first c rest h)) in
+          subst (λ (l : List Mark). IsRising (a ++ l)) (append_assoc (mark first) tail b) h in
+          let high1 : AllByRecursion (Precedes (at_entry e)) (tail ++ b) = (
+            less,
+            all-more (Precedes (at_key c.0)) (Precedes (at_entry e)) (row_marks mark (c.1, rest) ++ b)
+                (stop-key e c.0 less) (behind-key a b first c rest h),
+          ) in
           let same : row_marks mark ((change first).0, (change first).1 ++ c ∷ rest) ++ b
-              ≡ row_marks mark (change first) ++ (tail ++ b) =
-              ap (λ (l : List Mark). l ++ b) (row-more mark (change first) (c ∷ rest)) ∙
-              append_assoc (row_marks mark (change first)) tail b in
+          ≡ row_marks mark (change first) ++ (tail ++ b) =
+          ap (λ (l : List Mark). l ++ b) (row-more mark (change first) (c ∷ rest)) ∙
+          append_assoc (row_marks mark (change first)) tail b in
           subst (λ (l : List Mark). IsRising (a ++ l)) (sym same) (each first a (tail ++ b) is h1 low high1)
       step false q go =
           let front : List Mark = mark first ++ at_key c.0 ∷ [] in
           let h1 : IsRising ((a ++ front) ++ (row_marks mark (c.1, rest) ++ b)) =
-              subst IsRising (shift a (mark first) (row_marks mark (c.1, rest)) b (at_key c.0)) h in
+          subst IsRising (shift a (mark first) (row_marks mark (c.1, rest)) b (at_key c.0)) h in
           let low1 : AllByRecursion (λ m. Precedes m (at_entry e)) (a ++ front) =
-              all-join (λ m. Precedes m (at_entry e)) a front low
-              (all-join (λ m. Precedes m (at_entry e)) (mark first) (at_key c.0 ∷ [])
-              (all-more (λ m. Precedes m (at_key c.0)) (λ m. Precedes m (at_entry e)) (mark first) (pass-key e c.0 q)
-              (before-key a b first c rest h)) (q, tt)) in
+          all-join (λ m. Precedes m (at_entry e)) a front low
+          (all-join (λ m. Precedes m (at_entry e)) (mark first) (at_key c.0 ∷ [])
+          (all-more (λ m. Precedes m (at_key c.0)) (λ m. Precedes m (at_entry e)) (mark first) (pass-key e c.0 q)
+          (before-key a b first c rest h)) (q, tt)) in
           subst IsRising (sym (shift a (mark first) (row_marks mark (changed change e c.1 rest)) b (at_key c.0)))
           (go (a ++ front) b h1 low1 high)
 
@@ -126,11 +125,13 @@ module _ {X : Type 0} (mark : X → List Mark) (change : X → Row X) (e : Found
       step true q go =
           let less = lt-from (found_cmp e (named c.0 0)) q in
           let tail : List Mark = at_key c.0 ∷ row_marks mark (c.1, rest) in
-          let high : AllByRecursion (Precedes (at_entry e)) tail =
-              (less, all-more (Precedes (at_key c.0)) (Precedes (at_entry e)) (row_marks mark (c.1, rest))
-              (stop-key e c.0 less) (rising-behind (mark first) (row_marks mark (c.1, rest)) (at_key c.0) h)) in
+          let high : AllByRecursion (Precedes (at_entry e)) tail = (
+            less,
+            all-more (Precedes (at_key c.0)) (Precedes (at_entry e)) (row_marks mark (c.1, rest))
+                (stop-key e c.0 less) (rising-behind (mark first) (row_marks mark (c.1, rest)) (at_key c.0) h),
+          ) in
           let above : AllByRecursion (λ (f : Found). found_cmp e f ≡ Less) (entries_in tail) =
-              entries-all (Precedes (at_entry e)) (λ (f : Found). found_cmp e f ≡ Less) tail (λ f p. p) high in
+          entries-all (Precedes (at_entry e)) (λ (f : Found). found_cmp e f ≡ Less) tail (λ f p. p) high in
           ap entries_in (row-more mark (change first) (c ∷ rest)) ∙ entries-append (row_marks mark (change first)) tail
           ∙ ap (λ (l : List Found). l ++ entries_in tail) (each first is (rising-left (mark first) tail h))
           ∙ sym (stop (entries_in (mark first)) (entries_in tail) above) ∙
@@ -140,8 +141,8 @@ module _ {X : Type 0} (mark : X → List Mark) (change : X → Row X) (e : Found
           let more : List Mark = at_key c.0 ∷ row_marks mark (changed change e c.1 rest) in
           let low = rising-before (mark first) (row_marks mark (c.1, rest)) (at_key c.0) h in
           let below : AllByRecursion (λ (f : Found). found_cmp f e ≡ Less) (entries_in (mark first)) =
-              entries-all (λ m. Precedes m (at_key c.0)) (λ (f : Found). found_cmp f e ≡ Less) (mark first)
-              (λ f p. under f (named c.0 0) e p q) low in
+          entries-all (λ m. Precedes m (at_key c.0)) (λ (f : Found). found_cmp f e ≡ Less) (mark first)
+          (λ f p. under f (named c.0 0) e p q) low in
           entries-append (mark first) more ∙
           ap (λ (l : List Found). entries_in (mark first) ++ l) (go (rising-right (mark first) tail h).1)
           ∙ sym (skip (entries_in (mark first)) (entries_in tail) (none-reach e (entries_in (mark first)) below)) ∙
@@ -184,12 +185,22 @@ module _ {X : Type 0} (mark : X → List Mark) (change : X → Row X) (e : Found
           Whole (cond t ((change first).0, (change first).1 ++ c ∷ rest)
           (first, (c.0, (changed change e c.1 rest).0) ∷ (changed change e c.1 rest).1))
       step true go =
-          let two = map-append (λ (b : Key × X). named b.0 0) (change first).1 (c ∷ rest) in
-          (subst (AllByRecursion IsFound) (sym two)
-          (all-join IsFound (row_keys (change first).1) (row_keys (c ∷ rest)) (each first is).0 keys),
-          omega (arith, ap width two, width-append (row_keys (change first).1) (row_keys (c ∷ rest)),
-          (each first is).1))
-      step false go =
-          ((keys.0, go.0),
-          omega (arith, width-cons (named c.0 0) (row_keys rest),
-          width-cons (named c.0 0) (row_keys (changed change e c.1 rest).1), go.1))
+          let two = map-append (λ (b : Key × X). named b.0 0) (change first).1 (c ∷ rest) in (
+            subst (AllByRecursion IsFound) (sym two)
+                (all-join IsFound (row_keys (change first).1) (row_keys (c ∷ rest)) (each first is).0 keys),
+            omega (
+              arith,
+              ap width two,
+              width-append (row_keys (change first).1) (row_keys (c ∷ rest)),
+              (each first is).1,
+            ),
+          )
+      step false go = (
+        (keys.0, go.0),
+        omega (
+          arith,
+          width-cons (named c.0 0) (row_keys rest),
+          width-cons (named c.0 0) (row_keys (changed change e c.1 rest).1),
+          go.1,
+        ),
+      )

@@ -1,6 +1,5 @@
 -- A tree that pages hold, before and after its pages are written: proofs.
-use Rattle.std.proofs.Common.{◌≡◌, ◌<◌, ◌≤◌, ◌+◌, ◌^◌, ◌++◌, ◌∙◌, ℕ, zero, suc, Bool, true, false, cond, eqb, List, [],
-    ◌∷◌, length, Err, refl, sym, ap, subst, inl, inr, arith}
+use Rattle.std.proofs.Common.{◌≡◌, ◌<◌, ◌≤◌, ◌+◌, ◌^◌, ◌++◌, ◌∙◌, ℕ, zero, suc, Bool, true, false, cond, eqb, List, [], ◌∷◌, length, Err, refl, sym, ap, subst, inl, inr, arith}
 use Rattle.std.specs.Prelude.{nat_eq}
 use Rattle.std.specs.List.{flat_map, AllByRecursion, Contains, IsDistinct, list_any}
 use Rattle.std.specs.List.Sorted.{IsPermutation}
@@ -9,8 +8,7 @@ use Rattle.std.proofs.lemmas.Bool.{both_ways, eqb-true, or_cases}
 use Rattle.std.proofs.lemmas.Cmp.{nat_eq_equiv}
 use Rattle.std.proofs.lemmas.List.{append-nil, length-append, length-map, map-append}
 use Rattle.std.proofs.lemmas.List.Elements.{All-from_recursion, Contains-append_left, recursion_from_All}
-use Rattle.std.proofs.lemmas.List.Sorted.{All-permutation, Contains-permutation, IsPermutation-map, IsPermutation-sym,
-    length_permutation}
+use Rattle.std.proofs.lemmas.List.Sorted.{All-permutation, Contains-permutation, IsPermutation-map, IsPermutation-sym, length_permutation}
 use Rattle.std.proofs.lemmas.Map.Keys.{IsDistinct-IsPermutation}
 use Rattle.std.proofs.lemmas.Map.Steps.{length-le_from_distinct_below}
 use Rattle.retro_base.specs.declared.refusal.Refusal.{Refusal}
@@ -28,8 +26,7 @@ use Rattle.tree_index.specs.Marking.{all-join, all-left, all-more, all-right, en
 use Rattle.tree_index.specs.RootPage.{Roots}
 use Rattle.tree_index.specs.Rooting.{path, picked-all}
 use Rattle.tree_index.specs.Taking.{taken-same}
-use Rattle.tree_index.specs.Tree.{Body, Fits, IsRising, IsShape, Key, Lists, Row, Shape, Tree, bare, content,
-    entries_in, entries_of, marks, named, nodes, numbers, page_count, row_marks}
+use Rattle.tree_index.specs.Tree.{Body, Fits, IsRising, IsShape, Key, Lists, Row, Shape, Tree, bare, content, entries_in, entries_of, marks, named, nodes, numbers, page_count, row_marks}
 use Rattle.tree_index.specs.Walk.{IsTree, Meets, children, chosen, walked}
 use Rattle.tree_index.specs.Work.{all_written}
 use Rattle.tree_index.specs.Writing.{all-there, distinct-apart, distinct-left, member, other-stays}
@@ -59,7 +56,7 @@ pub good-of : (size root : ℕ) (pages : Pages) (kind : Kind) (shape : Shape) (h
     IsGood size pages kind shape.levels (root, is.body)
 good-of size root pages kind shape held is kinds =
     let back : (P : Tree shape.levels → Type 0) → P shape.tree → P (bare shape.levels is.body) =
-        λ P p. subst P (sym is.bare_is) p in
+    λ P p. subst P (sym is.bare_is) p in
     record {
       there = is.at;
       rises = back (λ t. IsRising (marks shape.levels t)) is.is_shape.rises;
@@ -73,10 +70,10 @@ pub few-held : (size root : ℕ) (pages : Pages) (shape : Shape) (held : List �
 few-held size root pages shape held is =
     let ms = nodes shape.levels (root, is.body) in
     let few : length held ≤ size =
-        length-le_from_distinct_below held size is.distinct
-        (within held
-        (subst (AllByRecursion (λ (page : ℕ). (2 ≤ page) × (page < size))) is.held_is
-        (all-inside size pages ms is.at))) in
+    length-le_from_distinct_below held size is.distinct
+    (within held
+    (subst (AllByRecursion (λ (page : ℕ). (2 ≤ page) × (page < size))) is.held_is
+    (all-inside size pages ms is.at))) in
     omega (arith, few, ap length is.held_is, length-map ms (λ (met : Met). met.page))
   where
     within : (xs : List ℕ) → AllByRecursion (λ (page : ℕ). (2 ≤ page) × (page < size)) xs → (q : ℕ) →
@@ -119,14 +116,20 @@ module _ (size root : ℕ) (pages : Pages) (kind : Kind) (shape : Shape) (held :
           rest [] e good fewer = absurd cc
           rest (s ∷ more) e good fewer =
               elim long [
-                | inl all ↦ omega
-                (arith, all, fewer, few-held size root pages shape held is, least s,
-                length-append (nodes s.levels s.tree) (forest-nodes more),
-                length-append (nodes shape.levels (root, is.body)) [])
+                | inl all ↦ omega (
+                  arith,
+                  all,
+                  fewer,
+                  few-held size root pages shape held is,
+                  least s,
+                  length-append (nodes s.levels s.tree) (forest-nodes more),
+                  length-append (nodes shape.levels (root, is.body)) [],
+                )
                 | inr none ↦ none (content s.levels s.tree.1)
-                (subst (λ p. IsTree kind size pages p (content s.levels s.tree.1)) (sym (head e))
-                (first-there size pages s.levels s.tree good.0.there,
-                (step size pages kind low high view sees s.levels s.tree good.0).tree))
+                    (subst (λ p. IsTree kind size pages p (content s.levels s.tree.1)) (sym (head e)) (
+                      first-there size pages s.levels s.tree good.0.there,
+                      (step size pages kind low high view sees s.levels s.tree good.0).tree,
+                    ))
               ]
             where
               head : page ∷ behind ≡ s.tree.0 ∷ root-numbers more → page ≡ s.tree.0
@@ -148,9 +151,10 @@ row-there : (size : ℕ) (pages : Pages) (n : ℕ) (rest : List (Key × (ℕ × 
     AllByRecursion (IsThere size pages) (flat_map (λ (b : Key × (ℕ × Body n)). nodes n b.1) rest) →
     AllByRecursion (λ (b : Key × (ℕ × Body n)). AllByRecursion (IsThere size pages) (nodes n b.1)) rest
 row-there size pages n [] all = tt
-row-there size pages n (b ∷ rest) all =
-    (all-left (IsThere size pages) (nodes n b.1) _ all,
-    row-there size pages n rest (all-right (IsThere size pages) (nodes n b.1) _ all))
+row-there size pages n (b ∷ rest) all = (
+  all-left (IsThere size pages) (nodes n b.1) _ all,
+  row-there size pages n rest (all-right (IsThere size pages) (nodes n b.1) _ all),
+)
 
 pub path-is : (size : ℕ) (pages : Pages) (kind : Kind) (e : Found) (n : ℕ) (t : ℕ × Body n) →
     AllByRecursion (IsThere size pages) (nodes n t) → (todo : List ℕ) → todo ≡ t.0 ∷ [] → (way : List Met) →
@@ -162,14 +166,14 @@ path-is size pages kind e n t there todo at [] meets = absurd (none (sym meets �
 path-is size pages kind e zero t there todo at (met ∷ way) meets =
     let p = sym at ∙ meets.1 in
     let held : content 0 t.1 ≡ met.held =
-        at-one size pages met.page (content 0 t.1) met.held
-        (subst (λ page. IsThere size pages (record { page = page; held = content 0 t.1 })) (head p) there.0)
-        meets.2.0 in
+    at-one size pages met.page (content 0 t.1) met.held
+    (subst (λ page. IsThere size pages (record { page = page; held = content 0 t.1 })) (head p) there.0)
+    meets.2.0 in
     let left : children e e met.held ++ meets.0 ≡ [] =
-        ap (λ (h : IndexPage). children e e h ++ meets.0) (sym held) ∙ sym (tail p) in
+    ap (λ (h : IndexPage). children e e h ++ meets.0) (sym held) ∙ sym (tail p) in
     let end = ended way (subst (λ (l : List ℕ). Meets e e kind size pages l way []) left meets.3) in
     let same : met ≡ record { page = t.0; held = content 0 t.1 } =
-        λ i. record { page = (sym (head p)) i; held = (sym held) i } in
+    λ i. record { page = (sym (head p)) i; held = (sym held) i } in
     cc (same, end)
   where
     head : t.0 ∷ [] ≡ met.page ∷ meets.0 → t.0 ≡ met.page
@@ -187,21 +191,21 @@ path-is size pages kind e zero t there todo at (met ∷ way) meets =
 path-is size pages kind e (suc n) t there todo at (met ∷ way) meets =
     let p = sym at ∙ meets.1 in
     let held : content (suc n) t.1 ≡ met.held =
-        at-one size pages met.page (content (suc n) t.1) met.held
-        (subst (λ page. IsThere size pages (record { page = page; held = content (suc n) t.1 })) (head p) there.0)
-        meets.2.0 in
+    at-one size pages met.page (content (suc n) t.1) met.held
+    (subst (λ page. IsThere size pages (record { page = page; held = content (suc n) t.1 })) (head p) there.0)
+    meets.2.0 in
     let child = picked e t.1.0 t.1.1 in
     let next : children e e met.held ++ meets.0 ≡ child.0 ∷ [] =
-        ap (λ (h : IndexPage). children e e h ++ meets.0) (sym held) ∙
-        ap (λ (l : List ℕ). chosen e e t.1.0.0 (row-founds n t.1.1) ++ l) (sym (tail p)) ∙
-        append-nil (chosen e e t.1.0.0 (row-founds n t.1.1)) ∙ chosen-one n e t.1.0 t.1.1 in
+    ap (λ (h : IndexPage). children e e h ++ meets.0) (sym held) ∙
+    ap (λ (l : List ℕ). chosen e e t.1.0.0 (row-founds n t.1.1) ++ l) (sym (tail p)) ∙
+    append-nil (chosen e e t.1.0.0 (row-founds n t.1.1)) ∙ chosen-one n e t.1.0 t.1.1 in
     let child-there =
-        picked-all (λ (x : ℕ × Body n). AllByRecursion (IsThere size pages) (nodes n x)) e t.1.0 t.1.1
-        (all-left (IsThere size pages) (nodes n t.1.0) _ there.1)
-        (row-there size pages n t.1.1 (all-right (IsThere size pages) (nodes n t.1.0) _ there.1)) in
+    picked-all (λ (x : ℕ × Body n). AllByRecursion (IsThere size pages) (nodes n x)) e t.1.0 t.1.1
+    (all-left (IsThere size pages) (nodes n t.1.0) _ there.1)
+    (row-there size pages n t.1.1 (all-right (IsThere size pages) (nodes n t.1.0) _ there.1)) in
     let more = path-is size pages kind e n child child-there (children e e met.held ++ meets.0) next way meets.3 in
     let same : met ≡ record { page = t.0; held = content (suc n) t.1 } =
-        λ i. record { page = (sym (head p)) i; held = (sym held) i } in
+    λ i. record { page = (sym (head p)) i; held = (sym held) i } in
     cc (same, more)
   where
     head : t.0 ∷ [] ≡ met.page ∷ meets.0 → t.0 ≡ met.page
@@ -245,20 +249,21 @@ module _ (size root : ℕ) (pages : Pages) (shape : Shape) (held : List ℕ) (is
         AllByRecursion (λ q. AllByRecursion (λ p. eqb q p ≡ false) (numbers edits)) (numbers ms) →
         AllByRecursion (IsThere size (all_written mid edits)) ms
     others-there [] there apart = tt
-    others-there (met ∷ ms) there apart =
-        (at-same size pages (all_written mid edits) met.page met.held
-        ((other-stays edits mid met.page apart.0).0 ∙
-        taken-same size (length roots.opened) pages mid roots.opened roots.taken_is.took met.page there.0.low) there.0,
-        others-there ms there.1 apart.1)
+    others-there (met ∷ ms) there apart = (
+      at-same size pages (all_written mid edits) met.page met.held
+          ((other-stays edits mid met.page apart.0).0 ∙
+          taken-same size (length roots.opened) pages mid roots.opened roots.taken_is.took met.page there.0.low) there.0,
+      others-there ms there.1 apart.1,
+    )
 
     pub all-after : AllByRecursion (IsThere size (all_written mid edits)) (nodes roots.levels (root, roots.body))
     all-after =
         let own =
-            all-there size edits mid (distinct-left (numbers edits) (numbers roots.others) parts-distinct)
-            roots.ready in
+        all-there size edits mid (distinct-left (numbers edits) (numbers roots.others) parts-distinct)
+        roots.ready in
         let kept =
-            others-there roots.others (roots.kept (IsThere size pages) is.at)
-            (distinct-apart (numbers edits) (numbers roots.others) parts-distinct) in
+        others-there roots.others (roots.kept (IsThere size pages) is.at)
+        (distinct-apart (numbers edits) (numbers roots.others) parts-distinct) in
         let both = all-join (IsThere size (all_written mid edits)) edits roots.others own kept in
         recursion_from_All (IsThere size (all_written mid edits)) (nodes roots.levels (root, roots.body))
         (All-permutation (IsThere size (all_written mid edits)) (edits ++ roots.others)
@@ -278,7 +283,7 @@ module _ (size root : ℕ) (pages : Pages) (shape : Shape) (held : List ℕ) (is
     lists-after after e shaped =
         let first : Shape = record { levels = roots.levels; tree = bare roots.levels roots.body } in
         let there : Lists size (all_written mid edits) root first (numbers (nodes roots.levels (root, roots.body))) =
-            record {
+        record {
           is_shape = subst IsShape (sym e) shaped;
           body = roots.body;
           bare_is = refl;
@@ -293,12 +298,12 @@ module _ (size root : ℕ) (pages : Pages) (shape : Shape) (held : List ℕ) (is
     pub edits-only : EditsOnly (held ++ roots.opened) mid (all_written mid edits)
     edits-only = λ page. elim (member (numbers edits) page) [
       | inl there ↦ inl
-      (Contains-permutation (numbers (nodes roots.levels (root, roots.body))) (held ++ roots.opened) page
-      (IsPermutation-sym (held ++ roots.opened) (numbers (nodes roots.levels (root, roots.body))) moves)
-      (Contains-permutation (numbers (edits ++ roots.others))
-      (numbers (nodes roots.levels (root, roots.body))) page named-all
-      (subst (λ (l : List ℕ). Contains l page) (sym (map-append (λ (met : Met). met.page) edits roots.others))
-      (Contains-append_left (numbers edits) (numbers roots.others) page there))))
+          (Contains-permutation (numbers (nodes roots.levels (root, roots.body))) (held ++ roots.opened) page
+          (IsPermutation-sym (held ++ roots.opened) (numbers (nodes roots.levels (root, roots.body))) moves)
+          (Contains-permutation (numbers (edits ++ roots.others))
+          (numbers (nodes roots.levels (root, roots.body))) page named-all
+          (subst (λ (l : List ℕ). Contains l page) (sym (map-append (λ (met : Met). met.page) edits roots.others))
+          (Contains-append_left (numbers edits) (numbers roots.others) page there))))
       | inr none ↦ inr (other-stays edits mid page none)
     ]
 
@@ -307,12 +312,18 @@ module _ (size root : ℕ) (pages : Pages) (shape : Shape) (held : List ℕ) (is
         page_count after.levels after.tree ≡ page_count shape.levels shape.tree + length roots.opened
     counted after e =
         let one : page_count roots.levels (bare roots.levels roots.body) ≡ page_count after.levels after.tree =
-            ap (λ (s : Shape). page_count s.levels s.tree) e in
+        ap (λ (s : Shape). page_count s.levels s.tree) e in
         let two : page_count shape.levels (bare shape.levels is.body) ≡ page_count shape.levels shape.tree =
-            ap (page_count shape.levels) is.bare_is in
-        omega (arith, one, two, nodes-count roots.levels (root, roots.body), nodes-count shape.levels (root, is.body),
-        length_permutation (numbers (nodes shape.levels (root, is.body)) ++ roots.opened)
-        (numbers (nodes roots.levels (root, roots.body))) roots.numbers_are,
-        length-append (numbers (nodes shape.levels (root, is.body))) roots.opened,
-        length-map (nodes shape.levels (root, is.body)) (λ (met : Met). met.page),
-        length-map (nodes roots.levels (root, roots.body)) (λ (met : Met). met.page))
+        ap (page_count shape.levels) is.bare_is in
+        omega (
+          arith,
+          one,
+          two,
+          nodes-count roots.levels (root, roots.body),
+          nodes-count shape.levels (root, is.body),
+          length_permutation (numbers (nodes shape.levels (root, is.body)) ++ roots.opened)
+              (numbers (nodes roots.levels (root, roots.body))) roots.numbers_are,
+          length-append (numbers (nodes shape.levels (root, is.body))) roots.opened,
+          length-map (nodes shape.levels (root, is.body)) (λ (met : Met). met.page),
+          length-map (nodes roots.levels (root, roots.body)) (λ (met : Met). met.page),
+        )

@@ -1,6 +1,5 @@
 -- Pages that are taken one after the other: proofs.
-use Rattle.std.proofs.Common.{◌≡◌, ◌<◌, ◌≤◌, ◌^◌, ◌++◌, ◌∙◌, ℕ, zero, suc, List, [], ◌∷◌, length, Result, Ok, Err, refl,
-    sym, ap, subst, arith}
+use Rattle.std.proofs.Common.{◌≡◌, ◌<◌, ◌≤◌, ◌^◌, ◌++◌, ◌∙◌, ℕ, zero, suc, List, [], ◌∷◌, length, Result, Ok, Err, refl, sym, ap, subst, arith}
 use Rattle.std.proofs.lemmas.Bool.{ne_eqb}
 use Rattle.std.proofs.lemmas.List.{length-append}
 use Rattle.retro_base.specs.declared.refusal.Refusal.{Refusal}
@@ -37,9 +36,9 @@ one-more size (suc count) pages mid list next e took =
             let given : List ℕ × Pages = (list, mid) in
             let same : made ≡ given = ok_is (all_taken size (suc count) pages) made given (rw (q, q2) refl) e in
             let on = more first.1 rest.1 rest.0 q2
-                (subst (λ (p : List ℕ × Pages). taken size p.1 ≡ Ok next) (sym same) took) in
+            (subst (λ (p : List ℕ × Pages). taken size p.1 ≡ Ok next) (sym same) took) in
             let all : all_taken size (suc (suc count)) pages ≡ Ok (first.0 ∷ (rest.0 ++ next.0 ∷ []), next.1) =
-                rw (q, on) refl in
+            rw (q, on) refl in
             all ∙ ap (λ (p : List ℕ × Pages). Ok (p.0 ++ next.0 ∷ [], next.1)) same
 
 -- none is left for more
@@ -50,7 +49,7 @@ refused size zero (suc total) pages mid list why few e none =
     let nothing : List ℕ × Pages = ([], pages) in
     let given : List ℕ × Pages = (list, mid) in
     let here : taken size pages ≡ Err why =
-        subst (λ (p : List ℕ × Pages). taken size p.1 ≡ Err why) (sym (ok_is (Ok nothing) nothing given refl e)) none in
+    subst (λ (p : List ℕ × Pages). taken size p.1 ≡ Err why) (sym (ok_is (Ok nothing) nothing given refl e)) none in
     rw here refl
 refused size (suc count) (suc total) pages mid list why few e none =
     go (taken size pages) refl (λ p m l f. refused size count total p m l why f)
@@ -69,7 +68,7 @@ refused size (suc count) (suc total) pages mid list why few e none =
             let given : List ℕ × Pages = (list, mid) in
             let same : made ≡ given = ok_is (all_taken size (suc count) pages) made given (rw (q, q2) refl) e in
             let on = more first.1 rest.1 rest.0 (omega arith) q2
-                (subst (λ (p : List ℕ × Pages). taken size p.1 ≡ Err why) (sym same) none) in
+            (subst (λ (p : List ℕ × Pages). taken size p.1 ≡ Err why) (sym same) none) in
             rw (q, on) refl
 
 pub length-more : (list : List ℕ) (page : ℕ) → suc (length list) ≡ length (list ++ page ∷ [])

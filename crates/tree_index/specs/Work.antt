@@ -1,6 +1,5 @@
 -- What the calls do to the pages.
-use Rattle.std.specs.Prelude.{◌≡◌, ◌<◌, ◌^◌, ◌++◌, ◌-◌, ◌==◌, ℕ, List, [], ◌∷◌, take, drop, IfOk, Option, Some, None,
-    Result, Ok, Err}
+use Rattle.std.specs.Prelude.{◌≡◌, ◌<◌, ◌^◌, ◌++◌, ◌-◌, ◌==◌, ℕ, List, [], ◌∷◌, take, drop, IfOk, Option, Some, None, Result, Ok, Err}
 use Rattle.std.specs.List.{flat_map}
 use Rattle.retro_base.specs.declared.refusal.Refusal.{Refusal}
 use Rattle.values.specs.Value.{kind_of}

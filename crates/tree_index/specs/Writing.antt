@@ -23,9 +23,11 @@ pub other-stays : (edits : List Met) (pages : Pages) (page : ℕ) →
     × ((all_written pages edits).edited page ≡ pages.edited page)
 other-stays [] pages page apart = (refl, refl)
 other-stays (met ∷ edits) pages page apart =
-    let more = other-stays edits (with_bytes pages met.page (page_bytes met.held)) page apart.1 in
-    (more.0 ∙ written-other pages met.page page (page_bytes met.held) apart.0, more.1 ∙
-    unmarked-other pages met.page page (page_bytes met.held) apart.0)
+    let more = other-stays edits (with_bytes pages met.page (page_bytes met.held)) page apart.1 in (
+      more.0 ∙ written-other pages met.page page (page_bytes met.held) apart.0,
+      more.1 ∙
+          unmarked-other pages met.page page (page_bytes met.held) apart.0,
+    )
 
 -- each of them holds what was with_bytes
 pub all-there : (size : ℕ) (edits : List Met) (pages : Pages) → IsDistinct nat_eq (numbers edits) →
@@ -34,9 +36,10 @@ unfolding IsDistinct
 all-there size [] pages distinct ready = tt
 all-there size (met ∷ edits) pages distinct ready =
     let after : Pages = with_bytes pages met.page (page_bytes met.held) in
-    let own = at-own size pages met.page met.held ready.0.low ready.0.there ready.0.link ready.0.writable in
-    (at-same size after (all_written after edits) met.page met.held (other-stays edits after met.page distinct.0).0 own,
-    all-there size edits after distinct.1 ready.1)
+    let own = at-own size pages met.page met.held ready.0.low ready.0.there ready.0.link ready.0.writable in (
+      at-same size after (all_written after edits) met.page met.held (other-stays edits after met.page distinct.0).0 own,
+      all-there size edits after distinct.1 ready.1,
+    )
 
 -- parts of pages that differ
 pub distinct-left : (a b : List ℕ) → IsDistinct nat_eq (a ++ b) → IsDistinct nat_eq a

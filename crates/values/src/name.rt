@@ -30,6 +30,7 @@ impl Model for Name {
 }
 
 impl Name {
+    /// The name of these bytes; takes no memory.
     pub fn new(bytes: Seq<u8>) -> Name
         requires { IsName bytes }
         ensures { result ≡ bytes }
@@ -37,6 +38,7 @@ impl Name {
         Name { bytes }
     }
 
+    /// The bytes of the name.
     pub fn bytes(&self) -> &[u8]
         ensures value { result.now ≡ self.now }
         ensures is_name { IsName self.now }

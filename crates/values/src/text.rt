@@ -29,6 +29,7 @@ impl Model for Text {
 }
 
 impl Text {
+    /// The text of these bytes; takes no memory.
     pub fn new(bytes: Seq<u8>) -> Text
         requires { IsText bytes }
         ensures { result ≡ bytes }
@@ -36,6 +37,7 @@ impl Text {
         Text { bytes }
     }
 
+    /// The bytes of the text.
     pub fn bytes(&self) -> &[u8]
         ensures value { result.now ≡ self.now }
         ensures is_text { IsText self.now }

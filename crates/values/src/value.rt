@@ -30,6 +30,7 @@ pub enum Value {
 }
 
 impl Value {
+    /// The kind of the value.
     pub fn kind(&self) -> Kind
         ensures { result ≡ kind_of self.now }
     {

@@ -1,7 +1,7 @@
 use Rattle.std.proofs.Common.{◌≡◌, ◌+◌, ◌∷◌, [], List, Some, ap, arith, length, length-append, refl, slice_get, subst, sym, ◌∙◌}
 use Rattle.std.proofs.lemmas.Option.{slice_get_read}
 use Rattle.history.specs.declared.journal.Line.{Line}
-use Rattle.retro_base.specs.declared.limits.TheConstants.{DEFAULT_CAPACITY, MEMORY_PAGES}
+use Rattle.retro_base.specs.declared.limits.TheConstants.{MEMORY_CAPACITY, MEMORY_PAGES}
 use Rattle.plain_store.specs.Plain.{zero_ground}
 use Rattle.session.specs.Plan.{IsPhaseOf, Plan}
 use Rattle.session.specs.Replies.{kept_by_place, printed}
@@ -21,8 +21,8 @@ loop-index-preserved g c =
     phase_at c.args.plan.now c.loop-index.index c.as_slice.result.now (subst (λ (p : Plan). slice_get p c.loop-index.index ≡ Some c.sessions-item.result) plan read ∙ ap (λ (s : List SessionPlan). Some s) (sym c.as_slice.ensures)) in
     record {
       long = ap length c.in_ok-push.ensures.ok ∙ length-append c.loop-index.kept (c.in_ok-next.one ∷ []) ∙ ap (λ n. n + 1) before.long;
-      came = subst (λ k. CameThrough c.args.plan.now (zero_ground MEMORY_PAGES DEFAULT_CAPACITY) c.in_ok-next.next k (c.loop-index.index + 1 + 1) 0) (sym c.in_ok-push.ensures.ok)
-          (c.in_ok-next.ensures c.args.plan.now is (zero_ground MEMORY_PAGES DEFAULT_CAPACITY) c.loop-index.kept (ap (λ n. n + 1) before.long) before.came);
+      came = subst (λ k. CameThrough c.args.plan.now (zero_ground MEMORY_PAGES MEMORY_CAPACITY) c.in_ok-next.next k (c.loop-index.index + 1 + 1) 0) (sym c.in_ok-push.ensures.ok)
+          (c.in_ok-next.ensures c.args.plan.now is (zero_ground MEMORY_PAGES MEMORY_CAPACITY) c.loop-index.kept (ap (λ n. n + 1) before.long) before.came);
     }
 
 pub returns : goal.returns
@@ -35,4 +35,4 @@ returns g c =
     ∙ ap (λ (lines : List Line). printed c.args.plan.now (kept_by_place c.loop-index.kept) 0 lines) (c.as_slice-3.ensures ∙ c.into_journal-journal.ensures) in
     subst (λ journal. RanPlainly c.args.plan.now journal c.in_ok-transcript.transcript.items) (sym c.into_journal-journal.ensures)
     (run_ends c.args.plan.now c.loop-index.store c.loop-index.kept c.in_ok-transcript.transcript.items c.store_law.ensures (before.long ∙ all)
-    (subst (λ n. CameThrough c.args.plan.now (zero_ground MEMORY_PAGES DEFAULT_CAPACITY) c.loop-index.store c.loop-index.kept (n + 1) 0) all before.came) text)
+    (subst (λ n. CameThrough c.args.plan.now (zero_ground MEMORY_PAGES MEMORY_CAPACITY) c.loop-index.store c.loop-index.kept (n + 1) 0) all before.came) text)
