@@ -1,5 +1,5 @@
 -- What is gathered, one snapshot after the other.
-use Rattle.std.proofs.Common.{◌≡◌, ◌∙◌, ◌+◌, ◌<◌, ◌≤◌, ◌⊎◌, inl, inr, ℕ, zero, suc, Bool, List, [], ◌∷◌, ◌++◌, Result, Ok, Err, append-nil, append_assoc, ap, arith, drop, get_or, length, refl, subst, sym}
+use Rattle.std.proofs.Common.{◌≡◌, ◌∙◌, ◌+◌, ◌<◌, ◌≤◌, ◌⊎◌, inl, inr, ℕ, zero, suc, Bool, true, List, [], ◌∷◌, ◌++◌, Result, Ok, Err, append-nil, append_assoc, ap, arith, drop, get_or, length, refl, subst, sym}
 use Rattle.std.specs.List.{Contains}
 use Rattle.std.specs.Result.{IsErr, IsErrAnd}
 use Rattle.std.proofs.lemmas.List.{drop_more}
@@ -14,7 +14,9 @@ use Rattle.sql_tree.specs.declared.statement.Column.{Column}
 use Rattle.sql_select.specs.Each.{each, onto}
 use Rattle.sql_select.specs.declared.answer.Answer.{Answer}
 use Rattle.rql.specs.AsOf.{Answers, IsOfCall, IsOfSnapshot, OnlyAsks}
+use Rattle.rql.specs.Columns.{same_columns}
 use Rattle.rql.specs.Gathering.{Take, gathered, taken, taken_later}
+use Rattle.rql.proofs.SameColumns.{columns_are}
 
 module _ {X : Type 0} (f : ℕ → Result X Refusal) where
   onto_both : (front : List X) (x : X) (r : Result (List X) Refusal) → onto front (r >>= (λ xs. Ok (x ∷ xs))) ≡ onto (front ++ x ∷ []) r
@@ -90,6 +92,22 @@ pub gathers_first : {X : Type 0} (take : Take X) (answer : ℕ → Result Answer
     → snapshots ≡ first ∷ later → taken take answer first ≡ Ok (columns, part) → SoFar take answer columns (part ∷ []) 0 later snapshots
 gathers_first take answer columns part first later snapshots split e =
     rw (split, e) (part_behind columns part (each (taken_later take answer columns) later))
+
+-- what is taken of a later answer with the first's columns
+module _ {X : Type 0} (take : Take X) (answer : ℕ → Result Answer Refusal) (columns : List Column) (snapshot : ℕ) (later : Answer)
+    (answered : answer snapshot ≡ Ok later) (alike : same_columns columns later.columns ≡ true) where
+  of_its : (r : Result X Refusal) → take snapshot columns later.rows ≡ r → take snapshot later.columns later.rows ≡ r
+  of_its r e = let P : List Column → Type 0 = λ l. take snapshot l later.rows ≡ r in subst P (columns_are columns later.columns alike) e
+
+  pub taken_again : (r : Result X Refusal) → take snapshot columns later.rows ≡ r → taken_later take answer columns snapshot ≡ r
+  taken_again (Ok part) e = rw (answered, of_its (Ok part) e, alike) refl
+  taken_again (Err why) e = rw (answered, of_its (Err why) e) refl
+
+  pub refused_again : {F : Type 0} (why : Refusal) (result : Result X (Stop F)) → IsErrAnd result (λ s. s ≡ stop.Refused why) → (why ≡ OutOfMemory) ⊎ (take snapshot columns later.rows ≡ Err why)
+      → Allowed (λ part. part) (λ r. taken_later take answer columns snapshot ≡ r) result
+  refused_again why (Ok part) refused said = absurd refused
+  refused_again why (Err s) refused (inl memory) = rw refused (inl memory)
+  refused_again why (Err s) refused (inr e) = rw refused (inr (taken_again (Err why) e))
 
 -- what stopped a call stopped the one round it
 pub stops_round : {F : Type 0} (inner outer : Refusal → Type 0) (why : Stop F) → AllowedStop inner why → ((refusal : Refusal) → inner refusal → outer refusal) → AllowedStop outer why

@@ -5,6 +5,7 @@ pub mod Parts
 pub mod RowSets
 pub mod RunFolds
 pub mod RunLaws
+pub mod SameColumns
 pub mod TableRows
 pub mod Tallies
 pub mod Twins

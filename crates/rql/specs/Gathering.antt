@@ -1,5 +1,5 @@
 -- What is taken of the answers at snapshots, in the order of their list.
-use Rattle.std.specs.Prelude.{ℕ, List, [], ◌∷◌, Result, Ok, Err, if◌then◌else◌}
+use Rattle.std.specs.Prelude.{◌≡◌, ℕ, List, [], ◌∷◌, Result, Ok, Err, if◌then◌else◌}
 use Rattle.retro_base.specs.Gives.{◌>>=◌}
 use Rattle.retro_base.specs.declared.refusal.Refusal.{Refusal}
 use Rattle.retro_base.specs.declared.refusal.Refusal.TheVariants.{WrongType}
@@ -12,6 +12,11 @@ use Rattle.rql.specs.Columns.{same_columns}
 -- what is taken of an answer at a snapshot, or why it is refused
 abbrev pub Take : Type 0 → Type 0
 Take X = ℕ → List Column → List (List Value) → Result X Refusal
+
+-- something was taken of an answer with these columns
+abbrev pub WasTaken : {X : Type 0} → Take X → List Column → Type 0
+WasTaken {X = X} take columns =
+    (snapshot : ℕ) × (rows : List (List Value)) × (part : X) × (take snapshot columns rows ≡ Ok part)
 
 -- at one snapshot: the columns of the answer, and what is taken of it
 abbrev pub taken : {X : Type 0} → Take X → (ℕ → Result Answer Refusal) → ℕ → Result (List Column × X) Refusal

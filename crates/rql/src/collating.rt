@@ -40,6 +40,15 @@ impl Takes for AllRows {
         Ok(rows)
     }
 
+    fn take_again(
+        &self,
+        _snapshot: u32,
+        _columns: &[Column],
+        rows: Seq<Row>,
+    ) -> Result<Seq<Row>, Refusal> {
+        Ok(rows)
+    }
+
     fn start(&self, alloc: Global, _columns: &[Column]) -> Result<Vec<Row>, AllocError> {
         Ok(Vec::new(alloc))
     }

@@ -10,7 +10,7 @@ ghost use Rattle.sql_tree.specs.Statement.{IsSelect};
 ghost use Rattle.sql_tree.specs.declared.statement.Column.{Column};
 ghost use Rattle.rql.specs.AsOf.{Answers, IsOfCall, IsOfSnapshot, OnlyAsks, Tells};
 ghost use Rattle.rql.specs.Folding.{Adds, HoldsMany, IsHeld};
-ghost use Rattle.rql.specs.Gathering.{gathered, taken, taken_later};
+ghost use Rattle.rql.specs.Gathering.{WasTaken, gathered, taken, taken_later};
 
 use crate::as_of::AsOf;
 use crate::columns::same_columns;
@@ -33,6 +33,17 @@ pub(crate) trait Takes {
     ghost holds: { Self → List Column → Self.State → List Self.Part → Type 0 };
 
     fn take(&self, snapshot: u32, columns: &[Column], rows: Seq<Row>) -> Result<Self::Part, Refusal>
+        ensures exact { Gives (λ part. part) result (take self.now snapshot columns.now rows) }
+        ensures named { IfErr result (IsOfSnapshot snapshot) };
+
+    /// What `take` takes, where it took of an answer with these columns before: what it asks of columns is not asked again.
+    fn take_again(
+        &self,
+        snapshot: u32,
+        columns: &[Column],
+        rows: Seq<Row>,
+    ) -> Result<Self::Part, Refusal>
+        requires { WasTaken (take self.now) columns.now }
         ensures exact { Gives (λ part. part) result (take self.now snapshot columns.now rows) }
         ensures named { IfErr result (IsOfSnapshot snapshot) };
 
@@ -62,6 +73,7 @@ fn take_at<A: AsOf, T: Takes>(
     requires query { IsSelect query.now }
     ensures told { Tells (λ part. part) (A.told asof.old) query.now
         (λ answers. taken (T.take takes.now) answers snapshot) result }
+    ensures was_taken { IfOk result (λ found. WasTaken (T.take takes.now) found.0) }
     ensures only_asks { OnlyAsks A.may_ask A.told A.goes A.faults (IsOfSnapshot snapshot) asof.old asof.new result }
 {
     let Answer { columns, rows } = asof.answer(snapshot, query)?;
@@ -79,15 +91,21 @@ fn take_later<A: AsOf, T: Takes>(
 ) -> Result<T::Part, Stop<A::Fault>>
     requires asked { IsTrue (A.may_ask asof.old snapshot) }
     requires query { IsSelect query.now }
+    requires was_taken { WasTaken (T.take takes.now) columns.now }
     ensures told { Tells (λ part. part) (A.told asof.old) query.now
         (λ answers. taken_later (T.take takes.now) answers columns.now snapshot) result }
     ensures only_asks { OnlyAsks A.may_ask A.told A.goes A.faults (IsOfSnapshot snapshot) asof.old asof.new result }
 {
-    let (its_columns, part) = take_at(asof, query, takes, snapshot)?;
-    if !same_columns(columns.as_slice(), its_columns.as_slice()) {
-        return Err(Stop::Refused(Refusal::WrongType));
+    let Answer {
+        columns: its_columns,
+        rows,
+    } = asof.answer(snapshot, query)?;
+    if same_columns(columns.as_slice(), its_columns.as_slice()) {
+        let part = takes.take_again(snapshot, columns.as_slice(), rows)?;
+        return Ok(part);
     }
-    Ok(part)
+    takes.take(snapshot, its_columns.as_slice(), rows)?;
+    Err(Stop::Refused(Refusal::WrongType))
 }
 
 /// The columns of the answers, and the state that holds what is taken of each, in the order of the snapshots. The first

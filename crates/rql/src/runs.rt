@@ -58,6 +58,15 @@ impl Takes for AnswerSet {
         Ok(RowSet::new(self.alloc, rows)?)
     }
 
+    fn take_again(
+        &self,
+        _snapshot: u32,
+        _columns: &[Column],
+        rows: Seq<Row>,
+    ) -> Result<RowSet, Refusal> {
+        Ok(RowSet::new(self.alloc, rows)?)
+    }
+
     fn start(&self, alloc: Global, _columns: &[Column]) -> Result<RunsSoFar, AllocError> {
         RunsSoFar::new(alloc)
     }

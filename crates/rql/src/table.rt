@@ -59,6 +59,15 @@ impl<F: Folds> Takes for PairedRows<'_, F> {
         Ok(rows)
     }
 
+    fn take_again(
+        &self,
+        _snapshot: u32,
+        _columns: &[Column],
+        rows: Seq<Row>,
+    ) -> Result<Seq<Row>, Refusal> {
+        Ok(rows)
+    }
+
     fn start(&self, alloc: Global, columns: &[Column]) -> Result<Groups, AllocError> {
         Ok(Groups::new(alloc, functions_of(alloc, self.pairs, columns)?))
     }

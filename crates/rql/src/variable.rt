@@ -71,6 +71,15 @@ impl<F: Folds> Takes for OneValue<'_, F> {
         value_of(snapshot, rows)
     }
 
+    fn take_again(
+        &self,
+        snapshot: u32,
+        _columns: &[Column],
+        rows: Seq<Row>,
+    ) -> Result<Value, Refusal> {
+        value_of(snapshot, rows)
+    }
+
     fn start(&self, _alloc: Global, _columns: &[Column]) -> Result<Tally, AllocError> {
         Ok(Tally::new())
     }
