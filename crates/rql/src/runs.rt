@@ -1,9 +1,8 @@
 //! The runs of answers in which a row stands.
 
-ghost use Rattle.std.specs.Prelude.{◌≡◌, ◌++◌, ◌∷◌, [], IfOk, IsTrue, length, map, pos};
+ghost use Rattle.std.specs.Prelude.{◌≡◌, ◌++◌, ◌<◌, IfOk, IsTrue, length, map};
 ghost use Rattle.std.specs.List.{AllByRecursion};
 ghost use Rattle.values.specs.declared.value.Kind.TheVariants as kind;
-ghost use Rattle.values.specs.declared.value.Value.TheVariants.{Int};
 ghost use Rattle.sql_check.specs.Names.{has_twins};
 ghost use Rattle.values.specs.Name.{IsName};
 ghost use Rattle.sql_tree.specs.Statement.{IsSelect};
@@ -16,10 +15,10 @@ use crate::as_of::AsOf;
 use crate::columns::{has_name, has_twins};
 use crate::gathering::{Takes, gather};
 use crate::row_set::RowSet;
-use crate::runs_so_far::{RunsSoFar, values_of};
+use crate::runs_so_far::{Run, RunsSoFar, values_of};
 use pager::Stop;
 use retro_base::Refusal;
-use sql_select::{Answer, RowKey};
+use sql_select::Answer;
 use sql_tree::{Column, Select};
 use std::alloc::{AllocError, Global};
 use values::{Kind, Name, Row, Seq, Value};
@@ -83,23 +82,24 @@ impl Takes for AnswerSet {
 }
 
 // A run as a row.
-fn row_of_run(alloc: Global, row: &RowKey, start: u32, end: u32) -> Result<Row, AllocError>
-    ensures { IfOk result (λ found. found ≡ row.now ++ Int (pos start) ∷ Int (pos end) ∷ []) }
+fn row_of_run(alloc: Global, snapshots: &[u32], run: Run) -> Result<Row, AllocError>
+    requires { (run.start < length snapshots.now) × (run.end < length snapshots.now) }
+    ensures { IfOk result (λ row. row ≡ row_of_run snapshots.now run) }
 {
-    let mut found = values_of(alloc, row)?;
-    found.push(Value::Int(i64::from(start)))?;
-    found.push(Value::Int(i64::from(end)))?;
-    Ok(Seq::from(found))
+    let mut row = values_of(alloc, &run.row)?;
+    row.push(Value::Int(i64::from(snapshots[run.start])))?;
+    row.push(Value::Int(i64::from(snapshots[run.end])))?;
+    Ok(Seq::from(row))
 }
 
-// The runs over the answers at the snapshots, as rows.
-fn rows_of_runs(alloc: Global, snapshots: &[u32], found: &RunsSoFar) -> Result<Seq<Row>, AllocError>
-    requires { AllFit (length snapshots.now) found.now.ongoing.items found.now.runs.items }
-    ensures { IfOk result (λ rows. rows ≡ map (row_of_run snapshots.now) found.now.runs.items) }
+// The runs over the answers at the snapshots, as rows. Each run is let go once it has its row.
+fn rows_of_runs(alloc: Global, snapshots: &[u32], found: RunsSoFar) -> Result<Seq<Row>, AllocError>
+    requires { AllFit (length snapshots.now) found.ongoing.items found.runs.items }
+    ensures { IfOk result (λ rows. rows ≡ map (row_of_run snapshots.now) found.runs.items) }
 {
     let mut rows = Vec::with_capacity(alloc, found.runs.len())?;
-    for run in &found.runs {
-        rows.push(row_of_run(alloc, &run.row, snapshots[run.start], snapshots[run.end])?)?;
+    for run in found.runs {
+        rows.push(row_of_run(alloc, snapshots, run)?)?;
     }
     Ok(Seq::from(rows))
 }
@@ -153,7 +153,7 @@ pub fn intervals<A: AsOf>(
 {
     let (columns, runs) = gather(alloc, asof, snapshots, query, &AnswerSet { alloc })?;
     let columns = interval_columns(alloc, snapshots, columns)?;
-    let rows = rows_of_runs(alloc, snapshots, &runs)?;
+    let rows = rows_of_runs(alloc, snapshots, runs)?;
     Ok(Answer { columns, rows })
 }
 
