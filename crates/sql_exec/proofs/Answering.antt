@@ -1,5 +1,5 @@
 -- What is read along the way of a select.
-use Rattle.std.proofs.Common.{◌≡◌, ◌⊎◌, ◌≤◌, ℕ, Bool, true, false, cond, List, [], ◌∷◌, length, Option, Some, None, Result, Ok, Err, inl, inr, refl, sym, subst}
+use Rattle.std.proofs.Common.{◌≡◌, ◌∙◌, ◌⊎◌, ◌≤◌, ℕ, Bool, true, false, cond, List, [], ◌∷◌, length, Option, Some, None, Result, Ok, Err, inl, inr, refl, sym, subst}
 use Rattle.retro_base.specs.declared.refusal.Refusal.{Refusal}
 use Rattle.sql_tree.specs.declared.select.Select.{Select as SelectRecord}
 use Rattle.sql_tree.specs.declared.statement.Statement.{Statement}
@@ -19,9 +19,11 @@ use Rattle.relation.specs.Catalog.{HaveFewColumns, catalog, schema_of, table_nam
 use Rattle.values.specs.Name.{same_name}
 use Rattle.relation.proofs.Steps.{next_step}
 use Rattle.sql_exec.specs.declared.source.Source.{Source}
-use Rattle.sql_exec.specs.Asking.{answered, answered_beside, asked_of, opened, over_two, source_at, where_alone}
+use Rattle.sql_exec.specs.Asking.{answered, answered_beside, asked_of, opened, over_one, over_two, source_at, where_alone, where_beside}
+use Rattle.sql_exec.specs.Bound.{source_left}
 use Rattle.sql_exec.specs.Promises.{Asks}
 use Rattle.sql_exec.proofs.Asked.{asked-law}
+use Rattle.sql_exec.proofs.Sources.{source-not, source-one, source-whole}
 
 -- what follows of an answer follows of what was answered
 pub allowed-then : {X Y F : Type 0} (view : X → Y) (one other : Result Y Refusal → Type 0) → ((b : Result Y Refusal) → one b → other b) → (result : Result X (Stop F)) → Allowed view one result → Allowed view other result
@@ -57,18 +59,41 @@ asked-by size width query snapshot found between tells result same narrows read 
     allowed-then (λ (answer : Answer). answer) (answered width found query snapshot shown) (asked_of size query snapshot shown)
     (λ b h. next_step (opened size (Select query) snapshot shown) (λ (c : Catalog). answered size c query snapshot shown) found (opened-by size (Select query) snapshot shown found (read base shown (narrows base shown told)) passes) b (subst (λ (s : ℕ). answered s found query snapshot shown b) same h)) result (answers base shown told)
 
--- the answer over two tables
-pub answered-by : (size width : ℕ) (found : Catalog) (query : SelectRecord) (snapshot : Option ℕ) (shown : Pages) (first : Source) (name : List ℕ) → query.second ≡ Some name → width ≡ size → source_at size shown (table_named query.table found.tables) (where_alone query) (Ok first) → (b : Result Answer Refusal)
-    → (source_at width shown (table_named name found.tables) None >>= (λ (second : Source). only (over_two query snapshot first second))) b → answered size found query snapshot shown b
-answered-by size width found query snapshot shown first name two same read b h =
-    next_step (source_at size shown (table_named query.table found.tables) (where_alone query)) (λ (one : Source). answered_beside size found query snapshot shown one query.second) first read b
-    (subst (λ (s : Option (List ℕ)). answered_beside size found query snapshot shown first s b) (sym two) (subst (λ (s : ℕ). (source_at s shown (table_named name found.tables) None >>= (λ (second : Source). only (over_two query snapshot first second))) b) same h))
+module _ (size : ℕ) (found : Catalog) (query : SelectRecord) (snapshot : Option ℕ) (shown : Pages) where
+  abbrev reads_first : Result Source Refusal → Type 0
+  reads_first = source_left size snapshot shown (table_named query.table found.tables) (where_alone query)
 
--- the answer over two tables, once both are read
-pub answered-both : (size width : ℕ) (found : Catalog) (query : SelectRecord) (snapshot : Option ℕ) (shown : Pages) (first second : Source) (name : List ℕ) → query.second ≡ Some name → width ≡ size → source_at size shown (table_named query.table found.tables) (where_alone query) (Ok first) → source_at width shown (table_named name found.tables) None (Ok second) → (b : Result Answer Refusal)
-    → over_two query snapshot first second ≡ b → answered size found query snapshot shown b
-answered-both size width found query snapshot shown first second name two same read also b h =
-    answered-by size width found query snapshot shown first name two same read b (next_step (source_at width shown (table_named name found.tables) None) (λ (other : Source). only (over_two query snapshot first other)) second also b h)
+  -- a first table that is not read
+  pub answered-not : (why : Refusal) → reads_first (Err why) → answered size found query snapshot shown (Err why)
+  answered-not why h = inl (source-not size snapshot shown (table_named query.table found.tables) (where_alone query) why h)
+
+  -- the answer over one table
+  pub answered-one : (first : Source) → query.second ≡ None → reads_first (Ok first) → (b : Result Answer Refusal) → over_one query snapshot first ≡ b → answered size found query snapshot shown b
+  answered-one first alone read b h =
+      let one = source-one size snapshot shown (table_named query.table found.tables) query first (subst (λ (s : Option (List ℕ)). source_left size snapshot shown (table_named query.table found.tables) (where_beside s query.condition) (Ok first)) alone read) in
+      next_step (source_at size shown (table_named query.table found.tables) (where_alone query)) (λ (first : Source). answered_beside size found query snapshot shown first query.second) one.0
+      (subst (λ (s : Option (List ℕ)). source_at size shown (table_named query.table found.tables) (where_beside s query.condition) (Ok one.0)) (sym alone) one.1) b
+      (subst (λ (s : Option (List ℕ)). answered_beside size found query snapshot shown one.0 s b) (sym alone) (one.2 ∙ h))
+
+  module _ (width : ℕ) (first : Source) (name : List ℕ) (two : query.second ≡ Some name) (same : width ≡ size) (read : reads_first (Ok first)) where
+    beside : (b : Result Answer Refusal) → (source_at size shown (table_named name found.tables) None >>= (λ (second : Source). only (over_two query snapshot first second))) b → answered size found query snapshot shown b
+    beside b h =
+        let whole = source-whole size snapshot shown (table_named query.table found.tables) (Ok first) (subst (λ (s : Option (List ℕ)). source_left size snapshot shown (table_named query.table found.tables) (where_beside s query.condition) (Ok first)) two read) in
+        next_step (source_at size shown (table_named query.table found.tables) (where_alone query)) (λ (first : Source). answered_beside size found query snapshot shown first query.second) first
+        (subst (λ (s : Option (List ℕ)). source_at size shown (table_named query.table found.tables) (where_beside s query.condition) (Ok first)) (sym two) whole) b
+        (subst (λ (s : Option (List ℕ)). answered_beside size found query snapshot shown first s b) (sym two) h)
+
+    reads_second : (a : Result Source Refusal) → source_left width snapshot shown (table_named name found.tables) None a → source_at size shown (table_named name found.tables) None a
+    reads_second a h = subst (λ (s : ℕ). source_at s shown (table_named name found.tables) None a) same (source-whole width snapshot shown (table_named name found.tables) a h)
+
+    -- a second table that is not read
+    pub answered-unread : (why : Refusal) → source_left width snapshot shown (table_named name found.tables) None (Err why) → answered size found query snapshot shown (Err why)
+    answered-unread why h = beside (Err why) (inl (reads_second (Err why) h))
+
+    -- the answer over two tables
+    pub answered-two : (second : Source) → source_left width snapshot shown (table_named name found.tables) None (Ok second) → (b : Result Answer Refusal) → over_two query snapshot first second ≡ b → answered size found query snapshot shown b
+    answered-two second also b h =
+        beside b (next_step (source_at size shown (table_named name found.tables) None) (λ (other : Source). only (over_two query snapshot first other)) second (reads_second (Ok second) also) b h)
 
 -- a table of the catalog has few columns
 pub few-named : (name : List ℕ) (tables : List StoredTable) (table : StoredTable) → HaveFewColumns tables → table_named name tables ≡ Some table → (1 ≤ length table.columns) × (length table.columns ≤ 16)

@@ -37,6 +37,8 @@ use Rattle.relation_laws.proofs.Singling.{firsts_of, has-first, named-here, rows
 use Rattle.relation_laws.proofs.TableStores.{tables_of}
 use Rattle.relation_laws.proofs.Working.{work_law}
 use Rattle.tree_index.specs.Work.{removed}
+use Rattle.sql_select.specs.Rows.{holds_at}
+use Rattle.sql_exec.specs.Bound.{left_at, stays_by}
 use Rattle.sql_exec.specs.Reading.{read_at, schema_at}
 use Rattle.sql_exec.specs.Planning.{picked, row_numbers}
 use Rattle.sql_exec.specs.Promises.{IsDoneOver, IsRunOver}
@@ -45,6 +47,7 @@ use Rattle.sql_exec.specs.Stored.{contents_of, plain, row_under}
 use Rattle.sql_exec.proofs.Choosing.{all-contained, any-chosen, chosen-all, chosen-differ, filter-chosen, number_of, rising-differ}
 use Rattle.sql_exec.proofs.Deciding.{Parts, PartsNot, goes, parted, stays}
 use Rattle.sql_exec.proofs.Fitting.{delete-where}
+use Rattle.sql_exec.proofs.Leaving.{picked-left}
 use Rattle.sql_exec.proofs.Readings.{Sifts, sifted-picks, sifts}
 use Rattle.sql_exec.proofs.Sifting.{gone-none}
 use Rattle.sql_exec.proofs.Inserted.{table-by-name, table-missing, table-there}
@@ -164,18 +167,24 @@ module _ (size : ℕ) (pages : Pages) (all : PlainTables) (is : IsStoreOf size p
           (inl (does-passed (Delete delete) snapshot (plain all) passes ∙ performed-unknown delete.table (plain all) (λ (schema : TableSchema) (contents : Contents). remaining snapshot delete schema contents) (missing-plain delete.table is.store.base.found.tables all none)))
       found (inr here) = from-law here b (table-there is.store.base.found delete.table here.found (λ (table : StoredTable). deleted_from size snapshot delete table pages) here.named b h)
 
+-- the rows that a delete counts of those that are left are those that it counts of all
+all-gone : (delete : DeleteRecord) (snapshot : Option ℕ) (table : StoredTable) (schema : TableSchema) (left rows : List Placed) (gone : Result (List Placed) Refusal) → schema ≡ schema_at table → left ≡ filter (stays_by (holds_at (schema_at table ∷ []) snapshot delete.condition)) rows → picked (placed_gone schema snapshot delete) left ≡ gone → picked (placed_gone (schema_at table) snapshot delete) rows ≡ gone
+all-gone delete snapshot table schema left rows gone of_table leaves told =
+    sym (picked-left (holds_at (schema_at table ∷ []) snapshot delete.condition) (placed_gone (schema_at table) snapshot delete) rows left (gone-none (schema_at table) snapshot delete) leaves)
+    ∙ subst (λ (s : TableSchema). picked (placed_gone s snapshot delete) left ≡ gone) of_table told
+
 -- rows that were taken out, for which there was no page, and that were not decided
-pub deleted-there : (size width : ℕ) (found : Catalog) (delete : DeleteRecord) (snapshot : Option ℕ) (table : StoredTable) (schema : TableSchema) (rows gone : List Placed) (was now : Pages) (u : Unit {0}) → table_named delete.table found.tables ≡ Some table → schema ≡ schema_at table → read_at size was table delete.condition (Ok rows) → picked (placed_gone schema snapshot delete) rows ≡ Ok gone → width ≡ size → table_deleted removed width table gone was (Ok (u, now))
+pub deleted-there : (size width : ℕ) (found : Catalog) (delete : DeleteRecord) (snapshot : Option ℕ) (table : StoredTable) (schema : TableSchema) (rows gone : List Placed) (was now : Pages) (u : Unit {0}) → table_named delete.table found.tables ≡ Some table → schema ≡ schema_at table → left_at size snapshot was table delete.condition (Ok rows) → picked (placed_gone schema snapshot delete) rows ≡ Ok gone → width ≡ size → table_deleted removed width table gone was (Ok (u, now))
     → at_table found delete.table (λ (t : StoredTable). deleted_from size snapshot delete t was) (Ok (Count (length gone), now))
 deleted-there size width found delete snapshot table schema rows gone was now u is of_table read told same h =
-    (table, ap (λ (t : Option StoredTable). known t) is, (rows, read, (gone, subst (λ (s : TableSchema). picked (placed_gone s snapshot delete) rows ≡ Ok gone) of_table told, ((u, now), subst (λ (s : ℕ). table_deleted removed s table gone was (Ok (u, now))) same h, refl))))
+    (table, ap (λ (t : Option StoredTable). known t) is, (read.0, read.1, (gone, all-gone delete snapshot table schema rows read.0 (Ok gone) of_table read.2 told, ((u, now), subst (λ (s : ℕ). table_deleted removed s table gone was (Ok (u, now))) same h, refl))))
 
-pub deleted-full : (size width : ℕ) (found : Catalog) (delete : DeleteRecord) (snapshot : Option ℕ) (table : StoredTable) (schema : TableSchema) (rows gone : List Placed) (was : Pages) (why : Refusal) → table_named delete.table found.tables ≡ Some table → schema ≡ schema_at table → read_at size was table delete.condition (Ok rows) → picked (placed_gone schema snapshot delete) rows ≡ Ok gone → width ≡ size → table_deleted removed width table gone was (Err why)
+pub deleted-full : (size width : ℕ) (found : Catalog) (delete : DeleteRecord) (snapshot : Option ℕ) (table : StoredTable) (schema : TableSchema) (rows gone : List Placed) (was : Pages) (why : Refusal) → table_named delete.table found.tables ≡ Some table → schema ≡ schema_at table → left_at size snapshot was table delete.condition (Ok rows) → picked (placed_gone schema snapshot delete) rows ≡ Ok gone → width ≡ size → table_deleted removed width table gone was (Err why)
     → at_table found delete.table (λ (t : StoredTable). deleted_from size snapshot delete t was) (Err why)
 deleted-full size width found delete snapshot table schema rows gone was why is of_table read told same h =
-    inr (table, ap (λ (t : Option StoredTable). known t) is, inr (rows, read, inr (gone, subst (λ (s : TableSchema). picked (placed_gone s snapshot delete) rows ≡ Ok gone) of_table told, inl (subst (λ (s : ℕ). table_deleted removed s table gone was (Err why)) same h))))
+    inr (table, ap (λ (t : Option StoredTable). known t) is, inr (read.0, read.1, inr (gone, all-gone delete snapshot table schema rows read.0 (Ok gone) of_table read.2 told, inl (subst (λ (s : ℕ). table_deleted removed s table gone was (Err why)) same h))))
 
-pub deleted-not : (size : ℕ) (found : Catalog) (delete : DeleteRecord) (snapshot : Option ℕ) (table : StoredTable) (schema : TableSchema) (rows : List Placed) (was : Pages) (why : Refusal) → table_named delete.table found.tables ≡ Some table → schema ≡ schema_at table → read_at size was table delete.condition (Ok rows) → picked (placed_gone schema snapshot delete) rows ≡ Err why
+pub deleted-not : (size : ℕ) (found : Catalog) (delete : DeleteRecord) (snapshot : Option ℕ) (table : StoredTable) (schema : TableSchema) (rows : List Placed) (was : Pages) (why : Refusal) → table_named delete.table found.tables ≡ Some table → schema ≡ schema_at table → left_at size snapshot was table delete.condition (Ok rows) → picked (placed_gone schema snapshot delete) rows ≡ Err why
     → at_table found delete.table (λ (t : StoredTable). deleted_from size snapshot delete t was) (Err why)
 deleted-not size found delete snapshot table schema rows was why is of_table read told =
-    inr (table, ap (λ (t : Option StoredTable). known t) is, inr (rows, read, inl (subst (λ (s : TableSchema). picked (placed_gone s snapshot delete) rows ≡ Err why) of_table told)))
+    inr (table, ap (λ (t : Option StoredTable). known t) is, inr (read.0, read.1, inl (all-gone delete snapshot table schema rows read.0 (Err why) of_table read.2 told)))

@@ -9,6 +9,7 @@ pub mod Fitting
 pub mod Indexed
 pub mod Inserted
 pub mod Leading
+mod Leaving
 pub mod Meaning
 pub mod Named
 pub mod Picking
@@ -17,6 +18,7 @@ mod Ranged
 mod Readings
 pub mod Shortness
 mod Sifting
+mod Sources
 pub mod Steps
 pub mod Updated
 mod Within

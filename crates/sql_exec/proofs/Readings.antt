@@ -26,19 +26,16 @@ use Rattle.sql_exec.specs.Planning.{picked}
 use Rattle.sql_exec.specs.Ranges.{plan_of}
 use Rattle.sql_exec.specs.Reading.{read_at, read_by, schema_at}
 use Rattle.sql_exec.proofs.Fitting.{fit-read}
+use Rattle.sql_exec.proofs.Leaving.{filter-true}
 use Rattle.sql_exec.proofs.Named.{Here, single-of}
 use Rattle.sql_exec.proofs.Ranged.{lies-planned, plan-planned}
 use Rattle.sql_exec.proofs.Shortness.{rows-lawful}
-use Rattle.sql_exec.proofs.Sifting.{picked-sifted}
+use Rattle.sql_exec.proofs.Sifting.{picked-without}
 
 -- whether a row is read
 abbrev inside_of : Option Range → Placed → Bool
 inside_of None placed = true
 inside_of (Some range) placed = lies_between range.index.place range.low range.high placed
-
-filter-all : (rows : List Placed) → filter (inside_of None) rows ≡ rows
-filter-all [] = refl
-filter-all (row ∷ rows) = ap (λ (rest : List Placed). row ∷ rest) (filter-all rows)
 
 all-both : (P Q R : Placed → Type 0) → ((placed : Placed) → P placed → Q placed → R placed) → (rows : List Placed) → AllByRecursion P rows → AllByRecursion Q rows → AllByRecursion R rows
 all-both P Q R both [] ps qs = tt
@@ -79,7 +76,7 @@ module _ (size : ℕ) (pages : Pages) (all : PlainTables) (is : IsStoreOf size p
   reads-by : (plan : Option Range) (condition : Option ConditionTree) → plan_of (schema_at here.found) here.found.indexes condition ≡ plan → (a : Result (List Placed) Refusal) → read_by size pages here.found plan a → a ≡ Ok (filter (inside_of plan) here.shows.placed)
   reads-by None condition e a h =
       rows-read size pages all here.table (tables_of size pages all is) (single-of size pages all is name here) a h
-      ∙ ap (λ (rows : List Placed). Ok rows) (sym (filter-all here.shows.placed))
+      ∙ ap (λ (rows : List Placed). Ok rows) (sym (filter-true here.shows.placed))
   reads-by (Some range) condition e a h =
       let planned = plan-planned (schema_at here.found) here.found.indexes condition range e in
       let single = single-of size pages all is name here in
@@ -101,8 +98,5 @@ module _ (size : ℕ) (pages : Pages) (all : PlainTables) (is : IsStoreOf size p
 
   -- what a statement counts of the rows that it reads is what it counts of all
   pub sifted-picks : {B : Type 0} (snapshot : Option ℕ) (condition : Option ConditionTree) (sifted : Sifts size pages all is name here snapshot condition) (step : Placed → Result (List B) Refusal) → ((placed : Placed) → holds_at (schema_at here.found ∷ []) snapshot condition placed.row ≡ Ok false → step placed ≡ Ok []) → picked step (filter sifted.inside here.shows.placed) ≡ picked step here.shows.placed
-  sifted-picks snapshot condition sifted step nothing = picked-sifted step sifted.inside here.shows.placed (through here.shows.placed sifted.out)
-    where
-      through : (rows : List Placed) → AllByRecursion (λ (placed : Placed). sifted.inside placed ≡ false → holds_at (schema_at here.found ∷ []) snapshot condition placed.row ≡ Ok false) rows → AllByRecursion (λ (placed : Placed). sifted.inside placed ≡ false → step placed ≡ Ok []) rows
-      through [] out = tt
-      through (row ∷ rows) out = ((λ outside. nothing row (out.0 outside)), through rows out.1)
+  sifted-picks snapshot condition sifted step nothing =
+      picked-without (holds_at (schema_at here.found ∷ []) snapshot condition) step sifted.inside here.shows.placed sifted.out nothing

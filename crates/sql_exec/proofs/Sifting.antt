@@ -19,7 +19,7 @@ use Rattle.tables.specs.Meaning.{assigned, set_row}
 use Rattle.tables.specs.declared.contents.NumberedRow.{NumberedRow}
 
 -- what is picked, where nothing is picked of a row that is left out
-pub picked-sifted : {A B : Type 0} (step : A → Result (List B) Refusal) (inside : A → Bool) (rows : List A) → AllByRecursion (λ row. inside row ≡ false → step row ≡ Ok []) rows → picked step (filter inside rows) ≡ picked step rows
+picked-sifted : {A B : Type 0} (step : A → Result (List B) Refusal) (inside : A → Bool) (rows : List A) → AllByRecursion (λ row. inside row ≡ false → step row ≡ Ok []) rows → picked step (filter inside rows) ≡ picked step rows
 picked-sifted {B = B} step inside [] out = refl
 picked-sifted {B = B} step inside (row ∷ rows) out = go (inside row) refl (picked-sifted step inside rows out.1)
   where
@@ -31,6 +31,14 @@ picked-sifted {B = B} step inside (row ∷ rows) out = go (inside row) refl (pic
         nothing : (r : Result (List B) Refusal) → (r >>= (λ (others : List B). Ok ([] ++ others))) ≡ r
         nothing (Ok others) = refl
         nothing (Err why) = refl
+
+-- the same, where nothing is picked of a row at which a condition is false, and each that is left out is one
+pub picked-without : {B : Type 0} (holds : List Value → Result Bool Refusal) (step : Placed → Result (List B) Refusal) (inside : Placed → Bool) (rows : List Placed) → AllByRecursion (λ (placed : Placed). inside placed ≡ false → holds placed.row ≡ Ok false) rows → ((placed : Placed) → holds placed.row ≡ Ok false → step placed ≡ Ok []) → picked step (filter inside rows) ≡ picked step rows
+picked-without holds step inside rows out nothing = picked-sifted step inside rows (through rows out)
+  where
+    through : (rows : List Placed) → AllByRecursion (λ (placed : Placed). inside placed ≡ false → holds placed.row ≡ Ok false) rows → AllByRecursion (λ (placed : Placed). inside placed ≡ false → step placed ≡ Ok []) rows
+    through [] out = tt
+    through (row ∷ rows) out = ((λ outside. nothing row (out.0 outside)), through rows out.1)
 
 abbrev row_at : Placed → List Value
 row_at placed = placed.row

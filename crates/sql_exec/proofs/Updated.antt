@@ -43,6 +43,8 @@ use Rattle.relation_laws.proofs.Placing.{placed_law}
 use Rattle.relation_laws.proofs.Singling.{rows-here}
 use Rattle.relation_laws.proofs.TableStores.{tables_of}
 use Rattle.relation_laws.proofs.Working.{work_law}
+use Rattle.sql_select.specs.Rows.{holds_at}
+use Rattle.sql_exec.specs.Bound.{left_at, stays_by}
 use Rattle.sql_exec.specs.Reading.{read_at, schema_at}
 use Rattle.sql_exec.specs.Planning.{picked, row_changes, work_of}
 use Rattle.sql_exec.specs.Promises.{IsDoneOver, IsRunOver}
@@ -53,6 +55,7 @@ use Rattle.sql_exec.proofs.Choosing.{changed-chosen, chosen-all, chosen-differ, 
 use Rattle.sql_exec.proofs.Deciding.{Sets, SetsNot, after_at, hits, lengths-same, set-all, set-fit, set_at, value}
 use Rattle.sql_exec.proofs.Deleted.{all-numbers, each-number, each-placed, numbers-differ}
 use Rattle.sql_exec.proofs.Fitting.{read-fit, update-right, update-where, wide-each}
+use Rattle.sql_exec.proofs.Leaving.{picked-left}
 use Rattle.sql_exec.proofs.Readings.{Sifts, rows-fit, sifted-picks, sifts}
 use Rattle.sql_exec.proofs.Sifting.{changes-none}
 use Rattle.sql_exec.proofs.Inserted.{table-by-name, table-missing, table-there}
@@ -225,23 +228,29 @@ module _ (size : ℕ) (pages : Pages) (all : PlainTables) (is : IsStoreOf size p
           (inl (does-passed (Update update) snapshot (plain all) passes ∙ performed-unknown update.table (plain all) (λ (schema : TableSchema) (contents : Contents). updated snapshot update schema contents) (missing-plain update.table is.store.base.found.tables all none)))
       found (inr here) = in-law here b (table-there is.store.base.found update.table here.found (λ (table : StoredTable). updated_in size snapshot update table pages) here.named b h)
 
+-- the rows that an update counts of those that are left are those that it counts of all
+all-changes : (update : UpdateRecord) (snapshot : Option ℕ) (table : StoredTable) (schema : TableSchema) (left rows : List Placed) (changes : Result (List RowChange) Refusal) → schema ≡ schema_at table → left ≡ filter (stays_by (holds_at (schema_at table ∷ []) snapshot update.condition)) rows → picked (placed_changes schema snapshot update) left ≡ changes → picked (placed_changes (schema_at table) snapshot update) rows ≡ changes
+all-changes update snapshot table schema left rows changes of_table leaves told =
+    sym (picked-left (holds_at (schema_at table ∷ []) snapshot update.condition) (placed_changes (schema_at table) snapshot update) rows left (changes-none (schema_at table) snapshot update) leaves)
+    ∙ subst (λ (s : TableSchema). picked (placed_changes s snapshot update) left ≡ changes) of_table told
+
 -- rows that were changed, for which there was no page, that are too long, and that were not decided
-pub updated-there : (size width : ℕ) (found : Catalog) (update : UpdateRecord) (snapshot : Option ℕ) (table : StoredTable) (schema : TableSchema) (rows : List Placed) (changes : List RowChange) (was now : Pages) (u : Unit {0}) → table_named update.table found.tables ≡ Some table → schema ≡ schema_at table → read_at size was table update.condition (Ok rows) → picked (placed_changes schema snapshot update) rows ≡ Ok changes → check_lengths (values_of changes) ≡ Ok tt → AllByRecursion IsRow (values_of changes) → width ≡ size → table_updated added removed width table changes was (Ok (u, now))
+pub updated-there : (size width : ℕ) (found : Catalog) (update : UpdateRecord) (snapshot : Option ℕ) (table : StoredTable) (schema : TableSchema) (rows : List Placed) (changes : List RowChange) (was now : Pages) (u : Unit {0}) → table_named update.table found.tables ≡ Some table → schema ≡ schema_at table → left_at size snapshot was table update.condition (Ok rows) → picked (placed_changes schema snapshot update) rows ≡ Ok changes → check_lengths (values_of changes) ≡ Ok tt → AllByRecursion IsRow (values_of changes) → width ≡ size → table_updated added removed width table changes was (Ok (u, now))
     → at_table found update.table (λ (t : StoredTable). updated_in size snapshot update t was) (Ok (Count (length changes), now))
 updated-there size width found update snapshot table schema rows changes was now u is of_table read told short lawful same h =
-    (table, ap (λ (t : Option StoredTable). known t) is, (rows, read, (changes, subst (λ (s : TableSchema). picked (placed_changes s snapshot update) rows ≡ Ok changes) of_table told, (tt, short, (tt, lawful, ((u, now), subst (λ (s : ℕ). table_updated added removed s table changes was (Ok (u, now))) same h, refl))))))
+    (table, ap (λ (t : Option StoredTable). known t) is, (read.0, read.1, (changes, all-changes update snapshot table schema rows read.0 (Ok changes) of_table read.2 told, (tt, short, (tt, lawful, ((u, now), subst (λ (s : ℕ). table_updated added removed s table changes was (Ok (u, now))) same h, refl))))))
 
-pub updated-full : (size width : ℕ) (found : Catalog) (update : UpdateRecord) (snapshot : Option ℕ) (table : StoredTable) (schema : TableSchema) (rows : List Placed) (changes : List RowChange) (was : Pages) (why : Refusal) → table_named update.table found.tables ≡ Some table → schema ≡ schema_at table → read_at size was table update.condition (Ok rows) → picked (placed_changes schema snapshot update) rows ≡ Ok changes → check_lengths (values_of changes) ≡ Ok tt → AllByRecursion IsRow (values_of changes) → width ≡ size → table_updated added removed width table changes was (Err why)
+pub updated-full : (size width : ℕ) (found : Catalog) (update : UpdateRecord) (snapshot : Option ℕ) (table : StoredTable) (schema : TableSchema) (rows : List Placed) (changes : List RowChange) (was : Pages) (why : Refusal) → table_named update.table found.tables ≡ Some table → schema ≡ schema_at table → left_at size snapshot was table update.condition (Ok rows) → picked (placed_changes schema snapshot update) rows ≡ Ok changes → check_lengths (values_of changes) ≡ Ok tt → AllByRecursion IsRow (values_of changes) → width ≡ size → table_updated added removed width table changes was (Err why)
     → at_table found update.table (λ (t : StoredTable). updated_in size snapshot update t was) (Err why)
 updated-full size width found update snapshot table schema rows changes was why is of_table read told short lawful same h =
-    inr (table, ap (λ (t : Option StoredTable). known t) is, inr (rows, read, inr (changes, subst (λ (s : TableSchema). picked (placed_changes s snapshot update) rows ≡ Ok changes) of_table told, inr (tt, short, inr (tt, lawful, inl (subst (λ (s : ℕ). table_updated added removed s table changes was (Err why)) same h))))))
+    inr (table, ap (λ (t : Option StoredTable). known t) is, inr (read.0, read.1, inr (changes, all-changes update snapshot table schema rows read.0 (Ok changes) of_table read.2 told, inr (tt, short, inr (tt, lawful, inl (subst (λ (s : ℕ). table_updated added removed s table changes was (Err why)) same h))))))
 
-pub changes-long : (size : ℕ) (found : Catalog) (update : UpdateRecord) (snapshot : Option ℕ) (table : StoredTable) (schema : TableSchema) (rows : List Placed) (changes : List RowChange) (was : Pages) (why : Refusal) → table_named update.table found.tables ≡ Some table → schema ≡ schema_at table → read_at size was table update.condition (Ok rows) → picked (placed_changes schema snapshot update) rows ≡ Ok changes → check_lengths (values_of changes) ≡ Err why
+pub changes-long : (size : ℕ) (found : Catalog) (update : UpdateRecord) (snapshot : Option ℕ) (table : StoredTable) (schema : TableSchema) (rows : List Placed) (changes : List RowChange) (was : Pages) (why : Refusal) → table_named update.table found.tables ≡ Some table → schema ≡ schema_at table → left_at size snapshot was table update.condition (Ok rows) → picked (placed_changes schema snapshot update) rows ≡ Ok changes → check_lengths (values_of changes) ≡ Err why
     → at_table found update.table (λ (t : StoredTable). updated_in size snapshot update t was) (Err why)
 changes-long size found update snapshot table schema rows changes was why is of_table read told long =
-    inr (table, ap (λ (t : Option StoredTable). known t) is, inr (rows, read, inr (changes, subst (λ (s : TableSchema). picked (placed_changes s snapshot update) rows ≡ Ok changes) of_table told, inl long)))
+    inr (table, ap (λ (t : Option StoredTable). known t) is, inr (read.0, read.1, inr (changes, all-changes update snapshot table schema rows read.0 (Ok changes) of_table read.2 told, inl long)))
 
-pub updated-not : (size : ℕ) (found : Catalog) (update : UpdateRecord) (snapshot : Option ℕ) (table : StoredTable) (schema : TableSchema) (rows : List Placed) (was : Pages) (why : Refusal) → table_named update.table found.tables ≡ Some table → schema ≡ schema_at table → read_at size was table update.condition (Ok rows) → picked (placed_changes schema snapshot update) rows ≡ Err why
+pub updated-not : (size : ℕ) (found : Catalog) (update : UpdateRecord) (snapshot : Option ℕ) (table : StoredTable) (schema : TableSchema) (rows : List Placed) (was : Pages) (why : Refusal) → table_named update.table found.tables ≡ Some table → schema ≡ schema_at table → left_at size snapshot was table update.condition (Ok rows) → picked (placed_changes schema snapshot update) rows ≡ Err why
     → at_table found update.table (λ (t : StoredTable). updated_in size snapshot update t was) (Err why)
 updated-not size found update snapshot table schema rows was why is of_table read told =
-    inr (table, ap (λ (t : Option StoredTable). known t) is, inr (rows, read, inl (subst (λ (s : TableSchema). picked (placed_changes s snapshot update) rows ≡ Err why) of_table told)))
+    inr (table, ap (λ (t : Option StoredTable). known t) is, inr (read.0, read.1, inl (all-changes update snapshot table schema rows read.0 (Err why) of_table read.2 told)))

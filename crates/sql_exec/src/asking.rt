@@ -47,11 +47,12 @@ pub fn answer<P: Pager>(
         (answered (P.size pager.old) catalog.now query.now snapshot) result }
     ensures reads { KeepsReading P.tells P.goes P.size P.faults pager.old pager.new result }
 {
-    let first = read_table(alloc, pager, catalog, &query.table, where_alone(query))?;
+    let condition = where_alone(query);
+    let first = read_table(alloc, pager, catalog, &query.table, snapshot, condition)?;
     match &query.second {
         None => Ok(over_one(alloc, query, snapshot, &first)?),
         Some(name) => {
-            let second = read_table(alloc, pager, catalog, name, None)?;
+            let second = read_table(alloc, pager, catalog, name, snapshot, None)?;
             Ok(over_two(alloc, query, snapshot, &first, &second)?)
         }
     }

@@ -43,7 +43,8 @@ pub fn delete_rows<P: EditPager>(
         return Err(Stop::Refused(Refusal::UnknownName));
     };
     let schema = schema_of(alloc, table)?;
-    let rows = read_rows(alloc, pager, table, &schema, query.condition.as_ref())?;
+    let condition = query.condition.as_ref();
+    let rows = read_rows(alloc, pager, table, &schema, snapshot, condition)?;
     let gone = gone_of(alloc, &schema, snapshot, query, rows)?;
     delete::<TreeIndex, P>(alloc, pager, table, &gone)?;
     Ok(Reply::Count(gone.len() as u64))
@@ -95,7 +96,8 @@ pub fn update_rows<P: EditPager>(
         return Err(Stop::Refused(Refusal::UnknownName));
     };
     let schema = schema_of(alloc, table)?;
-    let rows = read_rows(alloc, pager, table, &schema, query.condition.as_ref())?;
+    let condition = query.condition.as_ref();
+    let rows = read_rows(alloc, pager, table, &schema, snapshot, condition)?;
     let changes = changes_of(alloc, &schema, snapshot, query, rows)?;
     check_changes(&changes)?;
     let count = changes.len() as u64;

@@ -1,9 +1,7 @@
 //! Which rows a statement reads of a table: those in a range of an index, or all.
 
-ghost use Rattle.std.specs.List.{filter_map};
-ghost use Rattle.std.specs.Option.{option_copied};
-ghost use Rattle.std.specs.Prelude.{◌≡◌, IfOk};
-ghost use Rattle.sql_exec.specs.Ranges.{best_of, better, greatest, holds_one, least, plan_of, range_over, range_within};
+ghost use Rattle.std.specs.Prelude.{◌≡◌, IfOk, Some};
+ghost use Rattle.sql_exec.specs.Ranges.{better, greatest, holds_one, least, plan_of, range_over, range_within};
 
 use crate::bounds::{BoundColumn, Bounds, bounds_of, is_below};
 use relation::StoredIndex;
@@ -19,29 +17,15 @@ pub struct Range {
     pub high: Value,
 }
 
-/// The range of an index in which all rows lie for which the condition holds; none where all rows are to be read.
+/// The range of an index in which all rows lie for which the condition holds: the first of at most one value that it
+/// leaves of the indexes; where there is none, the first. None where all rows are to be read.
 pub(crate) fn plan(
-    alloc: Global,
-    table: &TableSchema,
-    indexes: &[StoredIndex],
-    condition: Option<&Condition>,
-) -> Result<Option<Range>, AllocError>
-    ensures { IfOk result (λ plan. plan ≡ plan_of table.now indexes.now (option_copied condition.entry)) }
-{
-    match condition {
-        Some(condition) => best_range(alloc, table, indexes, condition),
-        None => Ok(None),
-    }
-}
-
-// The first range of at most one value that a condition leaves of the indexes; where there is none, the first.
-fn best_range(
     alloc: Global,
     table: &TableSchema,
     indexes: &[StoredIndex],
     condition: &Condition,
 ) -> Result<Option<Range>, AllocError>
-    ensures { IfOk result (λ best. best ≡ best_of (filter_map (range_over table.now condition.now) indexes.now)) }
+    ensures { IfOk result (λ plan. plan ≡ plan_of table.now indexes.now (Some condition.now)) }
 {
     let mut best = None;
     for index in indexes {

@@ -5,7 +5,7 @@ ghost use Rattle.std.specs.Prelude.{◌≡◌, ◌≤◌, map, length, IfOk};
 ghost use Rattle.pager.specs.Stop.{Answers};
 ghost use Rattle.heap_file.specs.declared.chain.Placed.{Placed as PlacedOf};
 ghost use Rattle.relation.specs.Catalog.{HaveFewColumns, table_named};
-ghost use Rattle.sql_exec.specs.Asking.{source_at};
+ghost use Rattle.sql_exec.specs.Bound.{source_left};
 ghost use Rattle.sql_exec.specs.Promises.{KeepsReading};
 
 use crate::reading::read_rows;
@@ -23,17 +23,19 @@ pub struct Source {
     pub rows: Seq<Row>,
 }
 
-/// The columns of the table of that name, and those of its rows that are read where WHERE is this.
+/// The columns of the table of that name, and the rows of it that are read where WHERE is this, but those at which it
+/// is false.
 pub fn read_table<P: Pager>(
     alloc: Global,
     pager: &mut P,
     catalog: &Catalog,
     name: &Name,
+    snapshot: Option<u32>,
     condition: Option<&Condition>,
 ) -> Result<Source, Stop<P::Fault>>
     requires { HaveFewColumns catalog.now.tables }
     ensures source { Answers (λ source. source) (P.tells pager.new)
-        (λ pages. source_at (P.size pager.old) pages (table_named name.now catalog.now.tables)
+        (λ pages. source_left (P.size pager.old) snapshot pages (table_named name.now catalog.now.tables)
         (option_copied condition.entry)) result }
     ensures few { IfOk result (λ source. length source.schema.columns ≤ 16) }
     ensures reads { KeepsReading P.tells P.goes P.size P.faults pager.old pager.new result }
@@ -42,7 +44,7 @@ pub fn read_table<P: Pager>(
         return Err(Stop::Refused(Refusal::UnknownName));
     };
     let schema = schema_of(alloc, table)?;
-    let rows = read_rows(alloc, pager, table, &schema, condition)?;
+    let rows = read_rows(alloc, pager, table, &schema, snapshot, condition)?;
     let rows = without_numbers(alloc, rows)?;
     Ok(Source { schema, rows })
 }

@@ -1,7 +1,7 @@
 use Rattle.std.proofs.Common.{◌≤◌, ◌∙◌, length, sym, arith}
 use Rattle.std.proofs.lemmas.List.{at_drop_all}
 use Rattle.sql_exec.proofs.Ranged.{best_behind, best_is}
-use Rattle.sql_exec.proofs.ranges.best_range.Goals as goal
+use Rattle.sql_exec.proofs.ranges.plan.Goals as goal
 
 pub returns : goal.returns
 returns c =
