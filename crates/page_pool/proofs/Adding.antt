@@ -48,6 +48,7 @@ module _ (old new : BTreeMap ℕ Frame) (page : ℕ) (frame : Frame) (clean : Lr
     };
     reads = side.reads;
     same = side.same;
+    fills = side.fills;
   }
 
 -- one write more

@@ -1,7 +1,7 @@
 -- The pages' device with the pages in memory, and when they are those of plain data.
 use Rattle.std.specs.Prelude.{◌≡◌, ◌==◌, ◌||◌, ◌<◌, ◌^◌, ℕ, Bool, true, false, List, Option, Contains, IfSome, IsSome, if◌then◌else◌}
 use Rattle.disk_model.specs.Disk.{State}
-use Rattle.block_file.specs.Blocks.{block_at, File, IsSettled}
+use Rattle.block_file.specs.Blocks.{block_at, File, FillsDevice, IsSettled}
 use Rattle.history.specs.declared.writes.PageImage.{PageImage}
 use Rattle.history.specs.Writes.{pages_of, is_among}
 use Rattle.page_pool.specs.declared.frames.Frame.{Frame}
@@ -67,7 +67,7 @@ pub record ShowsPages {D : Type 0} (pool : Pool D) (now : ℕ → List ℕ) : Ty
   pub frames : (page : ℕ) → IfSome (frame_at pool.frames page) (λ frame. frame.bytes ≡ now page)
   pub clean : HoldsClean pool.clean now
 
--- The store's pages are `now`, the device has `device`, of which those written since it was settled are loose, and those that differ are dirty. The marks stand for every device, the bytes for an honest one.
+-- The store's pages are `now`, the device has `device`, of which those written since it was settled are loose, and those that differ are dirty. What is read of it is as long as its pages. The marks stand for every device, the bytes for an honest one.
 pub record IsPageSide {D : Type 0} (is_honest : D → Type 0) (state : D → State) (pool : Pool D) (now device : ℕ → List ℕ) (loose dirty : ℕ → Bool) : Type 0 where
   pub marks : (page : ℕ) → soiled pool page ≡ dirty page
   pub settled : pool.is_unsettled ≡ false → (page : ℕ) → loose page ≡ false
@@ -75,3 +75,4 @@ pub record IsPageSide {D : Type 0} (is_honest : D → Type 0) (state : D → Sta
   pub shows : is_honest pool.file.disk → ShowsPages pool now
   pub reads : is_honest pool.file.disk → ReadsAs (state pool.file.disk) device loose
   pub same : is_honest pool.file.disk → (page : ℕ) → dirty page ≡ false → device page ≡ now page
+  pub fills : FillsDevice is_honest state pool.file

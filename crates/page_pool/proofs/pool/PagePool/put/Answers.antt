@@ -28,4 +28,5 @@ returns-clause-kept g c =
       };
       reads = is.reads;
       same = is.same;
+      fills = is.fills;
     })

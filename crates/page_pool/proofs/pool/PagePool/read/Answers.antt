@@ -16,6 +16,7 @@ returns-then-copy-clause-kept g c =
       shows = λ told. record { frames = (is.shows told).frames; clean = holds_less c.self.inside.clean.entries c.copy.new.clean.entries now (is.shows told).clean c.copy.ensures.others };
       reads = is.reads;
       same = is.same;
+      fills = is.fills;
     })
 
 pub invariant_of-self-in-Ok : goal.invariant_of-self-in-Ok
@@ -41,6 +42,7 @@ returns-in-Ok-clause-kept g c =
       };
       reads = λ told. reads_still (g.D.Disk.state c.self.inside.file.disk) (g.D.Disk.state c.read.new.self.disk) device loose (is.reads (back told)) (c.read.ensures.quiet (back told)).unchanged;
       same = λ told. is.same (back told);
+      fills = c.read.ensures.fills;
     })
 
 pub returns-in-Err-clause-kept : goal.returns-in-Err-clause-kept
@@ -55,6 +57,7 @@ returns-in-Err-clause-kept g c =
       shows = λ told. record { frames = (is.shows (back told)).frames; clean = holds_less c.self.inside.clean.entries c.copy.new.clean.entries now (is.shows (back told)).clean c.copy.ensures.others };
       reads = λ told. reads_still (g.D.Disk.state c.self.inside.file.disk) (g.D.Disk.state c.read.new.self.disk) device loose (is.reads (back told)) (c.read.ensures.quiet (back told)).unchanged;
       same = λ told. is.same (back told);
+      fills = c.read.ensures.fills;
     })
 
 pub returns-in-Ok-clause-near : goal.returns-in-Ok-clause-near
