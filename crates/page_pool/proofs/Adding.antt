@@ -48,7 +48,6 @@ module _ (old new : BTreeMap ℕ Frame) (page : ℕ) (frame : Frame) (clean : Lr
     };
     reads = side.reads;
     same = side.same;
-    fills = side.fills;
   }
 
 -- one write more

@@ -28,5 +28,4 @@ returns-clause-kept g c =
       };
       reads = is.reads;
       same = is.same;
-      fills = is.fills;
     })

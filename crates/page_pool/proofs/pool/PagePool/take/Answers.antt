@@ -15,7 +15,6 @@ returns-in-Some-clause-kept g c =
       shows = λ told. record { frames = (is.shows told).frames; clean = holds_less c.self.inside.clean.entries c.take.new.clean.entries now (is.shows told).clean c.take.ensures.others };
       reads = is.reads;
       same = is.same;
-      fills = is.fills;
     })
 
 pub returns-in-Some-clause-taken : goal.returns-in-Some-clause-taken
@@ -31,9 +30,8 @@ returns-clause-kept g c =
       settled = is.settled;
       unsettled = is.unsettled;
       shows = λ told. record { frames = (is.shows (back told)).frames; clean = holds_less c.self.inside.clean.entries c.take.new.clean.entries now (is.shows (back told)).clean c.take.ensures.others };
-      reads = λ told. reads_still (g.D.Disk.state c.self.inside.file.disk) (g.D.Disk.state c.read.new.self.disk) device loose (is.reads (back told)) (c.read.ensures.quiet (back told)).unchanged;
+      reads = λ told. reads_still (g.D.Disk.state c.self.inside.file.disk) (g.D.Disk.state c.read.new.self.disk) c.self.inside.file.blocks c.read.new.self.blocks device loose (is.reads (back told)) (c.read.ensures.quiet (back told)).unchanged (c.read.ensures.fills told);
       same = λ told. is.same (back told);
-      fills = c.read.ensures.fills;
     })
 
 pub returns-clause-near : goal.returns-clause-near
