@@ -1,5 +1,5 @@
 -- The first mapping of a page below a limit.
-use Rattle.std.proofs.Common.{◌≡◌, ◌∙◌, ◌+◌, ◌-◌, ◌≤◌, ◌<◌, ◌⊎◌, ◌∷◌, [], ℕ, zero, suc, List, Bool, true, false, cond, Option, Some, None, is_some, Ok, Err, nat_eq, nat_lt, position, take, drop, refl, sym, ap, subst, arith, inl, inr}
+use Rattle.std.proofs.Common.{◌≡◌, ◌∙◌, ◌+◌, ◌-◌, ◌*◌, ◌≤◌, ◌<◌, ◌⊎◌, ◌∷◌, [], ℕ, zero, suc, List, Bool, true, false, cond, Option, Some, None, is_some, Ok, Err, nat_eq, nat_lt, position, length, take, drop, refl, sym, ap, subst, arith, inl, inr}
 use Rattle.std.proofs.lemmas.Bool.{cases_lt}
 use borrow.Author.Tests.{lt-ltb, le-ltb}
 use Rattle.std.proofs.lemmas.List.{take-take, drop-drop, drop-take}
@@ -10,6 +10,7 @@ use Rattle.skippy.specs.Mappings.{Mappings, first_in, IsTailOf}
 use Rattle.page_table.specs.Table.{Table, IsFirstMet}
 use Rattle.archive.specs.Finding.{below}
 use Rattle.disk_model.specs.Disk.{State, Unchanged}
+use Rattle.retro_base.specs.declared.limits.TheConstants.{PAGE_BYTES}
 use Rattle.block_file.specs.Blocks.{block_at, SameFile, slot_of}
 use Rattle.race_model.specs.Reading.{in_slot}
 use Rattle.race_model.specs.Vault.{Vault}
@@ -159,6 +160,7 @@ module _ {D : Type 0} (is_honest : D → Type 0) (state : D → State) (old new 
           reads = λ slot. ap (λ (bytes : List ℕ). block_at bytes slot) (unchanged was).same ∙ (is.slots was).reads slot;
           sure = λ slot none place within loose. (is.slots was).sure slot none place within (((unchanged was).loose place).0 loose);
         };
+    fills = λ told. let was = file.honest.1 told in ap length (unchanged was).same ∙ (is.fills was ∙ ap (λ n. PAGE_BYTES * n) (sym file.blocks));
   }
 
   pub finds_some : (number : ℕ) (before after : List ℕ) → IsVault is_honest state new vault → Some number ≡ first_in old.side.levels start upto page → (is_honest old.pagelog.disk → after ≡ block_at (state old.pagelog.disk).seen (slot_of old.pagelog.blocks number))

@@ -1,10 +1,11 @@
 -- The vault behind a batch that is laid.
-use Rattle.std.proofs.Common.{◌≡◌, ◌∙◌, ◌+◌, ◌-◌, ◌%◌, ◌≤◌, ◌<◌, ◌⊎◌, ◌||◌, ◌==◌, ℕ, zero, suc, Bool, true, false, cond, List, length, get_or, max, Ok, Err, is_some, refl, sym, ap, subst, arith, inl, inr, true≢false, eq-eqb}
+use Rattle.std.proofs.Common.{◌≡◌, ◌∙◌, ◌+◌, ◌-◌, ◌*◌, ◌%◌, ◌≤◌, ◌<◌, ◌⊎◌, ◌||◌, ◌==◌, ℕ, zero, suc, Bool, true, false, cond, List, length, get_or, max, Ok, Err, is_some, refl, sym, ap, subst, arith, inl, inr, true≢false, eq-eqb}
 use Rattle.std.proofs.lemmas.Bool.{cases_lt, eqb-true}
 use Rattle.disk_model.specs.Disk.{State, IsDurable}
 use Rattle.disk_model.specs.Moments.{Clock, LeavesOnly}
 use Rattle.disk_model.proofs.Moments.{weaker}
-use Rattle.block_file.specs.Blocks.{block_at, ChangesOnly, KeepsSettled, SameFile, WritesOnly}
+use Rattle.retro_base.specs.declared.limits.TheConstants.{PAGE_BYTES}
+use Rattle.block_file.specs.Blocks.{block_at, ChangesOnly, FillsDevice, KeepsSettled, SameFile, WritesOnly}
 use Rattle.replay.specs.Opened.{forgotten}
 use Rattle.race_model.specs.Machine.{laid, lay_failed}
 use Rattle.race_model.specs.Vault.{Batch, batch_end, IsSlotOf, Vault}
@@ -146,6 +147,9 @@ module _ {D : Type 0} (is_honest : D → Type 0) (remembers : Type 0) (state : D
         images = λ told image at. lists_still old.side vault other image version mappings others (is.mapped.images told image at);
       })
 
+  fills_still : FillsDevice is_honest state new.pagelog
+  fills_still told = let was = file.honest.1 told in (alone was).others.size ∙ (is.fills was ∙ ap (λ n. PAGE_BYTES * n) (sym file.blocks))
+
   -- a batch that was laid
   pub lays_done : is_some new.first_fault ≡ is_some old.first_fault → new.laid ≡ max old.laid (batch_end batch) → (is_honest old.pagelog.disk → IsDurable (state new.pagelog.disk))
       → (is_honest old.pagelog.disk → (place : ℕ) → place < length batch.images → block_at (state new.pagelog.disk).seen ((batch.first + place) % old.pagelog.blocks) ≡ (get_or batch.images place forgotten).bytes)
@@ -164,6 +168,7 @@ module _ {D : Type 0} (is_honest : D → Type 0) (remembers : Type 0) (state : D
             mapped = mapped_still next refl refl refl;
             laid = ap (λ n. max n (batch_end batch)) is.laid ∙ sym many;
             slots = λ told. let was = file.honest.1 told in laid_slots old.pagelog.blocks vault batch (state old.pagelog.disk) (state new.pagelog.disk) (is.slots was) (alone was).others few (durable was) (bytes was);
+            fills = fills_still;
           };
         };
         fails = tt;
@@ -190,6 +195,7 @@ module _ {D : Type 0} (is_honest : D → Type 0) (remembers : Type 0) (state : D
             mapped = mapped_still next refl refl refl;
             laid = is.mapped.shows.end ∙ sym many;
             slots = λ told. let was = file.honest.1 told in slots_left old.pagelog.blocks vault batch (state old.pagelog.disk) (state new.pagelog.disk) (is.slots was) (alone was).others;
+            fills = fills_still;
           };
         };
         any_moment = leaves;

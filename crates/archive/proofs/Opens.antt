@@ -8,7 +8,7 @@ use Rattle.records.specs.Maplog.{IsMaplog}
 use Rattle.skippy.specs.Mappings.{end_of, Mappings, push}
 use Rattle.map_log.specs.Log.{FetchedMappings, IsFetched, IsMapArea, MapArea}
 use Rattle.map_log.proofs.Records.{keeps_lists}
-use Rattle.block_file.specs.Blocks.{block_at}
+use Rattle.block_file.specs.Blocks.{block_at, FillsDevice}
 use Rattle.replay.specs.Opened.{Contents}
 use Rattle.race_model.specs.Reopened.{opened_vault}
 use Rattle.race_model.specs.Vault.{listing}
@@ -43,8 +43,8 @@ pub is_opened_vault : {D : Type 0} (is_honest : D → Type 0) (state : D → Sta
     → archive.side.held ≡ end_of archive.side.levels → archive.laid ≡ archive.side.held → archive.first_fault ≡ None → (is_honest archive.side.disk → FetchedMappings archive.side.log archive.side.levels old (state archive.side.disk))
     → (is_honest archive.pagelog.disk → IsDurable (state archive.pagelog.disk)) → (contents : Contents) → contents.mappings ≡ archive.side.levels
     → (is_honest archive.pagelog.disk → (slot : ℕ) → contents.slots slot ≡ block_at (state archive.pagelog.disk).seen slot)
-    → IsVault is_honest state archive (opened_vault version contents)
-is_opened_vault is_honest state archive version page_count capacity old area is held laid going fetched durable contents same slots = record {
+    → FillsDevice is_honest state archive.pagelog → IsVault is_honest state archive (opened_vault version contents)
+is_opened_vault is_honest state archive version page_count capacity old area is held laid going fetched durable contents same slots fills = record {
   stopped = sym (ap is_some going);
   mapped = record {
     in_version = sym is.in_version;
@@ -61,13 +61,14 @@ is_opened_vault is_honest state archive version page_count capacity old area is 
   };
   laid = ap (λ (m : Mappings). end_of m) same ∙ sym held ∙ sym laid;
   slots = λ told. record { reads = λ slot. sym (slots told slot); sure = λ slot none place within. durable told place };
+  fills = fills;
 }
 
 -- an archive that was opened
 pub is_opened : {D : Type 0} (is_honest : D → Type 0) (state : D → State) (archive : Running D) (version : Version) (page_count capacity : ℕ) (maplog : D) → IsFetched version page_count capacity archive.side.log → archive.side.held ≡ end_of archive.side.levels
     → length archive.side.levels.pages ≤ capacity → archive.pagelog.blocks ≡ capacity → archive.laid ≡ archive.side.held → archive.first_fault ≡ None → (is_honest maplog → FetchedMappings archive.side.log archive.side.levels (state maplog) (state archive.side.disk))
-    → (is_honest maplog ↔ is_honest archive.side.disk) → {pagelog : D} → (is_honest pagelog → IsDurable (state archive.pagelog.disk)) → (is_honest pagelog ↔ is_honest archive.pagelog.disk) → IsOpened is_honest state version page_count capacity maplog archive
-is_opened is_honest state archive version page_count capacity maplog is held few slots laid going fetched same settled alike = record {
+    → (is_honest maplog ↔ is_honest archive.side.disk) → {pagelog : D} → (is_honest pagelog → IsDurable (state archive.pagelog.disk)) → (is_honest pagelog ↔ is_honest archive.pagelog.disk) → FillsDevice is_honest state archive.pagelog → IsOpened is_honest state version page_count capacity maplog archive
+is_opened is_honest state archive version page_count capacity maplog is held few slots laid going fetched same settled alike fills = record {
   log = is;
   held = held;
   few = few;
@@ -76,7 +77,7 @@ is_opened is_honest state archive version page_count capacity maplog is held few
   going = going;
   mappings = λ told. (there told).stands;
   closed = λ told. (there told).at;
-  vault = is_opened_vault is_honest state archive version page_count capacity (state maplog) is.is is held laid going (λ told. fetched (same.1 told)) (λ told. settled (alike.1 told));
+  vault = λ contents mapped slotted. is_opened_vault is_honest state archive version page_count capacity (state maplog) is.is is held laid going (λ told. fetched (same.1 told)) (λ told. settled (alike.1 told)) contents mapped slotted fills;
 }
   where
     there : is_honest maplog → StandsTo version page_count capacity (state maplog).seen archive.side.levels (archive.side.log.area.log.place + archive.side.log.area.log.gate)

@@ -6,7 +6,7 @@ use Rattle.retro_base.specs.declared.device.Device.{Device}
 use Rattle.retro_base.specs.declared.refusal.Refusal.{Refusal}
 use Rattle.retro_base.specs.declared.refusal.Refusal.TheVariants.{DiskFault}
 use Rattle.gate_log.specs.Cause.{IsDiskFault}
-use Rattle.block_file.specs.Blocks.{File}
+use Rattle.block_file.specs.Blocks.{File, FillsDevice}
 use Rattle.skippy.specs.Mappings.{first_in}
 use Rattle.race_model.specs.Machine.{trimmed}
 use Rattle.race_model.specs.Reading.{in_slot}
@@ -30,13 +30,14 @@ pub record IsArchive {D : Type 0} (archive : Running D) : Type 0 where
   pub going : archive.first_fault ≡ None → archive.side.log.area.fault ≡ None
 
 -- The archive is the vault: both stopped or both not, the same captures entered and laid, and each device holds what
--- the vault may hold.
+-- the vault may hold; what is read of the slots' is as long as they.
 pub record IsVault {D : Type 0} (is_honest : D → Type 0)
     (state : D → State) (archive : Running D) (vault : Vault) : Type 0 where
   pub stopped : vault.stopped ≡ is_some archive.first_fault
   pub mapped : IsMapSide is_honest state archive.side vault
   pub laid : vault.laid ≡ archive.laid
   pub slots : is_honest archive.pagelog.disk → AreSlots (state archive.pagelog.disk) vault.slots vault.loose
+  pub fills : FillsDevice is_honest state archive.pagelog
 
 -- the first fault of a write, after a call
 abbrev pub fault_after : {T : Type 0} → Option (Device × ℕ) → Result T Fault → Option (Device × ℕ)

@@ -1,10 +1,11 @@
 //! The archive: a batch is laid and entered, mappings are trimmed, the page image of a first mapping is found.
 
 ghost use Rattle.std.specs.Prelude.{◌≡◌, ◌+◌, ◌*◌, ◌<◌, ◌≤◌, ◌^◌, None, false, is_some, length, max, Ok, OnOk, OnErr, IfOk, IfErr, MatchResult};
+ghost use Rattle.disk_model.specs.Moments.{LeavesOnly};
 ghost use Rattle.disk_model.specs.Runs.{OnlyReads};
 ghost use Rattle.retro_base.specs.declared.device.Device.TheVariants.{Maplog as OfMaplog, Pagelog as OfPagelog};
 ghost use Rattle.gate_log.specs.Cause.{IsDiskFault};
-ghost use Rattle.block_file.specs.Blocks.{SameFile};
+ghost use Rattle.block_file.specs.Blocks.{IsAsLong, SameFile};
 ghost use Rattle.skippy.specs.Mappings.{first_in};
 ghost use Rattle.page_table.specs.Table.{IsFirstMet};
 ghost use Rattle.disk_model.specs.Sizes.{maplog_half, pagelog_bytes};
@@ -232,6 +233,8 @@ impl<D: Disk> Archive<D> {
         ensures untouched { IfErr result (λ e. (IsDiskFault e.why → ⊥) → self.new ≡ self.old) }
         ensures turns { (vault : Vault) → IsVault D.is_honest D.state self.old vault → vault.stopped ≡ false
             → TurnsByLaying D.is_honest D.remembers D.state D.clock self.old self.new vault batch.now result }
+        ensures long { D.is_honest self.old.pagelog.disk → LeavesOnly D.remembers (D.clock self.old.pagelog.disk)
+            (D.clock self.new.pagelog.disk) (IsAsLong (D.state self.old.pagelog.disk)) }
     {
         self.goes()?;
         let held = self.side.held();

@@ -8,7 +8,7 @@ use Rattle.disk_model.specs.Moments.{Clock, Elapses, LeavesOnly}
 use Rattle.disk_model.specs.Runs.{WritesNothing}
 use Rattle.disk_model.proofs.Moments.{started, goes_on, joined_weaker, weaker}
 use Rattle.retro_base.specs.declared.limits.TheConstants.{PAGE_BYTES}
-use Rattle.block_file.specs.Blocks.{block_at, IsSettled, ChangesOnly, KeepsSettled, WritesOnly}
+use Rattle.block_file.specs.Blocks.{block_at, IsAsLong, IsSettled, ChangesOnly, KeepsSettled, WritesOnly}
 
 -- the length of a block follows from that of the bytes
 length_block : (number : ℕ) (bytes : List ℕ) → length (block_at bytes number) ≡ min PAGE_BYTES (length bytes - PAGE_BYTES * number)
@@ -83,6 +83,10 @@ module _ {D : Type 0} (changed : ℕ → Type 0) (remembers : Type 0) (state : D
     any_moment = weaker remembers (clock old) (clock new) (KeepsSettled some (state old)) (KeepsSettled changed (state old)) (λ image. keeps_among some changed (state old) image among) run.any_moment;
   }
 
+  -- what a crash leaves of a run that writes these blocks alone is as long as before
+  pub writes_long : (old new : D) → WritesOnly changed remembers state clock old new → LeavesOnly remembers (clock old) (clock new) (IsAsLong (state old))
+  writes_long old new run = weaker remembers (clock old) (clock new) (KeepsSettled changed (state old)) (IsAsLong (state old)) (λ image keeps. keeps.size) run.any_moment
+
   -- a run that writes nothing
   pub writes_none : (old new : D) → WritesNothing remembers state clock old new → WritesOnly changed remembers state clock old new
   writes_none old new run = record {
@@ -125,3 +129,12 @@ keeps_over changed remembers old_clock new_clock old new here change time =
     goes_on remembers old_clock old_clock new_clock (KeepsSettled changed old) (IsImage new)
     (started remembers old_clock (KeepsSettled changed old) (λ image left. image_keeps changed old old image (changes_none changed old) (here image left)))
     time (λ image. image_keeps changed old new image change)
+
+-- a run that writes nothing leaves what is as long as before
+pub nothing_long : {D : Type 0} (remembers : Type 0) (state : D → State) (clock : D → Clock) (old new : D) → WritesNothing remembers state clock old new → LeavesOnly remembers (clock old) (clock new) (IsAsLong (state old))
+nothing_long remembers state clock old new run = weaker remembers (clock old) (clock new) (IsImage (state old)) (IsAsLong (state old)) (λ image is. is.size) run.any_moment
+
+-- nor does none
+pub rests_long : {D : Type 0} (remembers : Type 0) (state : D → State) (clock : D → Clock) (disk : D) → ((image : List ℕ) → (clock disk).left_since (clock disk).moment image → IsImage (state disk) image)
+    → LeavesOnly remembers (clock disk) (clock disk) (IsAsLong (state disk))
+rests_long remembers state clock disk here = started remembers (clock disk) (IsAsLong (state disk)) (λ image left. (here image left).size)

@@ -45,6 +45,14 @@ pub record WritesOnly {D : Type 0} (changed : ℕ → Type 0) (remembers : Type 
   pub others : ChangesOnly changed (state old) (state new)
   pub any_moment : LeavesOnly remembers (clock old) (clock new) (KeepsSettled changed (state old))
 
+-- what a crash leaves is as long as what is read
+abbrev pub IsAsLong : State → List ℕ → Type 0
+IsAsLong state image = length image ≡ length state.seen
+
+-- what is read of the device is as long as its blocks
+abbrev pub FillsDevice : {D : Type 0} → (D → Type 0) → (D → State) → File D → Type 0
+FillsDevice is_honest state file = is_honest file.disk → length (state file.disk).seen ≡ PAGE_BYTES * file.blocks
+
 -- the slot of a number in a ring of that many
 abbrev pub slot_of : ℕ → ℕ → ℕ
 slot_of blocks number = number % blocks

@@ -1,8 +1,9 @@
 //! The pages of a store.
 
 ghost use Rattle.std.specs.Prelude.{◌≡◌, ◌<◌, ◌*◌, OnOk, OnErr};
-ghost use Rattle.block_file.specs.Blocks.{block_at, SameFile, WritesOnly};
+ghost use Rattle.block_file.specs.Blocks.{block_at, FillsDevice, IsAsLong, SameFile, WritesOnly};
 ghost use Rattle.disk_model.specs.Disk.{IsDurable};
+ghost use Rattle.disk_model.specs.Moments.{LeavesOnly};
 ghost use Rattle.disk_model.specs.Runs.{OnlyReads, WritesNothing};
 ghost use Rattle.retro_base.specs.Cause.{FaultsAlone};
 ghost use Rattle.retro_base.specs.declared.device.Device.TheVariants.{Pages};
@@ -37,7 +38,8 @@ impl<D: Disk> PageFile<D> {
     /// The pages of this device.
     pub fn new(disk: D, pages: u32) -> PageFile<D>
         requires { D.extent disk ≡ PAGE_BYTES * pages }
-        ensures { result ≡ record { disk = disk; blocks = pages } }
+        ensures file { result ≡ record { disk = disk; blocks = pages } }
+        ensures fills { FillsDevice D.is_honest D.state result }
     {
         PageFile { disk, pages }
     }
@@ -62,6 +64,7 @@ impl<D: Disk> PageFile<D> {
     pub fn read(&mut self, page: u32, out: &mut Page) -> Result<(), Refusal>
         requires { page < self.old.blocks }
         ensures same { SameFile D.is_honest self.old self.new }
+        ensures fills { FillsDevice D.is_honest D.state self.new }
         ensures cause { FaultsAlone Pages (D.faults self.old.disk) (D.faults self.new.disk) result }
         ensures read { D.is_honest self.old.disk
             → OnOk result (out.new ≡ block_at (D.state self.old.disk).seen page) }
@@ -77,11 +80,14 @@ impl<D: Disk> PageFile<D> {
     pub fn write(&mut self, page: u32, bytes: &Page) -> Result<(), Refusal>
         requires { page < self.old.blocks }
         ensures same { SameFile D.is_honest self.old self.new }
+        ensures fills { FillsDevice D.is_honest D.state self.new }
         ensures cause { FaultsAlone Pages (D.faults self.old.disk) (D.faults self.new.disk) result }
         ensures written { D.is_honest self.old.disk
             → OnOk result (block_at (D.state self.new.disk).seen page ≡ bytes.now) }
         ensures alone { D.is_honest self.old.disk
             → WritesOnly (λ other. other ≡ page) D.remembers D.state D.clock self.old.disk self.new.disk }
+        ensures long { D.is_honest self.old.disk → LeavesOnly D.remembers (D.clock self.old.disk)
+            (D.clock self.new.disk) (IsAsLong (D.state self.old.disk)) }
     {
         write_block(&mut self.disk, Device::Pages, page, bytes)
     }
@@ -90,10 +96,13 @@ impl<D: Disk> PageFile<D> {
     /// loose may be so still.
     pub fn settle(&mut self) -> Result<(), Refusal>
         ensures same { SameFile D.is_honest self.old self.new }
+        ensures fills { FillsDevice D.is_honest D.state self.new }
         ensures cause { FaultsAlone Pages (D.faults self.old.disk) (D.faults self.new.disk) result }
         ensures settled { D.is_honest self.old.disk → OnOk result (IsDurable (D.state self.new.disk)) }
         ensures quiet { D.is_honest self.old.disk
             → WritesNothing D.remembers D.state D.clock self.old.disk self.new.disk }
+        ensures long { D.is_honest self.old.disk → LeavesOnly D.remembers (D.clock self.old.disk)
+            (D.clock self.new.disk) (IsAsLong (D.state self.old.disk)) }
     {
         settle(&mut self.disk, Device::Pages)
     }

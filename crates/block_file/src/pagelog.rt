@@ -1,8 +1,9 @@
 //! The page images of an archive.
 
 ghost use Rattle.std.specs.Prelude.{◌≡◌, ◌<◌, ◌≤◌, ◌*◌, OnOk, OnErr};
-ghost use Rattle.block_file.specs.Blocks.{block_at, SameFile, slot_of, WritesOnly};
+ghost use Rattle.block_file.specs.Blocks.{block_at, FillsDevice, IsAsLong, SameFile, slot_of, WritesOnly};
 ghost use Rattle.disk_model.specs.Disk.{IsDurable};
+ghost use Rattle.disk_model.specs.Moments.{LeavesOnly};
 ghost use Rattle.disk_model.specs.Runs.{OnlyReads, WritesNothing};
 ghost use Rattle.retro_base.specs.Cause.{FaultsAlone};
 ghost use Rattle.retro_base.specs.declared.device.Device.TheVariants.{Pagelog as OfPagelog};
@@ -39,7 +40,8 @@ impl<D: Disk> Pagelog<D> {
     pub fn new(disk: D, capacity: u32) -> Pagelog<D>
         requires some { 1 ≤ capacity }
         requires whole { D.extent disk ≡ PAGE_BYTES * capacity }
-        ensures { result ≡ record { disk = disk; blocks = capacity } }
+        ensures file { result ≡ record { disk = disk; blocks = capacity } }
+        ensures fills { FillsDevice D.is_honest D.state result }
     {
         Pagelog { disk, capacity }
     }
@@ -56,6 +58,7 @@ impl<D: Disk> Pagelog<D> {
     /// Reads the slot of that number. After a fault `out` is as before.
     pub fn fetch(&mut self, number: u64, out: &mut Page) -> Result<(), Refusal>
         ensures same { SameFile D.is_honest self.old self.new }
+        ensures fills { FillsDevice D.is_honest D.state self.new }
         ensures cause { FaultsAlone OfPagelog (D.faults self.old.disk) (D.faults self.new.disk) result }
         ensures fetched { D.is_honest self.old.disk
             → OnOk result (out.new ≡ block_at (D.state self.old.disk).seen (slot_of self.old.blocks number)) }
@@ -71,11 +74,14 @@ impl<D: Disk> Pagelog<D> {
     /// fault so may a read.
     pub fn lay(&mut self, number: u64, bytes: &Page) -> Result<(), Refusal>
         ensures same { SameFile D.is_honest self.old self.new }
+        ensures fills { FillsDevice D.is_honest D.state self.new }
         ensures cause { FaultsAlone OfPagelog (D.faults self.old.disk) (D.faults self.new.disk) result }
         ensures laid { D.is_honest self.old.disk
             → OnOk result (block_at (D.state self.new.disk).seen (slot_of self.old.blocks number) ≡ bytes.now) }
         ensures alone { D.is_honest self.old.disk → WritesOnly (λ slot. slot ≡ slot_of self.old.blocks number)
             D.remembers D.state D.clock self.old.disk self.new.disk }
+        ensures long { D.is_honest self.old.disk → LeavesOnly D.remembers (D.clock self.old.disk)
+            (D.clock self.new.disk) (IsAsLong (D.state self.old.disk)) }
     {
         let slot = slot_in(self.capacity, number);
         write_block(&mut self.disk, Device::Pagelog, slot, bytes)
@@ -85,10 +91,13 @@ impl<D: Disk> Pagelog<D> {
     /// loose may be so still.
     pub fn settle(&mut self) -> Result<(), Refusal>
         ensures same { SameFile D.is_honest self.old self.new }
+        ensures fills { FillsDevice D.is_honest D.state self.new }
         ensures cause { FaultsAlone OfPagelog (D.faults self.old.disk) (D.faults self.new.disk) result }
         ensures settled { D.is_honest self.old.disk → OnOk result (IsDurable (D.state self.new.disk)) }
         ensures quiet { D.is_honest self.old.disk
             → WritesNothing D.remembers D.state D.clock self.old.disk self.new.disk }
+        ensures long { D.is_honest self.old.disk → LeavesOnly D.remembers (D.clock self.old.disk)
+            (D.clock self.new.disk) (IsAsLong (D.state self.old.disk)) }
     {
         settle(&mut self.disk, Device::Pagelog)
     }

@@ -2,7 +2,7 @@
 
 ghost use Rattle.std.specs.Prelude.{◌≡◌, ◌<◌, true, false, None, Some, ℕ, Bool, List, IfOk, IfErr, MatchOption, MatchResult, OnErr, OnOk};
 ghost use Rattle.std.specs.Option.{option_or};
-ghost use Rattle.block_file.specs.Blocks.{SameFile};
+ghost use Rattle.block_file.specs.Blocks.{IsAsLong, SameFile};
 ghost use Rattle.disk_model.specs.Moments.{LeavesOnly};
 ghost use Rattle.disk_model.specs.Runs.{SameDevice};
 ghost use Rattle.retro_base.specs.Cause.{FaultsAlone, IsFault};
@@ -88,6 +88,9 @@ impl<D: Disk + Drop> RunningDesk<D> {
             → D.is_honest self.old.pool.file.disk
             → LeavesOnly D.remembers (D.clock self.old.pool.file.disk) (D.clock self.new.pool.file.disk)
             (HoldsPagesOf (write_failed desk page need left)) }
+        ensures long { D.is_honest self.old.pool.file.disk → LeavesOnly D.remembers
+            (D.clock self.old.pool.file.disk) (D.clock self.new.pool.file.disk)
+            (IsAsLong (D.state self.old.pool.file.disk)) }
     {
         match self.pool.write_back(page) {
             Ok(()) => Ok(()),
@@ -132,6 +135,9 @@ impl<D: Disk + Drop> RunningDesk<D> {
             → IsLeastWritable desk page → D.is_honest self.old.pool.file.disk
             → LeavesOnly D.remembers (D.clock self.old.pool.file.disk) (D.clock self.new.pool.file.disk)
             (HoldsPagesOf (write_failed desk page need left)) }
+        ensures long { D.is_honest self.old.pool.file.disk → LeavesOnly D.remembers
+            (D.clock self.old.pool.file.disk) (D.clock self.new.pool.file.disk)
+            (IsAsLong (D.state self.old.pool.file.disk)) }
     {
         if let Some(stop) = self.stop {
             return Err(stop.refusal());
@@ -174,6 +180,9 @@ impl<D: Disk + Drop> RunningDesk<D> {
             → D.is_honest self.old.pool.file.disk
             → LeavesOnly D.remembers (D.clock self.old.pool.file.disk) (D.clock self.new.pool.file.disk)
             (HoldsPagesOf (stopped desk)) }
+        ensures long { D.is_honest self.old.pool.file.disk → LeavesOnly D.remembers
+            (D.clock self.old.pool.file.disk) (D.clock self.new.pool.file.disk)
+            (IsAsLong (D.state self.old.pool.file.disk)) }
     {
         if let Some(stop) = self.stop {
             return Err(stop.refusal());

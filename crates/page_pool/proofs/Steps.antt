@@ -1,7 +1,8 @@
 -- The pages' device and the pages in memory behind a call.
-use Rattle.std.proofs.Common.{◌≡◌, ⊎_elim, ◌∙◌, ℕ, List, Bool, true, false, cond, eqb, Option, None, Contains, refl, sym, ap, subst}
+use Rattle.std.proofs.Common.{◌≡◌, ⊎_elim, ◌∙◌, ◌*◌, ℕ, length, List, Bool, true, false, cond, eqb, Option, None, Contains, refl, sym, ap, subst}
 use Rattle.std.proofs.lemmas.Bool.{both_ways, cases_eq, eq-eqb, ne_eqb}
 use Rattle.disk_model.specs.Disk.{State, IsDurable, IsImage, Unchanged}
+use Rattle.retro_base.specs.declared.limits.TheConstants.{PAGE_BYTES}
 use Rattle.block_file.specs.Blocks.{block_at, ChangesOnly, KeepsSettled}
 use Rattle.block_file.proofs.Blocks as blocks
 use Rattle.page_pool.specs.Side.{HoldsSure, IsNear, Pool, ReadsAs, with_page}
@@ -24,12 +25,13 @@ module _ (loose : ℕ → Bool) (page : ℕ) where
   pub sure_before : (other : ℕ) → with_page loose page true other ≡ false → loose other ≡ false
   sure_before other sure = sym (with_other loose page true other (sure_apart other sure)) ∙ sure
 
-module _ (old new : State) (device : ℕ → List ℕ) (loose : ℕ → Bool) (reads : ReadsAs old device loose) where
+module _ (old new : State) (size later : ℕ) (device : ℕ → List ℕ) (loose : ℕ → Bool) (reads : ReadsAs old size device loose) where
   -- a device that only was read
-  pub reads_still : Unchanged old new → ReadsAs new device loose
-  reads_still same = record {
+  pub reads_still : Unchanged old new → length new.seen ≡ PAGE_BYTES * later → ReadsAs new later device loose
+  reads_still same whole = record {
     reads = λ page. ap (λ (b : List ℕ). block_at b page) same.same ∙ reads.reads page;
     sure = λ page sure place at is. reads.sure page sure place at ((same.loose place).0 is);
+    whole = whole;
   }
 
   -- each image has what is not loose
@@ -37,13 +39,14 @@ module _ (old new : State) (device : ℕ → List ℕ) (loose : ℕ → Bool) (r
   image_holds image is = λ page sure. blocks.image_settled old image page is (reads.sure page sure) ∙ reads.reads page
 
   -- a device of which one page was written
-  pub reads_written : (page : ℕ) → ChangesOnly (λ other. other ≡ page) old new → ReadsAs new (with_page device page (block_at new.seen page)) (with_page loose page true)
-  reads_written page changes = record {
+  pub reads_written : (page : ℕ) → ChangesOnly (λ other. other ≡ page) old new → length new.seen ≡ PAGE_BYTES * later → ReadsAs new later (with_page device page (block_at new.seen page)) (with_page loose page true)
+  reads_written page changes whole = record {
     reads = λ other. ⊎_elim
         (λ (is : other ≡ page). ap (block_at new.seen) is ∙ sym (with_here device page (block_at new.seen page)) ∙ ap (with_page device page (block_at new.seen page)) (sym is))
         (λ apart. changes.same other apart ∙ reads.reads other ∙ sym (with_other device page (block_at new.seen page) other apart))
         (cases_eq other page);
     sure = λ other sure. changes.settled other (sure_apart loose page other sure) (reads.sure other (sure_before loose page other sure));
+    whole = whole;
   }
 
   -- and what a crash within the write leaves
@@ -53,17 +56,19 @@ module _ (old new : State) (device : ℕ → List ℕ) (loose : ℕ → Bool) (r
       kept.kept other apart (reads.sure other (sure_before loose page other sure)) ∙ reads.reads other ∙ sym (with_other device page left other apart)
 
   -- a device that was settled
-  pub reads_settled : new.seen ≡ old.seen → IsDurable new → ReadsAs new device (λ _. false)
-  reads_settled same durable = record {
+  pub reads_settled : new.seen ≡ old.seen → IsDurable new → length new.seen ≡ PAGE_BYTES * later → ReadsAs new later device (λ _. false)
+  reads_settled same durable whole = record {
     reads = λ page. ap (λ (b : List ℕ). block_at b page) same ∙ reads.reads page;
     sure = λ page sure place at is. durable place is;
+    whole = whole;
   }
 
   -- a device that may have been
-  pub reads_synced : new.seen ≡ old.seen → ((place : ℕ) → new.is_loose place → old.is_loose place) → ReadsAs new device loose
-  reads_synced same fewer = record {
+  pub reads_synced : new.seen ≡ old.seen → ((place : ℕ) → new.is_loose place → old.is_loose place) → length new.seen ≡ PAGE_BYTES * later → ReadsAs new later device loose
+  reads_synced same fewer whole = record {
     reads = λ page. ap (λ (b : List ℕ). block_at b page) same ∙ reads.reads page;
     sure = λ page sure place at is. reads.sure page sure place at (fewer place is);
+    whole = whole;
   }
 
 module _ {X : Type 0} (f g : ℕ → X) (page : ℕ) (x : X) where

@@ -1,12 +1,12 @@
 -- The pages' device with the pages in memory, and when they are those of plain data.
-use Rattle.std.specs.Prelude.{◌≡◌, ◌==◌, ◌||◌, ◌<◌, ◌^◌, ℕ, Bool, true, false, List, Option, Contains, IfSome, IsSome, if◌then◌else◌}
+use Rattle.std.specs.Prelude.{◌≡◌, ◌==◌, ◌||◌, ◌*◌, ◌<◌, ◌^◌, length, ℕ, Bool, true, false, List, Option, Contains, IfSome, IsSome, if◌then◌else◌}
 use Rattle.disk_model.specs.Disk.{State}
 use Rattle.block_file.specs.Blocks.{block_at, File, IsSettled}
 use Rattle.history.specs.declared.writes.PageImage.{PageImage}
 use Rattle.history.specs.Writes.{pages_of, is_among}
 use Rattle.page_pool.specs.declared.frames.Frame.{Frame}
 use Rattle.lru.specs.LruCache.{LruCache}
-use Rattle.retro_base.specs.declared.limits.TheConstants.{CLEAN_FRAMES}
+use Rattle.retro_base.specs.declared.limits.TheConstants.{CLEAN_FRAMES, PAGE_BYTES}
 use Rattle.page_pool.specs.Clean.{AreApart, HoldsClean}
 use Rattle.page_pool.specs.Frames.{AreFrames, frame_at, is_dirty_in, is_held_in}
 
@@ -56,10 +56,12 @@ with_page pages page x other = if other == page then x else pages other
 abbrev pub dirty_behind : (ℕ → Bool) → List PageImage → ℕ → Bool
 dirty_behind dirty writes page = dirty page || is_among page (pages_of writes)
 
--- the device reads as these pages, and those that are not loose are settled
-pub record ReadsAs (state : State) (device : ℕ → List ℕ) (loose : ℕ → Bool) : Type 0 where
+-- A device of so many blocks reads as these pages, and those that are not loose are settled; what is read of it is as
+-- long as the blocks.
+pub record ReadsAs (state : State) (blocks : ℕ) (device : ℕ → List ℕ) (loose : ℕ → Bool) : Type 0 where
   pub reads : (page : ℕ) → block_at state.seen page ≡ device page
   pub sure : (page : ℕ) → loose page ≡ false → IsSettled state page
+  pub whole : length state.seen ≡ PAGE_BYTES * blocks
 
 -- these bytes of a device have each page that is not loose
 abbrev pub HoldsSure : (ℕ → List ℕ) → (ℕ → Bool) → List ℕ → Type 0
@@ -78,5 +80,5 @@ pub record IsPageSide {D : Type 0} (is_honest : D → Type 0) (state : D → Sta
   pub settled : pool.is_unsettled ≡ false → (page : ℕ) → loose page ≡ false
   pub unsettled : pool.is_unsettled ≡ true → (page : ℕ) × (loose page ≡ true)
   pub shows : is_honest pool.file.disk → ShowsPages pool now
-  pub reads : is_honest pool.file.disk → ReadsAs (state pool.file.disk) device loose
+  pub reads : is_honest pool.file.disk → ReadsAs (state pool.file.disk) pool.file.blocks device loose
   pub same : is_honest pool.file.disk → (page : ℕ) → dirty page ≡ false → device page ≡ now page

@@ -8,7 +8,7 @@ ghost use Rattle.retro_base.specs.Cause.{FaultsAlone, IsFault};
 ghost use Rattle.retro_base.specs.declared.device.Device.TheVariants.{Pages};
 ghost use Rattle.retro_base.specs.declared.limits.TheConstants.{CLEAN_FRAMES, PAGE_BYTES};
 ghost use Rattle.retro_base.specs.declared.refusal.Refusal.TheVariants.{OutOfMemory};
-ghost use Rattle.block_file.specs.Blocks.{block_at, File, SameFile};
+ghost use Rattle.block_file.specs.Blocks.{block_at, File, IsAsLong, SameFile};
 ghost use Rattle.history.specs.declared.writes.PageImage.{PageImage};
 ghost use Rattle.history.specs.History.{with_write, written};
 ghost use Rattle.page_pool.specs.Cause.{IsHoldRefusal};
@@ -325,6 +325,8 @@ impl<D: Disk> PagePool<D> {
             → D.is_honest self.old.file.disk → IsPageSide D.is_honest D.state self.old now device loose dirty
             → LeavesOnly D.remembers (D.clock self.old.file.disk) (D.clock self.new.file.disk)
             (HoldsSure (with_page device page left) (with_page loose page true)) }
+        ensures long { D.is_honest self.old.file.disk → LeavesOnly D.remembers (D.clock self.old.file.disk)
+            (D.clock self.new.file.disk) (IsAsLong (D.state self.old.file.disk)) }
     {
         let Some(frame) = self.frames.get(&page) else {
             unreachable!()
@@ -382,6 +384,8 @@ impl<D: Disk> PagePool<D> {
             (HoldsSure device loose) }
         ensures quiet { D.is_honest self.old.file.disk
             → WritesNothing D.remembers D.state D.clock self.old.file.disk self.new.file.disk }
+        ensures long { D.is_honest self.old.file.disk → LeavesOnly D.remembers (D.clock self.old.file.disk)
+            (D.clock self.new.file.disk) (IsAsLong (D.state self.old.file.disk)) }
     {
         match self.file.settle() {
             Ok(()) => {

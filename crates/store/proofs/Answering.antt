@@ -4,6 +4,7 @@ use Rattle.block_file.specs.Blocks.{File, SameFile}
 use Rattle.std.specs.Prelude.{◌↔◌, IfErr, OnOk, MatchResult, option_map}
 use Rattle.std.specs.Option.{option_or}
 use Rattle.disk_model.specs.Disk.{State}
+use Rattle.disk_model.specs.Moments.{Clock}
 use Rattle.retro_base.specs.declared.device.Device.{Device}
 use Rattle.retro_base.specs.declared.device.Device.TheVariants.{Pages}
 use Rattle.retro_base.specs.declared.refusal.Refusal.{Refusal}
@@ -102,7 +103,7 @@ module _ {D : Type 0} (is_honest : D → Type 0) (state : D → State) (faults :
   peek_up before now (Err (DiskFault d c)) e = e.2
   peek_up before now (Err _) e = absurd e
 
-  pub peeks : (page snapshot : ℕ) (before after : List ℕ) (result : Result Peeked Refusal) → PeekDoes is_honest state faults page snapshot before after result old.core new.core → IsGlance is_honest state faults old new
+  pub peeks : {remembers : Type 0} {clock : D → Clock} (page snapshot : ℕ) (before after : List ℕ) (result : Result Peeked Refusal) → PeekDoes is_honest state faults remembers clock page snapshot before after result old.core new.core → IsGlance is_honest state faults old new
   peeks page snapshot before after result does = λ most mine keeps le.
       may_leave_quiet is_honest state old new start faults most mine
       (stands_stays is_honest state old new start does.stays (record { log = same_log is_honest old.core new.core does.rest; pages = does.same.honest }) stands) keeps
@@ -149,12 +150,12 @@ module _ {D : Type 0} (is_honest : D → Type 0) (state : D → State) (faults :
     go (Err why) e = made (kept_behind why t) (kept_who why t) (subst (λ z. IfErr z (λ w. new.core.ledger ≡ with_open who (kept_behind w t) old.core.ledger)) e answered.kept)
         (λ d c k. ⊎_elim (λ before. inl before) (λ w. new_fault why d c e w) (kept_from why t d c k))
 
-  pub reads : (page : ℕ) (before after : List ℕ) (t : Transaction) (result : Result (Unit {0}) Refusal) → work_at (slots_of old) who.session ≡ Some (Open t) → CountFits result → ReadDoes is_honest state faults who page before after t result old.core new.core
+  pub reads : {remembers : Type 0} {clock : D → Clock} (page : ℕ) (before after : List ℕ) (t : Transaction) (result : Result (Unit {0}) Refusal) → work_at (slots_of old) who.session ≡ Some (Open t) → CountFits result → ReadDoes is_honest state faults remembers clock who page before after t result old.core new.core
       → IsVisit is_honest state faults who always old new
   reads page before after t result there few does =
       answers t (reading page t) (read_refused old.core.ledger.book.lines t page) result does.rest does.stays does.same does.answered there refl refl few does.refused (read_tells old.core.ledger.book.lines t page) does.cause
 
-  pub edits : (page : ℕ) (bytes : List ℕ) (t : Transaction) (result : Result (Unit {0}) Refusal) → work_at (slots_of old) who.session ≡ Some (Open t) → CountFits result → EditDoes is_honest state faults who page bytes t result old.core new.core
+  pub edits : {remembers : Type 0} {clock : D → Clock} (page : ℕ) (bytes : List ℕ) (t : Transaction) (result : Result (Unit {0}) Refusal) → work_at (slots_of old) who.session ≡ Some (Open t) → CountFits result → EditDoes is_honest state faults remembers clock who page bytes t result old.core new.core
       → IsVisit is_honest state faults who always old new
   edits page bytes t result there few does =
       answers t (editing (record { page = page; bytes = bytes }) t) (edit_refused old.core.ledger.book.lines old.core.ledger.works.slots t page) result does.rest does.stays does.same does.answered there refl refl few does.refused

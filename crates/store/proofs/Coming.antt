@@ -30,6 +30,7 @@ use Rattle.store.specs.declared.desk_side.DeskSide.{DeskSide}
 use Rattle.store.specs.declared.start.Start.{Start}
 use Rattle.store.specs.Seats.{IsReady, Sat, Visited, journal, slots_of}
 use Rattle.store.specs.Start.{desk_counts}
+use Rattle.turn.proofs.Faults.{told_still}
 use Rattle.store.proofs.Calling.{told_more}
 use Rattle.store.proofs.Finding.{some_is}
 use Rattle.journal_law.specs.declared.seat.ToldFault.{ToldFault}
@@ -217,7 +218,7 @@ module _ {D : Type 0} (is_honest : D → Type 0) (state : D → State) (faults :
   still_told same d c there =
       let more : List (Device × ℕ) = desk_faults (desk_counts faults d0.core) (desk_counts faults d1.core) in
       let all : (mine s1).faults ≡ (mine s0).faults ++ more =
-      ap (λ (h : Holding Work). h.faults) v.mine ∙ ap (λ (b : Bool). cond b ((mine s0).faults ++ more) []) (eq-eqb (length (journal d1)) (length (journal d0)) (ap length same)) in
+      ap (λ (h : Holding Work). h.faults) v.mine ∙ told_still (journal d0) (journal d1) ((mine s0).faults ++ more) same in
       subst (λ (fs : List (Device × ℕ)). 0 < fault_times d c fs) (sym all) (told_more (mine s0).faults more d c there)
 
   pub none_there : (who : Who) → who.session ≡ s0.number → (mine s0).work ≡ None → work_at (slots_of d0) who.session ≡ None

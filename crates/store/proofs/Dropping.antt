@@ -80,10 +80,10 @@ module _ (P : Refusal → Type 0) where
   pub lines_tells : (book : Book) (more : ℕ) → ((a b : ℕ) → P (JournalFull a b) → ⊥) → Tells P (lines_refused book more) → ⊥
   lines_tells book more full e = where_tells _ _ (full _ _) e
 
-refused_fault : (newest below : ℕ) (l : Ledger) → Tells IsDiskFault (drop_refused_by newest below l) → ⊥
+pub refused_fault : (newest below : ℕ) (l : Ledger) → Tells IsDiskFault (drop_refused_by newest below l) → ⊥
 refused_fault newest below l = refused_tells IsDiskFault newest below l (λ s x. x) (λ a b x. x) (λ a b x. x)
 
-lines_fault : (book : Book) (more : ℕ) → Tells IsDiskFault (lines_refused book more) → ⊥
+pub lines_fault : (book : Book) (more : ℕ) → Tells IsDiskFault (lines_refused book more) → ⊥
 lines_fault book more = lines_tells IsDiskFault book more (λ a b x. x)
 
 -- ---- what a session has that may drop

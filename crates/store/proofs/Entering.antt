@@ -27,7 +27,7 @@ use Rattle.turn.specs.Seats.{IsInDesk, IsSame, Rests, held, mine, seen}
 use Rattle.turn.specs.Views.{behind_desk}
 use Rattle.store.specs.declared.desk_side.DeskSide.{DeskSide}
 use Rattle.store.specs.declared.start.Start.{Start}
-use Rattle.store.specs.Seats.{HasEntered, HasOwn, IsLookingIn, IsOpenIn, IsOwnWork, IsPage, IsVisit, IsWhole, KeptIsTold, MayGiveBack, Sat, Visited, began_of, journal, slots_of}
+use Rattle.store.specs.Seats.{ArchiveBeside, HasEntered, HasOwn, IsLookingIn, IsOpenIn, IsOwnWork, IsPage, IsVisit, IsWhole, KeptIsTold, MayGiveBack, Sat, Visited, began_of, journal, slots_of}
 use Rattle.store.specs.Sides.{DeskStands, of_desk}
 use Rattle.store.specs.Start.{opened_base}
 
@@ -126,8 +126,8 @@ module _ {D : Type 0} (is_honest : D → Type 0) (state : D → State) where
 
     module _ (s2 : Sat D) (d1 : DeskSide D) where
       pub visited : Rests z s2 → IsSame s1 s2 → held s2 ≡ held s1 → seen s2 ≡ journal d1 → mine s2 ≡ behind_desk (of_desk is_honest state faults) d0 d1 (mine s1) → d1.start ≡ d0.start → DeskStands is_honest state d1
-          → Visited is_honest state faults z s0 s2 d0 d1
-      visited rests same kept sees is start stands =
+          → ArchiveBeside is_honest state faults d1 (held s2) → Visited is_honest state faults z s0 s2 d0 d1
+      visited rests same kept sees is start stands near =
           let behind : mine s2 ≡ behind_desk (of_desk is_honest state faults) d0 d1 (mine s0) = is ∙ ap (behind_desk (of_desk is_honest state faults) d0 d1) entered.mine_stays in
           let number : s2.number ≡ s0.number = same.number ∙ entered.same.number in
           let own : (mine s0).number ≡ s2.number = entered.ready.rests.seat.number ∙ sym number in
@@ -152,6 +152,8 @@ module _ {D : Type 0} (is_honest : D → Type 0) (state : D → State) where
             mine = behind;
             rises = let e = kept in let up = entered.rises in omega (arith, e, up);
             acked = let e = kept in let up = entered.acked in omega (arith, e, up);
+            beside = subst (ArchiveBeside is_honest state faults d0) (sym kept) entered.beside;
+            beside_after = near;
           }
 
       pub still_whole : (who : Who) (tells : List (Device × ℕ) → Type 0) → HasOwn who tells d0 (mine s0) → IsVisit is_honest state faults who tells d0 d1 → Visited is_honest state faults z s0 s2 d0 d1 → IsWhole s2

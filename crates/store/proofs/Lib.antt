@@ -3,6 +3,7 @@ pub mod Agreeing
 pub mod Answering
 pub mod Asking
 pub mod Batches
+pub mod Beside
 pub mod ByTable
 pub mod Calling
 pub mod Captures
@@ -27,6 +28,7 @@ pub mod Leaving
 pub mod Limits
 pub mod Looked
 pub mod Meeting
+pub mod Moments
 pub mod Named
 pub mod Opened
 pub mod Overlaps

@@ -10,6 +10,7 @@ use Rattle.std.proofs.lemmas.List.{drop-append-le, length-drop, take-append-le}
 use Rattle.atomic_table.specs.Seated.{TableId}
 use Rattle.block_file.specs.Blocks.{block_at}
 use Rattle.disk_model.specs.Disk.{State}
+use Rattle.disk_model.specs.Moments.{Clock}
 use Rattle.redo_log.specs.Cause.{IsMemoryOrFault}
 use Rattle.retro_base.specs.declared.device.Device.{Device}
 use Rattle.retro_base.specs.declared.device.Device.TheVariants.{Pages as PagesDevice}
@@ -271,7 +272,7 @@ module _ {D : Type 0} (is_honest : D → Type 0) (state : D → State) (faults :
       ∙ (ap (λ (f : Pages). f page) (sym (current_is (world_of state d0.start.core.value d0.start.archive.value) (journal d0)))
       ∙ ap (λ g. (page_world g.pages (journal d0)).current page) (sym (ap (ground_in state faults) v.opening)))))
 
-  module _ (page : ℕ) (bytes_before after : List ℕ) (r : Result (Unit {0}) Refusal) (does : ReadDoes is_honest state faults who page bytes_before after t r d0.core d1.core) where
+  module _ (page : ℕ) (bytes_before after : List ℕ) (r : Result (Unit {0}) Refusal) {remembers : Type 0} {clock : D → Clock} (does : ReadDoes is_honest state faults remembers clock who page bytes_before after t r d0.core d1.core) where
     abbrev pub Gives : Result (Unit {0}) Refusal → Type 0
     Gives x = ReadGives (IsHonest is_honest state s1) page after Old New A x
 
@@ -355,7 +356,7 @@ module _ {D : Type 0} (is_honest : D → Type 0) (state : D → State) (faults :
   edit_err page bytes why e (inl (inr n)) = absurd n
   edit_err page bytes why e (inr m) = absurd (cc m.0)
 
-  module _ (page : ℕ) (bytes : List ℕ) (r : Result (Unit {0}) Refusal) (does : EditDoes is_honest state faults who page bytes t r d0.core d1.core) where
+  module _ (page : ℕ) (bytes : List ℕ) (r : Result (Unit {0}) Refusal) {remembers : Type 0} {clock : D → Clock} (does : EditDoes is_honest state faults remembers clock who page bytes t r d0.core d1.core) where
     edit_allowed : r ≡ Ok tt → d1.core.ledger ≡ with_open who (editing (record { page = page; bytes = bytes }) t) d0.core.ledger
     edit_allowed e = (subst (λ (x : Result (Unit {0}) Refusal). OnOk x ((edit_refused (journal d0) (slots_of d0) t page ≡ None) × (d1.core.ledger ≡ with_open who (editing (record { page = page; bytes = bytes }) t) d0.core.ledger))) e does.answered.allowed).1
 

@@ -1,9 +1,10 @@
 -- What a seat has behind a read of the past.
-use Rattle.std.proofs.Common.{◌≡◌, ◌∙◌, ◌≤◌, ◌<◌, ◌++◌, ℕ, Bool, true, cond, eqb, List, [], length, Option, Some, Result, Ok, Err, refl, sym, ap, subst, inl, inr, arith, append_assoc, append-nil, eq-eqb}
+use Rattle.std.proofs.Common.{◌≡◌, ◌∙◌, ◌≤◌, ◌<◌, ◌++◌, ℕ, Bool, true, cond, List, [], Option, Some, Result, Ok, Err, refl, sym, ap, subst, inl, inr, arith, append_assoc, append-nil}
 use Rattle.std.specs.Prelude.{IfOk, OnOk}
 use Rattle.std.proofs.lemmas.List.Elements.{filter-append}
 use Rattle.atomic_table.specs.Seated.{TableId}
 use Rattle.disk_model.specs.Disk.{State}
+use Rattle.disk_model.specs.Moments.{Clock}
 use Rattle.retro_base.specs.Cause.{FaultsAlone, IsFault}
 use Rattle.retro_base.specs.declared.device.Device.{Device}
 use Rattle.retro_base.specs.declared.device.Device.TheVariants.{Pages}
@@ -37,7 +38,8 @@ use Rattle.txn_set.specs.WorksFit.{pins_at}
 use Rattle.turn.specs.declared.view.Holding.{Holding}
 use Rattle.turn.specs.Faults.{desk_faults, fault_times}
 use Rattle.turn.specs.Seats.{held, mine, opening, seen}
-use Rattle.turn.specs.Views.{holding}
+use Rattle.turn.specs.Views.{holding, still_told}
+use Rattle.turn.proofs.Faults.{told_still}
 use Rattle.store.specs.declared.desk_side.DeskSide.{DeskSide}
 use Rattle.store.specs.declared.start.Start.{Start}
 use Rattle.store.specs.Calls.{PeekDoes}
@@ -96,10 +98,10 @@ module _ {D : Type 0} (is_honest : D → Type 0) (state : D → State) (faults :
       ∙ (ap (lines_of s0.number) (same ∙ sym v.place)
       ∙ (lines_append s0.number (seen s0) v.others ∙ (ap (λ (l : List Line). lines_of s0.number (seen s0) ++ l) v.apart ∙ (append-nil (lines_of s0.number (seen s0)) ∙ sym ready.lines)))) in
       let work : work_at (slots_of d1) h.number ≡ h.work = ap (work_at (slots_of d1)) number ∙ (ap (λ (l : Ledger). work_at l.works.slots s0.number) quiet ∙ sym v.work) in
-      let told : cond (eqb (length (journal d1)) (length (journal d0))) (h.faults ++ ToldIn) [] ≡ h.faults ++ ToldIn = ap (λ (b : Bool). cond b (h.faults ++ ToldIn) []) (eq-eqb (length (journal d1)) (length (journal d0)) (ap length same)) in
+      let told : still_told (journal d0) (journal d1) (h.faults ++ ToldIn) ≡ h.faults ++ ToldIn = told_still (journal d0) (journal d1) (h.faults ++ ToldIn) same in
       v.mine
-      ∙ (ap (λ (l : List Line). holding h.number h.parts l (work_at (slots_of d1) h.number) (cond (eqb (length (journal d1)) (length (journal d0))) (h.faults ++ ToldIn) [])) lines
-      ∙ (ap (λ (w : Option Work). holding h.number h.parts h.lines w (cond (eqb (length (journal d1)) (length (journal d0))) (h.faults ++ ToldIn) [])) work ∙ ap (λ (fs : List (Device × ℕ)). holding h.number h.parts h.lines h.work fs) told))
+      ∙ (ap (λ (l : List Line). holding h.number h.parts l (work_at (slots_of d1) h.number) (still_told (journal d0) (journal d1) (h.faults ++ ToldIn))) lines
+      ∙ (ap (λ (w : Option Work). holding h.number h.parts h.lines w (still_told (journal d0) (journal d1) (h.faults ++ ToldIn))) work ∙ ap (λ (fs : List (Device × ℕ)). holding h.number h.parts h.lines h.work fs) told))
 
   pub stays_glance : StaysIn s0 s1
   stays_glance = record { same = v.same; rises = v.rises; more = ToldIn; mine_is = mine_glance }
@@ -107,7 +109,7 @@ module _ {D : Type 0} (is_honest : D → Type 0) (state : D → State) (faults :
 -- ---- behind the desk
 
 module _ {D : Type 0} (is_honest : D → Type 0) (state : D → State) (faults : D → ℕ) (z : TableId) (s0 s1 : Sat D) (page n : ℕ) (before mid : List ℕ) (result : Result Peeked Refusal) (ready : IsReady z s0)
-    (v : Visits is_honest state faults z (PeekDoes is_honest state faults page n before mid result) s0 s1) where
+    {remembers : Type 0} {clock : D → Clock} (v : Visits is_honest state faults z (PeekDoes is_honest state faults remembers clock page n before mid result) s0 s1) where
   sees : seen s1 ≡ journal v.before
   sees = sees_glance is_honest state faults z s0 s1 v.before v.after ready v.visited v.does.ledger
 

@@ -106,4 +106,5 @@ module _ {D : Type 0} (is_honest : D → Type 0) (state : D → State) (faults :
     vault_fits = (vault_so, later_vault faults start.archive.value archive archive_is);
     acked = just.held;
     counts = λ d. let q = ap (λ (c : Core D). count_of (desk_counts faults c) (vault_counts faults start.archive.value) d) core_is in let p = ap (λ (a : Running D). count_of (desk_counts faults core) (vault_counts faults a) d) archive_is in omega (arith, q, p);
+    begins = λ d. let q = ap (λ (c : Core D). count_of (desk_counts faults c) (vault_counts faults start.archive.value) d) core_is in let p = ap (λ (a : Running D). count_of (desk_counts faults core) (vault_counts faults a) d) archive_is in omega (arith, q, p);
   }

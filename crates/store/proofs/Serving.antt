@@ -1,5 +1,5 @@
 -- The calls of rounds may be made in a visit to the desk.
-use Rattle.std.proofs.Common.{◌≡◌, ◌≤◌, ◌<◌, ◌∙◌, ◌++◌, ℕ, Bool, true, false, cond, List, [], length, Option, Some, None, Result, Ok, Err, refl, sym, ap, subst, arith, eq-eqb}
+use Rattle.std.proofs.Common.{◌≡◌, ◌≤◌, ◌<◌, ◌∙◌, ◌++◌, ℕ, Bool, true, false, cond, List, Option, Some, None, Result, Ok, Err, refl, sym, ap, subst, arith}
 use Rattle.std.specs.Prelude.{◌↔◌, IfErr, MatchResult, is_some}
 use Rattle.block_file.specs.Blocks.{File}
 use Rattle.disk_model.specs.Disk.{State}
@@ -31,6 +31,7 @@ use Rattle.store_core.specs.Core.{IsCore}
 use Rattle.turn.specs.declared.view.Holding.{Holding}
 use Rattle.turn.specs.Faults.{LAST, desk_faults, fault_times}
 use Rattle.turn.specs.Seats.{MayLeave}
+use Rattle.turn.proofs.Faults.{told_still}
 use Rattle.store.specs.declared.desk_side.DeskSide.{DeskSide}
 use Rattle.store.specs.RoundCalls.{AckDoes, CutDoes, HasServed, NoteDoes, SettleDoes, WriteBackDoes}
 use Rattle.store.specs.Seats.{CountFits, HasOwn, IsVisit, KeptIsTold, always, journal, slots_of}
@@ -84,7 +85,7 @@ module _ {D : Type 0} (is_honest : D → Type 0) (state : D → State) (faults :
         → KeptIsTold (Behind is_honest state faults who tells old new mine).work (Behind is_honest state faults who tells old new mine).faults
     keeps_same tells same mine own t d c is kept =
         let here = Told is_honest state faults who tells old new in
-        let all : (Behind is_honest state faults who tells old new mine).faults ≡ mine.faults ++ here = ap (λ (b : Bool). cond b (mine.faults ++ here) []) (eq-eqb (length (journal new)) (length (journal old)) (ap (λ (l : Ledger). length l.book.lines) same)) in
+        let all : (Behind is_honest state faults who tells old new mine).faults ≡ mine.faults ++ here = told_still (journal old) (journal new) (mine.faults ++ here) (ap (λ (l : Ledger). l.book.lines) same) in
         let before : mine.work ≡ Some (Open t) = own.work ∙ (ap (work_at (slots_of old)) (sym own.number) ∙ (sym (ap (λ (l : Ledger). work_at l.works.slots mine.number) same) ∙ is)) in
         subst (λ (fs : List (Device × ℕ)). 0 < fault_times d c fs) (sym all) (told_more mine.faults here d c (own.kept t d c before kept))
 

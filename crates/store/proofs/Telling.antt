@@ -1,5 +1,5 @@
 -- The faults that a seat is told in a visit to the desk, and those that its transaction keeps.
-use Rattle.std.proofs.Common.{◌≡◌, ◌≤◌, ◌<◌, ◌+◌, ◌⊎◌, ◌∙◌, ◌++◌, ◌||◌, ℕ, Bool, true, false, cond, eqb, ltb, List, [], ◌∷◌, length, Some, None, refl, sym, ap, subst, ⊎_elim, arith, eq-eqb}
+use Rattle.std.proofs.Common.{◌≡◌, ◌≤◌, ◌<◌, ◌+◌, ◌⊎◌, ◌∙◌, ◌++◌, ◌||◌, ℕ, Bool, true, false, cond, eqb, ltb, List, [], ◌∷◌, Some, None, refl, sym, ap, subst, ⊎_elim, arith, eq-eqb}
 use Rattle.std.proofs.lemmas.Bool.{ltb-false}
 use Rattle.disk_model.specs.Disk.{State}
 use Rattle.retro_base.specs.Cause.{Rose}
@@ -14,7 +14,7 @@ use Rattle.journal_book.specs.Works.{work_at}
 use Rattle.turn.specs.declared.view.Holding.{Holding}
 use Rattle.turn.specs.Faults.{LAST, desk_faults, fault_times, one_fault, rose}
 use Rattle.turn.specs.Views.{behind_desk}
-use Rattle.turn.proofs.Faults.{times_append}
+use Rattle.turn.proofs.Faults.{times_append, told_still}
 use Rattle.store.specs.declared.desk_side.DeskSide.{DeskSide}
 use Rattle.store.specs.Seats.{HasOwn, KeptIsTold, journal, slots_of}
 use Rattle.store.specs.Sides.{of_desk}
@@ -71,7 +71,7 @@ module _ {D : Type 0} (is_honest : D → Type 0) (state : D → State) (faults :
       → ((d : Device) (c : ℕ) → next.kept ≡ Some (DiskFault d c) → (t.kept ≡ Some (DiskFault d c)) ⊎ (0 < fault_times d c Told)) → KeptIsTold (Behind mine).work (Behind mine).faults
   keeps_open mine own t next there now same from_ u d c is kept =
       let e : next ≡ u = open_is next u (sym now ∙ (ap (work_at (slots_of new)) (sym own.number) ∙ is)) in
-      let all : (Behind mine).faults ≡ mine.faults ++ Told = ap (λ (b : Bool). cond b (mine.faults ++ Told) []) (eq-eqb (length (journal new)) (length (journal old)) (ap length same)) in
+      let all : (Behind mine).faults ≡ mine.faults ++ Told = told_still (journal old) (journal new) (mine.faults ++ Told) same in
       let sum = times_append d c mine.faults Told in
       subst (λ (fs : List (Device × ℕ)). 0 < fault_times d c fs) (sym all)
       (⊎_elim (λ before. let p = own.kept t d c (own.work ∙ there) before in omega (arith, sum, p)) (λ here. omega (arith, sum, here)) (from_ d c (ap (λ (x : Transaction). x.kept) e ∙ kept)))

@@ -14,7 +14,7 @@ use Rattle.turn.specs.declared.view.Place.TheVariants.{Inside}
 use Rattle.turn.specs.Seats.{IsInVault, IsSame, Rests, held, mine, opening, seen}
 use Rattle.turn.specs.Views.{behind_vault}
 use Rattle.store.specs.declared.start.Start.{Start}
-use Rattle.store.specs.Seats.{HasEnteredVault, IsOwnWork, Sat, VisitedVault}
+use Rattle.store.specs.Seats.{DeskSideBeside, HasEnteredVault, IsOwnWork, Sat, VisitedVault, journal}
 use Rattle.store.specs.Sides.{VaultStands, of_vault}
 use Rattle.store.specs.Start.{opened_base}
 use Rattle.store.proofs.Entering.{apart}
@@ -35,8 +35,9 @@ module _ {D : Type 0} (is_honest : D → Type 0) (state : D → State) (faults :
 
 module _ {D : Type 0} (is_honest : D → Type 0) (state : D → State) (faults : D → ℕ) (z : TableId) (s0 s1 : Sat D) (a0 : Running D) (entered : HasEnteredVault is_honest state faults z s0 s1 a0) (s2 : Sat D) (a1 : Running D) where
   pub visited_vault : Rests z s2 → IsSame s1 s2 → seen s2 ≡ seen s1 → held s2 ≡ a1.side.held → mine s2 ≡ behind_vault (of_vault is_honest state faults) a0 a1 (mine s1)
-      → a0.side.held ≤ a1.side.held → ((start : Start D) → opening s1 ≡ Some start → VaultStands is_honest state a1 start (seen s1)) → VisitedVault is_honest state faults z s0 s2 a0 a1
-  visited_vault rests same sees holds is up stands =
+      → a0.side.held ≤ a1.side.held → ((start : Start D) → opening s1 ≡ Some start → VaultStands is_honest state a1 start (seen s1))
+      → ((start : Start D) → opening s1 ≡ Some start → DeskSideBeside is_honest state faults a1 start (seen s1)) → VisitedVault is_honest state faults z s0 s2 a0 a1
+  visited_vault rests same sees holds is up stands near =
       let behind : mine s2 ≡ behind_vault (of_vault is_honest state faults) a0 a1 (mine s0) = is ∙ ap (behind_vault (of_vault is_honest state faults) a0 a1) entered.mine_stays in
       let number : s2.number ≡ s0.number = same.number ∙ entered.same.number in
       record {
@@ -60,4 +61,6 @@ module _ {D : Type 0} (is_honest : D → Type 0) (state : D → State) (faults :
         rises = let e = holds in let f = entered.held_is in let u = entered.rises in omega (arith, e, f, u, up);
         held_is = holds;
         mine_is = behind;
+        beside = λ start e. subst (λ (l : List Line). (d : DeskSideBeside is_honest state faults a0 start l) × (journal d.side ≡ l)) (sym sees) (entered.beside start e);
+        beside_after = λ start e. subst (λ (l : List Line). DeskSideBeside is_honest state faults a1 start l) (sym sees) (near start (entered.same.opening ∙ e));
       }

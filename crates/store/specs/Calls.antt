@@ -1,6 +1,6 @@
 -- What each call does to the core that it finds.
 use Rattle.std.specs.Prelude.{◌≡◌, ◌↔◌, ℕ, List, length, map, Option, Some, None, is_some, true, false, Result, Err, IfErr, IfOk, MatchResult, OnErr, OnOk, if◌then◌else◌}
-use Rattle.disk_model.specs.Disk.{State}
+use Rattle.disk_model.specs.Disk.{IsImage, State}
 use Rattle.disk_model.specs.Moments.{Clock, LeavesOnly}
 use Rattle.block_file.specs.Blocks.{SameFile}
 use Rattle.retro_base.specs.declared.refusal.Refusal.TheVariants.{OutOfMemory}
@@ -86,8 +86,8 @@ module _ {D : Type 0} (is_honest : D → Type 0) (state : D → State) where
     -- for what t keeps; where another item changed the page since t began; exactly where a call of the pages'
     -- device failed; and for want of memory, but not where the page was read before. Behind each other
     -- refusal the buffer is as before.
-    pub record ReadDoes (who : Who) (page : ℕ) (before after : List ℕ) (t : Transaction)
-        (result : Result (Unit {0}) Refusal) (old new : Core D) : Type 0 where
+    pub record ReadDoes (remembers : Type 0) (clock : D → Clock) (who : Who) (page : ℕ) (before after : List ℕ)
+        (t : Transaction) (result : Result (Unit {0}) Refusal) (old new : Core D) : Type 0 where
       pub refused : (why : Refusal) → read_refused old.ledger.book.lines t page ≡ Some why →
           (result ≡ Err why) × (new.desk ≡ old.desk)
       pub err : IfErr result (λ why. (why ≡ OutOfMemory → ⊥) → after ≡ before)
@@ -104,13 +104,16 @@ module _ {D : Type 0} (is_honest : D → Type 0) (state : D → State) where
           IfErr result IsDiskFault
       pub rest : SameButPages old.desk new.desk
       pub same : SameFile is_honest old.desk.pool.file new.desk.pool.file
+      pub quiet : is_honest old.desk.pool.file.disk →
+          LeavesOnly remembers (clock old.desk.pool.file.disk) (clock new.desk.pool.file.disk)
+          (IsImage (state old.desk.pool.file.disk))
       pub stays : StaysCore is_honest state old new
 
     -- The transaction t edits a page. It is refused for what t keeps; for the holder of the page's latch; where
     -- another item changed the page since t began; where it would be the 1,025th page; exactly where a call of the
     -- pages' device failed; and for want of memory.
-    pub record EditDoes (who : Who) (page : ℕ) (bytes : List ℕ) (t : Transaction) (result : Result (Unit {0}) Refusal)
-        (old new : Core D) : Type 0 where
+    pub record EditDoes (remembers : Type 0) (clock : D → Clock) (who : Who) (page : ℕ) (bytes : List ℕ)
+        (t : Transaction) (result : Result (Unit {0}) Refusal) (old new : Core D) : Type 0 where
       pub refused : (why : Refusal) → edit_refused old.ledger.book.lines old.ledger.works.slots t page ≡ Some why →
           (result ≡ Err why) × (new.desk ≡ old.desk)
       pub answered : HasAnswered who t (editing (record { page = page; bytes = bytes }) t)
@@ -120,13 +123,16 @@ module _ {D : Type 0} (is_honest : D → Type 0) (state : D → State) where
           (IsMemoryOrFault Pages (page_faults old) (page_faults new))
       pub rest : SameButPages old.desk new.desk
       pub same : SameFile is_honest old.desk.pool.file new.desk.pool.file
+      pub quiet : is_honest old.desk.pool.file.disk →
+          LeavesOnly remembers (clock old.desk.pool.file.disk) (clock new.desk.pool.file.disk)
+          (IsImage (state old.desk.pool.file.disk))
       pub stays : StaysCore is_honest state old new
 
     -- A reader of a page as of a pinned snapshot is told the bytes that the page had at its first pending capture
     -- from the snapshot's start on, else the page as it is, and how many captures are acknowledged. The only
     -- refusal is a fault of the pages' device.
-    pub record PeekDoes (page snapshot : ℕ) (before after : List ℕ) (result : Result Peeked Refusal)
-        (old new : Core D) : Type 0 where
+    pub record PeekDoes (remembers : Type 0) (clock : D → Clock) (page snapshot : ℕ) (before after : List ℕ)
+        (result : Result Peeked Refusal) (old new : Core D) : Type 0 where
       pub cause : FaultsAlone Pages (page_faults old) (page_faults new) result
       pub upto : IfOk result (λ peeked. peeked.acked ≡ old.desk.queue.first)
       pub told : (opening : History) (plain : Desk) → IsCore is_honest state opening old plain →
@@ -138,6 +144,9 @@ module _ {D : Type 0} (is_honest : D → Type 0) (state : D → State) where
       pub ledger : new.ledger ≡ old.ledger
       pub rest : SameButPages old.desk new.desk
       pub same : SameFile is_honest old.desk.pool.file new.desk.pool.file
+      pub quiet : is_honest old.desk.pool.file.disk →
+          LeavesOnly remembers (clock old.desk.pool.file.disk) (clock new.desk.pool.file.disk)
+          (IsImage (state old.desk.pool.file.disk))
       pub stays : StaysCore is_honest state old new
 
     -- why a commit of t is refused before it takes any memory

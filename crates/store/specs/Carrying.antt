@@ -1,6 +1,7 @@
 -- A batch on its way from the desk into the vault.
 use Rattle.std.specs.Prelude.{◌≡◌, ◌⊎◌, ◌≤◌, ◌<◌, ℕ, List, length, None, Some, Result, MatchResult}
 use Rattle.disk_model.specs.Disk.{State}
+use Rattle.block_file.specs.Blocks.{IsAsLong}
 use Rattle.disk_model.specs.Moments.{Clock, LeavesOnly}
 use Rattle.retro_base.specs.Cause.{IsFault}
 use Rattle.retro_base.specs.declared.device.Device.TheVariants.{Maplog, Pagelog}
@@ -87,8 +88,8 @@ module _ {D : Type 0} (is_honest : D → Type 0) (state : D → State) where
     pub is_batch : IsBatchIn start lines archive.side.held batch
 
   -- The archive stands for each journal for which it stood, and holds as much at least; its faults are no fewer, and it
-  -- stops at the first. A crash at any moment of the call leaves slots as a laying of the batch that fails, or a Maplog
-  -- as an entering that fails.
+  -- stops at the first. A crash at any moment of the call leaves slots as a laying of the batch that fails, as long as
+  -- they were, or a Maplog as an entering that fails.
   pub record Carries (faults : D → ℕ) (remembers : Type 0) (clock : D → Clock) (batch : Batch)
       (result : Result Carried Fault) (old new : Running D) : Type 0 where
     pub stands : (start : Start D) (lines : List Line) → VaultStands is_honest state old start lines →
@@ -102,6 +103,8 @@ module _ {D : Type 0} (is_honest : D → Type 0) (state : D → State) where
     pub laying : (vault : Vault) → IsVault is_honest state old vault → IsToLay batch old → is_honest old.pagelog.disk →
         LeavesOnly remembers (clock old.pagelog.disk) (clock new.pagelog.disk)
         (λ image. SomeFailedLaying old.pagelog.blocks vault batch (λ failed. HasSlotsOf failed image))
+    pub long : IsToLay batch old → is_honest old.pagelog.disk →
+        LeavesOnly remembers (clock old.pagelog.disk) (clock new.pagelog.disk) (IsAsLong (state old.pagelog.disk))
     pub entering : (vault : Vault) → IsVault is_honest state old vault → IsToEnter batch old → is_honest old.side.disk →
         LeavesOnly remembers (clock old.side.disk) (clock new.side.disk)
         (ListsMaplogOf old.side.log (enter_failed vault batch))

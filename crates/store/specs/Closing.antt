@@ -1,5 +1,5 @@
 -- What a store that is closed leaves.
-use Rattle.std.specs.Prelude.{◌≡◌, ◌≢◌, ◌<◌, ◌≤◌, ◌⊎◌, ◌↔◌, ℕ, Bool, true, false, List, [], length, slice_get, None, Some, is_some, IfSome, Err}
+use Rattle.std.specs.Prelude.{◌≡◌, ◌≢◌, ◌<◌, ◌≤◌, ◌+◌, ◌⊎◌, ◌↔◌, ℕ, Bool, true, false, List, [], length, slice_get, None, Some, is_some, IfSome, Err}
 use Rattle.std.specs.List.{AllByRecursion}
 use mathlib.Core.List.{IsPrefix}
 use Rattle.atomic_table.specs.Seated.{TableId}
@@ -16,7 +16,8 @@ use Rattle.journal_law.specs.Lawful.{IsCounted}
 use Rattle.journal_law.specs.Seats.{View}
 use Rattle.archive.specs.Archive.{Running}
 use Rattle.opening.specs.Devices.{of_each}
-use Rattle.turn.specs.Seats.{IsSame, held, mine, opening, seen}
+use Rattle.turn.specs.Faults.{fault_lines}
+use Rattle.turn.specs.Seats.{IsSame, held, mine, opening, seen, told_to}
 use Rattle.store.specs.declared.closing.Closed.{Closed}
 use Rattle.store.specs.declared.desk_side.DeskSide.{DeskSide}
 use Rattle.store.specs.declared.pace.Worker.TheVariants.{Copier}
@@ -27,7 +28,7 @@ use Rattle.store.specs.Rounds.{Passes}
 use Rattle.store.specs.Seats.{IsReady, IsWhole, Sat, journal, slots_of}
 use Rattle.store.specs.Seen.{view_of}
 use Rattle.store.specs.Sides.{DeskStands, VaultStands}
-use Rattle.store.specs.Start.{Origin, opened_base}
+use Rattle.store.specs.Start.{IsAbove, Origin, opened_base, opened_counts}
 use Rattle.store.specs.WorkerRounds.{CopierEnds, HasRun, IsFreshOrStopped, WorkerLeaves, worker}
 
 -- each of these seats may call
@@ -61,6 +62,12 @@ pub record Closes {D : Type 0} (is_honest : D → Type 0) (state : D → State) 
   pub foreign : (n : ℕ) → limit ≤ n → lines_of n (journal side) ≡ []
   pub differ : FaultsDiffer (journal side)
   pub counted : AllByRecursion (IsCounted (of_each faults left.disks)) (journal side)
+  -- a fault that a line tells is of a device whose count rose to it since the opening, or stands at its last value
+  pub risen : (device : Device) (count : ℕ) → 0 < fault_lines device count (journal side) →
+      IsAbove faults start device count
+  -- a device whose count rose has a fault that a line tells, or that a seat was told and has not told since
+  pub heard : (device : Device) → opened_counts faults start device < of_each faults left.disks device →
+      (count : ℕ) × (0 < fault_lines device count (journal side) + told_to device count seats)
   pub disks : left.disks ≡ disks_of side.core archive
   pub lines : left.journal ≡ journal side
   pub captures : left.captures ≡ (base_of (opened_base side.start) (journal side)).captures

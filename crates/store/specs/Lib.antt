@@ -6,6 +6,7 @@ pub mod Ending
 pub mod Frames
 pub mod Ground
 pub mod Kept
+pub mod Moments
 pub mod Opening
 pub mod Past
 pub mod Recovery

@@ -2,7 +2,7 @@
 use Rattle.std.specs.Prelude.{◌≡◌, ◌≤◌, ◌<◌, ◌-◌, ◌↔◌, ℕ, Bool, true, false, List, [], length, max, drop, None, Result, Ok, IfErr, IfOk, MatchResult, OnOk}
 use Rattle.disk_model.specs.Disk.{State}
 use Rattle.disk_model.specs.Moments.{Clock, LeavesOnly}
-use Rattle.block_file.specs.Blocks.{SameFile}
+use Rattle.block_file.specs.Blocks.{IsAsLong, SameFile}
 use Rattle.retro_base.specs.Cause.{IsFault}
 use Rattle.retro_base.specs.declared.device.Device.{Device}
 use Rattle.retro_base.specs.declared.device.Device.TheVariants.{Log, Pages}
@@ -77,7 +77,8 @@ module _ {D : Type 0} (is_honest : D → Type 0) (state : D → State) where
   module _ (faults : D → ℕ) (remembers : Type 0) (clock : D → Clock) where
     -- The least dirty page all of whose captures are acknowledged is written back; false exactly where there is
     -- none. It is refused, in this order, after the first fault, and exactly where a call of the pages' device
-    -- failed: then the fault has its line.
+    -- failed: then the fault has its line. A crash at any moment leaves pages as a writing that fails, as long as they
+    -- were.
     pub record WriteBackDoes (who : Who) (result : Result Bool Refusal) (old new : Core D) : Type 0 where
       pub log : new.desk.log ≡ old.desk.log
       pub same : SameFile is_honest old.desk.pool.file new.desk.pool.file
@@ -100,6 +101,9 @@ module _ {D : Type 0} (is_honest : D → Type 0) (state : D → State) where
           IsCore is_honest state opening old plain → IsLeastWritable plain page → is_honest old.desk.pool.file.disk →
           LeavesOnly remembers (clock old.desk.pool.file.disk) (clock new.desk.pool.file.disk)
           (HoldsPagesOf (write_failed plain page need left))
+      pub long : is_honest old.desk.pool.file.disk →
+          LeavesOnly remembers (clock old.desk.pool.file.disk) (clock new.desk.pool.file.disk)
+          (IsAsLong (state old.desk.pool.file.disk))
 
     -- The pages are made durable. The refusals are those of a page written back.
     pub record SettleDoes (who : Who) (result : Result (Unit {0}) Refusal) (old new : Core D) : Type 0 where
@@ -119,6 +123,9 @@ module _ {D : Type 0} (is_honest : D → Type 0) (state : D → State) where
           is_honest old.desk.pool.file.disk →
           LeavesOnly remembers (clock old.desk.pool.file.disk) (clock new.desk.pool.file.disk)
           (HoldsPagesOf (stopped plain))
+      pub long : is_honest old.desk.pool.file.disk →
+          LeavesOnly remembers (clock old.desk.pool.file.disk) (clock new.desk.pool.file.disk)
+          (IsAsLong (state old.desk.pool.file.disk))
 
     -- The log is cut to what it says now; false exactly where a page is dirty or not settled, or a capture is
     -- pending. It is refused, in this order, after the first fault; for want of memory; and exactly where a call of

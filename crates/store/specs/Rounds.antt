@@ -74,11 +74,14 @@ module _ {D : Type 0} (is_honest : D → Type 0) (state : D → State) where
   module _ (faults : D → ℕ) (z : TableId) (remembers : Type 0) (clock : D → Clock) where
     -- ---- a copy round
 
-    -- In one visit to the vault a call with the batch did that.
+    -- In one visit to the vault a call did that with the batch, which has captures behind the journal that the seat has
+    -- then seen.
     pub record CarriesIn (batch : Batch) (result : Result Carried Fault) (old new : Sat D) : Type 0 where
       pub before : Running D
       pub after : Running D
       pub visited : VisitedVault is_honest state faults z old new before after
+      pub is_batch : (start : Start D) → opening old ≡ Some start →
+          IsBatchIn is_honest state start (seen new) before.side.held batch
       pub carries : Carries is_honest state faults remembers clock batch result before after
 
     -- Visits to the vault with a batch: the last did that to it, and each before it laid the batch.

@@ -150,6 +150,26 @@ module _ {D : Type 0} (is_honest : D → Type 0) (state : D → State) (faults :
       → old.core.desk.queue.first ≤ most
       → MayLeave (of_desk is_honest state faults) (of_start faults) most mine old new
 
+  -- The archive as it was last left, beside a desk: both stand for one opening and one journal at that moment, the desk
+  -- knows of no more captures than are held, and no fewer are held than the seat has seen.
+  pub record ArchiveBeside (side : DeskSide D) (seen_held : ℕ) : Type 0 where
+    pub archive : Running D
+    pub stands : VaultStands is_honest state archive side.start (journal side)
+    pub later : IsLaterArchive faults side.start.archive.value archive
+    pub acked : side.core.desk.queue.first ≤ archive.side.held
+    pub held : seen_held ≤ archive.side.held
+
+  -- The desk as it was last left, beside an archive: both stand for this opening and one journal at that moment, which
+  -- these lines begin, and the desk knows of no more captures than are held.
+  pub record DeskSideBeside (archive : Running D) (start : Start D) (lines : List Line) : Type 0 where
+    pub side : DeskSide D
+    pub begun : side.start ≡ start
+    pub stands : DeskStands is_honest state side
+    pub keeps : Keeps is_honest state faults side
+    pub begins : IsPrefix lines (journal side)
+    pub vault : VaultStands is_honest state archive side.start (journal side)
+    pub acked : side.core.desk.queue.first ≤ archive.side.held
+
   -- the seat has entered the desk, and found this
   pub record HasEntered (z : TableId) (old new : Sat D) (side : DeskSide D) : Type 0 where
     pub ready : IsReady z old
@@ -165,6 +185,7 @@ module _ {D : Type 0} (is_honest : D → Type 0) (state : D → State) (faults :
     pub lines : (mine old).lines ≡ lines_of old.number (journal side)
     pub work : (mine old).work ≡ work_at (slots_of side) old.number
     pub pages : side.core.desk.base.page_count ≡ (opened_base side.start).page_count
+    pub beside : ArchiveBeside side (held new)
 
   -- the seat may leave this
   abbrev pub MayGiveBack : TableId → Sat D → DeskSide D → Type 0
@@ -173,7 +194,7 @@ module _ {D : Type 0} (is_honest : D → Type 0) (state : D → State) (faults :
       × MayLeave (of_desk is_honest state faults) (of_start faults) (held s) (mine old) before side
 
   -- A seat visited the desk, found it so, and left it so. Other seats' lines had come since what it had seen, none
-  -- of its own number.
+  -- of its own number. Beside either stood the archive as it was last left when the seat entered, and when it left.
   pub record Visited (z : TableId) (old new : Sat D) (before after : DeskSide D) : Type 0 where
     pub ready : IsReady z new
     pub same : IsSame old new
@@ -190,6 +211,8 @@ module _ {D : Type 0} (is_honest : D → Type 0) (state : D → State) (faults :
     pub mine : mine new ≡ behind_desk (of_desk is_honest state faults) before after (mine old)
     pub rises : held old ≤ held new
     pub acked : before.core.desk.queue.first ≤ held new
+    pub beside : ArchiveBeside before (held new)
+    pub beside_after : ArchiveBeside after (held new)
 
   -- in such a visit the core did that
   pub record Visits (z : TableId) (Does : Core D → Core D → Type 0) (old new : Sat D) : Type 0 where
@@ -211,6 +234,8 @@ module _ {D : Type 0} (is_honest : D → Type 0) (state : D → State) (faults :
     pub later : (start : Start D) → opening old ≡ Some start → IsLaterArchive faults start.archive.value archive
     pub held_is : held new ≡ archive.side.held
     pub rises : held old ≤ held new
+    pub beside : (start : Start D) → opening old ≡ Some start →
+        (near : DeskSideBeside archive start (seen new)) × (journal near.side ≡ seen new)
 
   -- the seat may leave this
   abbrev pub MayGiveBackVault : TableId → Sat D → Running D → Type 0
@@ -219,7 +244,8 @@ module _ {D : Type 0} (is_honest : D → Type 0) (state : D → State) (faults :
       × MayLeaveVault (of_vault is_honest state faults) (opening s) (seen s) before archive
 
   -- A seat visited the vault, found it so, and left it so. It has then seen a journal for which both stand, with no
-  -- more lines of its own.
+  -- more lines of its own: that of the desk as it was last left when the seat entered. Beside either stood the desk as
+  -- it was last left when the seat entered, and when it left.
   pub record VisitedVault (z : TableId) (old new : Sat D) (before after : Running D) : Type 0 where
     pub ready : IsReady z new
     pub same : IsSame old new
@@ -232,3 +258,6 @@ module _ {D : Type 0} (is_honest : D → Type 0) (state : D → State) (faults :
     pub rises : held old ≤ held new
     pub held_is : held new ≡ after.side.held
     pub mine_is : mine new ≡ behind_vault (of_vault is_honest state faults) before after (mine old)
+    pub beside : (start : Start D) → opening old ≡ Some start →
+        (near : DeskSideBeside before start (seen new)) × (journal near.side ≡ seen new)
+    pub beside_after : (start : Start D) → opening old ≡ Some start → DeskSideBeside after start (seen new)

@@ -61,7 +61,8 @@ impl<D: Disk + Drop> DeskSide<D> {
         requires is_open { IsOpenAs (slots_of self.old) who }
         requires inside { page < self.old.core.desk.base.page_count }
         ensures does { (t : Transaction) → work_at (slots_of self.old) who.session ≡ Some (Open t)
-            → ReadDoes D.is_honest D.state D.faults who page out.old out.new t result self.old.core self.new.core }
+            → ReadDoes D.is_honest D.state D.faults D.remembers D.clock who page out.old out.new t result
+            self.old.core self.new.core }
         ensures visit { IsVisit D.is_honest D.state D.faults who always self.old self.new }
     {
         let answer = self.core.read(who, page, out);
@@ -74,7 +75,8 @@ impl<D: Disk + Drop> DeskSide<D> {
         requires is_open { IsOpenAs (slots_of self.old) who }
         requires inside { page < self.old.core.desk.base.page_count }
         ensures does { (t : Transaction) → work_at (slots_of self.old) who.session ≡ Some (Open t)
-            → EditDoes D.is_honest D.state D.faults who page bytes.now t result self.old.core self.new.core }
+            → EditDoes D.is_honest D.state D.faults D.remembers D.clock who page bytes.now t result
+            self.old.core self.new.core }
         ensures visit { IsVisit D.is_honest D.state D.faults who always self.old self.new }
     {
         let answer = self.core.edit(who, page, bytes);
@@ -165,7 +167,7 @@ impl<D: Disk + Drop> DeskSide<D> {
         requires stands { DeskStands D.is_honest D.state self.old }
         requires inside { page < self.old.core.desk.base.page_count }
         requires pinned { IsPinned self.old.core.ledger snapshot }
-        ensures does { PeekDoes D.is_honest D.state D.faults page snapshot out.old out.new result
+        ensures does { PeekDoes D.is_honest D.state D.faults D.remembers D.clock page snapshot out.old out.new result
             self.old.core self.new.core }
         ensures glance { IsGlance D.is_honest D.state D.faults self.old self.new }
         ensures fits { CountFits result }

@@ -1,5 +1,7 @@
 //! Of the pages now and at each retained snapshot.
 
+ghost use Rattle.store.specs.Moments.{BesideOpens, CarryOpens, CommitOpens, CutOpens, DropOpens, EditOpens};
+ghost use Rattle.store.specs.Moments.{PeekOpens, QuietOpens, ReadOpens, SettleOpens, WriteBackOpens};
 ghost use Rattle.store.specs.Recovery.{ClosedShows, OpeningShows, OpensShown};
 ghost use Rattle.store.specs.Within.{LeftOpens};
 ghost use Rattle.store.specs.Worlds.{NamesAreSame, NamesStay, OthersAreRefused, PinsAreSame, RetainedAreHeld, WorldIsOfHistory};
@@ -32,4 +34,26 @@ pub fn laws_of_crashes<D: Disk + Drop>()
     // Whatever a crash leaves of the four devices within a call of the desk's, one of the archive's, or both, they open
     // to the history behind the journal, or to it with the change in doubt.
     ensures within { LeftOpens D.is_honest D.state }
+    // So they do of a desk and the archive that stands beside it, as each visit to the desk tells.
+    ensures beside { BesideOpens D.is_honest D.state D.faults }
+{}
+
+/// Whatever a crash leaves of the four devices since a visit began opens to the history behind the journal that the
+/// visit found, or to it with the one change in doubt.
+pub fn laws_of_visits<D: Disk + Drop>()
+    // A visit to the desk that touches no device.
+    ensures quiet { QuietOpens D.is_honest D.state D.faults D.remembers D.clock }
+    // One that reads a page, edits it, or reads it as of a snapshot.
+    ensures read { ReadOpens D.is_honest D.state D.faults D.remembers D.clock }
+    ensures edit { EditOpens D.is_honest D.state D.faults D.remembers D.clock }
+    ensures peek { PeekOpens D.is_honest D.state D.faults D.remembers D.clock }
+    // One that writes a page back, makes the pages durable, or cuts the log.
+    ensures write_back { WriteBackOpens D.is_honest D.state D.faults D.remembers D.clock }
+    ensures settle { SettleOpens D.is_honest D.state D.faults D.remembers D.clock }
+    ensures cut { CutOpens D.is_honest D.state D.faults D.remembers D.clock }
+    // One that commits, or drops snapshots: its own change may be in doubt.
+    ensures commit { CommitOpens D.is_honest D.state D.faults D.remembers D.clock }
+    ensures drop { DropOpens D.is_honest D.state D.faults D.remembers D.clock }
+    // A visit to the vault with a batch.
+    ensures carry { CarryOpens D.is_honest D.state D.faults D.remembers D.clock }
 {}

@@ -31,7 +31,7 @@ pub use desk_side::DeskSide;
 pub use fetching::{Shown, show};
 pub use flusher_rounds::flusher;
 pub use held::Held;
-pub use laws::{laws_of_crashes, laws_of_worlds};
+pub use laws::{laws_of_crashes, laws_of_visits, laws_of_worlds};
 pub use pace::{Done, Ended, IDLE_ROUNDS, Worker};
 pub use shared::{Seat, Store};
 pub use start::Start;

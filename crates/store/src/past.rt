@@ -33,7 +33,8 @@ impl<D: Disk + Drop> Store<D> {
         requires pinned { IsPinnedBy seat.old snapshot }
         requires inside { IsPage seat.old page }
         ensures visits { Visits D.is_honest D.state D.faults (table_of self.now.turn)
-            (PeekDoes D.is_honest D.state D.faults page snapshot out.old out.new result) seat.old seat.new }
+            (PeekDoes D.is_honest D.state D.faults D.remembers D.clock page snapshot out.old out.new result)
+            seat.old seat.new }
         ensures fits { CountFits result }
     {
         let mut side = self.enter(rt, seat);

@@ -61,7 +61,8 @@ impl<D: Disk + Drop> Store<D> {
         ensures same { IsSame seat.old seat.new }
         ensures visits { (t : Transaction) → (mine seat.old).work ≡ Some (Open t)
             → Visits D.is_honest D.state D.faults (table_of self.now.turn)
-            (ReadDoes D.is_honest D.state D.faults who page out.old out.new t result) seat.old seat.new }
+            (ReadDoes D.is_honest D.state D.faults D.remembers D.clock who page out.old out.new t result)
+            seat.old seat.new }
     {
         let mut side = self.enter(rt, seat);
         let answer = side.read(who, page, out);
@@ -90,7 +91,7 @@ impl<D: Disk + Drop> Store<D> {
         ensures same { IsSame seat.old seat.new }
         ensures visits { (t : Transaction) → (mine seat.old).work ≡ Some (Open t)
             → Visits D.is_honest D.state D.faults (table_of self.now.turn)
-            (EditDoes D.is_honest D.state D.faults who page bytes.now t result) seat.old seat.new }
+            (EditDoes D.is_honest D.state D.faults D.remembers D.clock who page bytes.now t result) seat.old seat.new }
     {
         let mut side = self.enter(rt, seat);
         let answer = side.edit(who, page, bytes);

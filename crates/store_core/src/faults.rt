@@ -2,7 +2,7 @@
 
 ghost use Rattle.std.specs.Prelude.{◌≡◌, ◌&&◌, ℕ, List, None, Some, if◌then◌else◌, not, true, false, IfErr, IfOk, MatchResult, OnOk};
 ghost use Rattle.std.specs.Option.{option_or};
-ghost use Rattle.block_file.specs.Blocks.{SameFile};
+ghost use Rattle.block_file.specs.Blocks.{IsAsLong, SameFile};
 ghost use Rattle.disk_model.specs.Moments.{LeavesOnly};
 ghost use Rattle.disk_model.specs.Runs.{SameDevice};
 ghost use Rattle.retro_base.specs.Cause.{IsFault};
@@ -105,6 +105,9 @@ impl<D: Disk + Drop> Core<D> {
             → D.is_honest self.old.desk.pool.file.disk
             → LeavesOnly D.remembers (D.clock self.old.desk.pool.file.disk) (D.clock self.new.desk.pool.file.disk)
             (HoldsPagesOf (write_failed plain page need left)) }
+        ensures long { D.is_honest self.old.desk.pool.file.disk → LeavesOnly D.remembers
+            (D.clock self.old.desk.pool.file.disk) (D.clock self.new.desk.pool.file.disk)
+            (IsAsLong (D.state self.old.desk.pool.file.disk)) }
     {
         match self.desk.write_back() {
             Ok(wrote) => Ok(wrote),
@@ -138,6 +141,9 @@ impl<D: Disk + Drop> Core<D> {
             → D.is_honest self.old.desk.pool.file.disk
             → LeavesOnly D.remembers (D.clock self.old.desk.pool.file.disk) (D.clock self.new.desk.pool.file.disk)
             (HoldsPagesOf (stopped plain)) }
+        ensures long { D.is_honest self.old.desk.pool.file.disk → LeavesOnly D.remembers
+            (D.clock self.old.desk.pool.file.disk) (D.clock self.new.desk.pool.file.disk)
+            (IsAsLong (D.state self.old.desk.pool.file.disk)) }
     {
         match self.desk.settle() {
             Ok(()) => Ok(()),

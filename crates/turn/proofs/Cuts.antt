@@ -19,12 +19,12 @@ use Rattle.turn.specs.Faults.{fault_lines, fault_times}
 use Rattle.history.specs.Lines.{lines_of}
 use Rattle.turn.specs.Meanings.{OpeningMeaning, DeskMeaning, VaultMeaning}
 use Rattle.turn.specs.Queue.{Lock, total, tickets_in}
-use Rattle.turn.specs.Rule.{AreOwn, AreNewer, AreParts, IsCounted, IsNewer, IsOwn, IsRuled, Knows, count_now, told_times}
+use Rattle.turn.specs.Rule.{AreOwn, AreNewer, AreParts, HasPart, HavePart, IsCounted, IsNewer, IsOwn, IsRuled, Knows, count_now, told_times}
 use Rattle.turn.specs.Views.{dealt, desk_of, first_of, firsts, joined, lending, lending_view, lent, lent_view, note_of, others, parts_at, parts_in, parts_of, returned, returned_view, spent, undealt, vault_of}
 use Rattle.turn.proofs.Faults.{times_append}
 use Rattle.turn.proofs.Locks.{lock_more}
 use Rattle.turn.proofs.Recording.{only_one}
-use Rattle.turn.proofs.Seating.{moved, same_places}
+use Rattle.turn.proofs.Seating.{heard_same, moved, same_places}
 use Rattle.turn.proofs.Totals.{total_append, total_set}
 
 -- what is said of each of a list
@@ -122,6 +122,7 @@ module _ {O W A B : Type 0} (o : OpeningMeaning O) (a : DeskMeaning O W A) (b : 
           numbers = λ n. subst (AreParts limit n) (sym (totals (parts_at n) (sums.numbers n))) (r.seats.numbers n);
           foreign = r.seats.foreign;
           faults = λ d c. subst (λ (n : ℕ). IsCounted (o.counts (a.opening r.desk) d) (count_now o a b r.desk r.vault d) c (fault_lines d c (a.journal r.desk) + n)) (sym (totals (told_times d c) (sums.told d c))) (r.seats.faults d c);
+          heard = λ d. heard_same (λ c. fault_lines d c (a.journal r.desk) + total (told_times d c) s.views) (λ c. fault_lines d c (a.journal r.desk) + total (told_times d c) all) (λ c. ap (λ (n : ℕ). fault_lines d c (a.journal r.desk) + n) (sym (totals (told_times d c) (sums.told d c)))) (r.seats.heard d);
           known = λ i u e. ⊎_elim (λ (z : get_elem? vs i ≡ some u). moved (Knows o a b r.desk r.vault) s.views id left k.0 (λ j x _ q. r.seats.known j x q) i u z)
               (λ (z : right ≡ u). subst (Knows o a b r.desk r.vault) z k.1) (at_snoc vs right u i e);
         };
@@ -136,6 +137,7 @@ module _ {O W A B : Type 0} (o : OpeningMeaning O) (a : DeskMeaning O W A) (b : 
     in_vault = λ n x e. absurd (cc e);
     own = none_each (IsOwn (a.journal desk) (a.work_of desk));
     newer = none_each IsNewer;
+    parts = none_each HasPart;
     opening = λ x e. absurd (cc e);
     part = λ p. absurd (omega arith);
   }
@@ -170,6 +172,7 @@ module _ {O W A B : Type 0} (o : OpeningMeaning O) (a : DeskMeaning O W A) (b : 
           numbers = λ n. subst (AreParts limit n) (sym (totals (parts_at n) refl (sums.numbers n))) (r.seats.numbers n);
           foreign = r.seats.foreign;
           faults = λ d c. subst (λ (n : ℕ). IsCounted (o.counts (a.opening r.desk) d) (count_now o a b r.desk r.vault d) c (fault_lines d c (a.journal r.desk) + n)) (sym (totals (told_times d c) refl (sums.told d c))) (r.seats.faults d c);
+          heard = λ d. heard_same (λ c. fault_lines d c (a.journal r.desk) + total (told_times d c) s.views) (λ c. fault_lines d c (a.journal r.desk) + total (told_times d c) all) (λ c. ap (λ (n : ℕ). fault_lines d c (a.journal r.desk) + n) (sym (totals (told_times d c) refl (sums.told d c)))) (r.seats.heard d);
           known = moved (Knows o a b r.desk r.vault) vs other spent (spent_knows r.desk r.vault) (λ j u _ e. moved (Knows o a b r.desk r.vault) s.views id both k (λ i x _ q. r.seats.known i x q) j u e);
         };
       }
@@ -201,6 +204,7 @@ module _ {O W A B : Type 0} (o : OpeningMeaning O) (a : DeskMeaning O W A) (b : 
             numbers = λ n. subst (AreParts limit n) (sym (totals (parts_at n) refl)) (r.seats.numbers n);
             foreign = r.seats.foreign;
             faults = λ d c. subst (λ (n : ℕ). IsCounted (o.counts (a.opening r.desk) d) (count_now o a b r.desk r.vault d) c (fault_lines d c (a.journal r.desk) + n)) (sym (totals (told_times d c) refl)) (r.seats.faults d c);
+            heard = λ d. heard_same (λ c. fault_lines d c (a.journal r.desk) + total (told_times d c) s.views) (λ c. fault_lines d c (a.journal r.desk) + total (told_times d c) all) (λ c. ap (λ (n : ℕ). fault_lines d c (a.journal r.desk) + n) (sym (totals (told_times d c) refl))) (r.seats.heard d);
             known = λ j u e. ⊎_elim (λ (z : get_elem? s.views j ≡ some u). r.seats.known j u z) (λ (z : spent ≡ u). subst (Knows o a b r.desk r.vault) z (spent_knows r.desk r.vault)) (at_snoc s.views spent u j e);
           };
         },
@@ -208,9 +212,9 @@ module _ {O W A B : Type 0} (o : OpeningMeaning O) (a : DeskMeaning O W A) (b : 
       )
 
   -- a view with other holdings, outside both locks
-  with_holds : (desk : A) (vault : B) (v : View O W A B) (hs : List (Holding W)) → v.desk ≡ Outside → v.vault ≡ Outside → AreOwn (a.journal desk) (a.work_of desk) hs → AreNewer hs → Knows o a b desk vault v
+  with_holds : (desk : A) (vault : B) (v : View O W A B) (hs : List (Holding W)) → v.desk ≡ Outside → v.vault ≡ Outside → AreOwn (a.journal desk) (a.work_of desk) hs → AreNewer hs → HavePart hs → Knows o a b desk vault v
       → Knows o a b desk vault (record v { holds = hs })
-  with_holds desk vault v hs out out' own newer k = record {
+  with_holds desk vault v hs out out' own newer parts k = record {
     front = k.front;
     heard = k.heard;
     held = k.held;
@@ -218,14 +222,15 @@ module _ {O W A B : Type 0} (o : OpeningMeaning O) (a : DeskMeaning O W A) (b : 
     in_vault = k.in_vault;
     own = own;
     newer = newer;
+    parts = parts;
     opening = k.opening;
     part = λ p. let x = ap tickets_in out in let y = ap tickets_in out' in absurd (omega arith);
   }
 
   -- a new view with what one has seen
-  new_knows : (desk : A) (vault : B) (v : View O W A B) (hs : List (Holding W)) → AreOwn (a.journal desk) (a.work_of desk) hs → AreNewer hs → Knows o a b desk vault v
+  new_knows : (desk : A) (vault : B) (v : View O W A B) (hs : List (Holding W)) → AreOwn (a.journal desk) (a.work_of desk) hs → AreNewer hs → HavePart hs → Knows o a b desk vault v
       → Knows o a b desk vault (record { opening = v.opening; desk = Outside; vault = Outside; seen = v.seen; heard = []; held = v.held; holds = hs })
-  new_knows desk vault v hs own newer k = record {
+  new_knows desk vault v hs own newer parts k = record {
     front = k.front;
     heard = none_each (λ f. IsPrefix f (a.journal desk));
     held = k.held;
@@ -233,6 +238,7 @@ module _ {O W A B : Type 0} (o : OpeningMeaning O) (a : DeskMeaning O W A) (b : 
     in_vault = λ n x e. absurd (cc e);
     own = own;
     newer = newer;
+    parts = parts;
     opening = k.opening;
     part = λ p. absurd (omega arith);
   }
@@ -243,12 +249,13 @@ module _ {O W A B : Type 0} (o : OpeningMeaning O) (a : DeskMeaning O W A) (b : 
       (λ desk vault k.
       let own = firsts_each (IsOwn (a.journal desk) (a.work_of desk)) v.holds k.own in
       let newer = firsts_each IsNewer v.holds k.newer in
-      (with_holds desk vault v (others v.holds) out out' own.0 newer.0 k, new_knows desk vault v (firsts v.holds) own.1 newer.1 k))
+      let parts = firsts_each HasPart v.holds k.parts in
+      (with_holds desk vault v (others v.holds) out out' own.0 newer.0 parts.0 k, new_knows desk vault v (firsts v.holds) own.1 newer.1 parts.1 k))
 
   pub notes : (id : ℕ) (v : View O W A B) → v.desk ≡ Outside → v.vault ≡ Outside → Splits Rule id v v (note_of v)
   notes id v out out' = splits id v v (note_of v) out out' out out' refl refl
       (record { parts = omega arith; numbers = λ n. omega arith; told = λ d c. omega arith })
-      (λ desk vault k. (k, new_knows desk vault v [] (none_each (IsOwn (a.journal desk) (a.work_of desk))) (none_each IsNewer) k))
+      (λ desk vault k. (k, new_knows desk vault v [] (none_each (IsOwn (a.journal desk) (a.work_of desk))) (none_each IsNewer) (none_each HasPart) k))
 
   -- the seat lends a part of its one number
   pub lends : (id : ℕ) (h : Holding W) (v : View O W A B) → v.desk ≡ Outside → v.vault ≡ Outside → v.holds ≡ h ∷ [] → 1 < h.parts → Splits Rule id v (lending_view v) (lent_view v)
@@ -265,15 +272,15 @@ module _ {O W A B : Type 0} (o : OpeningMeaning O) (a : DeskMeaning O W A) (b : 
       let own : IsOwn (a.journal desk) (a.work_of desk) h = k.own 0 h (ap (λ (hs : List (Holding W)). get_elem? hs 0) one) in
       let newer : IsNewer h = k.newer 0 h (ap (λ (hs : List (Holding W)). get_elem? hs 0) one) in
       let P : Holding W → Type 0 = IsOwn (a.journal desk) (a.work_of desk) in (
-        with_holds desk vault v (map lending v.holds) out out' (subst (Each P) (sym (ap (map lending) one)) (only_one P (lending h) (λ p. own (omega arith)))) (subst AreNewer (sym (ap (map lending) one)) (only_one IsNewer (lending h) newer)) k,
+        with_holds desk vault v (map lending v.holds) out out' (subst (Each P) (sym (ap (map lending) one)) (only_one P (lending h) (λ p. own (omega arith)))) (subst AreNewer (sym (ap (map lending) one)) (only_one IsNewer (lending h) newer)) (subst HavePart (sym (ap (map lending) one)) (only_one HasPart (lending h) (omega arith))) k,
         new_knows desk vault v (map lent v.holds) (subst (Each P) (sym (ap (map lent) one)) (only_one P (lent h) (λ p. own (omega arith))))
-            (subst AreNewer (sym (ap (map lent) one)) (only_one IsNewer (lent h) (λ d c e lt t l. absurd (omega arith)))) k,
+            (subst AreNewer (sym (ap (map lent) one)) (only_one IsNewer (lent h) (λ d c e lt t l. absurd (omega arith)))) (subst HavePart (sym (ap (map lent) one)) (only_one HasPart (lent h) (omega arith))) k,
       ))
 
   -- a view that heard of another, with these holdings
-  hears : (desk : A) (vault : B) (v w : View O W A B) (hs : List (Holding W)) → v.desk ≡ Outside → v.vault ≡ Outside → AreOwn (a.journal desk) (a.work_of desk) hs → AreNewer hs → Knows o a b desk vault v → Knows o a b desk vault w
+  hears : (desk : A) (vault : B) (v w : View O W A B) (hs : List (Holding W)) → v.desk ≡ Outside → v.vault ≡ Outside → AreOwn (a.journal desk) (a.work_of desk) hs → AreNewer hs → HavePart hs → Knows o a b desk vault v → Knows o a b desk vault w
       → Knows o a b desk vault (record v { heard = v.heard ++ w.seen ∷ w.heard; held = max v.held w.held; holds = hs })
-  hears desk vault v w hs out out' own newer k l = record {
+  hears desk vault v w hs out out' own newer parts k l = record {
     front = k.front;
     heard = both_each (λ f. IsPrefix f (a.journal desk)) v.heard (w.seen ∷ w.heard) k.heard (one_each (λ f. IsPrefix f (a.journal desk)) w.seen w.heard l.front l.heard);
     held = let x = k.held in let y = l.held in omega arith;
@@ -281,6 +288,7 @@ module _ {O W A B : Type 0} (o : OpeningMeaning O) (a : DeskMeaning O W A) (b : 
     in_vault = λ n x e. absurd (cc (out', e));
     own = own;
     newer = newer;
+    parts = parts;
     opening = k.opening;
     part = λ p. let x = ap tickets_in out in let y = ap tickets_in out' in absurd (omega arith);
   }
@@ -292,7 +300,7 @@ module _ {O W A B : Type 0} (o : OpeningMeaning O) (a : DeskMeaning O W A) (b : 
         numbers = λ n. sym (total_append (parts_in n) v.holds w.holds);
         told = λ d c. sym (total_append (λ (h : Holding W). fault_times d c h.faults) v.holds w.holds);
       })
-      (λ desk vault k l. hears desk vault v w (v.holds ++ w.holds) out out' (both_each (IsOwn (a.journal desk) (a.work_of desk)) v.holds w.holds k.own l.own) (both_each IsNewer v.holds w.holds k.newer l.newer) k l)
+      (λ desk vault k l. hears desk vault v w (v.holds ++ w.holds) out out' (both_each (IsOwn (a.journal desk) (a.work_of desk)) v.holds w.holds k.own l.own) (both_each IsNewer v.holds w.holds k.newer l.newer) (both_each HasPart v.holds w.holds k.parts l.parts) k l)
 
   -- the seat has its helper's part again
   pub returns : (id other : ℕ) (h g : Holding W) (v w : View O W A B) → v.desk ≡ Outside → v.vault ≡ Outside → w.desk ≡ Outside → w.vault ≡ Outside
@@ -316,4 +324,4 @@ module _ {O W A B : Type 0} (o : OpeningMeaning O) (a : DeskMeaning O W A) (b : 
       let own' : P g = l.own 0 g (ap (λ (hs : List (Holding W)). get_elem? hs 0) one') in
       let lines : h.lines ≡ g.lines = (own part).0 ∙ sym ((own' (omega arith)).0 ∙ ap (λ (n : ℕ). lines_of n (a.journal desk)) same) in
       hears desk vault v w both out out' (subst (Each P) (sym both_is) (only_one P (returned g h) (λ p. own part)))
-      (subst AreNewer (sym both_is) (only_one IsNewer (returned g h) (newer_both h g lines (k.newer 0 h (ap (λ (hs : List (Holding W)). get_elem? hs 0) one)) (l.newer 0 g (ap (λ (hs : List (Holding W)). get_elem? hs 0) one'))))) k l)
+      (subst AreNewer (sym both_is) (only_one IsNewer (returned g h) (newer_both h g lines (k.newer 0 h (ap (λ (hs : List (Holding W)). get_elem? hs 0) one)) (l.newer 0 g (ap (λ (hs : List (Holding W)). get_elem? hs 0) one'))))) (subst HavePart (sym both_is) (only_one HasPart (returned g h) (omega arith))) k l)

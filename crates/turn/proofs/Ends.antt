@@ -20,13 +20,13 @@ use Rattle.turn.specs.Faults.{fault_lines, fault_times}
 use Rattle.history.specs.Lines.{FaultsDiffer, horizon_of, lines_of}
 use Rattle.turn.specs.Meanings.{OpeningMeaning, DeskMeaning, VaultMeaning}
 use Rattle.turn.specs.Queue.{Lock, Stands, total, tickets_in, is_inside}
-use Rattle.turn.specs.Rule.{IsCounted, IsHorizon, IsNewer, IsOwn, IsRuled, Knows, count_now, told_times}
+use Rattle.turn.specs.Rule.{HasPart, HavePart, IsCounted, IsHorizon, IsNewer, IsOwn, IsRuled, Knows, count_now, told_times}
 use Rattle.turn.specs.Seats.{AreClosed, AreNew, AreRight, AreWhole, Covers, IsRight, MayOpen, Rests, mine, seen, view_of}
 use Rattle.turn.specs.Seats as at
 use Rattle.turn.specs.Views.{PARTS, dealt, desk_of, first_of, first_view, fresh, fresh_from, joined, parts_in, parts_of, undealt, vault_of, view}
 use Rattle.turn.proofs.Cuts.{Each, front_each, back_each, none_each}
 use Rattle.turn.proofs.Seating.{at_mapped}
-use Rattle.turn.proofs.Totals.{total_append, total_at, total_some, total_two}
+use Rattle.turn.proofs.Totals.{total_alone, total_append, total_at, total_some, total_two}
 
 fresh_parts : (W : Type 0) (k n : ℕ) → total (λ (h : Holding W). h.parts) (fresh_from k n) ≡ PARTS * n
 fresh_parts W k zero = refl
@@ -74,6 +74,7 @@ module _ {O W A B : Type 0} (o : OpeningMeaning O) (a : DeskMeaning O W A) (b : 
     in_vault = λ n x e. absurd (cc e);
     own = fresh_each (IsOwn (a.journal desk) (a.work_of desk)) (λ k p. (sym (ap (lines_of k) empty), sym (idle k))) 0 limit;
     newer = fresh_each _ (λ k d c e lt t l. absurd (omega arith)) 0 limit;
+    parts = fresh_each HasPart (λ k. omega arith) 0 limit;
     opening = λ x e. sym (cc e);
     part = λ p. absurd (omega arith);
   }
@@ -119,6 +120,7 @@ module _ {O W A B : Type 0} (o : OpeningMeaning O) (a : DeskMeaning O W A) (b : 
       foreign = λ n ge. (ap (lines_of n) may.empty, may.idle n);
       differ = subst FaultsDiffer (sym may.empty) (λ d. tt);
       faults = λ d c. let x = fresh_told W d c 0 limit in let y = ap (fault_lines d c) may.empty in record { once = λ lt. omega arith; above = λ lt h. absurd (omega arith); below = λ h. absurd (omega arith) };
+      heard = λ d up. let none = may.begins d in absurd (omega arith);
       known = λ i v e. known i v e;
     };
   }
@@ -147,6 +149,13 @@ module _ {O W A B : Type 0} (o : OpeningMeaning O) (a : DeskMeaning O W A) (b : 
   at_home : {X S : Type 0} (t s : ℕ) (value : S) (slot : _) (places : List (Place X)) → Lock t s value slot places → total is_inside places ≡ 0 → slot ≡ some (Some value)
   at_home t s value slot places l none_ = ⊎_elim (λ (h : (slot ≡ some (Some value)) × (total is_inside places ≡ 0)). h.0) (λ (h : (slot ≡ _) × (total is_inside places ≡ 1)). let one = h.1 in absurd (omega arith)) l.home
 
+  -- a view that was told a fault has a part
+  told_part : (d : Device) (c : ℕ) (u : View O W A B) → HavePart u.holds → 0 < told_times d c u → 0 < parts_of u
+  told_part d c u parts told =
+      let g = total_some (λ (h : Holding W). fault_times d c h.faults) u.holds told in
+      let some_ = parts g.0 g.1 g.2 in
+      let most = total_at (λ (h : Holding W). h.parts) u.holds g.0 g.1 g.2 in omega arith
+
   -- with all parts in one seat, both values are at home
   pub ends : (opened : O) (id : ℕ) (v : View O W A B) (words : List ℕ) (slots : List (Option (Kept A B))) → v.desk ≡ Outside → v.vault ≡ Outside → parts_of v ≡ PARTS * limit → Final (Seen (IsRuled o a b opened limit) id v) words slots
       → (desk : A) × (vault : B) × (get_elem? slots 0 ≡ some (Some (Desk desk))) × (get_elem? slots 1 ≡ some (Some (Vault vault))) × AreClosed o a b limit (λ d c. told_times d c v) desk vault × (a.opening desk ≡ opened) × Knows o a b desk vault v
@@ -172,6 +181,8 @@ module _ {O W A B : Type 0} (o : OpeningMeaning O) (a : DeskMeaning O W A) (b : 
           counts = r.agree.counts;
           faults = λ d c. let f = r.seats.faults d c in let told = total_at (told_times d c) s.views id v at in
               record { once = λ lt. let most = f.once lt in omega arith; above = λ lt h. f.above lt (omega arith); below = λ h. f.below (omega arith) };
+          heard = λ d up. let f = r.seats.heard d up in
+              let told = total_alone (told_times d f.0) parts_of s.views id v at sum (λ i u e. told_part d f.0 u (r.seats.known i u e).parts) in let p = f.1 in (f.0, omega arith);
           differ = r.seats.differ;
         },
         r.opened,
@@ -261,6 +272,7 @@ module _ {O W A B : Type 0} where
     foreign = x.foreign;
     counts = x.counts;
     faults = λ d c. subst (λ (n : ℕ). IsCounted (o.counts (a.opening desk) d) (count_now o a b desk vault d) c (fault_lines d c (a.journal desk) + n)) (same d c) (x.faults d c);
+    heard = λ d up. let f = x.heard d up in let e = same d f.0 in let p = f.1 in (f.0, omega arith);
     differ = x.differ;
   }
 
@@ -293,6 +305,7 @@ module _ {O W A B : Type 0} where
         in_vault = λ n x e. absurd (cc (out', e));
         own = front_each (IsOwn (a.journal desk) (a.work_of desk)) v.holds s.seat.me.0.holds k.own;
         newer = front_each IsNewer v.holds s.seat.me.0.holds k.newer;
+        parts = front_each HasPart v.holds s.seat.me.0.holds k.parts;
         opening = k.opening;
         part = λ p. let x = ap tickets_in out in let y = ap tickets_in out' in absurd (omega arith);
       }

@@ -49,6 +49,9 @@ first_or k (c ∷ cs) = c.1
 pub same_taken : {A B : Type 0} (cs xs ys : List (ℕ × Option (Kept A B))) (k : Option (Kept A B)) (x y : A) → cs ≡ (0, Some (Desk x)) ∷ xs → cs ≡ (0, k) ∷ ys → k ≡ Some (Desk y) → x ≡ y
 same_taken cs xs ys k x y e f g = same_desk (Some (Desk x)) k x y (ap (first_or None) (sym e ∙ f)) refl g
 
+pub same_kept : {A B : Type 0} (cs xs ys : List (ℕ × Option (Kept A B))) (k : Option (Kept A B)) (x y : B) → cs ≡ (1, Some (Vault x)) ∷ xs → cs ≡ (1, k) ∷ ys → k ≡ Some (Vault y) → x ≡ y
+same_kept cs xs ys k x y e f g = same_vault (Some (Vault x)) k x y (ap (first_or None) (sym e ∙ f)) refl g
+
 module _ {O W A B : Type 0} where
   pub parts_here : (z : TableId) (s : SeatOver O W A B) → IsSeat z s → 0 < parts_of (view_of s)
   parts_here z s i = let e = ap (total (λ (h : Holding W). h.parts)) i.one in let p = i.part in omega arith

@@ -1,5 +1,6 @@
 -- The step that records what a seat has made of the desk keeps the rule of the table.
-use Rattle.std.proofs.Common.{◌≡◌, ◌≢◌, ℕ, zero, suc, ◌+◌, ◌<◌, ◌≤◌, ◌⊎◌, List, [], ◌∷◌, ◌++◌, map, length, set, cond, Bool, true, false, refl, ap, sym, ◌∙◌, subst, inl, inr, arith, Option, Some, None, eq-eqb, ne_eqb, length-append}
+use Rattle.std.proofs.Common.{◌≡◌, ◌≢◌, ℕ, zero, suc, ◌+◌, ◌<◌, ◌≤◌, ◌⊎◌, List, [], ◌∷◌, ◌++◌, map, length, set, cond, Bool, true, false, refl, ap, sym, ◌∙◌, subst, inl, inr, ⊎_elim, arith, Option, Some, None, eq-eqb, ne_eqb, length-append}
+use Rattle.std.proofs.lemmas.List.Elements.{filter-append}
 use mathlib.Core.Option.{some, some-injective, some-ne-none}
 use mathlib.Core.Logic.{dite}
 use mathlib.Core.List.{IsPrefix}
@@ -15,21 +16,24 @@ use Rattle.turn.specs.declared.view.Kept.TheVariants.{Desk, Vault}
 use Rattle.turn.specs.declared.view.Place.{Place}
 use Rattle.turn.specs.declared.view.Place.TheVariants.{Inside}
 use Rattle.turn.specs.declared.view.View.{View}
-use Rattle.turn.specs.Faults.{LAST, desk_faults, fault_lines, fault_times, is_of_desk, line_fault}
+use Rattle.turn.specs.Faults.{LAST, desk_faults, fault_lines, fault_times, is_of_desk, line_fault, tells_of, untold_by}
 use Rattle.history.specs.Lines.{FaultsDiffer, horizon_of, lines_of}
 use Rattle.turn.specs.Meanings.{OpeningMeaning, DeskMeaning, VaultMeaning}
 use Rattle.turn.specs.Plays.{Sat, records}
 use Rattle.turn.specs.Queue.{Lock, total, is_inside, ticket_of}
-use Rattle.turn.specs.Rule.{AreOwn, AreParts, AreSeats, IsCounted, IsHorizon, IsNewer, AreNewer, IsOwn, IsRuled, Knows, count_now, told_times}
+use Rattle.turn.specs.Rule.{AreOwn, AreParts, AreSeats, HasPart, HavePart, IsCounted, IsHeard, IsHorizon, IsNewer, AreNewer, IsOwn, IsRuled, Knows, VaultBeside, count_now, told_times}
 use Rattle.turn.specs.Seats.{AddsLine, IsOwnChange, IsQuiet, MayLeave}
 use Rattle.turn.specs.Views.{PARTS, behind_desk, desk_of, vault_of, parts_at, parts_in, parts_of, still_told}
 use Rattle.turn.proofs.Differing.{still_differ}
-use Rattle.turn.proofs.Faults.{desk_told, fault_most, lines_append, lines_within, times_append}
+use Rattle.turn.proofs.Faults.{desk_hears, desk_told, fault_most, lines_append, lines_within, one_tells, tells_none, tells_one, times_append, told_but, told_still, untold_goes, untold_stays}
 use Rattle.turn.proofs.Fronts.{other_line, prefix_self, prefix_trans}
 use Rattle.turn.proofs.Locks.{lock_alone, lock_changes}
 use Rattle.turn.proofs.Seating.{desk_count, keep_total, moved, new_places, place_at, same_places, same_value}
 use Rattle.turn.proofs.Steps.{no_step}
-use Rattle.turn.proofs.Totals.{total_at, total_map, total_set, total_two}
+use Rattle.turn.proofs.Totals.{total_append, total_at, total_map, total_set, total_two}
+
+lines_append_of : (n : ℕ) (xs ys : List Line) → lines_of n (xs ++ ys) ≡ lines_of n xs ++ lines_of n ys
+lines_append_of n xs ys = rw filter-append refl
 
 -- how a fault is counted behind a step that tells it to a seat, where the count rose to it
 pub counted_after : (opened count count' c n n' news : ℕ) → IsCounted opened count c n → opened ≤ count → count ≤ count' → n' ≤ n + news → news ≤ 1 → (0 < news → (c ≡ count') × (c < LAST → count < c)) → IsCounted opened count' c n'
@@ -73,10 +77,13 @@ module _ {O W A : Type 0} (a : DeskMeaning O W A) (h : Holding W) (old new : A) 
   pub record IsTold : Type 0 where
     pub lines : (d : Device) (c : ℕ) → fault_lines d c J' + fault_times d c (still_told J J' (h.faults ++ news)) ≤ fault_lines d c J + fault_times d c h.faults + fault_times d c news
     pub newer : IsNewer (behind_desk a old new h)
+    pub grow : (d : Device) (c : ℕ) → fault_lines d c J ≤ fault_lines d c J'
+    -- what was told of a device is told still, or a line tells one of it
+    pub kept : (d : Device) → ((c : ℕ) → fault_times d c (still_told J J' (h.faults ++ news)) ≡ fault_times d c h.faults + fault_times d c news) ⊎ ((c : ℕ) × (0 < fault_lines d c J'))
 
   stays_told : J' ≡ J → h.lines ≡ lines_of h.number J → IsNewer h → ((d : Device) (e : ℕ) → is_of_desk d ≡ true → 0 < fault_lines d e J → e ≤ a.counts old d) → IsTold
   stays_told same own newer below =
-      let is : still_told J J' (h.faults ++ news) ≡ h.faults ++ news = ap (λ (t : Bool). cond t (h.faults ++ news) []) (eq-eqb (length J') (length J) (ap length same)) in
+      let is : still_told J J' (h.faults ++ news) ≡ h.faults ++ news = told_still J J' (h.faults ++ news) same in
       record {
         lines = λ d c. let x = ap (fault_times d c) is ∙ times_append d c h.faults news in let y = ap (fault_lines d c) same in omega arith;
         newer = λ d c e lt t l.
@@ -86,19 +93,50 @@ module _ {O W A : Type 0} (a : DeskMeaning O W A) (h : Holding W) (old new : A) 
             let n = (desk_told (a.counts old) (a.counts new) d c).1 (omega arith) in
             let within = lines_within d e h.number J' in let y = ap (fault_lines d e) same in
             let under = below d e n.0 (omega arith) in let over = n.1.above lt in omega arith);
+        grow = λ d c. let y = ap (fault_lines d c) same in omega arith;
+        kept = λ d. inl (λ c. ap (fault_times d c) is ∙ times_append d c h.faults news);
       }
 
-  grows_told : AddsLine a h old new → IsTold
-  grows_told add =
-      let more : length J' ≢ length J = λ e. let x = ap length add.journal ∙ length-append J (add.line ∷ []) in absurd (omega arith) in
-      let is : still_told J J' (h.faults ++ news) ≡ [] = ap (λ (t : Bool). cond t (h.faults ++ news) []) (ne_eqb (length J') (length J) more) in
-      record {
-        lines = λ d c.
-            let x = ap (fault_times d c) is in let y = ap (fault_lines d c) add.journal ∙ lines_append d c J add.line in
-            let m = fault_most d c add.line.what in let t = times_append d c h.faults news in
-            dite (dec_lt 0 (line_fault d c add.line.what)) (λ p. let q = add.told d c p in omega arith) (λ p. omega arith);
-        newer = λ d c e lt t l. let x = ap (fault_times d c) is in absurd (omega arith);
-      }
+  grows_told : AddsLine a h old new → h.lines ≡ lines_of h.number J → IsNewer h → ((d : Device) (e : ℕ) → is_of_desk d ≡ true → 0 < fault_lines d e J → e ≤ a.counts old d) → IsTold
+  grows_told add own newer below = record {
+    lines = λ d c. at_line d (λ told. let z = gone d told c in let y = more d c in let m = fault_most d c add.line.what in let t = times_append d c h.faults news in
+        dite (dec_lt 0 (line_fault d c add.line.what)) (λ p. let q = add.told d c p in omega arith) (λ p. omega arith))
+        (λ none. let z = stays d none c in let y = more d c in let l = tells_none d c add.line.what none in omega arith);
+    newer = λ d c e lt t l. at_line d (λ told. let z = gone d told c in absurd (omega arith)) (λ none.
+        let z = stays d none c in
+        let y = more d e in let no = tells_none d e add.line.what none in let within = lines_within d e h.number J' in
+        let here : 0 < fault_lines d e h.lines = subst (λ (ls : List Line). 0 < fault_lines d e ls) (sym own) (own_line d e none l) in
+        dite (dec_lt 0 (fault_times d c h.faults)) (λ p. newer d c e lt p here) (λ p.
+        let n = (desk_told (a.counts old) (a.counts new) d c).1 (omega arith) in
+        let under = below d e n.0 (omega arith) in let over = n.1.above lt in omega arith));
+    grow = λ d c. let y = more d c in omega arith;
+    kept = λ d. at_line d (λ told. let one = tells_one d add.line.what told in let y = more d one.0 in let q = one.1 in inr (one.0, omega arith)) (λ none. inl (stays d none));
+  }
+    where
+      more : (d : Device) (c : ℕ) → fault_lines d c J' ≡ fault_lines d c J + line_fault d c add.line.what
+      more d c = ap (fault_lines d c) add.journal ∙ lines_append d c J add.line
+
+      is : still_told J J' (h.faults ++ news) ≡ untold_by (add.line ∷ []) (h.faults ++ news)
+      is = told_but J J' add.line (h.faults ++ news) add.journal
+
+      gone : (d : Device) → tells_of d add.line.what ≡ true → (c : ℕ) → fault_times d c (still_told J J' (h.faults ++ news)) ≡ 0
+      gone d told c = ap (fault_times d c) is ∙ untold_goes (add.line ∷ []) d c (h.faults ++ news) (one_tells d add.line true told)
+
+      stays : (d : Device) → tells_of d add.line.what ≡ false → (c : ℕ) → fault_times d c (still_told J J' (h.faults ++ news)) ≡ fault_times d c h.faults + fault_times d c news
+      stays d none c = ap (fault_times d c) is ∙ (untold_stays (add.line ∷ []) d c (h.faults ++ news) (one_tells d add.line false none) ∙ times_append d c h.faults news)
+
+      own_line : (d : Device) (e : ℕ) → tells_of d add.line.what ≡ false → 0 < fault_lines d e (lines_of h.number J') → 0 < fault_lines d e (lines_of h.number J)
+      own_line d e none some_ =
+          let whole = ap (λ (ls : List Line). fault_lines d e (lines_of h.number ls)) add.journal ∙ (ap (fault_lines d e) (lines_append_of h.number J (add.line ∷ [])) ∙ total_append (λ (x : Line). line_fault d e x.what) (lines_of h.number J) (lines_of h.number (add.line ∷ []))) in
+          let last = lines_within d e h.number (add.line ∷ []) in
+          let no = tells_none d e add.line.what none in omega arith
+
+      at_line : {X : Type 0} (d : Device) → (tells_of d add.line.what ≡ true → X) → (tells_of d add.line.what ≡ false → X) → X
+      at_line {X = X} d tells other = go (tells_of d add.line.what) refl
+        where
+          go : (t : Bool) → tells_of d add.line.what ≡ t → X
+          go true e = tells e
+          go false e = other e
 
   pub is_told : Change → h.lines ≡ lines_of h.number J → IsNewer h → ((d : Device) (e : ℕ) → is_of_desk d ≡ true → 0 < fault_lines d e J → e ≤ a.counts old d) → IsTold
   is_told (inl quiet) own newer below = stays_told quiet.journal own newer below
@@ -106,7 +144,7 @@ module _ {O W A : Type 0} (a : DeskMeaning O W A) (h : Holding W) (old new : A) 
     where
       go : (J' ≡ J) ⊎ AddsLine a h old new → IsTold
       go (inl same) = stays_told same own newer below
-      go (inr add) = grows_told add
+      go (inr add) = grows_told add own newer below
 
 abbrev desk_or : {A B : Type 0} → A → Option (Kept A B) → A
 desk_or x (Some (Desk y)) = y
@@ -153,6 +191,14 @@ module _ {O W A B : Type 0} (o : OpeningMeaning O) (a : DeskMeaning O W A) (b : 
       go true = up
       go false = omega arith
 
+  -- where the count of a device rose, it is the desk's
+  desk_rose : (old new : A) (vault : B) (d : Device) → count_now o a b old vault d < count_now o a b new vault d → (is_of_desk d ≡ true) × (a.counts old d < a.counts new d)
+  desk_rose old new vault d = go (is_of_desk d) refl
+    where
+      go : (t : Bool) → is_of_desk d ≡ t → cond t (a.counts old d) (b.counts vault d) < cond t (a.counts new d) (b.counts vault d) → (is_of_desk d ≡ true) × (a.counts old d < a.counts new d)
+      go true is up = (is, up)
+      go false is up = absurd (omega arith)
+
   abbrev pub recorded : ℕ → A → A → View O W A B → View O W A B
   recorded n old new v = record v { desk = Inside n new; seen = a.journal new; holds = map (behind_desk a old new) v.holds }
 
@@ -186,6 +232,31 @@ module _ {O W A B : Type 0} (o : OpeningMeaning O) (a : DeskMeaning O W A) (b : 
         (s.faults d c) (start d) (desk_rises old new vault d (may.counts d)) (omega arith) tells.0
         (λ p. let t = tells.1 p in let x = desk_count o a b limit old vault d t.0 in let y = desk_count o a b limit new vault d t.0 in
         (t.1.now ∙ sym y, λ lt. let up = t.1.above lt in omega arith)))
+
+    record_heard : 0 < h.parts → (d : Device) → IsHeard (o.counts (a.opening new) d) (count_now o a b new vault d) (λ c. fault_lines d c (a.journal new) + total (told_times d c) (set views id w))
+    record_heard part d up = ⊎_elim stays (λ (t : (c : ℕ) × (0 < fault_lines d c (a.journal new))). let p = t.1 in (t.0, omega arith)) ((told part).kept d)
+      where
+        stays : ((c : ℕ) → fault_times d c (still_told (a.journal old) (a.journal new) (h.faults ++ desk_faults (a.counts old) (a.counts new))) ≡ fault_times d c h.faults + fault_times d c (desk_faults (a.counts old) (a.counts new)))
+            → (c : ℕ) × (0 < fault_lines d c (a.journal new) + total (told_times d c) (set views id w))
+        stays same = dite (dec_lt (count_now o a b old vault d) (count_now o a b new vault d))
+            (λ rose.
+            let of_desk = desk_rose old new vault d rose in
+            let news = desk_hears (a.counts old) (a.counts new) d of_desk.0 of_desk.1 in
+            let c : ℕ = a.counts new d in
+            let all = total_set (told_times d c) views id v w at in
+            let mine = ap (total (λ (x : Holding W). fault_times d c x.faults)) one in
+            let then_ = ap (total (λ (x : Holding W). fault_times d c x.faults)) w_holds in
+            let e = same c in (c, omega arith))
+            (λ same_count.
+            let began = ap (λ (x : O). o.counts x d) may.opening in
+            let was = s.heard d (omega arith) in
+            let c : ℕ = was.0 in
+            let some_ = was.1 in
+            let all = total_set (told_times d c) views id v w at in
+            let mine = ap (total (λ (x : Holding W). fault_times d c x.faults)) one in
+            let then_ = ap (total (λ (x : Holding W). fault_times d c x.faults)) w_holds in
+            let grow = (told part).grow d c in
+            let e = same c in (c, omega arith))
 
     record_differ : 0 < h.parts → FaultsDiffer (a.journal new)
     record_differ part =
@@ -221,6 +292,7 @@ module _ {O W A B : Type 0} (o : OpeningMeaning O) (a : DeskMeaning O W A) (b : 
           in_vault = k.in_vault;
           own = subst (AreOwn (a.journal new) (a.work_of new)) (sym w_holds) (only_one (IsOwn (a.journal new) (a.work_of new)) (behind_desk a old new h) (λ p. (refl, refl)));
           newer = subst AreNewer (sym w_holds) (only_one IsNewer (behind_desk a old new h) (told part).newer);
+          parts = subst HavePart (sym w_holds) (only_one HasPart (behind_desk a old new h) part);
           opening = λ x e. k.opening x e ∙ sym may.opening;
           part = λ p. let same = ap (total (λ (x : Holding W). x.parts)) w_holds in omega arith;
         }
@@ -238,6 +310,7 @@ module _ {O W A B : Type 0} (o : OpeningMeaning O) (a : DeskMeaning O W A) (b : 
           in_vault = q.in_vault;
           own = their_own j u other at';
           newer = q.newer;
+          parts = q.parts;
           opening = λ x e. q.opening x e ∙ sym may.opening;
           part = q.part;
         }
@@ -249,6 +322,7 @@ module _ {O W A B : Type 0} (o : OpeningMeaning O) (a : DeskMeaning O W A) (b : 
       numbers = λ i. subst (AreParts limit i) (sym (keep_total (parts_at i) views id v w at (total_map (parts_in i) (behind_desk a old new) v.holds))) (s.numbers i);
       foreign = record_foreign;
       faults = record_faults part;
+      heard = record_heard part;
       differ = record_differ part;
       known = moved (Knows o a b new vault) views id w (mine_knows part) (their_knows alone);
     }
@@ -258,7 +332,7 @@ module _ {O W A B : Type 0} (o : OpeningMeaning O) (a : DeskMeaning O W A) (b : 
     fits_longer y x lines longer p fits lawful = subst (b.Fits y x) p.1 (outlives y x lines p.0 fits (subst (o.Lawful x) (sym p.1) lawful))
 
     pub record_desk : (first : O) (slots id n word : ℕ) (old new : A) (h : Holding W) (m : Sat O W A B) → m.0.desk ≡ Inside n old → m.1 ≡ (0, Some (Desk new)) ∷ [] → m.0.holds ≡ h ∷ [] → 0 < h.parts
-        → MayLeave a o m.0.held h old new → IsHorizon word (horizon_of (o.base (a.opening new)) (a.journal new)) → Allows (IsRuled o a b first limit) slots id m 2 (λ _. word) (λ _. records a no_step m word)
+        → MayLeave a o m.0.held h old new → IsHorizon word (horizon_of (o.base (a.opening new)) (a.journal new)) → Allows (IsRuled o a b first limit) slots id m 2 (λ _. word) (λ _. records o a b no_step m word)
     record_desk first slots id n word old new h m inside carried one part may shown s r deep at small =
         let k = r.seats.known id m.0 at in
         let here : old ≡ r.desk = (k.in_desk n old inside).0 in
@@ -268,7 +342,23 @@ module _ {O W A B : Type 0} (o : OpeningMeaning O) (a : DeskMeaning O W A) (b : 
         let alone = lock_alone r.words.desk_ticket r.words.desk_serving (Desk r.desk) r.desk_slot (map desk_of s.views) r.desk_lock id n old in
         let lock = lock_changes r.words.desk_ticket r.words.desk_serving (Desk r.desk) r.desk_slot (map desk_of s.views) r.desk_lock id n old new (Desk new) place in
         let longer = goes_on a h r.desk new may'.change in
-        let acked = may'.acked in let most = k.held in (
+        let acked = may'.acked in let most = k.held in
+        let counts : (d : Device) → o.counts (a.opening new) d ≤ count_now o a b new r.vault d =
+        (λ d. let x = r.agree.counts d in let y = desk_rises r.desk new r.vault d (may'.counts d) in let z = ap (λ (q : O). o.counts q d) may'.opening in omega arith) in
+        let stands = fits_longer r.vault (a.opening new) (a.journal r.desk) (a.journal new) longer (subst (λ (x : O). b.Fits r.vault x (a.journal r.desk)) (sym may'.opening) r.agree.vault_fits) may'.lawful in
+        let seats : AreSeats o a b limit new r.vault (set s.views id w) = record_seats r.desk new r.vault s.views id n m.0 h r.seats at one may' r.agree.counts part (λ j p other e. alone j p place other e) in
+        let beside : VaultBeside o a b new m.0.held = record {
+          vault = r.vault;
+          together = record {
+            lawful = may'.lawful;
+            desk_fits = may'.fits;
+            vault_fits = stands;
+            acked = omega arith;
+            counts = counts;
+            told = λ d c some_. (seats.faults d c).below (omega arith);
+          };
+          held = most;
+        } in (
           w,
           keeps,
           tt,
@@ -284,15 +374,15 @@ module _ {O W A B : Type 0} (o : OpeningMeaning O) (a : DeskMeaning O W A) (b : 
             agree = record {
               lawful = may'.lawful;
               desk_fits = may'.fits;
-              vault_fits = fits_longer r.vault (a.opening new) (a.journal r.desk) (a.journal new) longer (subst (λ (x : O). b.Fits r.vault x (a.journal r.desk)) (sym may'.opening) r.agree.vault_fits) may'.lawful;
+              vault_fits = stands;
               horizon = shown;
               held_is = r.agree.held_is;
               acked = omega arith;
-              counts = λ d. let x = r.agree.counts d in let y = desk_rises r.desk new r.vault d (may'.counts d) in let z = ap (λ (q : O). o.counts q d) may'.opening in omega arith;
+              counts = counts;
             };
             desk_lock = subst (Lock r.words.desk_ticket r.words.desk_serving (Desk new) r.desk_slot) (sym (new_places desk_of s.views id w (Inside n new) refl)) lock;
             vault_lock = subst (Lock r.words.vault_ticket r.words.vault_serving (Vault r.vault) r.vault_slot) (sym (same_places vault_of s.views id m.0 w at refl)) r.vault_lock;
-            seats = record_seats r.desk new r.vault s.views id n m.0 h r.seats at one may' r.agree.counts part (λ j p other e. alone j p place other e);
+            seats = seats;
           },
           (
             refl,
@@ -300,6 +390,6 @@ module _ {O W A B : Type 0} (o : OpeningMeaning O) (a : DeskMeaning O W A) (b : 
                 let t : n ≡ j = ap ticket_of (sym inside ∙ e) in
                 let vx : r.desk ≡ x = sym here ∙ same_value n j old x (sym inside ∙ e) in
                 let vy : new ≡ y = ap (in_hand new) (sym carried ∙ c) in
-                λ i. recorded (t i) (vx i) (vy i) m.0,
+                ((λ i. recorded (t i) (vx i) (vy i) m.0), subst (λ (z : A). VaultBeside o a b z m.0.held) vy beside),
           ),
         )

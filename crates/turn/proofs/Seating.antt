@@ -12,7 +12,7 @@ use Rattle.retro_base.specs.declared.device.Device.{Device}
 use Rattle.turn.specs.Faults.{fault_lines, fault_times, is_of_desk}
 use Rattle.turn.specs.Meanings.{OpeningMeaning, DeskMeaning, VaultMeaning}
 use Rattle.turn.specs.Queue.{total, tickets_in, ticket_of}
-use Rattle.turn.specs.Rule.{AreParts, AreSeats, IsCounted, Knows, TellsFaults, count_now, told_times}
+use Rattle.turn.specs.Rule.{AreParts, AreSeats, IsCounted, IsHeard, Knows, TellsFaults, count_now, told_times}
 use Rattle.turn.specs.Views.{parts_at, parts_in, parts_of, desk_of, vault_of}
 use Rattle.turn.proofs.Totals.{total_at, total_set, total_le, total_map}
 
@@ -57,6 +57,10 @@ module _ {O W A B : Type 0} where
   pub place_at : {X : Type 0} (f : View O W A B → Place X) (vs : List (View O W A B)) (id : ℕ) (v : View O W A B) (p : Place X) → get_elem? vs id ≡ some v → f v ≡ p → get_elem? (map f vs) id ≡ some p
   place_at f vs id v p at is = at_map f vs id v at ∙ ap some is
 
+-- a device is heard of, where each fault is told as often
+pub heard_same : {opened count : ℕ} (before after : ℕ → ℕ) → ((c : ℕ) → before c ≡ after c) → IsHeard opened count before → IsHeard opened count after
+heard_same before after same heard up = let h = heard up in let e = same h.0 in let p = h.1 in (h.0, omega arith)
+
 module _ {O W A B : Type 0} (o : OpeningMeaning O) (a : DeskMeaning O W A) (b : VaultMeaning O B) (limit : ℕ) where
   -- there are fewer tickets than the words can tell apart
   pub few_desk : (desk : A) (vault : B) (views : List (View O W A B)) → AreSeats o a b limit desk vault views → total tickets_in (map desk_of views) < 18446744073709551616
@@ -99,5 +103,7 @@ module _ {O W A B : Type 0} (o : OpeningMeaning O) (a : DeskMeaning O W A) (b : 
     foreign = s.foreign;
     faults = λ d c. subst (λ (n : ℕ). IsCounted (o.counts (a.opening desk) d) (count_now o a b desk vault d) c (fault_lines d c (a.journal desk) + n))
         (sym (keep_total (told_times d c) views id v w at (ap (total (λ (h : Holding W). fault_times d c h.faults)) same))) (s.faults d c);
+    heard = λ d. heard_same (λ c. fault_lines d c (a.journal desk) + total (told_times d c) views) (λ c. fault_lines d c (a.journal desk) + total (told_times d c) (set views id w))
+        (λ c. ap (λ (n : ℕ). fault_lines d c (a.journal desk) + n) (sym (keep_total (told_times d c) views id v w at (ap (total (λ (h : Holding W). fault_times d c h.faults)) same)))) (s.heard d);
     known = moved (Knows o a b desk vault) views id w mine (λ j u other e. s.known j u e);
   }

@@ -19,7 +19,7 @@ use Rattle.history.specs.Lines.{horizon_of}
 use Rattle.turn.specs.Meanings.{OpeningMeaning, DeskMeaning, VaultMeaning}
 use Rattle.turn.specs.Plays.{Sat, draws_desk, draws_vault, reads_desk, reads_vault, serves_desk, serves_vault, sees_horizon, settles}
 use Rattle.turn.specs.Queue.{Lock, tickets_in}
-use Rattle.turn.specs.Rule.{IsHorizon, IsRuled, Knows}
+use Rattle.turn.specs.Rule.{AreTogether, IsHorizon, IsRuled, Knows}
 use Rattle.turn.specs.Views.{desk_of, vault_of, parts_of, longest}
 use Rattle.turn.proofs.Fronts.{prefix_self, prefix_both, longest_of}
 use Rattle.turn.proofs.Locks.{lock_draws, lock_served, lock_serves}
@@ -43,6 +43,17 @@ module _ {O W A B : Type 0} (o : OpeningMeaning O) (a : DeskMeaning O W A) (b : 
   pub loaded : (s : St) (i : ℕ) (homes : List (maybe.Option (Option (Kept A B)))) (views : List (View O W A B)) → Rule record { words = s.words; homes = homes; views = views }
       → Rule record { words = set s.words i (get_or s.words i 0); homes = homes; views = views }
   loaded s i homes views = subst (λ (ws : List ℕ). Rule record { words = ws; homes = homes; views = views }) (sym (set-get_or s.words i 0))
+
+  -- the two values, as they were last left
+  together : (s : St) (r : Rule s) → AreTogether o a b r.desk r.vault
+  together s r = record {
+    lawful = r.agree.lawful;
+    desk_fits = r.agree.desk_fits;
+    vault_fits = r.agree.vault_fits;
+    acked = r.agree.acked;
+    counts = r.agree.counts;
+    told = λ d c some_. (r.seats.faults d c).below (omega arith);
+  }
 
   pub draw_desk : (slots id : ℕ) (m : Sat O W A B) → m.0.desk ≡ Outside → 0 < parts_of m.0 → Allows Rule slots id m 0 (λ n. (n + 1) % M) (draws_desk no_step m)
   draw_desk slots id m out part s r deep at small =
@@ -75,6 +86,7 @@ module _ {O W A B : Type 0} (o : OpeningMeaning O) (a : DeskMeaning O W A) (b : 
             in_vault = k.in_vault;
             own = k.own;
             newer = k.newer;
+            parts = k.parts;
             opening = k.opening;
             part = λ _. part;
           });
@@ -113,6 +125,7 @@ module _ {O W A B : Type 0} (o : OpeningMeaning O) (a : DeskMeaning O W A) (b : 
             in_vault = λ j old e. absurd (cc e);
             own = k.own;
             newer = k.newer;
+            parts = k.parts;
             opening = k.opening;
             part = λ _. part;
           });
@@ -126,9 +139,9 @@ module _ {O W A B : Type 0} (o : OpeningMeaning O) (a : DeskMeaning O W A) (b : 
 
   abbrev ReadingDesk : ℕ → Sat O W A B → St → Type 0
   ReadingDesk id m s = (w : View O W A B) × (act : Act (Option (Kept A B))) × Valid s.homes m.1 act × Rule (stepped s 1 (get_or s.words 1 0) id m.1 w act)
-      × reads_desk o a no_step m (get_or s.words 1 0) (w, carried_after m.1 act)
+      × reads_desk o a b no_step m (get_or s.words 1 0) (w, carried_after m.1 act)
 
-  pub read_desk : (slots id n : ℕ) (m : Sat O W A B) → m.0.desk ≡ Waits n → Allows Rule slots id m 1 (λ x. x) (reads_desk o a no_step m)
+  pub read_desk : (slots id n : ℕ) (m : Sat O W A B) → m.0.desk ≡ Waits n → Allows Rule slots id m 1 (λ x. x) (reads_desk o a b no_step m)
   read_desk slots id n m waits s r deep at small = dite (ℕ_discrete (get_or s.words 1 0) (n % M)) hit miss
     where
       miss : get_or s.words 1 0 ≢ n % M → ReadingDesk id m s
@@ -169,6 +182,7 @@ module _ {O W A B : Type 0} (o : OpeningMeaning O) (a : DeskMeaning O W A) (b : 
               in_vault = λ j old e. ((k.in_vault j old e).0, refl);
               own = k.own;
               newer = k.newer;
+              parts = k.parts;
               opening = k.opening;
               part = λ _. part (subst (λ (p : Place A). 0 < tickets_in p + tickets_in m.0.vault) (sym waits) (omega arith));
             });
@@ -191,6 +205,7 @@ module _ {O W A B : Type 0} (o : OpeningMeaning O) (a : DeskMeaning O W A) (b : 
                 own = k.own;
                 faults = λ j h e. tells o a b limit r.desk r.vault s.views id j m.0 h r.seats at e;
                 opening = k.opening;
+                beside = record { vault = r.vault; together = together s r; held = omega arith };
               }),
               (λ ne. absurd (ne (found ∙ ap (λ (t : ℕ). t % M) (same_ticket n x m.0.desk waits is)))),
             ),
@@ -198,10 +213,10 @@ module _ {O W A B : Type 0} (o : OpeningMeaning O) (a : DeskMeaning O W A) (b : 
 
   abbrev ReadingVault : ℕ → Sat O W A B → St → Type 0
   ReadingVault id m s = (w : View O W A B) × (act : Act (Option (Kept A B))) × Valid s.homes m.1 act × Rule (stepped s 4 (get_or s.words 4 0) id m.1 w act)
-      × reads_vault o b no_step m (get_or s.words 4 0) (w, carried_after m.1 act)
+      × reads_vault o a b no_step m (get_or s.words 4 0) (w, carried_after m.1 act)
 
   -- the seat must not be in the desk, whose journal it would forget
-  pub read_vault : (slots id n : ℕ) (m : Sat O W A B) → m.0.vault ≡ Waits n → m.0.desk ≡ Outside → Allows Rule slots id m 4 (λ x. x) (reads_vault o b no_step m)
+  pub read_vault : (slots id n : ℕ) (m : Sat O W A B) → m.0.vault ≡ Waits n → m.0.desk ≡ Outside → Allows Rule slots id m 4 (λ x. x) (reads_vault o a b no_step m)
   read_vault slots id n m waits out s r deep at small = dite (ℕ_discrete (get_or s.words 4 0) (n % M)) hit miss
     where
       miss : get_or s.words 4 0 ≢ n % M → ReadingVault id m s
@@ -242,6 +257,7 @@ module _ {O W A B : Type 0} (o : OpeningMeaning O) (a : DeskMeaning O W A) (b : 
               in_vault = λ j old e. (sym (same_value n j r.vault old e), refl);
               own = k.own;
               newer = k.newer;
+              parts = k.parts;
               opening = k.opening;
               part = λ _. part (subst (λ (p : Place B). 0 < tickets_in m.0.desk + tickets_in p) (sym waits) (omega arith));
             });
@@ -261,6 +277,7 @@ module _ {O W A B : Type 0} (o : OpeningMeaning O) (a : DeskMeaning O W A) (b : 
                     (subst (λ (z : O). b.Fits r.vault z (a.journal r.desk)) q r.agree.vault_fits, subst (λ (z : O). o.Lawful z (a.journal r.desk)) q r.agree.lawful);
                 works = a.work_of r.desk;
                 own = k.own;
+                beside = λ y e. (record { desk = r.desk; together = together s r; opening = ap Some (k.opening y e); begins = prefix_self (a.journal r.desk) }, refl);
               }),
               (λ ne. absurd (ne (found ∙ ap (λ (t : ℕ). t % M) (same_ticket n x m.0.vault waits is)))),
             ),
@@ -300,6 +317,7 @@ module _ {O W A B : Type 0} (o : OpeningMeaning O) (a : DeskMeaning O W A) (b : 
             in_vault = k.in_vault;
             own = k.own;
             newer = k.newer;
+            parts = k.parts;
             opening = k.opening;
             part = λ p. part (omega arith);
           });
@@ -340,6 +358,7 @@ module _ {O W A B : Type 0} (o : OpeningMeaning O) (a : DeskMeaning O W A) (b : 
             in_vault = λ j old e. absurd (cc e);
             own = k.own;
             newer = k.newer;
+            parts = k.parts;
             opening = k.opening;
             part = λ p. part (omega arith);
           });
@@ -382,6 +401,7 @@ module _ {O W A B : Type 0} (o : OpeningMeaning O) (a : DeskMeaning O W A) (b : 
           in_vault = k.in_vault;
           own = k.own;
           newer = k.newer;
+          parts = k.parts;
           opening = k.opening;
           part = k.part;
         })),
@@ -417,6 +437,7 @@ module _ {O W A B : Type 0} (o : OpeningMeaning O) (a : DeskMeaning O W A) (b : 
           in_vault = k.in_vault;
           own = k.own;
           newer = k.newer;
+          parts = k.parts;
           opening = k.opening;
           part = k.part;
         })),

@@ -38,6 +38,23 @@ module _ {X : Type 0} (f : X → ℕ) where
   total_le g [] h = omega arith
   total_le g (x ∷ xs) h = let r = total_le g xs (λ i y e. h (suc i) y e) in let s = h zero x refl in omega arith
 
+-- where all of one quantity is at one element, so is all of another that is found only with it
+pub total_none : {X : Type 0} (f g : X → ℕ) (xs : List X) → total g xs ≡ 0 → ((i : ℕ) (x : X) → get_elem? xs i ≡ some x → 0 < f x → 0 < g x) → total f xs ≡ 0
+total_none f g [] none only = refl
+total_none f g (x ∷ xs) none only =
+    let r = total_none f g xs (omega arith) (λ i y e. only (suc i) y e) in
+    dite (dec_lt 0 (f x)) (λ p. let q = only zero x refl p in absurd (omega arith)) (λ p. omega arith)
+
+pub total_alone : {X : Type 0} (f g : X → ℕ) (xs : List X) (id : ℕ) (v : X) → get_elem? xs id ≡ some v → total g xs ≡ g v → ((i : ℕ) (x : X) → get_elem? xs i ≡ some x → 0 < f x → 0 < g x) → total f xs ≡ f v
+total_alone f g [] id v e all only = absurd (some-ne-none v (sym e))
+total_alone f g (x ∷ xs) zero v e all only =
+    let s : f x ≡ f v = ap f (some-injective x v e) in let t : g x ≡ g v = ap g (some-injective x v e) in
+    let r = total_none f g xs (omega arith) (λ i y at. only (suc i) y at) in omega arith
+total_alone f g (x ∷ xs) (suc id) v e all only =
+    let most = total_at g xs id v e in
+    let r = total_alone f g xs id v e (omega arith) (λ i y at. only (suc i) y at) in
+    dite (dec_lt 0 (f x)) (λ p. let q = only zero x refl p in absurd (omega arith)) (λ p. omega arith)
+
 pub total_map : {X Y : Type 0} (f : Y → ℕ) (g : X → Y) (xs : List X) → total f (map g xs) ≡ total (λ x. f (g x)) xs
 total_map f g [] = refl
 total_map f g (x ∷ xs) = ap (λ n. f (g x) + n) (total_map f g xs)

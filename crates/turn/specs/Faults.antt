@@ -35,6 +35,21 @@ line_fault device count _ = 0
 abbrev pub fault_lines : Device → ℕ → List Line → ℕ
 fault_lines device count lines = total (λ (line : Line). line_fault device count line.what) lines
 
+-- whether this tells a fault of the device, and whether one of these lines does
+abbrev pub tells_of : Device → What → Bool
+tells_of device (Fault d c call) = same_device d device
+tells_of device _ = false
+
+abbrev pub some_tells : Device → List Line → Bool
+some_tells device [] = false
+some_tells device (line ∷ lines) = tells_of device line.what || some_tells device lines
+
+-- the faults of devices of which none of these lines tells one
+abbrev pub untold_by : List Line → List (Device × ℕ) → List (Device × ℕ)
+untold_by lines [] = []
+untold_by lines (fault ∷ faults) =
+    if some_tells fault.0 lines then untold_by lines faults else fault ∷ untold_by lines faults
+
 -- the fault of a device whose count rose, or stands at its last value
 abbrev pub rose : (Device → ℕ) → (Device → ℕ) → Device → List (Device × ℕ)
 rose old new device = if nat_lt (old device) (new device) || (new device == LAST) then (device, new device) ∷ [] else []

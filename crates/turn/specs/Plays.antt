@@ -12,7 +12,7 @@ use Rattle.turn.specs.declared.view.Place.TheVariants.{Outside, Waits, Inside}
 use Rattle.turn.specs.declared.view.View.{View}
 use Rattle.history.specs.Lines.{horizon_of}
 use Rattle.turn.specs.Meanings.{OpeningMeaning, DeskMeaning, VaultMeaning}
-use Rattle.turn.specs.Rule.{AreOwn, IsHorizon, TellsFaults}
+use Rattle.turn.specs.Rule.{AreOwn, DeskBeside, IsHorizon, TellsFaults, VaultBeside}
 use Rattle.turn.specs.Views.{behind_desk, behind_vault, longest, spent}
 
 -- a seat's view, and what it has taken
@@ -41,8 +41,8 @@ module _ {O W A B : Type 0} where
   abbrev pub comes : At A B → Sat O W A B → ℕ → Sat O W A B → Type 0
   comes st m found m' = m'.0 ≡ spent
 
-  module _ (o : OpeningMeaning O) (a : DeskMeaning O W A) where
-    -- the desk's value was found
+  module _ (o : OpeningMeaning O) (a : DeskMeaning O W A) (b : VaultMeaning O B) where
+    -- the desk's value was found, and the vault's as it was last left
     pub record HasDesk (n : ℕ) (m m' : Sat O W A B) : Type 0 where
       pub value : A
       pub held : ℕ
@@ -56,6 +56,7 @@ module _ {O W A B : Type 0} where
       pub own : AreOwn (a.journal value) (a.work_of value) m.0.holds
       pub faults : (k : ℕ) (h : Holding W) → get_elem? m.0.holds k ≡ some h → TellsFaults a value h
       pub opening : (x : O) → m.0.opening ≡ Some x → x ≡ a.opening value
+      pub beside : VaultBeside o a b value held
 
     -- it is served, and finds the value; or it is not, and waits on
     abbrev pub reads_desk : At A B → Sat O W A B → ℕ → Sat O W A B → Type 0
@@ -63,6 +64,38 @@ module _ {O W A B : Type 0} where
         (n : ℕ) → m.0.desk ≡ Waits n → (found ≡ n % 18446744073709551616 → HasDesk n m m')
         × (found ≢ n % 18446744073709551616 → m' ≡ m)
 
+    -- the vault's value was found, and the journal that it stands for seen, with the desk's as it was last left
+    pub record HasVault (n : ℕ) (m m' : Sat O W A B) : Type 0 where
+      pub value : B
+      pub view_is : m'.0 ≡ record m.0 { vault = Inside n value; seen = m'.0.seen; held = b.held value }
+      pub slots : m'.1 ≡ (1, Some (Vault value)) ∷ m.1
+      pub front : IsPrefix m.0.seen m'.0.seen
+      pub rises : m.0.held ≤ b.held value
+      pub fits : (x : O) → m.0.opening ≡ Some x → b.Fits value x m'.0.seen × o.Lawful x m'.0.seen
+      pub works : ℕ → Option W
+      pub own : AreOwn m'.0.seen works m.0.holds
+      pub beside : (x : O) → m.0.opening ≡ Some x → (near : DeskBeside o a b value (Some x) m'.0.seen)
+          × (a.journal near.desk ≡ m'.0.seen)
+
+    abbrev pub reads_vault : At A B → Sat O W A B → ℕ → Sat O W A B → Type 0
+    reads_vault st m found m' =
+        (n : ℕ) → m.0.vault ≡ Waits n → (found ≡ n % 18446744073709551616 → HasVault n m m')
+        × (found ≢ n % 18446744073709551616 → m' ≡ m)
+
+    -- the value in hand takes the place of the one that was found
+    abbrev pub records : At A B → Sat O W A B → ℕ → Sat O W A B → Type 0
+    records st m found m' =
+        (m'.1 ≡ m.1) × ((n : ℕ) (old new : A) → m.0.desk ≡ Inside n old → m.1 ≡ (0, Some (Desk new)) ∷ [] →
+        (m'.0 ≡ record m.0 { desk = Inside n new; seen = a.journal new; holds = map (behind_desk a old new) m.0.holds })
+        × VaultBeside o a b new m.0.held)
+
+    abbrev pub raises : At A B → Sat O W A B → ℕ → Sat O W A B → Type 0
+    raises st m found m' =
+        (m'.1 ≡ m.1) × ((n : ℕ) (old new : B) → m.0.vault ≡ Inside n old → m.1 ≡ (1, Some (Vault new)) ∷ [] →
+        (m'.0 ≡ record m.0 { vault = Inside n new; held = b.held new; holds = map (behind_vault b old new) m.0.holds })
+        × ((x : O) → m.0.opening ≡ Some x → DeskBeside o a b new (Some x) m.0.seen))
+
+  module _ (o : OpeningMeaning O) (a : DeskMeaning O W A) where
     -- the journal as it is was seen
     pub record HasSeen (m m' : Sat O W A B) : Type 0 where
       pub view_is : m'.0 ≡ record m.0 { seen = m'.0.seen }
@@ -90,31 +123,3 @@ module _ {O W A B : Type 0} where
 
     abbrev pub settles : At A B → Sat O W A B → ℕ → Sat O W A B → Type 0
     settles st m found m' = HasSettled m m'
-
-  -- the value in hand takes the place of the one that was found
-  abbrev pub records : DeskMeaning O W A → At A B → Sat O W A B → ℕ → Sat O W A B → Type 0
-  records a st m found m' =
-      (m'.1 ≡ m.1) × ((n : ℕ) (old new : A) → m.0.desk ≡ Inside n old → m.1 ≡ (0, Some (Desk new)) ∷ [] →
-      m'.0 ≡ record m.0 { desk = Inside n new; seen = a.journal new; holds = map (behind_desk a old new) m.0.holds })
-
-  abbrev pub raises : VaultMeaning O B → At A B → Sat O W A B → ℕ → Sat O W A B → Type 0
-  raises b st m found m' =
-      (m'.1 ≡ m.1) × ((n : ℕ) (old new : B) → m.0.vault ≡ Inside n old → m.1 ≡ (1, Some (Vault new)) ∷ [] →
-      m'.0 ≡ record m.0 { vault = Inside n new; held = b.held new; holds = map (behind_vault b old new) m.0.holds })
-
-  module _ (o : OpeningMeaning O) (b : VaultMeaning O B) where
-    -- the vault's value was found, and the journal that it stands for seen
-    pub record HasVault (n : ℕ) (m m' : Sat O W A B) : Type 0 where
-      pub value : B
-      pub view_is : m'.0 ≡ record m.0 { vault = Inside n value; seen = m'.0.seen; held = b.held value }
-      pub slots : m'.1 ≡ (1, Some (Vault value)) ∷ m.1
-      pub front : IsPrefix m.0.seen m'.0.seen
-      pub rises : m.0.held ≤ b.held value
-      pub fits : (x : O) → m.0.opening ≡ Some x → b.Fits value x m'.0.seen × o.Lawful x m'.0.seen
-      pub works : ℕ → Option W
-      pub own : AreOwn m'.0.seen works m.0.holds
-
-    abbrev pub reads_vault : At A B → Sat O W A B → ℕ → Sat O W A B → Type 0
-    reads_vault st m found m' =
-        (n : ℕ) → m.0.vault ≡ Waits n → (found ≡ n % 18446744073709551616 → HasVault n m m')
-        × (found ≢ n % 18446744073709551616 → m' ≡ m)

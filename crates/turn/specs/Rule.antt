@@ -53,6 +53,13 @@ IsNewer h = (d : Device) (c e : ℕ) → c < LAST → 0 < fault_times d c h.faul
 abbrev pub AreNewer : {W : Type 0} → List (Holding W) → Type 0
 AreNewer {W} hs = (k : ℕ) (h : Holding W) → get_elem? hs k ≡ some h → IsNewer h
 
+-- each holding has a part of its number
+abbrev pub HasPart : {W : Type 0} → Holding W → Type 0
+HasPart h = 0 < h.parts
+
+abbrev pub HavePart : {W : Type 0} → List (Holding W) → Type 0
+HavePart {W} hs = (k : ℕ) (h : Holding W) → get_elem? hs k ≡ some h → HasPart h
+
 -- What the desk's value tells of faults, where a seat has this holding: no two of its lines tell one fault; none tells
 -- one above the desk's own counts; and a fault that the seat was told is new: no line tells it, and its count is above
 -- each that the seat's lines tell of that device.
@@ -62,7 +69,7 @@ pub record TellsFaults {O W A : Type 0} (a : DeskMeaning O W A) (desk : A) (h : 
   pub told : (d : Device) (c : ℕ) → c < LAST → 0 < fault_times d c h.faults → fault_lines d c (a.journal desk) ≡ 0
   pub newer : IsNewer h
 
--- how often a fault was told to the seats, since the last line of each
+-- how often a fault was told to the seats, of what each has not told since
 abbrev pub told_times : {O W A B : Type 0} → Device → ℕ → View O W A B → ℕ
 told_times {W = W} d c v = total (λ (h : Holding W). fault_times d c h.faults) v.holds
 
@@ -73,6 +80,10 @@ pub record IsCounted (opened count c n : ℕ) : Type 0 where
   pub above : c < LAST → 0 < n → opened < c
   pub below : 0 < n → c ≤ count
 
+-- A device whose count of faults rose since the opening has one that is told so often.
+abbrev pub IsHeard : ℕ → ℕ → (ℕ → ℕ) → Type 0
+IsHeard opened count times = opened < count → (c : ℕ) × (0 < times c)
+
 -- how many parts of the number n there are
 abbrev pub AreParts : ℕ → ℕ → ℕ → Type 0
 AreParts limit n parts = (n < limit → parts ≡ PARTS) × (limit ≤ n → parts ≡ 0)
@@ -81,6 +92,31 @@ module _ {O W A B : Type 0} (o : OpeningMeaning O) (a : DeskMeaning O W A) (b : 
   -- how many faults of a device there are, by the two values
   abbrev pub count_now : A → B → Device → ℕ
   count_now desk vault = count_of (a.counts desk) (b.counts vault)
+
+  -- The two values as they were last left, at one moment: both stand for one opening and one journal, which may follow
+  -- it, and the desk knows of no more mappings than the vault has. No count of faults is below the opening's, and no
+  -- line tells a fault above its device's count.
+  pub record AreTogether (desk : A) (vault : B) : Type 0 where
+    pub lawful : o.Lawful (a.opening desk) (a.journal desk)
+    pub desk_fits : a.Fits desk
+    pub vault_fits : b.Fits vault (a.opening desk) (a.journal desk)
+    pub acked : a.acked desk ≤ b.held vault
+    pub counts : (d : Device) → o.counts (a.opening desk) d ≤ count_now desk vault d
+    pub told : (d : Device) (c : ℕ) → 0 < fault_lines d c (a.journal desk) → c ≤ count_now desk vault d
+
+  -- the vault as it was last left, beside this value of the desk, with no fewer mappings than these
+  pub record VaultBeside (desk : A) (known : ℕ) : Type 0 where
+    pub vault : B
+    pub together : AreTogether desk vault
+    pub held : known ≤ b.held vault
+
+  -- the desk as it was last left, beside this value of the vault: of this opening, with a journal that these lines
+  -- begin
+  pub record DeskBeside (vault : B) (opened : Option O) (lines : List Line) : Type 0 where
+    pub desk : A
+    pub together : AreTogether desk vault
+    pub opening : opened ≡ Some (a.opening desk)
+    pub begins : IsPrefix lines (a.journal desk)
 
   -- the two values, and the two words that tell of them
   pub record Agree (desk : A) (vault : B) (shown held : ℕ) : Type 0 where
@@ -101,6 +137,7 @@ module _ {O W A B : Type 0} (o : OpeningMeaning O) (a : DeskMeaning O W A) (b : 
     pub in_vault : (n : ℕ) (old : B) → v.vault ≡ Inside n old → (old ≡ vault) × (v.held ≡ b.held vault)
     pub own : AreOwn (a.journal desk) (a.work_of desk) v.holds
     pub newer : AreNewer v.holds
+    pub parts : HavePart v.holds
     pub opening : (x : O) → v.opening ≡ Some x → x ≡ a.opening desk
     pub part : 0 < tickets_in v.desk + tickets_in v.vault → 0 < parts_of v
 
@@ -113,6 +150,9 @@ module _ {O W A B : Type 0} (o : OpeningMeaning O) (a : DeskMeaning O W A) (b : 
     pub faults : (d : Device) (c : ℕ) →
         IsCounted (o.counts (a.opening desk) d) (count_now desk vault d) c
         (fault_lines d c (a.journal desk) + total (told_times d c) views)
+    pub heard : (d : Device) →
+        IsHeard (o.counts (a.opening desk) d) (count_now desk vault d)
+        (λ c. fault_lines d c (a.journal desk) + total (told_times d c) views)
     pub differ : FaultsDiffer (a.journal desk)
     pub known : (i : ℕ) (v : View O W A B) → get_elem? views i ≡ some v → Knows desk vault v
 

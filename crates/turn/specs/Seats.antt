@@ -12,7 +12,7 @@ use Rattle.turn.specs.Faults.{desk_faults, fault_lines, fault_times, line_fault}
 use Rattle.history.specs.Lines.{FaultsDiffer, lines_of}
 use Rattle.turn.specs.Meanings.{OpeningMeaning, DeskMeaning, VaultMeaning}
 use Rattle.turn.specs.Queue.{ticket_of, total}
-use Rattle.turn.specs.Rule.{IsCounted, IsNewer, Knows, count_now}
+use Rattle.turn.specs.Rule.{IsCounted, IsHeard, IsNewer, Knows, count_now}
 use Rattle.turn.specs.Views.{PARTS, behind_desk, behind_vault, first_of, fresh}
 
 module _ {O W A B : Type 0} where
@@ -92,7 +92,7 @@ module _ {O W A : Type 0} (a : DeskMeaning O W A) where
     pub journal : a.journal new ≡ a.journal old
     pub works : (n : ℕ) → a.work_of new n ≡ a.work_of old n
 
-  -- One line more, of that number. A fault that it tells was told to its seat since the line before.
+  -- One line more, of that number. A fault that it tells was told to its seat, which has not told it since.
   pub record AddsLine (mine : Holding W) (old new : A) : Type 0 where
     pub line : Line
     pub number : line.who.session ≡ mine.number
@@ -154,7 +154,7 @@ abbrev pub AreRight : {O W A B : Type 0} → DeskMeaning O W A → VaultMeaning 
 AreRight {O = O} {W = W} {A = A} {B = B} a b desk vault seats =
     (k : ℕ) (s : SeatOver O W A B) → slice_get seats k ≡ Some s → IsRight a b desk vault s
 
--- how often a fault was told to these seats, since the last line of each
+-- how often a fault was told to these seats, of what each has not told since
 abbrev pub told_to : {O W A B : Type 0} → Device → ℕ → List (SeatOver O W A B) → ℕ
 told_to d c seats = total (λ (s : SeatOver _ _ _ _). fault_times d c (mine s).faults) seats
 
@@ -168,9 +168,11 @@ pub record MayOpen {O W A B : Type 0} (o : OpeningMeaning O) (a : DeskMeaning O 
   pub vault_fits : b.Fits vault (a.opening desk) (a.journal desk)
   pub acked : a.acked desk ≤ b.held vault
   pub counts : (d : Device) → o.counts (a.opening desk) d ≤ count_now o a b desk vault d
+  -- no fault has come since the opening
+  pub begins : (d : Device) → count_now o a b desk vault d ≤ o.counts (a.opening desk) d
 
--- what is so of the two values at the end, of a table with so many seats, which were told each fault so often since
--- their last lines
+-- what is so of the two values at the end, of a table with so many seats, which were told each fault so often and have
+-- not told it since
 pub record AreClosed {O W A B : Type 0} (o : OpeningMeaning O) (a : DeskMeaning O W A) (b : VaultMeaning O B)
     (limit : ℕ) (told : Device → ℕ → ℕ) (desk : A) (vault : B) : Type 0 where
   pub lawful : o.Lawful (a.opening desk) (a.journal desk)
@@ -185,6 +187,10 @@ pub record AreClosed {O W A B : Type 0} (o : OpeningMeaning O) (a : DeskMeaning 
   pub faults : (d : Device) (c : ℕ) →
       IsCounted (o.counts (a.opening desk) d) (count_now o a b desk vault d) c
       (fault_lines d c (a.journal desk) + told d c)
+  -- A device whose count rose has a fault that a line tells, or that a seat was told and has not told since.
+  pub heard : (d : Device) →
+      IsHeard (o.counts (a.opening desk) d) (count_now o a b desk vault d)
+      (λ c. fault_lines d c (a.journal desk) + told d c)
   pub differ : FaultsDiffer (a.journal desk)
 
 -- what is right of a gathered view is right of each of these seats

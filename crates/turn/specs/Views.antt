@@ -1,12 +1,12 @@
 -- The views of seats, and how they are cut and joined.
-use Rattle.std.specs.Prelude.{◌==◌, nat_lt, ℕ, zero, suc, ◌+◌, ◌-◌, max, List, [], ◌∷◌, ◌++◌, map, length, Option, Some, None, if◌then◌else◌}
+use Rattle.std.specs.Prelude.{◌==◌, nat_lt, ℕ, zero, suc, ◌+◌, ◌-◌, max, List, [], ◌∷◌, ◌++◌, map, length, drop, Option, Some, None, if◌then◌else◌}
 use Rattle.retro_base.specs.declared.device.Device.{Device}
 use Rattle.history.specs.declared.journal.Line.{Line}
 use Rattle.turn.specs.declared.view.Holding.{Holding}
 use Rattle.turn.specs.declared.view.Place.{Place}
 use Rattle.turn.specs.declared.view.Place.TheVariants.{Outside}
 use Rattle.turn.specs.declared.view.View.{View}
-use Rattle.turn.specs.Faults.{desk_faults, vault_faults}
+use Rattle.turn.specs.Faults.{desk_faults, untold_by, vault_faults}
 use Rattle.history.specs.Lines.{lines_of}
 use Rattle.turn.specs.Meanings.{DeskMeaning, VaultMeaning}
 use Rattle.turn.specs.Queue.{total}
@@ -55,9 +55,10 @@ module _ {W : Type 0} where
   others [] = []
   others (h ∷ hs) = hs
 
--- the faults that a seat was told since its last line, behind an entry that left this journal
+-- The faults that a seat was told and has not told since, behind an entry that left this journal: a line that tells a
+-- fault stands for all of its device that the seat was told before.
 abbrev pub still_told : List Line → List Line → List (Device × ℕ) → List (Device × ℕ)
-still_told old new faults = if length new == length old then faults else []
+still_told old new = untold_by (drop (length old) new)
 
 -- a holding behind an entry to the desk, whose value changed so
 abbrev pub behind_desk : {O W A : Type 0} → DeskMeaning O W A → A → A → Holding W → Holding W

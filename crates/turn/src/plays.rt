@@ -45,24 +45,30 @@ impl<O, W, A, B> Play<Option<Kept<A, B>>, View<O, W, A, B>> for Comes {
     ghost then = { comes };
 }
 
-pub(crate) struct ReadsDesk<A> {
-    of: PhantomData<A>,
+pub(crate) struct ReadsDesk<A, B> {
+    of: PhantomData<(A, B)>,
 }
 
-impl<A: DeskValue, B> Play<Option<Kept<A, B>>, View<A::Opening, A::Work, A, B>> for ReadsDesk<A> {
+impl<A: DeskValue, B: VaultValue<A::Opening>> Play<
+    Option<Kept<A, B>>,
+    View<A::Opening, A::Work, A, B>,
+> for ReadsDesk<A, B> {
     ghost use Rattle.turn.specs.Plays.{reads_desk};
 
-    ghost then = { reads_desk A.Opening.meaning A.meaning };
+    ghost then = { reads_desk A.Opening.meaning A.meaning B.meaning };
 }
 
-pub(crate) struct Records<A> {
-    of: PhantomData<A>,
+pub(crate) struct Records<A, B> {
+    of: PhantomData<(A, B)>,
 }
 
-impl<A: DeskValue, B> Play<Option<Kept<A, B>>, View<A::Opening, A::Work, A, B>> for Records<A> {
+impl<A: DeskValue, B: VaultValue<A::Opening>> Play<
+    Option<Kept<A, B>>,
+    View<A::Opening, A::Work, A, B>,
+> for Records<A, B> {
     ghost use Rattle.turn.specs.Plays.{records};
 
-    ghost then = { records A.meaning };
+    ghost then = { records A.Opening.meaning A.meaning B.meaning };
 }
 
 pub(crate) struct SeesHorizon<A> {
@@ -95,7 +101,7 @@ impl<A: DeskValue, B: VaultValue<A::Opening>> Play<
 > for ReadsVault<A, B> {
     ghost use Rattle.turn.specs.Plays.{reads_vault};
 
-    ghost then = { reads_vault A.Opening.meaning B.meaning };
+    ghost then = { reads_vault A.Opening.meaning A.meaning B.meaning };
 }
 
 pub(crate) struct Raises<A, B> {
@@ -108,7 +114,7 @@ impl<A: DeskValue, B: VaultValue<A::Opening>> Play<
 > for Raises<A, B> {
     ghost use Rattle.turn.specs.Plays.{raises};
 
-    ghost then = { raises B.meaning };
+    ghost then = { raises A.Opening.meaning A.meaning B.meaning };
 }
 
 /// A new seat, with the first number that is not dealt.

@@ -11,7 +11,8 @@ pub struct Holding<W> {
     /// The lines of the journal that have the number, in order.
     pub lines: LinkedList<Line>,
     pub work: Option<W>,
-    /// The faults, by device and count, that the seat was told since its last line.
+    /// The faults, by device and count, that the seat was told and has not told since: a line
+    /// that tells one stands for all of its device before.
     pub faults: LinkedList<(Device, u64)>,
 }
 

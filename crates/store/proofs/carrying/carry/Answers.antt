@@ -29,6 +29,7 @@ returns-then-held-first g c =
         fault = refl;
         outcome = (less, refl);
         laying = λ vault is to. let n = to.0.none in absurd (omega (arith, n, less));
+        long = λ to. let n = to.0.none in absurd (omega (arith, n, less));
         entering = λ vault is to. let n = to.0.none in absurd (omega (arith, n, less));
       };
     }
@@ -60,6 +61,7 @@ returns-in-Ok g c =
         fault = e.fault;
         outcome = ((record { goes = e.cause.0; none = none }, less), e.side, let l = e.laid in omega (arith, l));
         laying = λ vault is to. (e.turns vault is (vault_goes g.D.Disk.is_honest g.D.Disk.state c.args.archive.now vault is to.0.goes)).any_moment;
+        long = λ to. e.long;
         entering = λ vault is to. let t = to.1 in absurd (omega (arith, t, less));
       };
     }
@@ -83,6 +85,7 @@ returns-in-Err g c =
         fault = e.fault;
         outcome = laid_refused g.D.Disk.faults c.args.batch.now c.args.archive.now c.lay_batch.new.self none c.in-Err.fault less e.side e.cause e.untouched;
         laying = λ vault is to. (e.turns vault is (vault_goes g.D.Disk.is_honest g.D.Disk.state c.args.archive.now vault is to.0.goes)).any_moment;
+        long = λ to. e.long;
         entering = λ vault is to. let t = to.1 in absurd (omega (arith, t, less));
       };
     }
@@ -115,6 +118,7 @@ returns-in-Ok-enter_batch g c =
         fault = e.fault;
         outcome = ((record { goes = e.cause.0; none = none }, is_laid), e.slots, e.held, c.held-in-Ok-enter_batch.ensures ∙ e.receipt);
         laying = λ vault is to. let t = to.1 in absurd (omega (arith, t, is_laid));
+        long = λ to. let t = to.1 in absurd (omega (arith, t, is_laid));
         entering = λ vault is to. (e.turns vault is (vault_goes g.D.Disk.is_honest g.D.Disk.state c.args.archive.now vault is to.0.goes)).any_moment;
       };
     }
@@ -139,6 +143,7 @@ returns-in-Err-enter_batch g c =
         fault = e.fault;
         outcome = entered_refused g.D.Disk.faults c.args.batch.now c.args.archive.now c.enter_batch.new.self none c.in-Err-enter_batch.fault is_laid e.slots e.left e.cause e.stopped;
         laying = λ vault is to. let t = to.1 in absurd (omega (arith, t, is_laid));
+        long = λ to. let t = to.1 in absurd (omega (arith, t, is_laid));
         entering = λ vault is to. (e.turns vault is (vault_goes g.D.Disk.is_honest g.D.Disk.state c.args.archive.now vault is to.0.goes)).any_moment;
       };
     }

@@ -1,3 +1,4 @@
+use Rattle.store.proofs.Moments.{beside_opens}
 use Rattle.store.proofs.Recovery.{closed_shows, opening_shows, opens_shown}
 use Rattle.store.proofs.Within.{left_opens}
 use Rattle.store.proofs.laws.laws_of_crashes.Goals as goal
@@ -13,3 +14,6 @@ returns-clause-closed g c = closed_shows g.D.Disk.is_honest g.D.Disk.state g.D.D
 
 pub returns-clause-within : goal.returns-clause-within
 returns-clause-within g c = left_opens g.D.Disk.is_honest g.D.Disk.state
+
+pub returns-clause-beside : goal.returns-clause-beside
+returns-clause-beside g c = beside_opens g.D.Disk.is_honest g.D.Disk.state g.D.Disk.faults

@@ -1,6 +1,7 @@
 use Rattle.std.proofs.Common.{◌≡◌, ◌∙◌, ◌+◌, ◌≤◌, length, max, is_some, true, refl, sym, ap, subst, arith}
 use Rattle.retro_base.specs.declared.device.Device.TheVariants.{Pagelog as OfPagelog}
 use Rattle.race_model.specs.Vault.{batch_end}
+use Rattle.block_file.proofs.Blocks.{writes_long}
 use Rattle.archive.specs.Archive.{Running}
 use Rattle.archive.specs.Side.{IsNextBatch}
 use Rattle.archive.proofs.LaidSlots.{lays_done, lays_failed}
@@ -30,3 +31,9 @@ returns-in-Err-clause-turns g c =
     (λ vault is goes.
     lays_failed g.D.Disk.is_honest g.D.Disk.remembers g.D.Disk.state g.D.Disk.clock old new vault c.args.batch.now is goes refl c.lay_all.ensures.same few c.lay_all.ensures.alone
     c.keep.result stops c.held-held.ensures.same)
+
+pub returns-in-Ok-clause-long : goal.returns-in-Ok-clause-long
+returns-in-Ok-clause-long g c = rw (← c.self.view_is) (λ honest. writes_long _ g.D.Disk.remembers g.D.Disk.state g.D.Disk.clock c.self.inside.pagelog.disk c.lay_all.new.pagelog.disk (c.lay_all.ensures.alone honest))
+
+pub returns-in-Err-clause-long : goal.returns-in-Err-clause-long
+returns-in-Err-clause-long g c = rw (← c.self.view_is) (λ honest. writes_long _ g.D.Disk.remembers g.D.Disk.state g.D.Disk.clock c.self.inside.pagelog.disk c.lay_all.new.pagelog.disk (c.lay_all.ensures.alone honest))

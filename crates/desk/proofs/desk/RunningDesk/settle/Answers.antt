@@ -5,6 +5,7 @@ use Rattle.race_model.specs.Machine.{settled, stopped}
 use Rattle.race_model.proofs.DeskKeeps.{settle_keeps, stop_keeps}
 use Rattle.desk.proofs.Sent.{fault_is, pages_rest}
 use Rattle.desk.proofs.Steps.{desk_settled, desk_stopped, going, is_none, stops_behind}
+use Rattle.block_file.proofs.Blocks.{rests_long}
 use Rattle.desk.proofs.desk.RunningDesk.settle.Goals as goal
 
 pub returns-in-Some-clause-any_moment : goal.returns-in-Some-clause-any_moment
@@ -32,3 +33,6 @@ returns-in-Err-clause-whole g c =
           c.settle.ensures.same.blocks c.settle.ensures.same.honest.1 (ap (λ o. is_some o) c.stop_behind-self.ensures ∙ stops_behind c.args.self.now.stop c.in-Err.why (fault_is _ _ _ c.in-Err.why c.in-Err.ensures.cause));
       fits = stop_keeps desk whole.fits;
     }
+
+pub returns-in-Some-clause-long : goal.returns-in-Some-clause-long
+returns-in-Some-clause-long g c = λ told. rests_long g.D.Disk.remembers g.D.Disk.state g.D.Disk.clock c.args.self.now.pool.file.disk (λ image left. g.met.D.Disk.only_now c.args.self.now.pool.file.disk image told left)

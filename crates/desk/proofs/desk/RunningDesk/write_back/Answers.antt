@@ -5,6 +5,7 @@ use Rattle.race_model.proofs.DeskKeeps.{write_failed_keeps, write_keeps}
 use Rattle.desk.specs.Desk.{HoldsPagesOf}
 use Rattle.desk.proofs.Sent.{fault_is, least_of, may_write, one_least, passed_written, write_rests}
 use Rattle.desk.proofs.Steps.{desk_passed, going, is_none}
+use Rattle.block_file.proofs.Blocks.{rests_long}
 use Rattle.desk.proofs.desk.RunningDesk.write_back.Goals as goal
 
 pub returns-in-Some-clause-any_moment : goal.returns-in-Some-clause-any_moment
@@ -57,3 +58,9 @@ returns-in-Err-clause-whole g c =
     let whole = c.requires.whole in
     let failed = returns-in-Err-clause-failed g c whole.desk whole.desk.acked whole.is whole.fits (fault_is _ _ _ c.in-Err.why c.in-Err.ensures.cause) in
     record { desk = write_failed whole.desk failed.0 whole.desk.acked failed.1; is = failed.4; fits = write_failed_keeps whole.desk whole.fits failed.0 whole.desk.acked failed.1 failed.3 }
+
+pub returns-in-Some-clause-long : goal.returns-in-Some-clause-long
+returns-in-Some-clause-long g c = λ told. rests_long g.D.Disk.remembers g.D.Disk.state g.D.Disk.clock c.args.self.now.pool.file.disk (λ image left. g.met.D.Disk.only_now c.args.self.now.pool.file.disk image told left)
+
+pub returns-in-None-clause-long : goal.returns-in-None-clause-long
+returns-in-None-clause-long g c = λ told. rests_long g.D.Disk.remembers g.D.Disk.state g.D.Disk.clock c.args.self.now.pool.file.disk (λ image left. g.met.D.Disk.only_now c.args.self.now.pool.file.disk image told left)

@@ -39,7 +39,7 @@ returns-in-Ok-clause-kept g c =
         frames = (is.shows (back told)).frames;
         clean = holds_beside c.copy.new.clean.entries c.keep.new.clean.entries c.args.page _ now (holds_less c.self.inside.clean.entries c.copy.new.clean.entries now (is.shows (back told)).clean c.copy.ensures.others) c.keep.ensures.beside (c.in-Ok.ensures.read (back told) ∙ (is.reads (back told)).reads c.args.page ∙ is.same (back told) c.args.page (sym (is.marks c.args.page) ∙ ap is_dirty_in (sym c.get.ensures.value ∙ ap option_copied c.in_default.is)));
       };
-      reads = λ told. reads_still (g.D.Disk.state c.self.inside.file.disk) (g.D.Disk.state c.read.new.self.disk) device loose (is.reads (back told)) (c.read.ensures.quiet (back told)).unchanged;
+      reads = λ told. reads_still (g.D.Disk.state c.self.inside.file.disk) (g.D.Disk.state c.read.new.self.disk) c.self.inside.file.blocks c.read.new.self.blocks device loose (is.reads (back told)) (c.read.ensures.quiet (back told)).unchanged (c.read.ensures.fills told);
       same = λ told. is.same (back told);
     })
 
@@ -53,7 +53,7 @@ returns-in-Err-clause-kept g c =
       settled = is.settled;
       unsettled = is.unsettled;
       shows = λ told. record { frames = (is.shows (back told)).frames; clean = holds_less c.self.inside.clean.entries c.copy.new.clean.entries now (is.shows (back told)).clean c.copy.ensures.others };
-      reads = λ told. reads_still (g.D.Disk.state c.self.inside.file.disk) (g.D.Disk.state c.read.new.self.disk) device loose (is.reads (back told)) (c.read.ensures.quiet (back told)).unchanged;
+      reads = λ told. reads_still (g.D.Disk.state c.self.inside.file.disk) (g.D.Disk.state c.read.new.self.disk) c.self.inside.file.blocks c.read.new.self.blocks device loose (is.reads (back told)) (c.read.ensures.quiet (back told)).unchanged (c.read.ensures.fills told);
       same = λ told. is.same (back told);
     })
 

@@ -30,7 +30,7 @@ returns-clause-kept g c =
       settled = is.settled;
       unsettled = is.unsettled;
       shows = λ told. record { frames = (is.shows (back told)).frames; clean = holds_less c.self.inside.clean.entries c.take.new.clean.entries now (is.shows (back told)).clean c.take.ensures.others };
-      reads = λ told. reads_still (g.D.Disk.state c.self.inside.file.disk) (g.D.Disk.state c.read.new.self.disk) device loose (is.reads (back told)) (c.read.ensures.quiet (back told)).unchanged;
+      reads = λ told. reads_still (g.D.Disk.state c.self.inside.file.disk) (g.D.Disk.state c.read.new.self.disk) c.self.inside.file.blocks c.read.new.self.blocks device loose (is.reads (back told)) (c.read.ensures.quiet (back told)).unchanged (c.read.ensures.fills told);
       same = λ told. is.same (back told);
     })
 

@@ -1,5 +1,5 @@
 use Rattle.std.proofs.Common.{◌≡◌, ◌∙◌, ◌+◌, ◌++◌, ℕ, List, [], ◌∷◌, Bool, true, take, ap, subst, sym}
-use Rattle.std.proofs.lemmas.List.{take_more}
+use Rattle.std.proofs.lemmas.List.{take_all, take_more}
 use Rattle.history.specs.declared.writes.PageImage.{PageImage}
 use Rattle.history.specs.History.{written}
 use Rattle.page_pool.specs.Side.{dirty_behind, IsPageSide, with_page}
@@ -23,3 +23,8 @@ loop-write-preserved g c =
           let marked = subst (λ (marks : ℕ → Bool). IsPageSide g.D.Disk.is_honest g.D.Disk.state c.write_page.new.self (written now (front ++ write ∷ [])) device loose marks) (dirty_push dirty front write) pushed in
           subst (λ (ws : List PageImage). IsPageSide g.D.Disk.is_honest g.D.Disk.state c.write_page.new.self (written now ws) device loose (dirty_behind dirty ws)) (sym more) marked,
     )
+
+pub returns-clause-written : goal.returns-clause-written
+returns-clause-written g c = λ now device loose dirty is.
+    subst (λ (ws : List PageImage). IsPageSide g.D.Disk.is_honest g.D.Disk.state c.loop-write.self (written now ws) device loose (dirty_behind dirty ws))
+    (take_all c.loop-write.write-index c.args.writes.now c.loop-write-test.false) (c.loop-write.invariant.3 now device loose dirty is)

@@ -1,4 +1,6 @@
-use Rattle.store.proofs.Passing.{batch_at_on, may_carry, may_leave_vault, passes_vault}
+use Rattle.std.proofs.Common.{subst, sym}
+use Rattle.store.specs.Carrying.{IsBatchIn}
+use Rattle.store.proofs.Passing.{batch_at_on, batch_here, may_carry, may_leave_vault, passes_vault}
 use Rattle.store.proofs.shared.Store.carried.Goals as goal
 
 pub carry-answer-requires : goal.carry-answer-requires
@@ -20,5 +22,7 @@ returns-clause-carries g c = record {
   before = c.enter_vault-archive.result;
   after = c.carry-answer.new.archive;
   visited = c.leave_vault.ensures.visited c.args.seat.now c.enter_vault-archive.result c.enter_vault-archive.ensures;
+  is_batch = λ start is. subst (λ l. IsBatchIn g.D.Disk.is_honest g.D.Disk.state start l c.enter_vault-archive.result.side.held c.args.batch.now) (sym c.leave_vault.ensures.seen)
+      (batch_here g.D.Disk.is_honest g.D.Disk.state g.D.Disk.faults _ c.args.seat.now c.enter_vault-archive.new.seat c.enter_vault-archive.result c.enter_vault-archive.ensures c.args.batch.now c.requires.batch start is);
   carries = c.carry-answer.ensures.carries;
 }

@@ -1,4 +1,4 @@
-use Rattle.std.proofs.Common.{◌≡◌, ◌∙◌, ◌+◌, ap, sym, subst, arith, eq-eqb}
+use Rattle.std.proofs.Common.{◌≡◌, ◌∙◌, ◌+◌, ◌<◌, ap, sym, subst, arith, eq-eqb}
 use Rattle.std.proofs.lemmas.Bool.{eqb-true}
 use Rattle.std.specs.List.{AllByRecursion}
 use Rattle.journal_law.specs.Lawful.{IsCounted}
@@ -7,7 +7,7 @@ use Rattle.history.specs.Lines.{base_of}
 use Rattle.store.specs.Crashes.{CrashesMap, CrashesOpen}
 use Rattle.store.specs.Opening.{IsHonestlyOpened, disks_of, four_of}
 use Rattle.store.specs.Seats.{journal}
-use Rattle.store.specs.Start.{opened_base}
+use Rattle.store.specs.Start.{opened_base, opened_counts}
 use Rattle.store.proofs.Captures.{all_counted}
 use Rattle.store.proofs.Crashing.{counted_lines, crashes_open, each_count, maps_all}
 use Rattle.store.proofs.shared.Store.ended.Goals as goal
@@ -46,6 +46,12 @@ returns g c =
           differ = e.closed.differ;
           counted = subst (λ x. AllByRecursion (IsCounted (of_each disk.faults x)) (journal side)) (sym disks)
               (counted_lines (of_each disk.faults (disks_of side.core held)) (journal side) (λ d n h. let b = (e.closed.faults d n).below (omega (arith, h)) in let s = each_count disk.faults side.core held d in omega (arith, b, s)));
+          risen = λ d n h lt. subst (λ s. opened_counts disk.faults s d < n) e.opening ((e.closed.faults d n).above lt (omega (arith, h)));
+          heard = λ d up.
+              let s = each_count disk.faults side.core held d in
+              let o = ap (λ t. opened_counts disk.faults t d) e.opening in
+              let l = ap (λ x. of_each disk.faults x d) disks in
+              e.closed.heard d (omega (arith, up, s, o, l));
           disks = disks;
           lines = λ i. (core i).2;
           captures = omega (arith, first, pending, all);

@@ -1,3 +1,4 @@
+use Rattle.store.proofs.Beside.{archive_beside}
 use Rattle.store.proofs.Entering.{pages_stay}
 use Rattle.store.proofs.shared.Store.enter.Goals as goal
 
@@ -18,4 +19,5 @@ returns g c =
       lines = e.lines;
       work = e.work;
       pages = pages_stay g.D.Disk.is_honest g.D.Disk.state c.enter_desk.result e.fits.0;
+      beside = archive_beside g.D.Disk.is_honest g.D.Disk.state g.D.Disk.faults c.enter_desk.result _ e.beside;
     }

@@ -3,6 +3,7 @@ use Rattle.history.specs.Sound.{IsSound}
 use Rattle.turn.specs.Seats.{seen}
 use Rattle.store.specs.Sides.{IsVaultSide}
 use Rattle.store.specs.Start.{opened_base}
+use Rattle.store.proofs.Beside.{desk_beside_at}
 use Rattle.store.proofs.shared.Store.enter_vault.Goals as goal
 
 pub returns : goal.returns
@@ -20,4 +21,5 @@ returns g c =
       later = λ start is. (subst (λ o. IfSome o (λ x. IsVaultSide g.D.Disk.is_honest g.D.Disk.state g.D.Disk.faults c.enter_vault.result x (seen c.enter_vault.new.seat))) is e.fits).1;
       held_is = e.held;
       rises = e.rises;
+      beside = λ start is. desk_beside_at g.D.Disk.is_honest g.D.Disk.state g.D.Disk.faults c.enter_vault.result _ (seen c.enter_vault.new.seat) start is e.beside;
     }

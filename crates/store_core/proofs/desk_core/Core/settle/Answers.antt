@@ -1,4 +1,6 @@
-use Rattle.std.proofs.Common.{◌∙◌, refl}
+use Rattle.std.proofs.Common.{◌∙◌, refl, sym, subst}
+use Rattle.block_file.specs.Blocks.{File, IsAsLong}
+use Rattle.disk_model.specs.Moments.{LeavesOnly}
 use Rattle.retro_base.specs.Cause.{IsFault}
 use Rattle.retro_base.specs.declared.device.Device.TheVariants.{Pages}
 use Rattle.history.specs.declared.journal.FailedCall.TheVariants.{Write}
@@ -25,3 +27,8 @@ returns-in-Err-clause-failed g c = λ opening plain is fault.
     (was_going c.args.self.now.desk.stop (IsFault Pages (g.D.Disk.faults c.args.self.now.desk.pool.file.disk) (g.D.Disk.faults c.settle.new.self.pool.file.disk)) c.in-Err.why fault c.in-Err.ensures.cause).0 c.in-Err.ensures.stop c.settle.ensures.rest.2 c.settle.ensures.held c.record.ensures.rest c.record.ensures.held c.record.ensures.ledger c.record.ensures.works
     (c.record.ensures.desk (stopped plain) (c.in-Err.ensures.failed plain is.is fault)) (stop_keeps plain is.fits) refl
     (λ device count. doubt_stays g.D.Disk.is_honest g.D.Disk.state opening c.args.self.now plain is (stopped plain) (line_of c.args.who (whats.Fault device count Write)) refl)
+
+pub returns-in-Err-clause-long : goal.returns-in-Err-clause-long
+returns-in-Err-clause-long g c = λ told.
+    subst (λ (f : File g.row.D.Denot). LeavesOnly g.D.Disk.remembers (g.D.Disk.clock c.args.self.now.desk.pool.file.disk) (g.D.Disk.clock f.disk) (IsAsLong (g.D.Disk.state c.args.self.now.desk.pool.file.disk)))
+    (sym c.record.ensures.file) (c.settle.ensures.long told)

@@ -1,5 +1,5 @@
 use Rattle.std.proofs.Common.{◌∙◌, refl, sym, subst}
-use Rattle.block_file.specs.Blocks.{File}
+use Rattle.block_file.specs.Blocks.{File, IsAsLong}
 use Rattle.disk_model.specs.Moments.{LeavesOnly}
 use Rattle.retro_base.specs.Cause.{IsFault}
 use Rattle.retro_base.specs.declared.device.Device.TheVariants.{Pages}
@@ -48,3 +48,8 @@ pub returns-in-Err-clause-any_moment : goal.returns-in-Err-clause-any_moment
 returns-in-Err-clause-any_moment g c = λ opening plain page need left is least told.
     subst (λ (f : File g.row.D.Denot). LeavesOnly g.D.Disk.remembers (g.D.Disk.clock c.args.self.now.desk.pool.file.disk) (g.D.Disk.clock f.disk) (HoldsPagesOf (write_failed plain page need left)))
     (sym c.record.ensures.file) (c.write_back.ensures.any_moment plain page need left is.is least told)
+
+pub returns-in-Err-clause-long : goal.returns-in-Err-clause-long
+returns-in-Err-clause-long g c = λ told.
+    subst (λ (f : File g.row.D.Denot). LeavesOnly g.D.Disk.remembers (g.D.Disk.clock c.args.self.now.desk.pool.file.disk) (g.D.Disk.clock f.disk) (IsAsLong (g.D.Disk.state c.args.self.now.desk.pool.file.disk)))
+    (sym c.record.ensures.file) (c.write_back.ensures.long told)

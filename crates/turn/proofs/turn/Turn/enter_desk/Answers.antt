@@ -4,7 +4,7 @@ use Rattle.atomic_table.specs.Table.{rest}
 use Rattle.turn.specs.declared.view.Kept.TheVariants.{Desk}
 use Rattle.history.specs.Lines.{lines_of}
 use Rattle.turn.specs.declared.view.Holding.{Holding}
-use Rattle.turn.specs.Rule.{TellsFaults}
+use Rattle.turn.specs.Rule.{TellsFaults, VaultBeside}
 use Rattle.turn.specs.Seats.{mine}
 use Rattle.turn.proofs.Handing.{parts_here, same_taken}
 use Rattle.turn.proofs.Steps.{draw_desk, read_desk}
@@ -42,3 +42,10 @@ returns-then-serving-ticket-clause-work g c = let i = c.loop.invariant in let x 
     let same : got.value ≡ c.in-Some-Desk.desk = same_taken _ _ _ _ got.value c.in-Some-Desk.desk got.slots c.exchange-taken.ensures.2 (c.in-Some-Desk.is ∙ ap Some c.in-Some-Desk.field-0-is) in
     let here = ap (λ (hs : List (Holding _)). get_elem? hs 0) (ap (λ m. m.0.holds) i.3.2 ∙ c.requires.seat.one) in
     (got.own 0 (mine c.args.seat.now) here c.requires.seat.part).1 ∙ ap (λ (y : g.row.A.Denot × ℕ). g.A.DeskValue.meaning.work_of y.0 y.1) (λ k. (same k, c.requires.seat.number k))
+
+pub returns-then-serving-ticket-clause-beside : goal.returns-then-serving-ticket-clause-beside
+returns-then-serving-ticket-clause-beside g c = let i = c.loop.invariant in let x = c.load-serving.ensures in
+    let got = (x.2 i.3.0 (ap (λ m. m.0.desk) i.3.2)).0 (c.if-serving-ticket.true ∙ i.3.1) in
+    let same : got.value ≡ c.in-Some-Desk.desk = same_taken _ _ _ _ got.value c.in-Some-Desk.desk got.slots c.exchange-taken.ensures.2 (c.in-Some-Desk.is ∙ ap Some c.in-Some-Desk.field-0-is) in
+    let held : got.held ≡ c.exchange-taken.new.seat.me.0.held = sym (ap (λ m. m.0.held) c.exchange-taken.ensures.3 ∙ ap (λ v. v.held) got.view_is) in
+    subst (λ (y : g.row.A.Denot × ℕ). VaultBeside g.A.Opening.Opening.meaning g.A.DeskValue.meaning g.B.VaultValue.meaning y.0 y.1) (λ k. (same k, held k)) got.beside

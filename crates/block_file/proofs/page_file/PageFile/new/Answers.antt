@@ -1,0 +1,5 @@
+use Rattle.std.proofs.Common.{◌∙◌}
+use Rattle.block_file.proofs.page_file.PageFile.new.Goals as goal
+
+pub returns-clause-fills : goal.returns-clause-fills
+returns-clause-fills g c = λ honest. g.met.D.Disk.sized c.args.disk honest ∙ c.requires
