@@ -18,6 +18,7 @@ pub mod Going
 pub mod ItemRuns
 pub mod Labels
 pub mod Leaving
+pub mod ListedAll
 pub mod Lists
 pub mod Looks
 pub mod Meant

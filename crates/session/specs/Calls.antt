@@ -1,5 +1,5 @@
 -- Calls over many snapshots, as a session runs them.
-use Rattle.std.specs.Prelude.{◌≡◌, ◌&&◌, ◌==◌, ℕ, Bool, not, List, [], map, flat_map, Option, Some, None, option_to_list, Result, Ok, Err, IfOk, nat_le}
+use Rattle.std.specs.Prelude.{◌≡◌, ◌&&◌, ◌==◌, ℕ, Bool, not, List, [], codes, length, map, flat_map, Option, Some, None, is_none, option_to_list, Result, Ok, Err, IfOk, nat_le}
 use Rattle.retro_base.specs.Gives.{◌>>=◌}
 use Rattle.std.specs.List.{list_any}
 use Rattle.std.specs.List.Sorted.{IsSortedByKey}
@@ -15,6 +15,10 @@ use Rattle.rql.specs.AsOf.{Answers}
 use Rattle.rql_arguments.specs.declared.call.Call.{Call as CallSaid}
 use Rattle.rql_arguments.specs.declared.call.Combination.{Combination}
 use Rattle.sql_select.specs.declared.answer.Answer.{Answer}
+use Rattle.sql_tree.specs.Expression.{Column}
+use Rattle.sql_tree.specs.declared.name.ColumnName.{ColumnName}
+use Rattle.sql_tree.specs.declared.select.Output.{Output}
+use Rattle.sql_tree.specs.declared.select.OutputValue.TheVariants as value
 use Rattle.sql_tree.specs.declared.select.Select.{Select}
 use Rattle.tables.specs.Tables.{Tables}
 use Rattle.journal_law.specs.Fates.{fate}
@@ -82,6 +86,28 @@ abbrev pub numbers_listed : Select → List MarkOf → Result (List ℕ) Refusal
 numbers_listed query marks = do
   listed ← asked_of query snapshots_table (map row_of_mark marks)
   Ok (flat_map numbers_of listed.rows)
+
+-- the numbers of all these marks, in order
+abbrev pub marked_numbers : List MarkOf → List ℕ
+marked_numbers marks = map (λ (mark : MarkOf). mark.number) marks
+
+-- whichever snapshots there are, the list gives the numbers of all, in their order
+abbrev pub ListsAll : Select → Type 0
+ListsAll query = (marks : List MarkOf) → numbers_listed query marks ≡ Ok (marked_numbers marks)
+
+-- the column of the numbers, by its plain name
+abbrev pub number_column : ColumnName
+number_column = record { table = None; column = codes "snap_id" }
+
+-- the output is the number of a snapshot
+abbrev pub IsNumber : Output → Type 0
+IsNumber output = output.value ≡ value.Expression (Column number_column)
+
+-- whether a select is of one table and takes its rows as they stand
+abbrev pub is_bare : Select → Bool
+is_bare query =
+    not query.distinct && is_none query.second && is_none query.condition
+    && (length query.group_by == 0) && (length query.order_by == 0) && is_none query.limit
 
 -- what a call ends with whose result is this: its reply, with the table that it leaves; or a refusal, or want of memory
 abbrev pub CallEnds : List ℕ → Result Answer Refusal → Result (List ℕ) Refusal → Option ResultTable → Type 0

@@ -19,7 +19,7 @@ use crate::gate::{Gate, Point};
 use crate::listing::snapshots_asked;
 use crate::looking::{of_query, of_seat};
 use crate::nothing::NoSnapshot;
-use crate::numbers::numbers_in;
+use crate::numbers::{all_numbers, lists_all, numbers_in};
 use crate::result_table::ResultTable;
 use crate::wording::write_count;
 use fold_kit::Folds;
@@ -93,12 +93,15 @@ fn combine_none<F: Folds>(
     )
 }
 
-// The numbers that a list of snapshots gives, all of which are among these marks.
+// The numbers that a list of snapshots gives, all of which are among these marks. The plain list needs no query.
 fn numbers_listed(alloc: Global, query: &Select, marks: &[Mark]) -> Result<Vec<u32>, Refusal>
     ensures numbers { Gives (λ numbers. numbers.items) result (numbers_listed query.now marks.now) }
     ensures retained { IfOk result
         (λ numbers. AllByRecursion (λ number. is_retained number marks.now ≡ true) numbers.items) }
 {
+    if lists_all(query) {
+        return all_numbers(alloc, marks);
+    }
     let listed = snapshots_asked(alloc, query, marks)?;
     numbers_in(alloc, listed.rows.as_slice(), marks)
 }

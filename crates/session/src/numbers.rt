@@ -1,13 +1,15 @@
 //! The snapshots of a call, by their numbers.
 
-ghost use Rattle.std.specs.Prelude.{◌≡◌, ◌++◌, IfErr, IfOk, OnOk, option_to_list, true};
-ghost use Rattle.std.specs.List.{AllByRecursion, flat_map};
+ghost use Rattle.std.specs.Prelude.{◌≡◌, ◌++◌, ◌==◌, ◌&&◌, IfErr, IfOk, OnOk, nat_le, not, option_to_list, true};
+ghost use Rattle.std.specs.List.{AllByRecursion, flat_map, list_all};
 ghost use Rattle.retro_base.specs.declared.refusal.Refusal.TheVariants.{OutOfMemory};
 ghost use Rattle.session.specs.OverSnapshots.{numbers_of};
-ghost use Rattle.session.specs.Calls.{AreRising, has_number, is_retained};
+ghost use Rattle.session.specs.Calls.{AreRising, IsNumber, ListsAll, has_number, is_bare, is_retained};
+ghost use Rattle.session.specs.Calls.{marked_numbers, number_column};
 
 use history::{Mark, newest};
 use retro_base::Refusal;
+use sql_tree::{ColumnName, Output, OutputValue, Select};
 use std::alloc::Global;
 use values::{Row, Value};
 
@@ -74,5 +76,71 @@ pub fn numbers_in(alloc: Global, rows: &[Row], marks: &[Mark]) -> Result<Vec<u32
     for row in rows {
         push_number(row.as_slice(), marks, &mut numbers)?;
     }
+    Ok(numbers)
+}
+
+// Whether a name is that of the column of the numbers, as a list of snapshots has it.
+fn names_number(name: &ColumnName) -> bool
+    ensures { result ≡ true → name.now ≡ number_column }
+{
+    name.table.is_none() && name.column.bytes() == b"snap_id".as_slice()
+}
+
+// Whether an output is the number of a snapshot.
+fn is_number(output: &Output) -> bool
+    ensures { result ≡ true → IsNumber output.now }
+{
+    match &output.value {
+        OutputValue::Expression(of) => match of.column() {
+            Some(name) => names_number(name),
+            None => false,
+        },
+        OutputValue::Aggregate(_) => false,
+    }
+}
+
+// Whether a select is of one table and takes its rows as they stand.
+fn is_bare(query: &Select) -> bool
+    ensures { result ≡ is_bare query.now }
+{
+    !query.distinct
+        && query.second.is_none()
+        && query.condition.is_none()
+        && query.group_by.is_empty()
+        && query.order_by.is_empty()
+        && query.limit.is_none()
+}
+
+/// Whether a list of snapshots has no part but `SELECT snap_id FROM SnapIds`, so that it gives the numbers of all.
+pub fn lists_all(query: &Select) -> bool
+    ensures { result ≡ true → ListsAll query.now }
+{
+    match query.list.outputs() {
+        [output] => is_bare(query) && is_number(output),
+        _ => false,
+    }
+}
+
+// Whether no number of these marks is 0, and none is above the last.
+fn are_within(marks: &[Mark], last: u32) -> bool
+    ensures { result ≡ list_all (λ mark. not (mark.number == 0) && nat_le mark.number last) marks.now }
+{
+    marks
+        .iter()
+        .all(|mark| mark.number != 0 && mark.number <= last)
+}
+
+/// The numbers of all these marks, in order. Those of a store rise from above 0; as a seat's contract does not say so, others
+/// would be refused for want of memory.
+pub fn all_numbers(alloc: Global, marks: &[Mark]) -> Result<Vec<u32>, Refusal>
+    ensures numbers { IfOk result (λ numbers. numbers.items ≡ marked_numbers marks.now) }
+    ensures retained { IfOk result
+        (λ numbers. AllByRecursion (λ number. is_retained number marks.now ≡ true) numbers.items) }
+    ensures memory { IfErr result (λ why. why ≡ OutOfMemory) }
+{
+    if !are_within(marks, newest(marks)) {
+        return Err(Refusal::OutOfMemory);
+    }
+    let numbers = marks.iter().map(|mark| mark.number).collect(alloc)?;
     Ok(numbers)
 }
