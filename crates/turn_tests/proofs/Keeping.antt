@@ -1,5 +1,6 @@
 -- The small desk and the small vault.
 use Rattle.std.proofs.Common.{◌≡◌, ◌≤◌, ◌+◌, ◌∙◌, ℕ, zero, suc, Bool, true, false, cond, eqb, ltb, List, [], ◌∷◌, ◌++◌, take, length, Some, slice_index_or, replicate, ap, refl, sym, subst, arith, append-nil, eq-eqb}
+use Rattle.std.specs.Int.{from_bool}
 use Rattle.std.proofs.lemmas.Bool.{ltb-true}
 use Rattle.retro_base.specs.declared.device.Device.{Device}
 use Rattle.retro_base.specs.declared.device.Device.TheVariants.{Log, Pages, Pagelog, Maplog, Cabinet}
@@ -64,7 +65,7 @@ all_one (suc count) zero x = refl
 all_one (suc count) (suc n) x = all_one count n x
 
 -- the lines of a session behind a line of it, or none
-pub own_more : (n : ℕ) (line : Line) (added : Bool) (old new : List Line) → line.who.session ≡ n → new ≡ old ++ cond added (line ∷ []) [] → lines_of n new ≡ lines_of n old ++ take (cond added 1 0) (line ∷ [])
+pub own_more : (n : ℕ) (line : Line) (added : Bool) (old new : List Line) → line.who.session ≡ n → new ≡ old ++ cond added (line ∷ []) [] → lines_of n new ≡ lines_of n old ++ take (from_bool added) (line ∷ [])
 own_more n line true old new mine is = ap (lines_of n) is ∙ (lines_of_one_more n old line ∙ ap (λ (t : Bool). lines_of n old ++ cond t (line ∷ []) []) (eq-eqb line.who.session n mine))
 own_more n line false old new mine is = ap (lines_of n) (is ∙ append-nil old) ∙ sym (append-nil (lines_of n old))
 

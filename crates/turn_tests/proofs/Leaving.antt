@@ -1,20 +1,23 @@
 -- What an entry may leave behind, and what it tells its seat.
-use Rattle.std.proofs.Common.{◌≡◌, ◌<◌, ◌≤◌, ◌+◌, ◌∙◌, ◌⊎◌, ℕ, Bool, true, false, cond, eqb, ltb, ◌||◌, List, [], ◌∷◌, ◌++◌, ap, refl, sym, subst, inl, inr, ⊎_elim, arith, append-nil, eq-eqb, lt-ltb}
+use Rattle.std.proofs.Common.{◌≡◌, ◌<◌, ◌≤◌, ◌+◌, ◌∙◌, ◌⊎◌, ℕ, Bool, true, false, cond, eqb, ltb, ◌||◌, List, [], ◌∷◌, ◌++◌, take, length, ap, refl, sym, subst, inl, inr, ⊎_elim, arith, append-nil, eq-eqb, lt-ltb}
+use Rattle.std.specs.Int.{from_bool}
+use Rattle.std.proofs.lemmas.List.{length-append}
 use Rattle.retro_base.specs.declared.device.Device.{Device}
 use Rattle.retro_base.specs.declared.device.Device.TheVariants.{Log, Pages, Pagelog, Maplog, Cabinet}
 use Rattle.history.specs.declared.journal.FailedCall.{FailedCall}
 use Rattle.history.specs.declared.journal.Line.{Line}
 use Rattle.history.specs.declared.journal.What.TheVariants.{Fault}
+use Rattle.history.specs.Lines.{lines_of}
 use Rattle.turn.specs.declared.view.Holding.{Holding}
 use Rattle.turn.specs.Faults.{LAST, desk_faults, fault_times, one_fault, rose, vault_faults}
 use Rattle.turn.specs.Seats.{AddsLine, MayLeave}
-use Rattle.turn.specs.Views.{PARTS}
+use Rattle.turn.specs.Views.{PARTS, behind_desk}
 use Rattle.turn.proofs.Faults.{times_append}
 use Rattle.turn_tests.specs.Makes.{IsMore, Makes}
 use Rattle.turn_tests.specs.Meanings.{IsBook, is_quiet, of_book, of_start, only}
 use Rattle.turn_tests.specs.Ready.{IsTold}
 use Rattle.turn_tests.specs.declared.small.Book.{Book}
-use Rattle.turn_tests.proofs.Keeping.{book_more, only_rises}
+use Rattle.turn_tests.proofs.Keeping.{book_more, only_rises, own_more}
 
 -- a line more, or none, behind a desk that has met so many faults
 pub may_add : (h : Holding ℕ) (held k : ℕ) (line : Line) (added : Bool) (old new : Book) → h.parts ≡ PARTS → line.who.session ≡ h.number → is_quiet line.what ≡ true → old.faults ≤ k
@@ -70,3 +73,14 @@ told_by_vault faults old k call up d c p =
 
 pub more_rises : (old new : ℕ) → IsMore old new → old ≤ LAST → old ≤ new
 more_rises old new up few = ⊎_elim (λ (lt : old < new). omega arith) (λ (last : new ≡ LAST). omega arith) up.more
+
+-- the lines of a seat behind an entry that added this line of it to the desk, or none
+pub line_behind : (line : Line) (added : Bool) (old new : Book) (h now : Holding ℕ) → now ≡ behind_desk of_book old new h → h.lines ≡ lines_of h.number old.lines → line.who.session ≡ h.number → new.lines ≡ old.lines ++ cond added (line ∷ []) []
+    → now.lines ≡ h.lines ++ take (from_bool added) (line ∷ [])
+line_behind line added old new h now behind own mine is = ap (λ (x : Holding ℕ). x.lines) behind
+    ∙ (own_more h.number line added old.lines new.lines mine is ∙ ap (λ (lines : List Line). lines ++ take (from_bool added) (line ∷ [])) (sym own))
+
+-- so many lines, and one more, or none
+pub more_lines : (count : ℕ) (line : Line) (added : Bool) (old new : List Line) → count ≤ length old → new ≡ old ++ take (from_bool added) (line ∷ []) → count + from_bool added ≤ length new
+more_lines count line true old new le is = let e = ap length is ∙ length-append old (line ∷ []) in omega (arith, e)
+more_lines count line false old new le is = let e = ap length is ∙ length-append old [] in omega (arith, e)
