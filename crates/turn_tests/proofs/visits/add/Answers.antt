@@ -31,7 +31,7 @@ returns-clause-line g c =
     let number = c.requires.ready.rests.seat.number in
     let behind = c.leave_desk.ensures.mine old e.inside ∙ ap (behind_desk of_book old new) e.same.1 in
     let is = line_behind line c.add-added.result old new h (mine c.leave_desk.new.seat) behind (e.lines ∙ ap (λ n. lines_of n old.lines) (sym number))
-        (ap (λ l. l.who.session) c.line_by-line.ensures ∙ (c.number.ensures ∙ sym number)) c.add-added.ensures.lines in
+    (ap (λ l. l.who.session) c.line_by-line.ensures ∙ (c.number.ensures ∙ sym number)) c.add-added.ensures.lines in
     let same = c.line_by-line.ensures ∙ ap (λ n. line_by n c.args.item c.args.what) c.number.ensures in
     is ∙ (λ i. h.lines ++ take (sym c.from.ensures i) (same i ∷ []))
 
@@ -45,7 +45,7 @@ returns-clause-ready g c =
     let number = c.requires.ready.rests.seat.number in
     let behind = c.leave_desk.ensures.mine old e.inside ∙ ap (behind_desk of_book old new) e.same.1 in
     let is = line_behind line c.add-added.result old new h (mine c.leave_desk.new.seat) behind (e.lines ∙ ap (λ n. lines_of n old.lines) (sym number))
-        (ap (λ l. l.who.session) c.line_by-line.ensures ∙ (c.number.ensures ∙ sym number)) c.add-added.ensures.lines in
+    (ap (λ l. l.who.session) c.line_by-line.ensures ∙ (c.number.ensures ∙ sym number)) c.add-added.ensures.lines in
     record {
       rests = c.leave_desk.ensures.rests;
       lines = subst (λ n. c.args.lines + n ≤ length (mine c.leave_desk.new.seat).lines) (sym c.from.ensures)

@@ -37,7 +37,7 @@ returns-clause-ready g c =
     let behind = c.leave_desk.ensures.mine old e.inside ∙ ap (behind_desk of_book old new) e.same.1 in
     let makes = subst (λ b. Makes line c.add-added.result b new) c.fail-count.ensures.new c.add-added.ensures in
     let is = line_behind line c.add-added.result old new h (mine c.leave_desk.new.seat) behind (e.lines ∙ ap (λ n. lines_of n old.lines) (sym number))
-        (ap (λ l. l.who.session) c.line_by.ensures ∙ (c.number-session.ensures ∙ sym number)) makes.lines in
+    (ap (λ l. l.who.session) c.line_by.ensures ∙ (c.number-session.ensures ∙ sym number)) makes.lines in
     record {
       rests = c.leave_desk.ensures.rests;
       lines = subst (λ n. c.args.lines + n ≤ length (mine c.leave_desk.new.seat).lines) (sym c.from.ensures)
