@@ -50,7 +50,8 @@ def raised(program, words):
         script += [f"SESSION {name}", *(RAISES * ["UPDATE t SET v = v + 1", "COMMIT"])]
     told, journal = run(program, words, [*script, "PHASE", "SESSION reader", "SELECT * FROM t", "ROLLBACK"])
     middle = told.index("session b")
-    refused = told[:middle].count("refused 8 Overlap b") + told[middle:].count("refused 8 Overlap a")
+    refused = sum(line.startswith("refused 8 Overlap b ") for line in told[:middle])
+    refused += sum(line.startswith("refused 8 Overlap a ") for line in told[middle:])
     committed = told.count("committed")
     value = int(told[told.index("rows 1") + 1])
     assert 0 < committed == value and committed + refused == 2 * RAISES, (committed, refused, value)
