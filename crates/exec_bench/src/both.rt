@@ -70,6 +70,7 @@ pub fn parsed(alloc: Global, line: &str) -> Result<Parsed, Refusal>
 }
 
 /// The reply of a line over pages.
+#[inline(never)]
 pub fn over_pages<P: EditPager>(
     alloc: Global,
     parsed: &Parsed,
@@ -100,13 +101,30 @@ pub fn over_plain(alloc: Global, parsed: &Parsed, plain: &mut Tables) -> Result<
     }
 }
 
+/// The text of a line's reply over pages.
+pub fn pages_text(
+    alloc: Global,
+    parsed: &Parsed,
+    pages: &mut MemPager,
+) -> Result<String, AllocError>
+    requires { HasLimits parsed.now }
+{
+    text_of(alloc, &over_pages(alloc, parsed, pages))
+}
+
+/// The text of a line's reply over plain tables.
+pub fn plain_text(alloc: Global, parsed: &Parsed, plain: &mut Tables) -> Result<String, AllocError>
+    requires { HasLimits parsed.now }
+{
+    let reply = over_plain(alloc, parsed, plain).map_err(Stop::Refused);
+    text_of(alloc, &reply)
+}
+
 /// The replies of a line over both.
 pub fn reply_twice(alloc: Global, line: &str, both: &mut Both) -> Result<Replies, Refusal> {
     let parsed = parsed(alloc, line)?;
-    let pages = over_pages(alloc, &parsed, &mut both.pages);
-    let plain = over_plain(alloc, &parsed, &mut both.plain).map_err(Stop::Refused);
     Ok(Replies {
-        pages: text_of(alloc, &pages)?,
-        plain: text_of(alloc, &plain)?,
+        pages: pages_text(alloc, &parsed, &mut both.pages)?,
+        plain: plain_text(alloc, &parsed, &mut both.plain)?,
     })
 }

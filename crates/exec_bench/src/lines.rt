@@ -131,8 +131,19 @@ pub const WIDE: [&str; 4] = [
     "SELECT #a, #p FROM #t",
 ];
 
-/// The table that gets ten thousand rows.
+/// A table that gets ten thousand rows.
 pub const BIG: [&str; 1] = ["CREATE TABLE big(k INT, g INT, p TEXT)"];
+
+/// One whose rows are pairs of numbers.
+pub const PAIRS: [&str; 1] = ["CREATE TABLE pairs(k INT, v INT)"];
+
+/// Statements over the pairs whose costs are compared: a filter, a sum, a grouping, and an UPDATE of one row in a hundred.
+pub const COMPARED: [&str; 4] = [
+    "SELECT v FROM pairs WHERE k = 3 AND v < 500",
+    "SELECT SUM(v) FROM pairs",
+    "SELECT k, COUNT(*), SUM(v) FROM pairs GROUP BY k ORDER BY k LIMIT 3",
+    "UPDATE pairs SET v = v + 1 WHERE k = 3",
+];
 
 /// Indexes over its rows, which stand: one whose entries have two values, and one whose entries differ.
 pub const INDEXES: [&str; 2] = ["CREATE INDEX by_g ON big(g)", "CREATE INDEX by_k ON big(k)"];

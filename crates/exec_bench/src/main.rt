@@ -1,5 +1,5 @@
 //! Statements over pages in memory: what they reply at the limits, beside plain tables, over ten thousand rows, and when a
-//! call fails.
+//! call fails. With a word only those whose costs over pages and over plain tables are compared.
 #![tactic(auto)]
 
 mod both;
@@ -11,24 +11,40 @@ use lines::{FULL, LONG, REFUSED};
 use pager::Stop;
 use retro_base::Failed;
 use std::alloc::Global;
+use std::env::{self, Env};
 use std::process::ExitCode;
-use stories::{faults, large, many, replies_of, texts_indexed, wide};
+use stories::{compared, faults, large, many, replies_of, texts_indexed, wide};
 
-fn story(alloc: Global) -> Result<String, Stop<Failed>> {
+fn story(alloc: Global, out: &mut String) -> Result<(), Stop<Failed>> {
+    replies_of(alloc, &FULL, out)?;
+    replies_of(alloc, &LONG, out)?;
+    replies_of(alloc, &REFUSED, out)?;
+    many(alloc, out)?;
+    wide(alloc, out)?;
+    texts_indexed(alloc, out)?;
+    faults(alloc, out)?;
+    large(alloc, out)
+}
+
+fn told(alloc: Global, compares: bool) -> Result<String, Stop<Failed>> {
     let mut out = String::new(alloc);
-    replies_of(alloc, &FULL, &mut out)?;
-    replies_of(alloc, &LONG, &mut out)?;
-    replies_of(alloc, &REFUSED, &mut out)?;
-    many(alloc, &mut out)?;
-    wide(alloc, &mut out)?;
-    texts_indexed(alloc, &mut out)?;
-    faults(alloc, &mut out)?;
-    large(alloc, &mut out)?;
+    if !compares {
+        story(alloc, &mut out)?;
+    }
+    compared(alloc, &mut out)?;
     Ok(out)
 }
 
+// Whether there is a word behind the program's own name.
+fn has_word(rt: &(impl Env + AllocGlobal)) -> bool {
+    match env::args(rt) {
+        Ok(mut words) => words.nth(1).is_some(),
+        Err(_) => false,
+    }
+}
+
 fn main(rt: HostRuntime) -> ExitCode {
-    let Ok(text) = story(rt.alloc()) else {
+    let Ok(text) = told(rt.alloc(), has_word(&rt)) else {
         return ExitCode::FAILURE;
     };
     match print!(rt; "{text}") {

@@ -1,19 +1,29 @@
 //! What the statements tell, as text.
 
-use crate::both::{Both, nothing, over_pages, parsed, reply_twice, zero_pages};
+use crate::both::{
+    Both, Replies, nothing, over_pages, pages_text, parsed, plain_text, reply_twice, zero_pages,
+};
 use crate::lines::{
-    BIG, INDEXES, KEY, KEYED, KINDS, LARGE, LOOK_UPS, MANY, TEXTS, TWO_PAGES, WALKS, WIDE,
+    BIG, COMPARED, INDEXES, KEY, KEYED, KINDS, LARGE, LOOK_UPS, MANY, PAIRS, TEXTS, TWO_PAGES,
+    WALKS, WIDE,
 };
 use crate::texts::text_of;
 use pager::{MemPager, Pager, Stop};
 use retro_base::{Failed, Page, Refusal};
 use std::alloc::{AllocError, Global};
-use tables::Reply;
+use tables::{Reply, Tables};
 
-/// How many rows the large table has.
+/// How many rows a large table has.
 const ROWS: u32 = 10_000;
 /// How many of them one statement inserts.
 const TUPLES: u32 = 250;
+
+// The tables of so many rows.
+#[derive(Clone, Copy)]
+enum Table {
+    Big,
+    Pairs,
+}
 
 // The reply of a line over pages.
 fn reply(alloc: Global, line: &str, pager: &mut MemPager) -> Result<Reply, Stop<Failed>> {
@@ -70,13 +80,17 @@ fn tell(out: &mut String, line: &str, reply: &str) -> Result<(), AllocError> {
 fn agreed(alloc: Global, lines: &[&str], both: &mut Both, out: &mut String) -> Result<(), Refusal> {
     for line in lines {
         let replies = reply_twice(alloc, line, both)?;
-        if replies.pages.as_str() == replies.plain.as_str() {
-            tell(out, line, replies.pages.as_str())?;
-        } else {
-            tell(out, line, "different")?;
-        }
+        tell_alike(out, line, &replies)?;
     }
     Ok(())
+}
+
+fn tell_alike(out: &mut String, line: &str, replies: &Replies) -> Result<(), AllocError> {
+    if replies.pages.as_str() == replies.plain.as_str() {
+        tell(out, line, replies.pages.as_str())
+    } else {
+        tell(out, line, "different")
+    }
 }
 
 /// The wide table.
@@ -91,32 +105,97 @@ pub fn texts_indexed(alloc: Global, out: &mut String) -> Result<(), Refusal> {
     agreed(alloc, &TEXTS, &mut both, out)
 }
 
-// The statement that inserts the tuples of these numbers, a row of sixty bytes each.
-fn insert_line(alloc: Global, first: u32) -> Result<String, AllocError> {
-    let mut line = String::from_str(alloc, "INSERT INTO big VALUES ")?;
+// The tuple of that number: of the large table a row of sixty bytes, of the other a pair of which a hundred differ in the
+// first.
+fn tuple(alloc: Global, table: Table, number: u32) -> Result<String, AllocError> {
+    match table {
+        Table::Big => {
+            let parity = number % 2;
+            format!(in alloc; "({number},{parity},'a text that has thirty-one bytes')")
+        }
+        Table::Pairs => {
+            let group = number % 100;
+            format!(in alloc; "({group},{number})")
+        }
+    }
+}
+
+// The statement that inserts the tuples of these numbers.
+fn insert_line(alloc: Global, table: Table, first: u32) -> Result<String, AllocError> {
+    let head = match table {
+        Table::Big => "INSERT INTO big VALUES ",
+        Table::Pairs => "INSERT INTO pairs VALUES ",
+    };
+    let mut line = String::from_str(alloc, head)?;
     for place in 0..TUPLES {
-        let number = first.saturating_add(place);
-        let parity = number % 2;
-        let comma = if place == 0 { "" } else { "," };
-        let tuple = format!(in alloc;
-            "{comma}({number},{parity},'a text that has thirty-one bytes')"
-        )?;
+        if place > 0 {
+            line.push_str(",")?;
+        }
+        let tuple = tuple(alloc, table, first.saturating_add(place))?;
         line.push_str(tuple.as_str())?;
     }
     Ok(line)
 }
 
-// How many statements inserted the large table's rows alike.
-fn inserts(alloc: Global, both: &mut Both) -> Result<u32, Refusal> {
+// How many statements inserted the table's rows alike.
+fn inserts(alloc: Global, table: Table, both: &mut Both) -> Result<u32, Refusal> {
     let mut inserted = 0_u32;
     for statement in 0..ROWS / TUPLES {
-        let line = insert_line(alloc, statement.saturating_mul(TUPLES))?;
+        let line = insert_line(alloc, table, statement.saturating_mul(TUPLES))?;
         let replies = reply_twice(alloc, line.as_str(), both)?;
         if replies.pages.as_str() == "ok 250" && replies.plain.as_str() == "ok 250" {
             inserted = inserted.saturating_add(1);
         }
     }
     Ok(inserted)
+}
+
+// A store of so many pages with the table, and how many statements inserted its rows alike.
+fn filled(
+    alloc: Global,
+    count: u16,
+    table: Table,
+    lines: &[&str],
+    out: &mut String,
+) -> Result<Both, Refusal> {
+    let mut both = nothing(alloc, count)?;
+    agreed(alloc, lines, &mut both, out)?;
+    let inserted = inserts(alloc, table, &mut both)?;
+    let text = format!(in alloc; "inserts of 250 rows: {inserted}\n")?;
+    out.push_str(text.as_str())?;
+    Ok(both)
+}
+
+/// The statements whose costs are compared: first all over plain tables, so that none of those has to tidy memory that one
+/// over pages gave back.
+pub fn compared(alloc: Global, out: &mut String) -> Result<(), Refusal> {
+    let mut both = filled(alloc, 500, Table::Pairs, &PAIRS, out)?;
+    let plain = plain_replies(alloc, &mut both.plain)?;
+    beside_plain(alloc, &mut both.pages, plain, out)
+}
+
+// The replies of those over plain tables.
+fn plain_replies(alloc: Global, tables: &mut Tables) -> Result<Vec<String>, Refusal> {
+    let mut replies = Vec::new(alloc);
+    for line in COMPARED {
+        let reply = plain_text(alloc, &parsed(alloc, line)?, tables)?;
+        replies.push(reply)?;
+    }
+    Ok(replies)
+}
+
+// Each of them with its reply over pages, where that is the same.
+fn beside_plain(
+    alloc: Global,
+    pager: &mut MemPager,
+    replies: Vec<String>,
+    out: &mut String,
+) -> Result<(), Refusal> {
+    for (line, plain) in COMPARED.iter().zip(replies) {
+        let pages = pages_text(alloc, &parsed(alloc, line)?, pager)?;
+        tell_alike(out, line, &Replies { pages, plain })?;
+    }
+    Ok(())
 }
 
 // Selects over the large table, and whether they read few pages.
@@ -132,11 +211,7 @@ fn selects(
 
 /// The large table: how many statements inserted its rows alike, what its indexes find, and what then became of it.
 pub fn large(alloc: Global, out: &mut String) -> Result<(), Stop<Failed>> {
-    let mut both = nothing(alloc, 4000)?;
-    agreed(alloc, &BIG, &mut both, out)?;
-    let inserted = inserts(alloc, &mut both)?;
-    let text = format!(in alloc; "inserts of 250 rows: {inserted}\n")?;
-    out.push_str(text.as_str())?;
+    let mut both = filled(alloc, 4000, Table::Big, &BIG, out)?;
     agreed(alloc, &INDEXES, &mut both, out)?;
     selects(alloc, &LOOK_UPS, &mut both, out)?;
     selects(alloc, &WALKS, &mut both, out)?;
