@@ -77,24 +77,24 @@ def full_journal():
 
 def wide_calls():
     """Calls over twelve snapshots of a row that is raised before each: three hundred columns, of which forty are told by
-    pairs, and twenty result tables of one session, the last of which takes the place of the first."""
+    pairs, and a hundred result tables of one session, the last of which takes the place of the first."""
     columns = lambda count: ",".join("v + 0" for _ in range(count))
     pairs = ",".join(f"(col{at},{('MIN', 'MAX', 'SUM', 'COUNT')[at % 4]})" for at in range(1, 41))
     of_pair = lambda at: (1, 12, 78, 12)[at % 4]
     every, upto = "'SELECT snap_id FROM SnapIds'", lambda n: f"'SELECT snap_id FROM SnapIds WHERE snap_id <= {n}'"
     collated = [f"CollateData({every},'SELECT {columns(300)} FROM t','rql_w')", "SELECT * FROM rql_w"]
     folded = [f"AggregateDataInTable({every},'SELECT {columns(40)} FROM t','rql_p','{pairs}')", "SELECT * FROM rql_p"]
-    tables = [f"CollateData({upto(n % 13)},'SELECT v FROM t','rql_{n % 19}')" for n in range(1, 21)]
-    asked = [f"SELECT COUNT(*) FROM rql_{n}" for n in range(19)]
+    tables = [f"CollateData({upto(n % 13)},'SELECT v FROM t','rql_{n % 99}')" for n in range(1, 101)]
+    asked = [f"SELECT COUNT(*) FROM rql_{n}" for n in range(99)]
     script = "SESSION a\nCREATE TABLE t(v INT)\nINSERT INTO t VALUES (0)\nCOMMIT\n"
     script += 12 * "UPDATE t SET v = v + 1\nCOMMIT WITH SNAPSHOT\n" + lines_of([*collated, *folded, *tables, *asked])
-    counts = {n % 19: n % 13 for n in range(1, 21)}
+    counts = {n % 99: n % 13 for n in range(1, 101)}
     items = ["ok\nok 1\ncommitted", *(f"ok 1\ncommitted as {n}" for n in range(1, 13))]
     items += ["ok 12", rows_of(300 * (n,) for n in range(1, 13)), "ok 1", rows_of([[of_pair(at) for at in range(1, 41)]])]
-    items += [f"ok {n % 13}" for n in range(1, 21)]
-    items += [rows_of([(counts[n],)]) for n in range(19)]
+    items += [f"ok {n % 13}" for n in range(1, 101)]
+    items += [rows_of([(counts[n],)]) for n in range(99)]
     journal = ["1 done", *(f"{n + 1} done as {n}" for n in range(1, 13)), *looked(14, "all"), *looked(16, "all")]
-    journal += [line for n in range(20) for line in looked(18 + n, "all")]
+    journal += [line for n in range(100) for line in looked(18 + n, "all")]
     return script, transcript(items, journal), {"args": "run\n"}
 
 
