@@ -23,15 +23,6 @@ pub struct NumberedRow {
     pub row: Row,
 }
 
-impl Duplicate for NumberedRow {
-    fn copy(&self, alloc: Global) -> Result<NumberedRow, AllocError> {
-        Ok(NumberedRow {
-            number: self.number,
-            row: self.row.copy(alloc)?,
-        })
-    }
-}
-
 impl HasRow for NumberedRow {
     ghost row_of = { λ numbered_row. numbered_row.row };
 
@@ -45,15 +36,6 @@ impl HasRow for NumberedRow {
 pub struct Contents {
     pub next: u64,
     pub rows: Seq<NumberedRow>,
-}
-
-impl Duplicate for Contents {
-    fn copy(&self, alloc: Global) -> Result<Contents, AllocError> {
-        Ok(Contents {
-            next: self.next,
-            rows: self.rows.copy(alloc)?,
-        })
-    }
 }
 
 impl Contents {

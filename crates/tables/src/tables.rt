@@ -1,6 +1,6 @@
 //! Tables by name.
 
-ghost use Rattle.std.specs.Prelude.{◌≡◌, ◌<◌, ◌≤◌, ◌++◌, ◌∷◌, [], List, Ok, None, length, slice_index_or, slice_set, IfOk, MatchResult, OnOk, OnErr};
+ghost use Rattle.std.specs.Prelude.{◌≡◌, ◌<◌, ◌≤◌, ◌++◌, ◌∷◌, [], List, Ok, None, length, slice_index_or, slice_set, MatchResult, OnOk, OnErr};
 ghost use Rattle.retro_base.specs.Gives.{Gives};
 ghost use Rattle.retro_base.specs.declared.refusal.Refusal.TheVariants.{UnknownName};
 ghost use Rattle.sql_tree.specs.declared.schema.TableSchema.{TableSchema as TableSchemaOf};
@@ -59,16 +59,6 @@ impl Tables {
             },
             contents: Vec::new(alloc),
         }
-    }
-
-    /// A copy that equals its original.
-    pub fn copy(&self, alloc: Global) -> Result<Tables, AllocError>
-        ensures { IfOk result (λ copy. copy ≡ self.now) }
-    {
-        Ok(Tables {
-            schema: self.schema.copy(alloc)?,
-            contents: copies(alloc, &self.contents)?,
-        })
     }
 
     /// The names of the tables, of their columns, and of the indexes.
@@ -216,16 +206,6 @@ impl Tables {
             }
         }
     }
-}
-
-fn copies(alloc: Global, all: &[Contents]) -> Result<Vec<Contents>, AllocError>
-    ensures { IfOk result (λ copies. copies.items ≡ all.now) }
-{
-    let mut copies = Vec::new(alloc);
-    for contents in all {
-        copies.push(contents.copy(alloc)?)?;
-    }
-    Ok(copies)
 }
 
 // Adds a table without rows, or nothing.
