@@ -1,7 +1,7 @@
 #!/bin/sh
-# Instructions of the built program for a script of 60,000 bytes, in lines of 500, 1,000, 2,000 and 4,000 bytes of one kind over a table without
-# rows. Reading a line is linear in its bytes where the four counts of a kind are alike. The empty script stands first, and last come scripts
-# of 1, 2 and nearly 4 MiB in lines of 2,000 bytes: reading a script is linear where their counts go with their bytes.
+# Instructions of the built program that reads a script of one kind of lines: of about 1 MiB in lines of 500, 1,000, 2,000 and 4,000 bytes, and of
+# nearly 4 MiB in lines of 2,000. Each script is bad at its end, where it leaves a transaction open: so all of it is read, and nothing is checked or
+# done. Reading is linear in the line where the four counts of a kind are alike, and linear in the script where the last is four times the third.
 . "$(dirname "$0")/count.sh"
 
 # so many bytes in lines of so many: a head, as many openings as fit, what stands inside, as many endings, and a tail
@@ -15,18 +15,19 @@ script_of() {
         for (i = 0; i < count; i++) line = line ending
         for (i = 0; i < int(whole / bytes); i++) print line tail
     }'
-    printf 'COMMIT\n'
 }
 
-printf 'SESSION a\nCOMMIT\n' | count 'empty'
+# a script of each kind, of so many bytes in lines of so many
+kinds() {
+    script_of "$1" "$2" 'SELECT ' '(' '1' ')' ' FROM t' | count "$1 bytes in lines of $2: parentheses"
+    script_of "$1" "$2" 'DELETE FROM t WHERE ' 'NOT ' 'a = 1' '' '' | count "$1 bytes in lines of $2: NOT"
+    script_of "$1" "$2" 'DELETE FROM t WHERE ' '' 'a = 1' ' OR a = 1' '' | count "$1 bytes in lines of $2: OR"
+    script_of "$1" "$2" 'SELECT ' '' '1' ' - -1' ' FROM t' | count "$1 bytes in lines of $2: differences"
+    script_of "$1" "$2" 'SELECT ' '' 'a' ', a' ' FROM t' | count "$1 bytes in lines of $2: outputs"
+}
+
+script_of 0 1 '' '' '' '' '' | count 'empty'
 for bytes in 500 1000 2000 4000; do
-    script_of 60000 "$bytes" 'SELECT ' '(' '1' ')' ' FROM t' | count "lines of $bytes bytes: parentheses"
-    script_of 60000 "$bytes" 'DELETE FROM t WHERE ' 'NOT ' 'a = 1' '' '' | count "lines of $bytes bytes: NOT"
-    script_of 60000 "$bytes" 'DELETE FROM t WHERE ' '' 'a = 1' ' OR a = 1' '' | count "lines of $bytes bytes: OR"
-    script_of 60000 "$bytes" 'SELECT ' '' '1' ' - -1' ' FROM t' | count "lines of $bytes bytes: differences"
-    script_of 60000 "$bytes" 'SELECT ' '' 'a' ', a' ' FROM t' | count "lines of $bytes bytes: outputs"
+    kinds 1000000 "$bytes"
 done
-for mib in 1 2 4; do
-    whole=$((mib * 1048576 - 4096))
-    script_of "$whole" 2000 'SELECT ' '(' '1' ')' ' FROM t' | count "a script of $whole bytes"
-done
+kinds 4000000 2000
