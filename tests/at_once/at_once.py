@@ -5,8 +5,8 @@ The sessions of the second phase change the rows of one table and look at it, so
 one as of the first snapshot. The judge takes the visible lines of the journal in their order and does what each item
 that they tell as done does to four numbers: what the item saw, what each snapshot holds, and what the table holds at
 the end have to be those numbers. It is tried first on transcripts that no run may give, each of which it has to refuse.
-It ends with status 1 at the first difference, where all runs had one order, and where in no run all eight sessions had
-begun before the first of them ended; until one has, the script is run up to ten times as often.
+It ends with status 1 at the first difference, where all runs had one order, and where in no run three sessions had begun
+and not ended at once; until one has, the script is run up to ten times as often.
 """
 import os
 import re
@@ -129,10 +129,11 @@ def judge(text, journal):
     return tuple(order), refused
 
 
-def were_all_inside(journal):
-    """Whether each session's first line stands before every other session's last."""
+def most_inside(journal):
+    """How many sessions at most had their first line and not their last: more than a program of two threads has."""
     told = [line.split(" ")[1] for line in journal if line.startswith("2 ")]
-    return max(told.index(s) for s in SESSIONS) < min(len(told) - 1 - told[::-1].index(s) for s in SESSIONS)
+    spans = [(told.index(s), len(told) - 1 - told[::-1].index(s)) for s in SESSIONS]
+    return max(sum(first <= at < last for first, last in spans) for at in range(len(told)))
 
 
 def made(items=range(1, ITEMS + 1), left_out=0, overlapped={}):
@@ -198,7 +199,7 @@ def judge_the_judge():
     for judged, wanted in ((lawful, True), (unlawful, False)):
         wrong = [name for name, transcript in judged.items() if is_lawful(transcript) != wanted]
         assert not wrong, ("the judge is wrong at", wrong)
-    assert not were_all_inside(journal), "sessions in turn are not inside one another"
+    assert most_inside(journal) == 1, "sessions in turn are not inside one another"
 
 
 def main():
@@ -211,8 +212,8 @@ def main():
         orders.add(order)
         made += 1
         refused += count
-        inside += were_all_inside(journal)
-    print(f"{made} runs, {len(orders)} orders, {inside} of them with all sessions inside; {refused} items overlapped 64 times")
+        inside += most_inside(journal) > 2
+    print(f"{made} runs, {len(orders)} orders, {inside} runs with three sessions inside at once; {refused} items overlapped 64 times")
     sys.exit(len(orders) < 2 or inside == 0)
 
 
