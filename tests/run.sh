@@ -64,6 +64,12 @@ beside() {
     fi
 }
 
+# Whether this can run the program as a user who may start no thread.
+may_be_another() {
+    [ "$(id -u)" -eq 0 ] && type setpriv prlimit >/dev/null 2>&1 &&
+        setpriv --reuid=65534 --regid=65534 --clear-groups test -x "$program"
+}
+
 mkdir made
 beside made.py python3 "$tests/rows/made.py" made
 all_of "$tests/../examples" 64 4096
@@ -75,6 +81,11 @@ beside words.sh "$tests/words/words.sh" "$program"
 beside judge python3 "$tests/judge/run.py" --program "$program" --seeds 1 6 --edges
 beside sums.py python3 "$tests/at_once/sums.py" "$program" 10
 beside at_once.py python3 "$tests/at_once/at_once.py" "$program" 100
+if may_be_another; then
+    beside no_threads.py python3 "$tests/at_once/no_threads.py" "$program"
+else
+    printf 'no_threads.py is left out: it needs root, setpriv and prlimit, and a program that others may run\n'
+fi
 beside files.py python3 "$tests/files/files.py" "$program"
 beside kill.py python3 "$tests/kill/kill.py" "$program" 50
 beside "kill/at_once.py" python3 "$tests/kill/at_once.py" "$program" 10

@@ -1,9 +1,11 @@
 #!/usr/bin/env python3
-"""at_once.py PROGRAM [CYCLES]: kills the program while eight sessions commit at once, and opens the store again each time.
+"""at_once.py PROGRAM [CYCLES [SEED]]: kills the program while eight sessions commit at once, and opens the store again
+each time.
 
 Every transaction moves a number from one row to another and declares a snapshot. So whatever was committed when a run
-ended, the sum over the table is what it was at first, now and as of each snapshot, and no snapshot that was seen is lost.
-It works in a folder of its own under the current one, and ends with status 1 at the first difference.
+ended, the sum over the table is what it was at first, now and as of each snapshot, and no snapshot that was seen, or
+told as committed by a run that was not killed, is lost; the last run is one of those, and is short. It works in a folder
+of its own under the current one, prints its seed first, and ends with status 1 at the first difference.
 """
 import os
 import random
@@ -13,17 +15,17 @@ import sys
 import tempfile
 import time
 
-ROWS, FIRST, SESSIONS, MOVES = 64, 1000, "abcdefgh", 60
+ROWS, FIRST, SESSIONS, MOVES, FEW = 64, 1000, "abcdefgh", 60, 6
 
 # The longest that a run may take, in seconds, which is not killed.
 LONGEST = 110
 
 
-def moving():
+def moving(moves):
     lines = ["PHASE"]
     for session in SESSIONS:
         lines.append(f"SESSION {session}")
-        for _ in range(MOVES):
+        for _ in range(moves):
             giver, taker = random.sample(range(ROWS), 2)
             much = random.randrange(1, 50)
             lines.append(f"UPDATE t SET v = v - {much} WHERE k = {giver}")
@@ -48,6 +50,11 @@ def run(program, lines, seconds):
             return None
 
 
+def newest_told(text):
+    """The newest snapshot that a run tells as committed."""
+    return max((int(line.split()[2]) for line in text.splitlines() if line.startswith("committed as ")), default=0)
+
+
 def check(program, seen):
     """The newest snapshot, behind a look at the table now and as of some snapshots."""
     shown = subprocess.run([program, "show", "books"], capture_output=True, text=True, check=True, timeout=LONGEST).stdout
@@ -65,6 +72,9 @@ def check(program, seen):
 
 def main():
     program, cycles = os.path.abspath(sys.argv[1]), int(sys.argv[2]) if len(sys.argv) > 2 else 30
+    seed = int(sys.argv[3]) if len(sys.argv) > 3 else random.randrange(1 << 32)
+    random.seed(seed)
+    print(f"seed {seed}", flush=True)
     killed, seen = 0, 1
     with tempfile.TemporaryDirectory(dir=".") as folder:
         os.chdir(folder)
@@ -72,11 +82,12 @@ def main():
         made = ",".join(f"({k},{FIRST})" for k in range(ROWS))
         making = ["PHASE", "SESSION a", "CREATE TABLE t(k INT, v INT)", f"INSERT INTO t VALUES {made}", "COMMIT WITH SNAPSHOT"]
         assert run(program, making, LONGEST) is not None, "the table was not made"
-        for _ in range(cycles):
-            killed += run(program, moving(), random.uniform(0.05, 1.2)) is None
-            seen = check(program, seen)
+        for left in reversed(range(cycles)):
+            text = run(program, moving(MOVES if left else FEW), random.uniform(0.05, 1.2) if left else LONGEST)
+            killed += text is None
+            seen = check(program, max(seen, newest_told(text or "")))
         os.chdir("..")
-    assert killed > 0 and seen > 1, (killed, seen)
+    assert 0 < killed < cycles and seen > 1, (killed, seen)
     print(f"{cycles} runs of eight sessions, {killed} of them killed before their end; {seen} snapshots, each sum that was asked the same")
 
 

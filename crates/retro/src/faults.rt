@@ -1,11 +1,14 @@
 //! Each call of each device failing in turn, and each device stopping behind each of its calls.
 
 use crate::devices::{
-    Fault, LOG, NO_FAULT, PAGES, Ran, all_again, calls_of, crashed, device_of, formatted, run_over,
+    Fault, LOG, NO_FAULT, PAGES, Ran, all_again, calls_of, crashed, device_of, formatted, run_at,
+    run_over,
 };
 use crate::trial::Outcome;
 use disk_mem::{Call, MemDisk};
 use disk_model::Four;
+use retro_base::SESSIONS;
+use session::NoGate;
 use std::alloc::Global;
 use std::sync::Wait;
 use std::test::Fail;
@@ -71,18 +74,24 @@ const TOLD: [(&[u8], &[u8]); 4] = [
     (b"retro: disk fault on maplog 1\n", b" fault maplog 1"),
 ];
 
-// How many commits a transcript tells as done.
-fn acknowledged(text: &[u8]) -> usize {
+/// How many lines of the text begin so.
+pub fn lines_from(text: &[u8], front: &[u8]) -> usize {
     let mut count = 0_usize;
     for line in text.split(|byte| *byte == b'\n') {
-        if line.starts_with(b"committed as ") {
+        if line.starts_with(front) {
             count = count.saturating_add(1);
         }
     }
     count
 }
 
-fn has_line_with(text: &[u8], end: &[u8]) -> bool {
+/// How many commits with a snapshot a transcript tells as done.
+pub fn acknowledged(text: &[u8]) -> usize {
+    lines_from(text, b"committed as ")
+}
+
+/// Whether a line of the text ends so.
+pub fn has_line_with(text: &[u8], end: &[u8]) -> bool {
     for line in text.split(|byte| *byte == b'\n') {
         if line.ends_with(end) {
             return true;
@@ -91,8 +100,8 @@ fn has_line_with(text: &[u8], end: &[u8]) -> bool {
     false
 }
 
-// Whether a run tells the first fault of a device.
-fn tells_fault(outcome: &Outcome, device: usize) -> bool {
+/// Whether a run tells the first fault of a device.
+pub fn tells_fault(outcome: &Outcome, device: usize) -> bool {
     let Some((refused, end)) = TOLD.get(device) else {
         return false;
     };
@@ -127,10 +136,11 @@ fn is_read<R: Threads + Wait + Sync>(
     }
 }
 
-// What becomes of the loose bytes: nothing, where the program alone is begun again, or what a crash makes of them.
-const IMAGES: [Option<u8>; 2] = [None, Some(0xa5)];
+/// What becomes of the loose bytes: nothing, where the program alone is begun again, or what a crash makes of them.
+pub const IMAGES: [Option<u8>; 2] = [None, Some(0xa5)];
 
-fn image(alloc: Global, four: &Four<MemDisk>, fill: Option<u8>) -> Option<Four<MemDisk>> {
+/// The devices that a run begins with behind it.
+pub fn image(alloc: Global, four: &Four<MemDisk>, fill: Option<u8>) -> Option<Four<MemDisk>> {
     match fill {
         Some(fill) => crashed(alloc, four, fill).ok(),
         None => all_again(alloc, four, NO_FAULT).ok(),
@@ -206,12 +216,12 @@ fn meets<R: Threads + Wait + Sync>(
     fault: Fault,
 ) -> Option<bool> {
     let four = all_again(alloc, made, fault).ok()?;
-    let ran = run_over(rt, alloc, four, COMMITS)?;
+    let ran = run_at(rt, alloc, SESSIONS, four, COMMITS, &NoGate)?;
     is_met_well(rt, alloc, &ran, fault)
 }
 
-// More calls than the script makes of a device.
-const MOST: u64 = 500;
+/// More calls than a script of these tests makes of a device.
+pub const MOST: u64 = 500;
 
 // How many calls of a kind fail well in turn, until a run makes no more of them; None where one does not.
 fn swept<R: Threads + Wait + Sync>(

@@ -1,6 +1,6 @@
 //! Sessions that are inside their items at once: a gate holds each until another is where it should be.
 
-use crate::devices::{Fault, MAPLOG, Ran, all_again, formatted, run_at, run_over};
+use crate::devices::{Fault, MAPLOG, NO_FAULT, PAGES, Ran, all_again, formatted, run_at, run_over};
 use crate::trial::{Outcome, told_at};
 use disk_mem::{Call, MemDisk};
 use disk_model::Four;
@@ -14,10 +14,11 @@ use std::test::Fail;
 use std::thread::{Parker, Threads};
 use std::time::Duration;
 
-// The most turns of a wait, of a millisecond each. The tests fail where one ran out.
-const TURNS: u32 = 100_000;
+/// The most turns of a wait, of a millisecond each. The tests fail where one ran out.
+pub const TURNS: u32 = 20_000;
 
-fn turn<R: Wait>(rt: &R) {
+/// Waits for a turn.
+pub fn turn<R: Wait>(rt: &R) {
     Parker::new().park_timeout(rt, Duration::from_millis(1));
 }
 
@@ -124,8 +125,8 @@ fn is_told(outcome: &Outcome, row: Row) -> bool {
             || between == b"2 a 1 unlooked\n2 b 3 done\n".as_slice())
 }
 
-// Runs a script in memory, whose sessions of a phase run at once, with a gate.
-fn told_gated<R: Threads + Wait + Sync, G: Gate + Sync>(
+/// Runs a script in memory, whose sessions of a phase run at once, with a gate.
+pub fn told_gated<R: Threads + Wait + Sync, G: Gate + Sync>(
     rt: &R,
     alloc: Global,
     script: &[u8],
@@ -160,26 +161,34 @@ fn a_look_stays_open_while_another_session_commits(rt: HostRuntime) -> Result<()
     Ok(())
 }
 
-// The second session's first commit is held until that of the first is done, and then for some turns more; the first
-// session is held behind it until the second is at its second commit. So both are inside their items while what the
-// first one captured is copied.
+// The first session's first commit is held for some turns, in which each worker finds nothing to do and rests. That of
+// the second is held until the first one's is done, and then for more turns; the first session is held behind it until
+// the second is at its second commit. So both are inside their items while a worker copies what the first one captured,
+// or writes back what it changed.
 #[derive(Drop)]
-struct CopyHeld<'a, R: Wait> {
+struct CommitHeld<'a, R: Wait> {
     rt: &'a R,
     places: Places,
 }
 
-// Turns in which the copier makes a round.
-const MORE_TURNS: u32 = 5_000;
+// Turns in which each worker makes its first round, and turns in which it makes another.
+const FIRST_TURNS: u32 = 100;
 
-impl<'a, R: Wait> Gate for CopyHeld<'a, R> {
+const MORE_TURNS: u32 = 2_000;
+
+fn rest<R: Wait>(rt: &R, turns: u32) {
+    for _ in 0..turns {
+        turn(rt);
+    }
+}
+
+impl<'a, R: Wait> Gate for CommitHeld<'a, R> {
     fn at(&self, point: Point, session: u16, item: u32) {
         match (point, session, item) {
+            (Point::BeforeCommit, 0, 1) => rest(self.rt, FIRST_TURNS),
             (Point::BeforeCommit, 1, 1) => {
                 self.places.wait(self.rt, &self.places.first);
-                for _ in 0..MORE_TURNS {
-                    turn(self.rt);
-                }
+                rest(self.rt, MORE_TURNS);
             }
             (Point::BeforeCommit, 1, 2) => come(&self.places.second),
             (Point::AfterCommit, 0, 1) => {
@@ -201,11 +210,20 @@ const COPY_FAILS: &[u8] =
     b"phase 1\nsession a\nitem 1\nok 1\ncommitted\nsession b\nitem 1\nrefused 16 Stopped maplog 1\n\
       item 2\ncommitted\njournal\n1 a 1 done\n1 copier 0 fault maplog 1\n1 b 1 refused 16\n1 b 2 done\n";
 
-const FIRST_WRITE_FAILS: Fault = Fault {
-    device: MAPLOG,
-    kind: Some(Call::Write),
-    behind: 0,
-};
+// Without a snapshot nothing is captured, and the copier has nothing to do.
+const TWO_TABLES_ALONE: &[u8] =
+    b"SESSION m\nCREATE TABLE t(a INT)\nCREATE TABLE u(a INT)\nCOMMIT\n";
+
+// Behind its first phase all is written back that a run finds in the log.
+const NO_ITEMS: &[u8] = b"SESSION m\n";
+
+const TWO_INSERTS_BEHIND: &[u8] = b"SESSION m\nPHASE\nSESSION a\nINSERT INTO t VALUES (1)\nCOMMIT\n\
+      SESSION b\nINSERT INTO u VALUES (1)\nCOMMIT\nCOMMIT\n";
+
+const FLUSH_FAILS: &[u8] =
+    b"phase 1\nsession m\nphase 2\nsession a\nitem 1\nok 1\ncommitted\nsession b\nitem 1\n\
+      refused 16 Stopped pages 1\nitem 2\ncommitted\n\
+      journal\n2 a 1 done\n2 flusher 0 fault pages 1\n2 b 1 refused 16\n2 b 2 done\n";
 
 // Behind the start of a Maplog stands the run of its mappings: from number 0 on, one, of page 2.
 const ONE_MAPPING: &[u8] = b"\x02\0\0\0\0\0\0\0\0\0\0\0\x01\0\x02";
@@ -222,19 +240,29 @@ fn has_mapping(maplog: &[u8]) -> bool {
         .any(|body| body == ONE_MAPPING)
 }
 
-// The run of the two inserts, where the first write of the Maplog fails while both sessions were inside.
+// The run of a script of the two inserts, which tells this, where a write of a device behind so many fails while both
+// sessions are inside.
 fn insert_both<R: Threads + Wait + Sync>(
     rt: &R,
     alloc: Global,
     made: &Four<MemDisk>,
+    device: usize,
+    behind: u64,
+    script: &[u8],
+    told: &[u8],
 ) -> Option<Ran> {
-    let gate = CopyHeld {
+    let gate = CommitHeld {
         rt,
         places: Places::new(),
     };
-    let four = all_again(alloc, made, FIRST_WRITE_FAILS).ok()?;
-    let ran = run_at(rt, alloc, SESSIONS, four, TWO_INSERTS, &gate)?;
-    if ran.outcome.is(6, COPY_FAILS) && gate.places.all_came() {
+    let fault = Fault {
+        device,
+        kind: Some(Call::Write),
+        behind,
+    };
+    let four = all_again(alloc, made, fault).ok()?;
+    let ran = run_at(rt, alloc, SESSIONS, four, script, &gate)?;
+    if ran.outcome.is(6, told) && gate.places.all_came() {
         Some(ran)
     } else {
         None
@@ -247,7 +275,7 @@ fn is_copied_behind<R: Threads + Wait + Sync>(
     alloc: Global,
     made: &Four<MemDisk>,
 ) -> Option<[bool; 2]> {
-    let failed = insert_both(rt, alloc, made)?;
+    let failed = insert_both(rt, alloc, made, MAPLOG, 0, TWO_INSERTS, COPY_FAILS)?;
     let is_early = has_copied(&failed.four, made);
     let last = run_over(rt, alloc, failed.four, b"")?;
     Some([
@@ -267,5 +295,38 @@ fn what_a_commit_captured_is_copied_beside_it_or_by_the_next_run(
     rt: HostRuntime,
 ) -> Result<(), Fail> {
     assert!(rt; copied_of(&rt, rt.alloc()) == Some([false, true]));
+    Ok(())
+}
+
+// How many pages a run writes back before its second phase.
+fn written_at_first<R: Threads + Wait + Sync>(
+    rt: &R,
+    alloc: Global,
+    made: &Four<MemDisk>,
+) -> Option<u64> {
+    let four = all_again(alloc, made, NO_FAULT).ok()?;
+    let ran = run_over(rt, alloc, four, NO_ITEMS)?;
+    Some(ran.four.pages.calls(Call::Write))
+}
+
+// The run of the two inserts, of which the first one's page is not written back.
+fn unflushed<R: Threads + Wait + Sync>(rt: &R, alloc: Global) -> Option<Ran> {
+    let new = formatted(rt, alloc, "16")?;
+    let made = run_over(rt, alloc, new, TWO_TABLES_ALONE)?;
+    let first = written_at_first(rt, alloc, &made.four)?;
+    insert_both(
+        rt,
+        alloc,
+        &made.four,
+        PAGES,
+        first,
+        TWO_INSERTS_BEHIND,
+        FLUSH_FAILS,
+    )
+}
+
+#[test]
+fn what_a_commit_changed_is_written_back_beside_the_sessions(rt: HostRuntime) -> Result<(), Fail> {
+    assert!(rt; unflushed(&rt, rt.alloc()).is_some());
     Ok(())
 }

@@ -2,6 +2,8 @@
 //! reply; makes stores in folders, and shows what they hold; and runs loads, of which it writes a summary.
 #![tactic(auto)]
 
+#[cfg(test)]
+mod apart;
 mod asking;
 #[cfg(test)]
 mod devices;
@@ -16,6 +18,8 @@ mod loading;
 #[cfg(test)]
 mod log_fault;
 mod memory;
+#[cfg(test)]
+mod moving;
 mod phases;
 mod program;
 #[cfg(test)]
