@@ -111,7 +111,7 @@ module _ (size : ℕ) (statement : Statement) (was : Pages) (tables : Tables) (n
       other e = cc
   refusal_gives (refusal.PagesFull pages) (inl memory) = cc
   refusal_gives (refusal.PagesFull pages) (inr (inl means)) = absurd (not_meant (refusal.PagesFull pages) means)
-  refusal_gives (refusal.PagesFull pages) (inr (inr full)) = ((same_pages full.0, (full.1, full.2, full.3)), marks_stay size (Read statement) was tables now same)
+  refusal_gives (refusal.PagesFull pages) (inr (inr full)) = ((same_pages full.0, (full.1, full.2, full.3, full.4)), marks_stay size (Read statement) was tables now same)
     where
       same_pages : refusal.PagesFull pages ≡ refusal.PagesFull size → pages ≡ size
       same_pages e = cc

@@ -36,9 +36,10 @@ LineReaches size page (Read statement) pages tables =
     × IsInReach size pages work page
 LineReaches size page (Syntax place) pages tables = ⊥
 
--- its piece of work needs more pages than are free
+-- the statement would reply, and its piece of work needs more pages than are free
 abbrev pub LineIsShort : ℕ → Reading Statement → Pages → Tables → Type 0
-LineIsShort size (Read statement) pages tables = (work : Option Work) × (work_of statement None tables ≡ Ok work)
+LineIsShort size (Read statement) pages tables =
+    (is_ok (does statement None tables) ≡ true) × (work : Option Work) × (work_of statement None tables ≡ Ok work)
     × IsFull size pages work
 LineIsShort size (Syntax place) pages tables = ⊥
 

@@ -1,5 +1,6 @@
 -- What CREATE TABLE does to well-formed pages is what it means over their tables.
 use Rattle.std.proofs.Common.{◌≡◌, ◌≢◌, ◌∙◌, ◌≤◌, ◌||◌, ◌∷◌, ℕ, Bool, true, false, List, [], length, map, Option, Some, Result, Ok, Err, inl, inr, refl, sym, ap, subst}
+use Rattle.std.specs.Prelude.{is_ok}
 use Rattle.std.specs.List.{AllByRecursion}
 use Rattle.std.proofs.lemmas.List.{map-append}
 use Rattle.retro_base.specs.declared.refusal.Refusal.{Refusal}
@@ -11,6 +12,7 @@ use Rattle.sql_tree.specs.declared.statement.CreateTable.{CreateTable as CreateR
 use Rattle.sql_tree.specs.declared.statement.Statement.TheVariants.{CreateTable}
 use Rattle.sql_check.specs.Check.{checked, has_unknown_name, has_wrong_type, takes_taken_name}
 use Rattle.sql_check.specs.Names.{has_name, has_twins, is_named, is_reserved}
+use Rattle.tables.specs.Meaning.{does}
 use Rattle.tables.specs.declared.reply.Reply.{Reply}
 use Rattle.tables.specs.declared.reply.Reply.TheVariants.{Plain}
 use Rattle.tables.specs.Tables.{Tables, with_table}
@@ -91,6 +93,9 @@ module _ (size : ℕ) (pages : Pages) (all : PlainTables) (is : IsStoreOf size p
       let contents = sym (map-append contents_of all.tables (empty_table create.table create.columns ∷ [])) in
       cc (schemas, contents)
 
+  means : does (CreateTable create) snapshot (plain all) ≡ Ok (plain (with_new (empty_table create.table create.columns) all), Plain)
+  means = does-passed (CreateTable create) snapshot (plain all) passes ∙ ap (λ (t : Tables). Ok (t, Plain)) tables-same
+
   made-law : AreNames create → (b : Result (Reply × Pages) Refusal) → (created size pages create.table create.columns >>= (λ (done : Unit {0} × Pages). only (Ok (Plain, done.1)))) b → IsRunOver size (CreateTable create) snapshot pages (plain all) b
   made-law names (Ok y) (done, added, e) = subst (λ (r : Result (Reply × Pages) Refusal). IsRunOver size (CreateTable create) snapshot pages (plain all) r) e made
     where
@@ -100,7 +105,7 @@ module _ (size : ℕ) (pages : Pages) (all : PlainTables) (is : IsStoreOf size p
       made : IsDoneOver size (CreateTable create) snapshot pages (plain all) Plain done.1
       made = record {
         behind = plain (with_new (empty_table create.table create.columns) all);
-        means = does-passed (CreateTable create) snapshot (plain all) passes ∙ ap (λ (t : Tables). Ok (t, Plain)) tables-same;
+        means = means;
         stored = record { all = with_new (empty_table create.table create.columns) all; store = leaves.store; same = refl };
         work = Some (Creates create.table create.columns);
         is_work = refl;
@@ -108,7 +113,7 @@ module _ (size : ℕ) (pages : Pages) (all : PlainTables) (is : IsStoreOf size p
       }
   made-law names (Err why) (inl full) =
       let refused = worked-as names (Err why) full in
-      inr (refused.0, Some (Creates create.table create.columns), refl, refused.1)
+      inr (refused.0, ap is_ok means, Some (Creates create.table create.columns), refl, refused.1)
   made-law names (Err why) (inr (done, added, e)) = differ _ why e
 
   pub create-law : (b : Result (Reply × Pages) Refusal) → made_table size create pages b → IsRunOver size (CreateTable create) snapshot pages (plain all) b

@@ -1,5 +1,6 @@
 -- What a delete does to well-formed pages is what it means over their tables.
 use Rattle.std.proofs.Common.{◌≡◌, ◌∙◌, ◌⊎◌, ◌∷◌, ◌==◌, ℕ, Bool, not, List, [], length, map, Option, Some, Result, Ok, Err, inl, inr, refl, sym, ap, subst}
+use Rattle.std.specs.Prelude.{is_ok}
 use Rattle.std.specs.List.{AllByRecursion, Contains, filter, list_any}
 use Rattle.retro_base.specs.declared.refusal.Refusal.{Refusal}
 use Rattle.values.specs.declared.value.Value.{Value}
@@ -112,6 +113,14 @@ module _ (size : ℕ) (pages : Pages) (all : PlainTables) (is : IsStoreOf size p
         ∙ ap (λ (rows : List (ℕ × List Value)). map row_under rows) (filter-chosen choose numbers here.shows.placed (any-chosen choose here.shows.placed (numbers-differ size pages all is delete.table here)))
         ∙ unders (filter (stays (schema_at here.found) snapshot delete) here.shows.placed))
 
+    means : Parts (schema_at here.found) snapshot delete here.shows.placed → does (Delete delete) snapshot (plain all) ≡ Ok (plain (where_named delete.table (without_rows numbers) all), Count (length gone))
+    means parts =
+        does-passed (Delete delete) snapshot (plain all) passes
+        ∙ changed_ok delete.table (plain all) (λ (schema : TableSchema) (contents : Contents). remaining snapshot delete schema contents) (found_as here) (contents_of (without_rows numbers here.table)) (length gone) (found-plain size pages delete.table is.store.base.found.tables all here)
+        (remaining-ok snapshot delete (schema_at here.found) (contents_of here.table) (map numbered_at (filter (stays (schema_at here.found) snapshot delete) here.shows.placed), length gone) (ap (λ (rows : List NumberedRow). reworked (remaining_row (schema_at here.found) snapshot delete) rows) (rows-under size pages here.found here.table here.shows) ∙ parts.left)
+        ∙ ap (λ (rows : List NumberedRow). Ok (record { next = here.table.next_number; rows = rows }, length gone)) left-same)
+        ∙ ap (λ (t : Tables). Ok (t, Count (length gone))) (set-plain size pages delete.table is.store.base.found.tables all here (without_rows numbers) (λ t. refl))
+
     gone-law : Parts (schema_at here.found) snapshot delete here.shows.placed → (b : Result (Reply × Pages) Refusal) → (table_deleted removed size here.found gone pages >>= (λ (done : Unit {0} × Pages). only (Ok (Count (length gone), done.1)))) b → IsRunOver size (Delete delete) snapshot pages (plain all) b
     gone-law parts (Ok y) (done, taken, e) = subst (λ (r : Result (Reply × Pages) Refusal). IsRunOver size (Delete delete) snapshot pages (plain all) r) e made
       where
@@ -121,11 +130,7 @@ module _ (size : ℕ) (pages : Pages) (all : PlainTables) (is : IsStoreOf size p
         made : IsDoneOver size (Delete delete) snapshot pages (plain all) (Count (length gone)) done.1
         made = record {
           behind = plain (where_named delete.table (without_rows numbers) all);
-          means = does-passed (Delete delete) snapshot (plain all) passes
-              ∙ changed_ok delete.table (plain all) (λ (schema : TableSchema) (contents : Contents). remaining snapshot delete schema contents) (found_as here) (contents_of (without_rows numbers here.table)) (length gone) (found-plain size pages delete.table is.store.base.found.tables all here)
-              (remaining-ok snapshot delete (schema_at here.found) (contents_of here.table) (map numbered_at (filter (stays (schema_at here.found) snapshot delete) here.shows.placed), length gone) (ap (λ (rows : List NumberedRow). reworked (remaining_row (schema_at here.found) snapshot delete) rows) (rows-under size pages here.found here.table here.shows) ∙ parts.left)
-              ∙ ap (λ (rows : List NumberedRow). Ok (record { next = here.table.next_number; rows = rows }, length gone)) left-same)
-              ∙ ap (λ (t : Tables). Ok (t, Count (length gone))) (set-plain size pages delete.table is.store.base.found.tables all here (without_rows numbers) (λ t. refl));
+          means = means parts;
           stored = record { all = where_named delete.table (without_rows numbers) all; store = leaves.store; same = refl };
           work = Some (Removes delete.table numbers);
           is_work = work-deletes delete snapshot (plain all) (found_as here) numbers (found-plain size pages delete.table is.store.base.found.tables all here)
@@ -134,7 +139,7 @@ module _ (size : ℕ) (pages : Pages) (all : PlainTables) (is : IsStoreOf size p
         }
     gone-law parts (Err why) (inl full) =
         let so = worked-as (Err why) full in
-        inr (so.0, Some (Removes delete.table numbers), work-deletes delete snapshot (plain all) (found_as here) numbers (found-plain size pages delete.table is.store.base.found.tables all here) (ap (λ (rows : List NumberedRow). picked (row_numbers (schema_at here.found) snapshot delete) rows) (rows-under size pages here.found here.table here.shows) ∙ parts.numbers), so.1)
+        inr (so.0, ap is_ok (means parts), Some (Removes delete.table numbers), work-deletes delete snapshot (plain all) (found_as here) numbers (found-plain size pages delete.table is.store.base.found.tables all here) (ap (λ (rows : List NumberedRow). picked (row_numbers (schema_at here.found) snapshot delete) rows) (rows-under size pages here.found here.table here.shows) ∙ parts.numbers), so.1)
     gone-law parts (Err why) (inr (done, taken, e)) = differ _ why e
 
     from-law : (b : Result (Reply × Pages) Refusal) → deleted_from size snapshot delete here.found pages b → IsRunOver size (Delete delete) snapshot pages (plain all) b

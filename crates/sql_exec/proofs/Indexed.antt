@@ -1,5 +1,6 @@
 -- What CREATE INDEX does to well-formed pages is what it means over their tables.
 use Rattle.std.proofs.Common.{◌≡◌, ◌∙◌, ◌⊎◌, ◌||◌, ◌∷◌, cond, ℕ, Bool, true, false, not, List, [], map, Option, Some, None, Result, Ok, Err, inl, inr, refl, sym, ap, subst}
+use Rattle.std.specs.Prelude.{is_ok}
 use Rattle.std.specs.Cmp.Lexicographic.{pointwise}
 use Rattle.std.specs.List.{Contains, find}
 use Rattle.std.specs.Prelude.{◌==◌}
@@ -125,7 +126,7 @@ module _ (size : ℕ) (pages : Pages) (all : PlainTables) (is : IsStoreOf size p
         }
     added-law named (Err why) (inl full) =
         let refused = worked-as named (Err why) full in
-        inr (refused.0, Some (Indexes create.index create.table create.column), refl, refused.1)
+        inr (refused.0, ap is_ok (does-passed (CreateIndex create) snapshot (plain all) passes), Some (Indexes create.index create.table create.column), refl, refused.1)
     added-law named (Err why) (inr (done, added, e)) = differ _ why e
 
     made-law : (b : Result (Reply × Pages) Refusal) → (given (IsName create.index) >>= (λ (u : Unit {0}). table_indexed tree.made tree.added size create.index here.found at_column.place pages >>= (λ (done : Unit {0} × Pages). only (Ok (Plain, done.1))))) b → IsRunOver size (CreateIndex create) snapshot pages (plain all) b

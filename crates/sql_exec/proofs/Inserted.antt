@@ -1,5 +1,6 @@
 -- What an insert does to well-formed pages is what it means over their tables.
 use Rattle.std.proofs.Common.{◌≡◌, ◌∙◌, ◌⊎◌, ◌≤◌, ◌+◌, ◌-◌, ◌^◌, ◌++◌, ◌∷◌, ℕ, Bool, true, false, List, [], length, map, Option, Some, None, Result, Ok, Err, inl, inr, refl, sym, ap, subst, arith}
+use Rattle.std.specs.Prelude.{is_ok}
 use Rattle.std.specs.List.{AllByRecursion, list_all}
 use Rattle.std.specs.Prelude.{nat_le}
 use Rattle.std.proofs.lemmas.Bool.{leb-true}
@@ -99,6 +100,14 @@ module _ (size : ℕ) (pages : Pages) (all : PlainTables) (is : IsStoreOf size p
       (here.table, here.has, here.is_name, (rows-are here short lawful, omega (arith, room)))
       (next_step (table_in size pages insert.table) (λ (t : StoredTable). table_inserted tree.added size t insert.tuples pages) here.found (table-by-name size pages all is insert.table here) b h)
 
+  means : (here : Here size pages insert.table is.store.base.found.tables all.tables) → here.table.next_number + length insert.tuples ≤ 2 ^ 64 - 1 → check_lengths insert.tuples ≡ Ok tt
+      → does (Insert insert) snapshot (plain all) ≡ Ok (plain (where_named insert.table (with_rows insert.tuples) all), Count (length insert.tuples))
+  means here room short =
+      does-passed (Insert insert) snapshot (plain all) passes
+      ∙ changed_ok insert.table (plain all) (λ (schema : TableSchema) (contents : Contents). inserted insert.tuples contents) (found_as here) (contents_of (with_rows insert.tuples here.table)) (length insert.tuples) (found-plain size pages insert.table is.store.base.found.tables all here)
+      (inserted-passes insert.tuples (contents_of here.table) room short ∙ ap (λ (c : Contents). Ok (c, length insert.tuples)) (with-rows-same here.table insert.tuples))
+      ∙ ap (λ (t : _). Ok (t, Count (length insert.tuples))) (set-plain size pages insert.table is.store.base.found.tables all here (with_rows insert.tuples) (λ t. refl))
+
   added-law : (here : Here size pages insert.table is.store.base.found.tables all.tables) → here.table.next_number + length insert.tuples ≤ 2 ^ 64 - 1 → check_lengths insert.tuples ≡ Ok tt → AllByRecursion IsRow insert.tuples
       → (b : Result (Reply × Pages) Refusal) → (table_inserted tree.added size here.found insert.tuples pages >>= (λ (done : Unit {0} × Pages). only (Ok (Count (length insert.tuples), done.1)))) b → IsRunOver size (Insert insert) snapshot pages (plain all) b
   added-law here room short lawful (Ok y) (done, added, e) = subst (λ (r : Result (Reply × Pages) Refusal). IsRunOver size (Insert insert) snapshot pages (plain all) r) e made
@@ -109,10 +118,7 @@ module _ (size : ℕ) (pages : Pages) (all : PlainTables) (is : IsStoreOf size p
       made : IsDoneOver size (Insert insert) snapshot pages (plain all) (Count (length insert.tuples)) done.1
       made = record {
         behind = plain (where_named insert.table (with_rows insert.tuples) all);
-        means = does-passed (Insert insert) snapshot (plain all) passes
-            ∙ changed_ok insert.table (plain all) (λ (schema : TableSchema) (contents : Contents). inserted insert.tuples contents) (found_as here) (contents_of (with_rows insert.tuples here.table)) (length insert.tuples) (found-plain size pages insert.table is.store.base.found.tables all here)
-            (inserted-passes insert.tuples (contents_of here.table) room short ∙ ap (λ (c : Contents). Ok (c, length insert.tuples)) (with-rows-same here.table insert.tuples))
-            ∙ ap (λ (t : _). Ok (t, Count (length insert.tuples))) (set-plain size pages insert.table is.store.base.found.tables all here (with_rows insert.tuples) (λ t. refl));
+        means = means here room short;
         stored = record { all = where_named insert.table (with_rows insert.tuples) all; store = leaves.store; same = refl };
         work = Some (Inserts insert.table insert.tuples);
         is_work = refl;
@@ -120,7 +126,7 @@ module _ (size : ℕ) (pages : Pages) (all : PlainTables) (is : IsStoreOf size p
       }
   added-law here room short lawful (Err why) (inl full) =
       let refused_so = worked-as here room short lawful (Err why) full in
-      inr (refused_so.0, Some (Inserts insert.table insert.tuples), refl, refused_so.1)
+      inr (refused_so.0, ap is_ok (means here room short), Some (Inserts insert.table insert.tuples), refl, refused_so.1)
   added-law here room short lawful (Err why) (inr (done, added, e)) = differ _ why e
 
   into-law : (here : Here size pages insert.table is.store.base.found.tables all.tables) (b : Result (Reply × Pages) Refusal) → inserted_into size insert.tuples here.found pages b → IsRunOver size (Insert insert) snapshot pages (plain all) b

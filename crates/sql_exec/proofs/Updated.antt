@@ -1,5 +1,6 @@
 -- What an update does to well-formed pages is what it means over their tables.
 use Rattle.std.proofs.Common.{◌≡◌, ◌∙◌, ◌⊎◌, ◌∷◌, ℕ, true, List, [], length, map, Option, Some, Result, Ok, Err, inl, inr, refl, sym, ap, subst}
+use Rattle.std.specs.Prelude.{is_ok}
 use Rattle.std.specs.List.{AllByRecursion, Contains, filter}
 use Rattle.retro_base.specs.declared.refusal.Refusal.{Refusal}
 use Rattle.values.specs.declared.value.Value.{Value}
@@ -163,6 +164,14 @@ module _ (size : ℕ) (pages : Pages) (all : PlainTables) (is : IsStoreOf size p
     works = work-updates update snapshot (plain all) (found_as here) pairs (found-plain size pages update.table is.store.base.found.tables all here)
         (ap (λ (rows : List NumberedRow). picked (row_changes (schema_at here.found) snapshot update) rows) (rows-under size pages here.found here.table here.shows) ∙ sets.numbered)
 
+    means : check_lengths (values_of changed) ≡ Ok tt → does (Update update) snapshot (plain all) ≡ Ok (plain (where_named update.table (with_changes pairs) all), Count (length changed))
+    means short =
+        does-passed (Update update) snapshot (plain all) passes
+        ∙ changed_ok update.table (plain all) (λ (schema : TableSchema) (contents : Contents). updated snapshot update schema contents) (found_as here) (contents_of (with_changes pairs here.table)) (length changed) (found-plain size pages update.table is.store.base.found.tables all here)
+        (updated-ok snapshot update (schema_at here.found) (contents_of here.table) (afterwards, length changed) reworks (lengths ∙ short)
+        ∙ ap (λ (rows : List NumberedRow). Ok (record { next = here.table.next_number; rows = rows }, length changed)) after-same)
+        ∙ ap (λ (t : Tables). Ok (t, Count (length changed))) (set-plain size pages update.table is.store.base.found.tables all here (with_changes pairs) (λ t. refl))
+
     changed-law : check_lengths (values_of changed) ≡ Ok tt → AllByRecursion IsRow (values_of changed) → (b : Result (Reply × Pages) Refusal) → (table_updated added removed size here.found changed pages >>= (λ (done : Unit {0} × Pages). only (Ok (Count (length changed), done.1)))) b → IsRunOver size (Update update) snapshot pages (plain all) b
     changed-law short lawful (Ok y) (done, changes, e) = subst (λ (r : Result (Reply × Pages) Refusal). IsRunOver size (Update update) snapshot pages (plain all) r) e made
       where
@@ -172,11 +181,7 @@ module _ (size : ℕ) (pages : Pages) (all : PlainTables) (is : IsStoreOf size p
         made : IsDoneOver size (Update update) snapshot pages (plain all) (Count (length changed)) done.1
         made = record {
           behind = plain (where_named update.table (with_changes pairs) all);
-          means = does-passed (Update update) snapshot (plain all) passes
-              ∙ changed_ok update.table (plain all) (λ (schema : TableSchema) (contents : Contents). updated snapshot update schema contents) (found_as here) (contents_of (with_changes pairs here.table)) (length changed) (found-plain size pages update.table is.store.base.found.tables all here)
-              (updated-ok snapshot update (schema_at here.found) (contents_of here.table) (afterwards, length changed) reworks (lengths ∙ short)
-              ∙ ap (λ (rows : List NumberedRow). Ok (record { next = here.table.next_number; rows = rows }, length changed)) after-same)
-              ∙ ap (λ (t : Tables). Ok (t, Count (length changed))) (set-plain size pages update.table is.store.base.found.tables all here (with_changes pairs) (λ t. refl));
+          means = means short;
           stored = record { all = where_named update.table (with_changes pairs) all; store = leaves.store; same = refl };
           work = Some (Changes update.table pairs);
           is_work = works;
@@ -184,7 +189,7 @@ module _ (size : ℕ) (pages : Pages) (all : PlainTables) (is : IsStoreOf size p
         }
     changed-law short lawful (Err why) (inl full) =
         let so = worked-as short lawful (Err why) full in
-        inr (so.0, Some (Changes update.table pairs), works, so.1)
+        inr (so.0, ap is_ok (means short), Some (Changes update.table pairs), works, so.1)
     changed-law short lawful (Err why) (inr (done, changes, e)) = differ _ why e
 
     given-law : check_lengths (values_of changed) ≡ Ok tt → (b : Result (Reply × Pages) Refusal) → (given (AllByRecursion IsRow (values_of changed)) >>= (λ (u : Unit {0}). table_updated added removed size here.found changed pages >>= (λ (done : Unit {0} × Pages). only (Ok (Count (length changed), done.1))))) b → IsRunOver size (Update update) snapshot pages (plain all) b

@@ -1,5 +1,5 @@
 -- What is promised of the calls.
-use Rattle.std.specs.Prelude.{◌≡◌, ◌⊎◌, ◌<◌, ℕ, Option, Some, None, Result, Ok, Err}
+use Rattle.std.specs.Prelude.{◌≡◌, ◌⊎◌, ◌<◌, ℕ, true, Option, Some, None, Result, Ok, Err, is_ok}
 use Rattle.retro_base.specs.declared.refusal.Refusal.{Refusal}
 use Rattle.retro_base.specs.declared.refusal.Refusal.TheVariants.{PagesFull}
 use Rattle.sql_tree.specs.declared.select.Select.{Select as SelectRecord}
@@ -58,12 +58,12 @@ pub record IsDoneOver (size : ℕ) (statement : Statement) (snapshot : Option �
   pub is_work : work_of statement snapshot tables ≡ Ok work
   pub edits : EditsFor size was after work
 
--- what is not done: the statement is refused by its meaning, or needs more pages than can be taken
+-- what is not done: the statement is refused by its meaning, or is not, and needs more pages than can be taken
 abbrev pub IsRefusedOver : ℕ → Statement → Option ℕ → Pages → Tables → Refusal → Type 0
 IsRefusedOver size statement snapshot was tables why =
     (does statement snapshot tables ≡ Err why)
-    ⊎ ((why ≡ PagesFull size) × (work : Option Work) × (work_of statement snapshot tables ≡ Ok work)
-    × IsFull size was work)
+    ⊎ ((why ≡ PagesFull size) × (is_ok (does statement snapshot tables) ≡ true)
+    × (work : Option Work) × (work_of statement snapshot tables ≡ Ok work) × IsFull size was work)
 
 -- what a statement replies and leaves over well-formed pages that hold these tables
 abbrev pub IsRunOver : ℕ → Statement → Option ℕ → Pages → Tables → Result (Reply × Pages) Refusal → Type 0
