@@ -1,7 +1,7 @@
 //! The rows of an answer, as `csv` writes them.
 
-ghost use Rattle.std.specs.Prelude.{◌≡◌, ◌++◌, IfOk, OnOk, map};
-ghost use Rattle.csv.specs.Records.{fields_of};
+ghost use Rattle.std.specs.Prelude.{◌≡◌, ◌++◌, ◌∷◌, [], IfOk, OnOk, map};
+ghost use Rattle.csv.specs.Records.{fields_of, partial_of};
 ghost use Rattle.std.specs.List.{AllByRecursion};
 ghost use Rattle.session.specs.Rows.{IsShown, row_lines};
 ghost use Rattle.values.specs.Value.{text_of};
@@ -10,23 +10,27 @@ use csv::{ByteRecord, WriterBuilder};
 use std::alloc::{AllocError, Global};
 use values::{Row, Value};
 
-// An integer in decimal, all of it printable.
-fn digits(alloc: Global, number: i64) -> Result<Vec<u8>, AllocError>
-    ensures text { IfOk result (λ t. t.items ≡ text_of (Value.Int number)) }
+// Appends an integer in decimal as a field, all of it printable.
+fn push_digits(alloc: Global, record: &mut ByteRecord, number: i64) -> Result<(), AllocError>
+    ensures fields { OnOk result (fields_of record.new
+        ≡ fields_of record.old ++ ((partial_of record.old ++ text_of (Value.Int number)) ∷ [])) }
+    ensures whole { OnOk result (partial_of record.new ≡ []) }
     ensures shown { OnOk result (IsShown (Value.Int number)) }
 {
     let digits = number.to_string(alloc)?;
-    Vec::from_slice(alloc, digits.as_bytes())
+    record.push_field(digits.as_bytes())
 }
 
-// The text of a value, all of it printable.
-fn text(alloc: Global, value: &Value) -> Result<Vec<u8>, AllocError>
-    ensures text { IfOk result (λ t. t.items ≡ text_of value.now) }
+// Appends the text of a value as a field, all of it printable.
+fn push_text(alloc: Global, record: &mut ByteRecord, value: &Value) -> Result<(), AllocError>
+    ensures fields { OnOk result (fields_of record.new
+        ≡ fields_of record.old ++ ((partial_of record.old ++ text_of value.now) ∷ [])) }
+    ensures whole { OnOk result (partial_of record.new ≡ []) }
     ensures shown { OnOk result (IsShown value.now) }
 {
     match value {
-        Value::Int(number) => digits(alloc, *number),
-        Value::Text(text) => Vec::from_slice(alloc, text.bytes()),
+        Value::Int(number) => push_digits(alloc, record, *number),
+        Value::Text(text) => record.push_field(text.bytes()),
     }
 }
 
@@ -37,8 +41,7 @@ fn record(alloc: Global, row: &Row) -> Result<ByteRecord, AllocError>
 {
     let mut record = ByteRecord::new(alloc);
     for value in row.as_slice() {
-        let text = text(alloc, value)?;
-        record.push_field(text.as_slice())?;
+        push_text(alloc, &mut record, value)?;
     }
     Ok(record)
 }
