@@ -2,6 +2,7 @@
 """made.py FOLDER: writes the cases that are too long to keep into the folder: scripts, and transcripts by arithmetic."""
 import os
 import sys
+from collections import Counter
 
 FIFTY = ",".join(f"({v})" for v in range(1, 51))
 
@@ -34,63 +35,88 @@ def full_archive():
 
 def large():
     """A hundred pages of the values from 1 to 50, of which the greatest is raised by 1 before each of fifty snapshots, and
-    then each of the two ways to ask all of them, and a condition as deep as its line is long. Each update but the first
-    captures every page."""
-    every = "'SELECT snap_id FROM SnapIds'"
+    then each of the two ways to ask all of them, the two others over all rows of the last three, and a condition as deep as
+    its line is long. Each update but the first captures every page."""
+    every, last = "'SELECT snap_id FROM SnapIds'", "'SELECT snap_id FROM SnapIds WHERE snap_id > 47'"
     script = "SESSION a\nCREATE TABLE t(v INT)\n" + 100 * f"INSERT INTO t VALUES {FIFTY}\n" + "COMMIT\n"
     script += 50 * "UPDATE t SET v = v + 1 WHERE v > 49\nCOMMIT WITH SNAPSHOT\n"
     script += f"AggregateDataInVariable({every},'SELECT SUM(v) FROM t','rql_v','SUM')\nSELECT value FROM rql_v\n"
     script += f"CollateData({every},'SELECT v FROM t WHERE v > 45','rql_c')\n"
     script += "SELECT COUNT(*), SUM(v), MIN(v), MAX(v) FROM rql_c\n"
+    script += f"AggregateDataInTable({last},'SELECT v, 1 FROM t','rql_t','(col2,SUM)')\nSELECT * FROM rql_t\n"
+    script += f"CollateDataIntoIntervals({last},'SELECT v FROM t','rql_i')\nSELECT * FROM rql_i\n"
     script += "SELECT AS OF 25 COUNT(*) FROM t WHERE " + 2000 * "(" + "v = 1" + 2000 * ")" + "\n"
     asked = range(1, 51)
     total = sum(100 * (sum(range(1, 50)) + 50 + n) for n in asked)
     above = sum(100 * (46 + 47 + 48 + 49 + 50 + n) for n in asked)
     items = ["ok\n" + 100 * "ok 50\n" + "committed", *(f"ok 100\ncommitted as {n}" for n in asked), "ok 1", f"rows 1\n{total}"]
-    items += ["ok 25000", f"rows 1\n25000,{above},46,100", "rows 1\n100"]
-    journal = ["1 done", *(f"{n + 1} done as {n}" for n in asked), *looked(52, "all"), *looked(54, "all"), *looked(56, 25)]
+    items += ["ok 25000", f"rows 1\n25000,{above},46,100"]
+    items += ["ok 52", rows_of([*((v, 300) for v in range(1, 50)), (98, 100), (99, 100), (100, 100)])]
+    items += ["ok 52", rows_of([*((v, 48, 50) for v in range(1, 50)), (98, 48, 48), (99, 49, 49), (100, 50, 50)])]
+    items += ["rows 1\n100"]
+    journal = ["1 done", *(f"{n + 1} done as {n}" for n in asked), *looked(52, "all"), *looked(54, "all")]
+    journal += [*looked(56, "all"), *looked(58, "all"), *looked(60, 25)]
     shown = "version 1\npages 128\ncapacity 16384\noldest 1\nnewest 50\ncaptures 4900\n"
     return script, transcript(items, journal), {"args": "run\n", "store": "128 16384\n", "shown": shown}
 
 
 def full_journal():
-    """As many commits with a snapshot as the journal has room for, at two lines each, beside a list and a sum of all their
-    numbers: two of the 65,534 lines are left. A refused drop takes one, a call needs two, and what stands behind a call
-    that was cut short is not run, also a call that the grammar refuses. The next phase has one line left."""
-    count = 32_764
-    call = "CollateData('SELECT snap_id FROM SnapIds','SELECT 1 FROM t','rql_c')\n"
-    every = "AggregateDataInVariable('SELECT snap_id FROM SnapIds','SELECT current_snapshot() FROM t','rql_v','SUM')\n"
+    """As many commits with a snapshot as the journal has room for, at two lines each, beside a list and two sums of all
+    their numbers, a drop of all but the newest, and a look at it and at a dropped one: two of the 65,534 lines are left. A
+    refused drop takes one, a call needs two, and what stands behind a call that was cut short is not run, also a call that
+    the grammar refuses. The next phase has one line left."""
+    count = 32_761
+    call = "CollateData('SELECT snap_id FROM SnapIds','SELECT 1 FROM t','rql_c')"
+    ids, numbers = "SELECT snap_id FROM SnapIds", "'SELECT current_snapshot() FROM t'"
     script = "SESSION a\nCREATE TABLE t(v INT)\nINSERT INTO t VALUES (1)\n" + count * "COMMIT WITH SNAPSHOT\n"
-    script += f"SELECT COUNT(*), SUM(snap_id), MIN(snap_id) FROM SnapIds\n{every}SELECT * FROM rql_v\n"
-    script += "DROP SNAPSHOTS BELOW 0\n" + call + "SELECT * FROM rql_c\nCOMMIT\n"
+    asked = ["SELECT COUNT(*), SUM(snap_id), MIN(snap_id) FROM SnapIds"]
+    for these, name in ((f"'{ids}'", "rql_v"), (f"'{ids} WHERE snap_id > 0'", "rql_w")):
+        asked += [f"AggregateDataInVariable({these},{numbers},'{name}','SUM')", f"SELECT * FROM {name}"]
+    asked += [f"DROP SNAPSHOTS BELOW {count}", f"SELECT AS OF {count} v, current_snapshot() FROM t", "SELECT AS OF 1 * FROM t"]
+    script += lines_of([*asked, "DROP SNAPSHOTS BELOW 0", call, "SELECT * FROM rql_c", "COMMIT"])
     script += "PHASE\nSESSION b\nSELECT * FROM rql_v\nDROP SNAPSHOTS BELOW 0\nDROP SNAPSHOTS BELOW 0\n"
     script += "CollateData('x','y','z')\nCOMMIT\n"
     cut_short, no_such, total = "refused 13 JournalFull", f"refused 9 NoSuchSnapshot 0 {count}", count * (count + 1) // 2
-    items = ["ok\nok 1\ncommitted as 1", *(f"committed as {n}" for n in range(2, count + 1))]
-    items += [rows_of([(count, total, 1)]), "ok 1", rows_of([(total,)]), no_such, cut_short, "not run", "not run"]
+    items = ["ok\nok 1\ncommitted as 1", *(f"committed as {n}" for n in range(2, count + 1)), rows_of([(count, total, 1)])]
+    items += [*(2 * ["ok 1", rows_of([(total,)])]), f"dropped below {count}", rows_of([(1, count)])]
+    items += [f"refused 10 Dropped 1 {count}", no_such, cut_short, "not run", "not run"]
     second = replies(["refused 20 UnknownName", no_such, cut_short, "not run", "not run"])
-    journal = [*(f"{n} done as {n}" for n in range(1, count + 1)), *looked(count + 1, "all"), *looked(count + 2, "all")]
-    journal = "".join(f"1 a {line}\n" for line in [*journal, f"{count + 4} refused 9"]) + "2 b 2 refused 9\n"
+    journal = [*(f"{n} done as {n}" for n in range(1, count + 1))]
+    journal += [line for n in (1, 2, 4) for line in looked(count + n, "all")]
+    journal += [f"{count + 6} dropped below {count}", *looked(count + 7, count), f"{count + 8} refused 10"]
+    journal = "".join(f"1 a {line}\n" for line in [*journal, f"{count + 9} refused 9"]) + "2 b 2 refused 9\n"
     text = f"phase 1\nsession a\n{replies(items)}phase 2\nsession b\n{second}journal\n{journal}"
     return script, text, {"args": "run\n"}
 
 
+def most_calls():
+    """As many calls as the journal has room for, at two lines each, over one snapshot and each under a name of its own; then
+    every result table is asked."""
+    numbers = range(1, 32_767)
+    call = "CollateData('SELECT snap_id FROM SnapIds','SELECT {0} FROM t','rql_{0}')"
+    script = "SESSION a\nCREATE TABLE t(v INT)\nINSERT INTO t VALUES (1)\nCOMMIT WITH SNAPSHOT\n"
+    script += lines_of([*map(call.format, numbers), *(f"SELECT * FROM rql_{n}" for n in numbers)])
+    items = ["ok\nok 1\ncommitted as 1", *("ok 1" for _ in numbers), *(rows_of([(n,)]) for n in numbers)]
+    journal = ["1 done as 1", *(line for n in numbers for line in looked(n + 1, "all"))]
+    return script, transcript(items, journal), {"args": "run\n"}
+
+
 def wide_calls():
-    """Calls over twelve snapshots of a row that is raised before each: three hundred columns, of which forty are told by
-    pairs, and a hundred result tables of one session, the last of which takes the place of the first."""
-    columns = lambda count: ",".join("v + 0" for _ in range(count))
-    pairs = ",".join(f"(col{at},{('MIN', 'MAX', 'SUM', 'COUNT')[at % 4]})" for at in range(1, 41))
+    """Calls over twelve snapshots of a row that is raised before each: three hundred columns, as many columns told by pairs
+    as a line has room for, and a hundred result tables of one session, the last of which takes the place of the first."""
+    columns, paired = lambda count: ",".join("v+0" for _ in range(count)), range(1, 226)
+    pairs = ",".join(f"(col{at},{('MIN', 'MAX', 'SUM', 'COUNT')[at % 4]})" for at in paired)
     of_pair = lambda at: (1, 12, 78, 12)[at % 4]
     every, upto = "'SELECT snap_id FROM SnapIds'", lambda n: f"'SELECT snap_id FROM SnapIds WHERE snap_id <= {n}'"
     collated = [f"CollateData({every},'SELECT {columns(300)} FROM t','rql_w')", "SELECT * FROM rql_w"]
-    folded = [f"AggregateDataInTable({every},'SELECT {columns(40)} FROM t','rql_p','{pairs}')", "SELECT * FROM rql_p"]
+    folded = [f"AggregateDataInTable({every},'SELECT {columns(len(paired))} FROM t','rql_p','{pairs}')", "SELECT * FROM rql_p"]
     tables = [f"CollateData({upto(n % 13)},'SELECT v FROM t','rql_{n % 99}')" for n in range(1, 101)]
     asked = [f"SELECT COUNT(*) FROM rql_{n}" for n in range(99)]
     script = "SESSION a\nCREATE TABLE t(v INT)\nINSERT INTO t VALUES (0)\nCOMMIT\n"
     script += 12 * "UPDATE t SET v = v + 1\nCOMMIT WITH SNAPSHOT\n" + lines_of([*collated, *folded, *tables, *asked])
     counts = {n % 99: n % 13 for n in range(1, 101)}
     items = ["ok\nok 1\ncommitted", *(f"ok 1\ncommitted as {n}" for n in range(1, 13))]
-    items += ["ok 12", rows_of(300 * (n,) for n in range(1, 13)), "ok 1", rows_of([[of_pair(at) for at in range(1, 41)]])]
+    items += ["ok 12", rows_of(300 * (n,) for n in range(1, 13)), "ok 1", rows_of([map(of_pair, paired)])]
     items += [f"ok {n % 13}" for n in range(1, 101)]
     items += [rows_of([(counts[n],)]) for n in range(99)]
     journal = ["1 done", *(f"{n + 1} done as {n}" for n in range(1, 13)), *looked(14, "all"), *looked(16, "all")]
@@ -119,6 +145,15 @@ def most_items():
     script += "\n" * (4_194_304 - len(script))
     items = [*(65_535 * ["refused 20 UnknownName"]), "ok\ncommitted"]
     return script, transcript(items, ["65536 done"]), {"args": "run\n"}
+
+
+def most_statements():
+    """A transaction of 60,000 statements, each of which raises a row by 1."""
+    count = 60_000
+    script = "SESSION a\nCREATE TABLE t(v INT)\nINSERT INTO t VALUES (0)\nCOMMIT\n"
+    script += count * "UPDATE t SET v = v + 1\n" + "SELECT v FROM t\nCOMMIT\n"
+    items = ["ok\nok 1\ncommitted", count * "ok 1\n" + f"rows 1\n{count}\ncommitted"]
+    return script, transcript(items, ["1 done", "2 done"]), {"args": "run\n"}
 
 
 def thousand():
@@ -151,12 +186,14 @@ def long_journal():
 
 
 def longest_line():
-    """A call whose argument fills its line of 4,096 bytes."""
+    """Lines of 4,096 bytes: a call whose argument fills it, and an INSERT of as many texts as it has room for."""
     call = "CollateData('SELECT snap_id FROM SnapIds','SELECT a FROM t WHERE a = 1" + 446 * " OR a = 2" + "  ','rql_c')"
-    assert len(call) == 4096
+    texts = "INSERT INTO txt VALUES " + ",".join(679 * ["('a')"])
+    assert len(call) == len(texts) == 4096
     script = f"SESSION a\nCREATE TABLE t(a INT)\nINSERT INTO t VALUES (1),(2),(3)\nCOMMIT WITH SNAPSHOT\n{call}\n"
-    items = ["ok\nok 3\ncommitted as 1", "ok 2"]
-    return script, transcript(items, ["1 done as 1", *looked(2, "all")]), {"args": "run\n"}
+    script += f"CREATE TABLE txt(a TEXT)\n{texts}\nSELECT a, COUNT(*) FROM txt GROUP BY a\nCOMMIT\n"
+    items = ["ok\nok 3\ncommitted as 1", "ok 2", f"ok\nok 679\n{rows_of([('a', 679)])}\ncommitted"]
+    return script, transcript(items, ["1 done as 1", *looked(2, "all"), "3 done"]), {"args": "run\n"}
 
 
 def rows_of(found):
@@ -188,8 +225,8 @@ def deep():
 
 
 def many_rows():
-    """5,000 rows whose values are 0 to 4,999 in a mixed order: sorted, told apart, joined with five, changed, taken out and
-    grouped."""
+    """5,000 rows whose values are 0 to 4,999 in a mixed order: sorted, told apart, joined with five on either side, indexed,
+    changed, taken out and grouped."""
     rows, five = [(i % 50, i * 7919 % 5000) for i in range(5000)], [(k, 3 * k + 1) for k in (3, 17, 29, 41, 60)]
     left = [(k, v + 5000 if k < 25 else v) for k, v in rows]
     left = [(k, v) for k, v in left if v >= 2500]
@@ -204,6 +241,10 @@ def many_rows():
         "SELECT DISTINCT v FROM t ORDER BY v DESC LIMIT 3": rows_of([(4999,), (4998,), (4997,)]),
         "SELECT t.v, u.w FROM t, u WHERE t.k = u.k": rows_of((v, w) for k, v in rows for key, w in five if k == key),
         "SELECT u.k, COUNT(*), SUM(t.v) FROM t, u WHERE t.k < u.k GROUP BY u.k": rows_of((k, len(v), sum(v)) for k, v in below),
+        "SELECT u.k, COUNT(*) FROM u, t WHERE u.k = t.k GROUP BY u.k": rows_of((k, 100) for k, _ in five if k < 50),
+        "CREATE INDEX i ON t(v)": "ok",
+        "SELECT k, v FROM t WHERE v >= 4900": rows_of(row for row in rows if row[1] >= 4900),
+        "SELECT v, COUNT(*) FROM t GROUP BY v ORDER BY v DESC LIMIT 3": rows_of((v, 1) for v in (4999, 4998, 4997)),
         "UPDATE t SET v = v + 5000 WHERE k < 25": "ok 2500",
         "DELETE FROM t WHERE v < 2500": f"ok {5000 - len(left)}",
         "SELECT k, COUNT(*), SUM(v), MAX(v) FROM t GROUP BY k": rows_of((k, len(v), sum(v), max(v)) for k, v in groups),
@@ -215,6 +256,49 @@ def many_rows():
     items = ["\n".join(["ok", "ok", *added_replies, "ok 5", *asked.values(), "committed as 1"])]
     items += [f"ok {len(left)}\nrows 1\n0,0\ncommitted", rows_of([(len(left), sum(v for _, v in left))]), rows_of(left)]
     return script, transcript(items, ["1 done as 1", "2 done", *looked(3, 1), *looked(4, 1)]), {"args": "run\n", "store": "512 4096\n"}
+
+
+def many_keys():
+    """All numbers of five digits from 0 to 3, in a mixed order, sorted by their digits upwards and downwards in turn; and a
+    thousand rows of one INSERT."""
+    digits = [tuple(number // 4**at % 4 for at in range(5)) for number in (i * 37 % 1024 for i in range(1024))]
+    added, added_replies = inserted("d", digits, 256)
+    ordered = sorted(digits, key=lambda row: [digit if at % 2 == 0 else -digit for at, digit in enumerate(row)])
+    tens = "INSERT INTO t VALUES " + ",".join(f"({i % 10})" for i in range(1000))
+    asked = {
+        "SELECT * FROM d ORDER BY a, b DESC, c, d DESC, e": rows_of(ordered),
+        "CREATE TABLE t(v INT)": "ok",
+        tens: "ok 1000",
+        "SELECT v, COUNT(*) FROM t GROUP BY v": rows_of((v, 100) for v in range(10)),
+    }
+    script = "SESSION a\n" + lines_of(["CREATE TABLE d(a INT, b INT, c INT, d INT, e INT)", *added, *asked, "COMMIT"])
+    items = ["\n".join(["ok", *added_replies, *asked.values(), "committed"])]
+    return script, transcript(items, ["1 done"]), {"args": "run\n", "store": "256 4096\n"}
+
+
+def many_intervals():
+    """3,000 different rows, a third of them changed before a second snapshot, a fifth taken out before a third, and nothing
+    changed before a fourth; the calls that keep rows apart, over the four."""
+    first = [(i % 50, i * 7919 % 3000) for i in range(3000)]
+    second = [(k, v + 3000 if v < 1000 else v) for k, v in first]
+    third = [row for row in second if row[0] >= 10]
+    answers = [first, second, third, third]
+    stands = [set(answer) for answer in answers]
+    starts = [(at, row) for at, answer in enumerate(answers) for row in answer if at == 0 or row not in stands[at - 1]]
+    end = lambda at, row: at if at == 3 or row not in stands[at + 1] else end(at + 1, row)
+    intervals = rows_of((*row, at + 1, end(at, row) + 1) for at, row in starts)
+    values = [v for answer in answers for _, v in answer]
+    counts = rows_of(Counter(values).items())
+    added, added_replies = inserted("t", first, 250)
+    every, snapshot = "'SELECT snap_id FROM SnapIds'", "COMMIT WITH SNAPSHOT"
+    changes = ["UPDATE t SET v = v + 3000 WHERE v < 1000", snapshot, "DELETE FROM t WHERE k < 10", snapshot, snapshot]
+    calls = [f"CollateDataIntoIntervals({every},'SELECT k, v FROM t','rql_i')", "SELECT * FROM rql_i"]
+    calls += [f"AggregateDataInTable({every},'SELECT k, v FROM t','rql_t','(k,COUNT)')", "SELECT v, k FROM rql_t"]
+    script = "SESSION a\n" + lines_of(["CREATE TABLE t(k INT, v INT)", *added, snapshot, *changes, *calls])
+    items = ["\n".join(["ok", *added_replies, "committed as 1"]), "ok 1000\ncommitted as 2", "ok 600\ncommitted as 3"]
+    items += ["committed as 4", f"ok {len(starts)}", intervals, f"ok {len(set(values))}", counts]
+    journal = [*(f"{n} done as {n}" for n in range(1, 5)), *looked(5, "all"), *looked(7, "all")]
+    return script, transcript(items, journal), {"args": "run\n", "store": "256 4096\n"}
 
 
 def wide_rows():
@@ -248,8 +332,9 @@ def wide_rows():
 
 
 def main():
-    full = (full_archive, full_journal, most_phases, most_items)
-    for made in (*full, large, thousand, long_journal, longest_line, wide_calls, deep, many_rows, wide_rows):
+    full = (full_archive, full_journal, most_calls, most_phases, most_items, most_statements)
+    many = (large, thousand, long_journal, many_rows, many_keys, many_intervals, wide_rows)
+    for made in (*full, *many, longest_line, wide_calls, deep):
         script, text, more = made()
         for ending, held in {"": script, ".stdout": text, **{f".{it}": more[it] for it in more}}.items():
             with open(os.path.join(sys.argv[1], made.__name__ + ending), "w") as file:

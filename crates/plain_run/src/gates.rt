@@ -9,7 +9,7 @@ use std::alloc::Global;
 use std::cell::Cell;
 use std::test::Fail;
 
-/// How often each point was told.
+/// The times that each point was told, the latest last: of each the session's place and the item, in two decimal digits.
 #[derive(Drop)]
 struct Points {
     after_look: Cell<u32>,
@@ -18,17 +18,18 @@ struct Points {
 }
 
 impl Gate for Points {
-    fn at(&self, point: Point, _session: u16, _item: u32) {
+    fn at(&self, point: Point, session: u16, item: u32) {
         let told = match point {
             Point::AfterLook => &self.after_look,
             Point::BeforeCommit => &self.before_commit,
             Point::AfterCommit => &self.after_commit,
         };
-        told.set(told.get().wrapping_add(1));
+        let here = u32::from(session).wrapping_mul(10).wrapping_add(item);
+        told.set(told.get().wrapping_mul(100).wrapping_add(here));
     }
 }
 
-/// Runs a script, and says how often each point was told.
+/// Runs a script, and says when each point was told.
 fn points_of(alloc: Global, script: &[u8]) -> Result<[u32; 3], Refusal> {
     let gate = Points {
         after_look: Cell::new(0),
@@ -53,13 +54,14 @@ fn points_of(alloc: Global, script: &[u8]) -> Result<[u32; 3], Refusal> {
     ])
 }
 
-// Two commits, a rollback, and three looks: at a snapshot, at all of them for their table, and at all of them for a call.
+// A session of one commit, and behind it one of two commits, a rollback, and three looks: at a snapshot, at all of them for
+// their table, and at all of them for a call.
 const SCRIPT: &[u8] =
-    b"SESSION a\nCREATE TABLE t(a INT)\nCOMMIT WITH SNAPSHOT\nINSERT INTO t VALUES (1)\nROLLBACK\nSELECT AS OF 1 * FROM t\nSELECT * FROM SnapIds\nCollateData('SELECT snap_id FROM SnapIds','SELECT a FROM t','rql_c')\nSELECT * FROM rql_c\nCOMMIT\n";
+    b"SESSION z\nCOMMIT\nSESSION a\nCREATE TABLE t(a INT)\nCOMMIT WITH SNAPSHOT\nINSERT INTO t VALUES (1)\nROLLBACK\nSELECT AS OF 1 * FROM t\nSELECT * FROM SnapIds\nCollateData('SELECT snap_id FROM SnapIds','SELECT a FROM t','rql_c')\nSELECT * FROM rql_c\nCOMMIT\n";
 
 #[test]
 fn each_look_and_each_commit_is_told(rt: HostRuntime) -> Result<(), Fail> {
     let told = points_of(rt.alloc(), SCRIPT);
-    assert!(rt; told == Ok([3, 2, 2]));
+    assert!(rt; told == Ok([131_415, 11_117, 11_117]));
     Ok(())
 }

@@ -1,6 +1,6 @@
 //! Rows as a set.
 
-ghost use Rattle.std.specs.Prelude.{◌≡◌, IfOk};
+ghost use Rattle.std.specs.Prelude.{◌≡◌, IfOk, true};
 ghost use Rattle.rql.specs.Intervals.{has_row, set_of};
 
 use indexmap::IndexSet;
@@ -41,6 +41,22 @@ impl RowSet {
         ensures { result ≡ has_row row.now self.now }
     {
         self.rows.contains(row)
+    }
+
+    /// Whether the row is among these, as `contains` tells; where it stands at the place, no hash is worked out.
+    pub(crate) fn contains_near(&self, place: usize, row: &RowKey) -> bool
+        ensures { result ≡ has_row row.now self.now }
+    {
+        self.has_at(place, row) || self.contains(row)
+    }
+
+    fn has_at(&self, place: usize, row: &RowKey) -> bool
+        ensures { result ≡ true → has_row row.now self.now ≡ true }
+    {
+        match self.rows.as_slice().get(place) {
+            Some(there) => row == there,
+            None => false,
+        }
     }
 
     pub(crate) fn as_slice(&self) -> &[RowKey]

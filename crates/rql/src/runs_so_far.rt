@@ -74,8 +74,8 @@ impl RunsSoFar {
     fn begin(&mut self, alloc: Global, place: usize, rows: &RowSet) -> Result<(), AllocError>
         ensures { OnOk result (Begins place rows.now self.old self.new) }
     {
-        for row in rows.as_slice() {
-            if self.last.contains(row) {
+        for (at, row) in rows.as_slice().iter().enumerate() {
+            if self.last.contains_near(at, row) {
                 continue;
             }
             let row = RowKey::new(Seq::from(values_of(alloc, row)?));

@@ -40,6 +40,7 @@ fn answers_stand_one_after_the_other(rt: HostRuntime) -> Result<(), Fail> {
         let told = collated(alloc, &mut shown, snapshots, &query);
         assert!(rt; is(&told, want));
     }
+    assert_eq!(rt; shown.asked(), 18);
     assert_eq!(rt; shown.faults(), 1);
     Ok(())
 }
@@ -116,5 +117,6 @@ fn values_are_one(rt: HostRuntime) -> Result<(), Fail> {
         let told = in_one(alloc, &mut shown, snapshots, &query, function);
         assert!(rt; is(&told, want));
     }
+    assert_eq!(rt; shown.asked(), 45);
     Ok(())
 }

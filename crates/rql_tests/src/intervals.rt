@@ -35,20 +35,23 @@ const INTERVALS: [(Answers, &[u32], Want); 9] = [
     (Mixed, &[8, 0, 11], Err(Stop::Pager(Failed))),
 ];
 
-fn in_intervals(alloc: Global, answers: Answers, snapshots: &[u32], query: &Select) -> Told
+fn in_intervals(alloc: Global, shown: &mut Shown, snapshots: &[u32], query: &Select) -> Told
     requires { IsSelect query.now }
 {
-    let mut shown = Shown::new(alloc, answers);
-    told(alloc, intervals(alloc, &mut shown, snapshots, query))
+    told(alloc, intervals(alloc, shown, snapshots, query))
 }
 
 #[test]
 fn rows_stand_in_intervals(rt: HostRuntime) -> Result<(), Fail> {
     let alloc = rt.alloc();
     let query = query(alloc)?;
+    let mut asked = 0u64;
     for (answers, snapshots, want) in INTERVALS {
-        let told = in_intervals(alloc, answers, snapshots, &query);
+        let mut shown = Shown::new(alloc, answers);
+        let told = in_intervals(alloc, &mut shown, snapshots, &query);
         assert!(rt; is(&told, want));
+        asked = asked.saturating_add(shown.asked());
     }
+    assert_eq!(rt; asked, 24);
     Ok(())
 }

@@ -71,11 +71,12 @@ pub enum Answers {
     Sevens,
 }
 
-/// Answers any query by what is given. At snapshot 0 it fails.
+/// Answers any query by what is given, and counts how often it is asked. At snapshot 0 it fails.
 #[derive(Drop)]
 pub struct Shown {
     alloc: Global,
     answers: Answers,
+    asked: u64,
     faults: u64,
 }
 
@@ -84,8 +85,13 @@ impl Shown {
         Shown {
             alloc,
             answers,
+            asked: 0,
             faults: 0,
         }
+    }
+
+    pub fn asked(&self) -> u64 {
+        self.asked
     }
 }
 
@@ -107,6 +113,7 @@ impl AsOf for Shown {
     ghost faults = { λ s. s.faults };
 
     fn answer(&mut self, snapshot: u32, _query: &Select) -> Result<Answer, Stop<Failed>> {
+        self.asked = self.asked.saturating_add(1);
         if snapshot == 0 {
             self.faults = self.faults.saturating_add(1);
             return Err(Stop::Pager(Failed));

@@ -87,5 +87,6 @@ fn groups_are_rows(rt: HostRuntime) -> Result<(), Fail> {
         let told = in_groups(alloc, &mut shown, snapshots, &query, pairs);
         assert!(rt; is(&told, want));
     }
+    assert_eq!(rt; shown.asked(), 44);
     Ok(())
 }

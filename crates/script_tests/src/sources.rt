@@ -64,6 +64,21 @@ fn failed_puts_add_nothing(rt: HostRuntime) -> Result<(), Fail> {
 }
 
 #[test]
+fn a_sink_holds_all_that_is_put(rt: HostRuntime) -> Result<(), Fail> {
+    let alloc = rt.alloc();
+    let all = long(alloc)?;
+    let mut sink = MemSink::new(alloc, Vec::new(alloc));
+    let mut want = Vec::new(alloc);
+    for _ in 0..3 {
+        assert_eq!(rt; put_all(&mut sink, &all), Ok(()));
+        want.extend_from_slice(&all)?;
+    }
+    assert_eq!(rt; sink.bytes().len(), 30_000);
+    assert!(rt; sink.bytes() == want.as_slice());
+    Ok(())
+}
+
+#[test]
 fn std_reader_is_a_source(rt: HostRuntime) -> Result<(), Fail> {
     let alloc = rt.alloc();
     let mut source = StdSource::new(b"hello".as_slice());

@@ -6,8 +6,8 @@ use retro_base::{
 use std::alloc::AllocError;
 use std::test::Fail;
 
-const REFUSALS: [(Refusal, u8, &str); 26] = [
-    (Refusal::OutOfMemory, 1, "OutOfMemory"),
+const REFUSALS: [(Refusal, u8, &str, &str); 26] = [
+    (Refusal::OutOfMemory, 1, "OutOfMemory", "out of memory"),
     (
         Refusal::DiskFault {
             device: Device::Log,
@@ -15,9 +15,10 @@ const REFUSALS: [(Refusal, u8, &str); 26] = [
         },
         2,
         "DiskFault",
+        "disk fault on log 2",
     ),
-    (Refusal::SourceFault, 3, "SourceFault"),
-    (Refusal::SinkFault, 4, "SinkFault"),
+    (Refusal::SourceFault, 3, "SourceFault", "source fault"),
+    (Refusal::SinkFault, 4, "SinkFault", "sink fault"),
     (
         Refusal::NotAStore {
             device: Device::Log,
@@ -25,9 +26,15 @@ const REFUSALS: [(Refusal, u8, &str); 26] = [
         },
         5,
         "NotAStore",
+        "not a store, log at 0",
     ),
-    (Refusal::BadWords, 6, "BadWords"),
-    (Refusal::BadScript { line: 7 }, 7, "BadScript"),
+    (Refusal::BadWords, 6, "BadWords", "bad words"),
+    (
+        Refusal::BadScript { line: 7 },
+        7,
+        "BadScript",
+        "bad script at line 7",
+    ),
     (
         Refusal::Overlap {
             session: 1,
@@ -35,6 +42,7 @@ const REFUSALS: [(Refusal, u8, &str); 26] = [
         },
         8,
         "Overlap",
+        "overlap with session 1, item 2",
     ),
     (
         Refusal::NoSuchSnapshot {
@@ -43,6 +51,7 @@ const REFUSALS: [(Refusal, u8, &str); 26] = [
         },
         9,
         "NoSuchSnapshot",
+        "no snapshot 9, newest is 3",
     ),
     (
         Refusal::Dropped {
@@ -51,6 +60,7 @@ const REFUSALS: [(Refusal, u8, &str); 26] = [
         },
         10,
         "Dropped",
+        "snapshot 1 is dropped, oldest is 2",
     ),
     (
         Refusal::Pinned {
@@ -59,11 +69,13 @@ const REFUSALS: [(Refusal, u8, &str); 26] = [
         },
         11,
         "Pinned",
+        "snapshot 1 is pinned by session 2",
     ),
     (
         Refusal::ArchiveFull { needed: 1, room: 0 },
         12,
         "ArchiveFull",
+        "archive full, 1 captures needed, room for 0",
     ),
     (
         Refusal::JournalFull {
@@ -72,9 +84,20 @@ const REFUSALS: [(Refusal, u8, &str); 26] = [
         },
         13,
         "JournalFull",
+        "journal full, 1 lines and 2 images needed",
     ),
-    (Refusal::PagesFull { pages: 16 }, 14, "PagesFull"),
-    (Refusal::TooManyPages { needed: 17 }, 15, "TooManyPages"),
+    (
+        Refusal::PagesFull { pages: 16 },
+        14,
+        "PagesFull",
+        "pages full, the store has 16",
+    ),
+    (
+        Refusal::TooManyPages { needed: 17 },
+        15,
+        "TooManyPages",
+        "too many pages, 17 needed",
+    ),
     (
         Refusal::Stopped {
             device: Device::Log,
@@ -82,26 +105,55 @@ const REFUSALS: [(Refusal, u8, &str); 26] = [
         },
         16,
         "Stopped",
+        "stopped by a fault on log 1",
     ),
-    (Refusal::NoRoom { needed: 1, free: 0 }, 17, "NoRoom"),
-    (Refusal::SnapshotsFull { retained: 1 }, 18, "SnapshotsFull"),
-    (Refusal::Syntax { place: 1 }, 19, "Syntax"),
-    (Refusal::UnknownName, 20, "UnknownName"),
-    (Refusal::NameTaken, 21, "NameTaken"),
-    (Refusal::WrongType, 22, "WrongType"),
-    (Refusal::Overflow, 23, "Overflow"),
-    (Refusal::RowTooLong { bytes: 901 }, 24, "RowTooLong"),
-    (Refusal::NotOneValue { snapshot: 1 }, 25, "NotOneValue"),
-    (Refusal::BadSizes, 26, "BadSizes"),
+    (
+        Refusal::NoRoom { needed: 1, free: 0 },
+        17,
+        "NoRoom",
+        "no room, 1 bytes needed, 0 free",
+    ),
+    (
+        Refusal::SnapshotsFull { retained: 1 },
+        18,
+        "SnapshotsFull",
+        "snapshots full, 1 are retained",
+    ),
+    (
+        Refusal::Syntax { place: 1 },
+        19,
+        "Syntax",
+        "bad syntax at 1",
+    ),
+    (Refusal::UnknownName, 20, "UnknownName", "unknown name"),
+    (Refusal::NameTaken, 21, "NameTaken", "name taken"),
+    (Refusal::WrongType, 22, "WrongType", "wrong type"),
+    (Refusal::Overflow, 23, "Overflow", "number out of range"),
+    (
+        Refusal::RowTooLong { bytes: 901 },
+        24,
+        "RowTooLong",
+        "row too long, 901 bytes",
+    ),
+    (
+        Refusal::NotOneValue { snapshot: 1 },
+        25,
+        "NotOneValue",
+        "not one value at snapshot 1",
+    ),
+    (Refusal::BadSizes, 26, "BadSizes", "bad sizes"),
 ];
 
 #[test]
-fn refusals_are_numbered_and_named(rt: HostRuntime) {
-    for (refusal, number, name) in REFUSALS {
+fn refusals_have_numbers_names_and_texts(rt: HostRuntime) -> Result<(), Fail> {
+    for (refusal, number, name, text) in REFUSALS {
         assert_eq!(rt; refusal.number(), number);
         assert_eq!(rt; refusal.name(), name);
+        let shown = format!(in rt.alloc(); "{refusal}")?;
+        assert_eq!(rt; shown.as_str(), text);
     }
     assert_eq!(rt; Refusal::from(AllocError), Refusal::OutOfMemory);
+    Ok(())
 }
 
 #[test]
