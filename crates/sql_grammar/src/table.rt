@@ -45,6 +45,7 @@ pub fn class_of(token: &Token) -> Class
 }
 
 /// The right side of the rule that goes on with the class, and the rule's last where none does.
+#[inline(never)]
 pub fn right_side(rule: Rule, class: Class) -> &'static [Symbol]
     ensures { result.now ≡ expansion rule class }
 {
