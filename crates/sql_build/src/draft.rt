@@ -105,7 +105,7 @@ impl Assembly {
             Action::Update(action) => update(alloc, action, &mut self.parts)?,
             Action::Output(action) => output(action, &mut self.parts),
             Action::List(action) => select_list(alloc, action, &mut self.parts)?,
-            Action::Query(action) => query(action, &mut self.parts)?,
+            Action::Query(action) => query(alloc, action, &mut self.parts)?,
             Action::Line(action) => line(alloc, action, &mut self.parts)?,
         };
         self.put(part)
