@@ -1,6 +1,6 @@
 //! What each action puts together of the last parts, but of a select.
 
-ghost use Rattle.std.specs.Prelude.{◌≡◌, ◌∷◌, [], IfOk, Some};
+ghost use Rattle.std.specs.Prelude.{◌≡◌, ◌∷◌, [], IfOk, IsTrue, MatchBool, None, Some};
 ghost use Rattle.sql_build.specs.Parts.{call, line, Makes, negative, plain, row, table, term, update};
 ghost use Rattle.sql_parts.specs.declared.action.LineAction.TheVariants as line_action;
 ghost use Rattle.sql_parts.specs.declared.action.RowAction.TheVariants as row_action;
@@ -17,7 +17,7 @@ use sql_tree::{
     Update,
 };
 use std::alloc::{AllocError, Global};
-use values::{Seq, Text, Value};
+use values::{Name, Seq, Text, Value};
 
 /// A list of one item.
 pub fn one<T: Drop>(alloc: Global, item: T) -> Result<Seq<T>, AllocError>
@@ -48,26 +48,63 @@ pub fn plain(alloc: Global, statement: Statement) -> Result<Option<Part>, AllocE
     said(alloc, Parsed::Plain(statement))
 }
 
-/// Literals, columns and operands.
-pub fn term(action: TermAction, parts: &mut Parts) -> Option<Part>
-    ensures { Makes result parts.new (term action parts.old) }
+/// Puts literals, columns and operands above the other parts; false where the last are not those that the action wants.
+pub fn term(action: TermAction, parts: &mut Parts) -> Result<bool, AllocError>
+    ensures { IfOk result (λ done. MatchBool done (term action parts.old ≡ Some parts.new) (term action parts.old ≡ None)) }
 {
     match action {
-        TermAction::Integer => Some(Part::Literal(Value::Int(parts.number()?))),
-        TermAction::Negative => Some(Part::Literal(Value::Int(behind_minus(parts.number()?)))),
-        TermAction::Text => Some(Part::Literal(Value::Text(parts.text()?))),
-        TermAction::PlainColumn => Some(Part::ColumnName(ColumnName {
-            column: parts.name()?,
-            table: None,
-        })),
-        TermAction::QualifiedColumn => Some(Part::ColumnName(ColumnName {
-            column: parts.name()?,
-            table: Some(parts.name()?),
-        })),
-        TermAction::LiteralOperand => Some(Part::Operand(Operand::Literal(parts.literal()?))),
-        TermAction::ColumnOperand => Some(Part::Operand(Operand::Column(parts.column_name()?))),
-        TermAction::CurrentSnapshot => Some(Part::Operand(Operand::CurrentSnapshot)),
+        TermAction::Integer => match parts.number() {
+            Some(number) => put_literal(Value::Int(number), parts),
+            None => Ok(false),
+        },
+        TermAction::Negative => match parts.number() {
+            Some(number) => put_literal(Value::Int(behind_minus(number)), parts),
+            None => Ok(false),
+        },
+        TermAction::Text => match parts.text() {
+            Some(text) => put_literal(Value::Text(text), parts),
+            None => Ok(false),
+        },
+        TermAction::PlainColumn => match parts.name() {
+            Some(column) => put_column(column, None, parts),
+            None => Ok(false),
+        },
+        TermAction::QualifiedColumn => match (parts.name(), parts.name()) {
+            (Some(column), Some(table)) => put_column(column, Some(table), parts),
+            (_column, _table) => Ok(false),
+        },
+        TermAction::LiteralOperand => match parts.literal() {
+            Some(literal) => put_operand(Operand::Literal(literal), parts),
+            None => Ok(false),
+        },
+        TermAction::ColumnOperand => match parts.column_name() {
+            Some(column) => put_operand(Operand::Column(column), parts),
+            None => Ok(false),
+        },
+        TermAction::CurrentSnapshot => put_operand(Operand::CurrentSnapshot, parts),
     }
+}
+
+fn put_literal(literal: Value, parts: &mut Parts) -> Result<bool, AllocError>
+    ensures { IfOk result (λ done. IsTrue done × (parts.new ≡ part.Literal literal ∷ parts.old)) }
+{
+    parts.push(Part::Literal(literal))?;
+    Ok(true)
+}
+
+fn put_column(column: Name, table: Option<Name>, parts: &mut Parts) -> Result<bool, AllocError>
+    ensures { IfOk result (λ done. IsTrue done
+        × (parts.new ≡ part.ColumnName (record { table = table; column = column }) ∷ parts.old)) }
+{
+    parts.push(Part::ColumnName(ColumnName { table, column }))?;
+    Ok(true)
+}
+
+fn put_operand(operand: Operand, parts: &mut Parts) -> Result<bool, AllocError>
+    ensures { IfOk result (λ done. IsTrue done × (parts.new ≡ part.Operand operand ∷ parts.old)) }
+{
+    parts.push(Part::Operand(operand))?;
+    Ok(true)
 }
 
 /// CREATE TABLE and CREATE INDEX.

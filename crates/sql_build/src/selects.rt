@@ -1,10 +1,11 @@
 //! What the actions of a select put together of the last parts.
 
-ghost use Rattle.std.specs.Prelude.{◌≡◌, IfOk, Some};
+ghost use Rattle.std.specs.Prelude.{◌≡◌, ◌∷◌, IfOk, IsTrue, MatchBool, None, Some};
 ghost use Rattle.sql_build.specs.Parts.{Makes, output, plain_query, query, select_list, table};
 ghost use Rattle.sql_parts.specs.declared.action.ListAction.TheVariants as list_action;
 ghost use Rattle.sql_parts.specs.declared.action.QueryAction.TheVariants as query_action;
 ghost use Rattle.sql_parts.specs.declared.part.Part.TheVariants as part;
+ghost use Rattle.sql_tree.specs.declared.select.OutputValue.TheVariants as output_value;
 
 use crate::pieces::{one, plain, said};
 use sql_parts::{Apart, AsOf, ListAction, OutputAction, Parsed, Part, Parts, QueryAction};
@@ -14,31 +15,63 @@ use sql_tree::{
 use std::alloc::{AllocError, Global};
 use values::{Name, Seq, Value};
 
-/// The outputs of a select.
-pub fn output(action: OutputAction, parts: &mut Parts) -> Option<Part>
-    ensures { Makes result parts.new (output action parts.old) }
+/// Puts the outputs of a select above the other parts; false where the last are not those that the action wants.
+pub fn output(action: OutputAction, parts: &mut Parts) -> Result<bool, AllocError>
+    ensures { IfOk result (λ done. MatchBool done (output action parts.old ≡ Some parts.new) (output action parts.old ≡ None)) }
 {
-    let value = match action {
-        OutputAction::Value => OutputValue::Expression(parts.expression()?),
-        OutputAction::CountRows => OutputValue::Aggregate(Aggregate::CountRows),
-        OutputAction::Count => OutputValue::Aggregate(Aggregate::Count(parts.expression()?)),
-        OutputAction::Sum => OutputValue::Aggregate(Aggregate::Sum(parts.expression()?)),
-        OutputAction::Min => OutputValue::Aggregate(Aggregate::Min(parts.expression()?)),
-        OutputAction::Max => OutputValue::Aggregate(Aggregate::Max(parts.expression()?)),
-        OutputAction::Named => {
-            return Some(Part::Output(Output {
-                name: Some(parts.name()?),
-                value: parts.output_value()?,
-            }));
-        }
-        OutputAction::Unnamed => {
-            return Some(Part::Output(Output {
-                value: parts.output_value()?,
-                name: None,
-            }));
-        }
-    };
-    Some(Part::OutputValue(value))
+    match action {
+        OutputAction::Value => match parts.expression() {
+            Some(value) => put_value(OutputValue::Expression(value), parts),
+            None => Ok(false),
+        },
+        OutputAction::CountRows => put_aggregate(Aggregate::CountRows, parts),
+        OutputAction::Count => match parts.expression() {
+            Some(of) => put_aggregate(Aggregate::Count(of), parts),
+            None => Ok(false),
+        },
+        OutputAction::Sum => match parts.expression() {
+            Some(of) => put_aggregate(Aggregate::Sum(of), parts),
+            None => Ok(false),
+        },
+        OutputAction::Min => match parts.expression() {
+            Some(of) => put_aggregate(Aggregate::Min(of), parts),
+            None => Ok(false),
+        },
+        OutputAction::Max => match parts.expression() {
+            Some(of) => put_aggregate(Aggregate::Max(of), parts),
+            None => Ok(false),
+        },
+        OutputAction::Named => match (parts.name(), parts.output_value()) {
+            (Some(name), Some(value)) => put_output(value, Some(name), parts),
+            (_name, _value) => Ok(false),
+        },
+        OutputAction::Unnamed => match parts.output_value() {
+            Some(value) => put_output(value, None, parts),
+            None => Ok(false),
+        },
+    }
+}
+
+fn put_aggregate(aggregate: Aggregate, parts: &mut Parts) -> Result<bool, AllocError>
+    ensures { IfOk result (λ done. IsTrue done
+        × (parts.new ≡ part.OutputValue (output_value.Aggregate aggregate) ∷ parts.old)) }
+{
+    put_value(OutputValue::Aggregate(aggregate), parts)
+}
+
+fn put_value(value: OutputValue, parts: &mut Parts) -> Result<bool, AllocError>
+    ensures { IfOk result (λ done. IsTrue done × (parts.new ≡ part.OutputValue value ∷ parts.old)) }
+{
+    parts.push(Part::OutputValue(value))?;
+    Ok(true)
+}
+
+fn put_output(value: OutputValue, name: Option<Name>, parts: &mut Parts) -> Result<bool, AllocError>
+    ensures { IfOk result (λ done. IsTrue done
+        × (parts.new ≡ part.Output (record { value = value; name = name }) ∷ parts.old)) }
+{
+    parts.push(Part::Output(Output { value, name }))?;
+    Ok(true)
 }
 
 /// The list of a select, and its first table.
