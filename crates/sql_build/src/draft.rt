@@ -99,13 +99,13 @@ impl Assembly {
     {
         let part = match action {
             Action::Step(action) => return self.step(alloc, action),
-            Action::Term(action) => term(action, &mut self.parts),
+            Action::Term(action) => return term(action, &mut self.parts),
             Action::Table(action) => table(alloc, action, &mut self.parts)?,
             Action::Row(action) => row(alloc, action, &mut self.parts)?,
             Action::Update(action) => update(alloc, action, &mut self.parts)?,
-            Action::Output(action) => output(action, &mut self.parts),
+            Action::Output(action) => return output(action, &mut self.parts),
             Action::List(action) => select_list(alloc, action, &mut self.parts)?,
-            Action::Query(action) => query(action, &mut self.parts)?,
+            Action::Query(action) => query(alloc, action, &mut self.parts)?,
             Action::Line(action) => line(alloc, action, &mut self.parts)?,
         };
         self.put(part)

@@ -1,6 +1,6 @@
 //! What each action puts together of the last parts, but of a select.
 
-ghost use Rattle.std.specs.Prelude.{◌≡◌, ◌∷◌, [], IfOk};
+ghost use Rattle.std.specs.Prelude.{◌≡◌, ◌∷◌, [], IfOk, IsTrue, MatchBool, None, Some};
 ghost use Rattle.sql_build.specs.Parts.{call, line, Makes, negative, plain, row, table, term, update};
 ghost use Rattle.sql_parts.specs.declared.action.LineAction.TheVariants as line_action;
 ghost use Rattle.sql_parts.specs.declared.action.RowAction.TheVariants as row_action;
@@ -9,7 +9,7 @@ ghost use Rattle.sql_parts.specs.declared.action.UpdateAction.TheVariants as upd
 ghost use Rattle.sql_parts.specs.declared.part.Part.TheVariants as part;
 
 use sql_parts::{
-    LineAction, Mechanism, Parsed, Part, Parts, RowAction, RqlCall, TableAction, TermAction,
+    Apart, LineAction, Mechanism, Parsed, Part, Parts, RowAction, RqlCall, TableAction, TermAction,
     UpdateAction,
 };
 use sql_tree::{
@@ -17,7 +17,7 @@ use sql_tree::{
     Update,
 };
 use std::alloc::{AllocError, Global};
-use values::{Seq, Text, Value};
+use values::{Name, Seq, Text, Value};
 
 /// A list of one item.
 pub fn one<T: Drop>(alloc: Global, item: T) -> Result<Seq<T>, AllocError>
@@ -34,33 +34,77 @@ fn behind_minus(number: i64) -> i64
     if number < 0 { number } else { -number }
 }
 
-/// A line that is a statement.
-pub fn plain(statement: Statement) -> Part
-    ensures { result ≡ plain statement }
+/// What a line says, as a part.
+pub fn said(alloc: Global, line: Parsed) -> Result<Option<Part>, AllocError>
+    ensures { IfOk result (λ said. said ≡ Some (part.Parsed line)) }
 {
-    Part::Parsed(Parsed::Plain(statement))
+    Ok(Some(Part::Parsed(Apart::new(alloc, line)?)))
 }
 
-/// Literals, columns and operands.
-pub fn term(action: TermAction, parts: &mut Parts) -> Option<Part>
-    ensures { Makes result parts.new (term action parts.old) }
+/// A line that is a statement.
+pub fn plain(alloc: Global, statement: Statement) -> Result<Option<Part>, AllocError>
+    ensures { IfOk result (λ said. said ≡ Some (plain statement)) }
+{
+    said(alloc, Parsed::Plain(statement))
+}
+
+/// Puts literals, columns and operands above the other parts; false where the last are not those that the action wants.
+pub fn term(action: TermAction, parts: &mut Parts) -> Result<bool, AllocError>
+    ensures { IfOk result (λ done. MatchBool done (term action parts.old ≡ Some parts.new) (term action parts.old ≡ None)) }
 {
     match action {
-        TermAction::Integer => Some(Part::Literal(Value::Int(parts.number()?))),
-        TermAction::Negative => Some(Part::Literal(Value::Int(behind_minus(parts.number()?)))),
-        TermAction::Text => Some(Part::Literal(Value::Text(parts.text()?))),
-        TermAction::PlainColumn => Some(Part::ColumnName(ColumnName {
-            column: parts.name()?,
-            table: None,
-        })),
-        TermAction::QualifiedColumn => Some(Part::ColumnName(ColumnName {
-            column: parts.name()?,
-            table: Some(parts.name()?),
-        })),
-        TermAction::LiteralOperand => Some(Part::Operand(Operand::Literal(parts.literal()?))),
-        TermAction::ColumnOperand => Some(Part::Operand(Operand::Column(parts.column_name()?))),
-        TermAction::CurrentSnapshot => Some(Part::Operand(Operand::CurrentSnapshot)),
+        TermAction::Integer => match parts.number() {
+            Some(number) => put_literal(Value::Int(number), parts),
+            None => Ok(false),
+        },
+        TermAction::Negative => match parts.number() {
+            Some(number) => put_literal(Value::Int(behind_minus(number)), parts),
+            None => Ok(false),
+        },
+        TermAction::Text => match parts.text() {
+            Some(text) => put_literal(Value::Text(text), parts),
+            None => Ok(false),
+        },
+        TermAction::PlainColumn => match parts.name() {
+            Some(column) => put_column(column, None, parts),
+            None => Ok(false),
+        },
+        TermAction::QualifiedColumn => match (parts.name(), parts.name()) {
+            (Some(column), Some(table)) => put_column(column, Some(table), parts),
+            (_column, _table) => Ok(false),
+        },
+        TermAction::LiteralOperand => match parts.literal() {
+            Some(literal) => put_operand(Operand::Literal(literal), parts),
+            None => Ok(false),
+        },
+        TermAction::ColumnOperand => match parts.column_name() {
+            Some(column) => put_operand(Operand::Column(column), parts),
+            None => Ok(false),
+        },
+        TermAction::CurrentSnapshot => put_operand(Operand::CurrentSnapshot, parts),
     }
+}
+
+fn put_literal(literal: Value, parts: &mut Parts) -> Result<bool, AllocError>
+    ensures { IfOk result (λ done. IsTrue done × (parts.new ≡ part.Literal literal ∷ parts.old)) }
+{
+    parts.push(Part::Literal(literal))?;
+    Ok(true)
+}
+
+fn put_column(column: Name, table: Option<Name>, parts: &mut Parts) -> Result<bool, AllocError>
+    ensures { IfOk result (λ done. IsTrue done
+        × (parts.new ≡ part.ColumnName (record { table = table; column = column }) ∷ parts.old)) }
+{
+    parts.push(Part::ColumnName(ColumnName { table, column }))?;
+    Ok(true)
+}
+
+fn put_operand(operand: Operand, parts: &mut Parts) -> Result<bool, AllocError>
+    ensures { IfOk result (λ done. IsTrue done × (parts.new ≡ part.Operand operand ∷ parts.old)) }
+{
+    parts.push(Part::Operand(operand))?;
+    Ok(true)
 }
 
 /// CREATE TABLE and CREATE INDEX.
@@ -79,10 +123,10 @@ pub fn table(
         TableAction::CreateTable => create_table(alloc, parts),
         TableAction::NextColumn => next_column(parts),
         TableAction::Finish => match parts.create_table() {
-            Some(create) => Ok(Some(plain(Statement::CreateTable(create)))),
+            Some(create) => plain(alloc, Statement::CreateTable(create)),
             None => Ok(None),
         },
-        TableAction::CreateIndex => Ok(index(parts)),
+        TableAction::CreateIndex => index(alloc, parts),
     }
 }
 
@@ -110,17 +154,20 @@ fn next_column(parts: &mut Parts) -> Result<Option<Part>, AllocError>
     }
 }
 
-fn index(parts: &mut Parts) -> Option<Part>
-    ensures { Makes result parts.new (table table_action.CreateIndex parts.old) }
+fn index(alloc: Global, parts: &mut Parts) -> Result<Option<Part>, AllocError>
+    ensures { IfOk result (λ part. Makes part parts.new (table table_action.CreateIndex parts.old)) }
 {
-    let column = parts.name()?;
-    let table = parts.name()?;
-    let index = parts.name()?;
-    Some(plain(Statement::CreateIndex(CreateIndex {
-        index,
-        table,
-        column,
-    })))
+    match (parts.name(), parts.name(), parts.name()) {
+        (Some(column), Some(table), Some(index)) => plain(
+            alloc,
+            Statement::CreateIndex(CreateIndex {
+                index,
+                table,
+                column,
+            }),
+        ),
+        (_column, _table, _index) => Ok(None),
+    }
 }
 
 /// INSERT.
@@ -136,7 +183,7 @@ pub fn row(alloc: Global, action: RowAction, parts: &mut Parts) -> Result<Option
         RowAction::Insert => insert(alloc, parts),
         RowAction::NextTuple => next_tuple(parts),
         RowAction::Finish => match parts.insert() {
-            Some(insert) => Ok(Some(plain(Statement::Insert(insert)))),
+            Some(insert) => plain(alloc, Statement::Insert(insert)),
             None => Ok(None),
         },
     }
@@ -190,8 +237,8 @@ pub fn update(
         UpdateAction::Assign => Ok(assignment(parts)),
         UpdateAction::Update => first_assignment(alloc, parts),
         UpdateAction::NextAssignment => next_assignment(parts),
-        UpdateAction::Finish => Ok(finished_update(parts)),
-        UpdateAction::Delete => Ok(delete(parts)),
+        UpdateAction::Finish => finished_update(alloc, parts),
+        UpdateAction::Delete => delete(alloc, parts),
     }
 }
 
@@ -228,21 +275,27 @@ fn next_assignment(parts: &mut Parts) -> Result<Option<Part>, AllocError>
     }
 }
 
-fn finished_update(parts: &mut Parts) -> Option<Part>
-    ensures { Makes result parts.new (update update_action.Finish parts.old) }
+fn finished_update(alloc: Global, parts: &mut Parts) -> Result<Option<Part>, AllocError>
+    ensures { IfOk result (λ part. Makes part parts.new (update update_action.Finish parts.old)) }
 {
-    let condition = parts.condition()?;
-    let mut update = parts.update()?;
-    update.condition = condition;
-    Some(plain(Statement::Update(update)))
+    match (parts.condition(), parts.update()) {
+        (Some(condition), Some(mut update)) => {
+            update.condition = condition;
+            plain(alloc, Statement::Update(update))
+        }
+        (_condition, _update) => Ok(None),
+    }
 }
 
-fn delete(parts: &mut Parts) -> Option<Part>
-    ensures { Makes result parts.new (update update_action.Delete parts.old) }
+fn delete(alloc: Global, parts: &mut Parts) -> Result<Option<Part>, AllocError>
+    ensures { IfOk result (λ part. Makes part parts.new (update update_action.Delete parts.old)) }
 {
-    let condition = parts.condition()?;
-    let table = parts.name()?;
-    Some(plain(Statement::Delete(Delete { table, condition })))
+    match (parts.condition(), parts.name()) {
+        (Some(condition), Some(table)) => {
+            plain(alloc, Statement::Delete(Delete { table, condition }))
+        }
+        (_condition, _table) => Ok(None),
+    }
 }
 
 /// Lines that are no statements.
@@ -255,33 +308,27 @@ pub fn line(
 {
     match action {
         LineAction::Argument => argument(alloc, parts),
-        LineAction::Commit => Ok(Some(Part::Parsed(Parsed::Commit(None)))),
+        LineAction::Commit => said(alloc, Parsed::Commit(None)),
         LineAction::CommitUnlabelled => {
             let label = Text::new(Seq::new(alloc));
-            Ok(Some(Part::Parsed(Parsed::Commit(Some(label)))))
+            said(alloc, Parsed::Commit(Some(label)))
         }
-        LineAction::CommitLabelled => Ok(commit_labelled(parts)),
-        LineAction::Rollback => Ok(Some(Part::Parsed(Parsed::Rollback))),
-        LineAction::DropBelow => Ok(drop_below(parts)),
-        LineAction::CollateData => Ok(call(Mechanism::CollateData, parts)),
-        LineAction::AggregateDataInVariable => Ok(in_variable(parts)),
-        LineAction::AggregateDataInTable => Ok(in_table(parts)),
+        LineAction::CommitLabelled => match parts.text() {
+            Some(label) => said(alloc, Parsed::Commit(Some(label))),
+            None => Ok(None),
+        },
+        LineAction::Rollback => said(alloc, Parsed::Rollback),
+        LineAction::DropBelow => match parts.number() {
+            Some(number) => said(alloc, Parsed::DropBelow(number.unsigned_abs())),
+            None => Ok(None),
+        },
+        LineAction::CollateData => call(alloc, Mechanism::CollateData, parts),
+        LineAction::AggregateDataInVariable => in_variable(alloc, parts),
+        LineAction::AggregateDataInTable => in_table(alloc, parts),
         LineAction::CollateDataIntoIntervals => {
-            Ok(call(Mechanism::CollateDataIntoIntervals, parts))
+            call(alloc, Mechanism::CollateDataIntoIntervals, parts)
         }
     }
-}
-
-fn commit_labelled(parts: &mut Parts) -> Option<Part>
-    ensures { Makes result parts.new (line line_action.CommitLabelled parts.old) }
-{
-    Some(Part::Parsed(Parsed::Commit(Some(parts.text()?))))
-}
-
-fn drop_below(parts: &mut Parts) -> Option<Part>
-    ensures { Makes result parts.new (line line_action.DropBelow parts.old) }
-{
-    Some(Part::Parsed(Parsed::DropBelow(parts.number()?.unsigned_abs())))
 }
 
 fn argument(alloc: Global, parts: &mut Parts) -> Result<Option<Part>, AllocError>
@@ -297,30 +344,41 @@ fn argument(alloc: Global, parts: &mut Parts) -> Result<Option<Part>, AllocError
 }
 
 // A call of a mechanism with its first three arguments.
-fn call(mechanism: Mechanism, parts: &mut Parts) -> Option<Part>
-    ensures { Makes result parts.new (call mechanism parts.old) }
+fn call(alloc: Global, mechanism: Mechanism, parts: &mut Parts) -> Result<Option<Part>, AllocError>
+    ensures { IfOk result (λ part. Makes part parts.new (call mechanism parts.old)) }
 {
-    let table = parts.argument()?;
-    let query = parts.argument()?;
-    let snapshots = parts.argument()?;
-    Some(Part::Parsed(Parsed::Rql(RqlCall {
-        snapshots,
-        query,
-        table,
-        mechanism,
-    })))
+    match (parts.argument(), parts.argument(), parts.argument()) {
+        (Some(table), Some(query), Some(snapshots)) => {
+            let call = RqlCall {
+                snapshots,
+                query,
+                table,
+                mechanism,
+            };
+            said(alloc, Parsed::Rql(call))
+        }
+        (_table, _query, _snapshots) => Ok(None),
+    }
 }
 
-fn in_variable(parts: &mut Parts) -> Option<Part>
-    ensures { Makes result parts.new (line line_action.AggregateDataInVariable parts.old) }
+fn in_variable(alloc: Global, parts: &mut Parts) -> Result<Option<Part>, AllocError>
+    ensures { IfOk result (λ part. Makes part parts.new (line line_action.AggregateDataInVariable parts.old)) }
 {
-    let function = parts.argument()?;
-    call(Mechanism::AggregateDataInVariable { function }, parts)
+    match parts.argument() {
+        Some(function) => call(
+            alloc,
+            Mechanism::AggregateDataInVariable { function },
+            parts,
+        ),
+        None => Ok(None),
+    }
 }
 
-fn in_table(parts: &mut Parts) -> Option<Part>
-    ensures { Makes result parts.new (line line_action.AggregateDataInTable parts.old) }
+fn in_table(alloc: Global, parts: &mut Parts) -> Result<Option<Part>, AllocError>
+    ensures { IfOk result (λ part. Makes part parts.new (line line_action.AggregateDataInTable parts.old)) }
 {
-    let pairs = parts.argument()?;
-    call(Mechanism::AggregateDataInTable { pairs }, parts)
+    match parts.argument() {
+        Some(pairs) => call(alloc, Mechanism::AggregateDataInTable { pairs }, parts),
+        None => Ok(None),
+    }
 }

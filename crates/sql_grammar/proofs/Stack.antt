@@ -1,6 +1,8 @@
 -- A stack seen from its top.
-use Rattle.std.proofs.Common.{◌≡◌, ◌∙◌, List, ◌++◌, reverse, ap}
-use Rattle.std.proofs.lemmas.List.{reverse-append, reverse-reverse}
+use Rattle.std.proofs.Common.{◌≡◌, ◌∙◌, List, [], ◌∷◌, ◌++◌, flat_map, ap}
+use Rattle.std.proofs.lemmas.List.{reverse-append}
+use Rattle.sql_grammar.specs.declared.machine.Left.{Left}
+use Rattle.sql_grammar.specs.Expected.{left}
 
-pub onto : {X : Type 0} (new old side : List X) → new ≡ old ++ reverse side → reverse new ≡ side ++ reverse old
-onto new old side e = ap reverse e ∙ (reverse-append old (reverse side) ∙ ap (λ x. x ++ reverse old) (reverse-reverse side))
+pub above : (new old : List Left) (l : Left) → new ≡ old ++ l ∷ [] → left new ≡ l.next ∷ (l.rest.now ++ left old)
+above new old l e = ap left e ∙ ap (flat_map (λ l. l.next ∷ l.rest.now)) (reverse-append old (l ∷ []))

@@ -1,4 +1,5 @@
 pub mod Derivation
+pub mod Expected
 pub mod Grammar
 pub mod Machine
 pub mod Table

@@ -1,6 +1,6 @@
 //! The machine that reads a sentence, token by token.
 
-ghost use Rattle.std.specs.Prelude.{◌≡◌, ◌++◌, ◌∷◌, [], IfOk, OnOk, MatchOption, IsTrue, ◌↔◌, List, reverse};
+ghost use Rattle.std.specs.Prelude.{◌≡◌, ◌++◌, ◌∷◌, [], IfOk, OnOk, MatchOption, IsTrue, ◌↔◌, List};
 ghost use Rattle.std.specs.Option.{option_to_list};
 ghost use Rattle.sql_grammar.specs.Grammar.{content_of};
 
@@ -12,52 +12,71 @@ use std::alloc::{AllocError, Global};
 use std::marker::Model;
 use values::Seq;
 
-/// The symbols that are expected, the next one at the end. Contracts see the next one first.
+/// What is left of a right side behind which others go on first.
+#[derive(Drop)]
+struct Left {
+    next: Symbol,
+    rest: &'static [Symbol],
+}
+
+/// The symbols that are expected: those of the innermost right side, and what is left of each that it stands in, the
+/// innermost at the end. Contracts see them all, the next one first.
 #[derive(Drop)]
 struct Expected {
-    symbols: Vec<Symbol>,
+    side: &'static [Symbol],
+    outer: Vec<Left>,
 }
 
 impl Model for Expected {
-    ghost use Rattle.std.specs.Prelude.{List, reverse};
+    ghost use Rattle.std.specs.Prelude.{◌++◌, List};
+    ghost use Rattle.sql_grammar.specs.Expected.{left};
     ghost use Rattle.sql_grammar.specs.declared.grammar.Symbol.{Symbol};
 
     ghost Value = { List Symbol };
 
-    ghost view = { λ e. reverse e.symbols.items };
+    ghost view = { λ e. e.side.now ++ left e.outer.items };
 }
 
 impl Expected {
-    fn new(alloc: Global) -> Expected
-        ensures { result ≡ [] }
+    fn one(alloc: Global, symbol: Symbol) -> Result<Expected, AllocError>
+        ensures { IfOk result (λ e. e ≡ symbol ∷ []) }
     {
-        Expected {
-            symbols: Vec::new(alloc),
-        }
+        let mut outer = Vec::new(alloc);
+        outer.push(Left {
+            next: symbol,
+            rest: &[],
+        })?;
+        Ok(Expected { side: &[], outer })
     }
 
+    #[tactic(auto, using(crate::proofs::Stack::above))]
     fn pop(&mut self) -> Option<Symbol>
         ensures { MatchOption result ((self.old ≡ []) × (self.new ≡ [])) (λ next. self.old ≡ next ∷ self.new) }
     {
-        self.symbols.pop()
+        match self.side {
+            [next, rest @ ..] => {
+                self.side = rest;
+                Some(*next)
+            }
+            [] => {
+                let left = self.outer.pop()?;
+                self.side = left.rest;
+                Some(left.next)
+            }
+        }
     }
 
     /// Expects these symbols before all others.
-    #[tactic(auto, using(crate::proofs::Stack::onto))]
-    fn push(&mut self, symbols: &[Symbol]) -> Result<(), AllocError>
+    #[tactic(auto, using(crate::proofs::Stack::above))]
+    fn push(&mut self, symbols: &'static [Symbol]) -> Result<(), AllocError>
         ensures { OnOk result (self.new ≡ symbols.now ++ self.old) }
     {
-        append_reversed(&mut self.symbols, symbols)
+        if let [next, rest @ ..] = self.side {
+            self.outer.push(Left { next: *next, rest })?;
+        }
+        self.side = symbols;
+        Ok(())
     }
-}
-
-fn append_reversed(symbols: &mut Vec<Symbol>, more: &[Symbol]) -> Result<(), AllocError>
-    ensures { OnOk result (symbols.new.items ≡ symbols.old.items ++ reverse more.now) }
-{
-    let place = symbols.len();
-    symbols.extend_from_slice(more)?;
-    symbols[place..].reverse();
-    Ok(())
 }
 
 /// A sentence that is read up to some token.
@@ -80,10 +99,8 @@ impl Machine {
         requires { IsIn End (follow rule) }
         ensures { IfOk result (λ m. Stands rule [] m.expected m.ops) }
     {
-        let mut expected = Expected::new(alloc);
-        expected.push(&[Symbol::Use(rule)])?;
         Ok(Machine {
-            expected,
+            expected: Expected::one(alloc, Symbol::Use(rule))?,
             ops: Seq::new(alloc),
         })
     }

@@ -45,6 +45,7 @@ pub fn class_of(token: &Token) -> Class
 }
 
 /// The right side of the rule that goes on with the class, and the rule's last where none does.
+#[inline(never)]
 pub fn right_side(rule: Rule, class: Class) -> &'static [Symbol]
     ensures { result.now ≡ expansion rule class }
 {
@@ -74,6 +75,12 @@ pub fn right_side(rule: Rule, class: Class) -> &'static [Symbol]
             Use(MoreValues),
             CLOSE,
         ],
+        // The rules of expressions and conditions, which a long line has most of, are not looked for behind all others.
+        MoreTerms | Term | MoreFactors | Factor => operand_side(rule, class),
+        Operand | ColumnName | Qualifier | Literal | Condition => condition_side(rule, class),
+        MoreConjunctions | Conjunction | MoreNegations | Negation | Compared => {
+            line_side(rule, class)
+        }
         _ => change_side(rule, class),
     }
 }

@@ -1,18 +1,17 @@
 -- Each keyword is found by its spelling.
-use Rattle.std.proofs.Common.{◌≡◌, ◌≢◌, ◌∙◌, ◌⊎◌, inl, inr, ℕ, Bool, true, false, cond, subst, Option, Some, List, [], ◌∷◌, ◌==◌, refl, sym, ap}
+use Rattle.std.proofs.Common.{◌≡◌, ◌≢◌, ◌∙◌, ◌⊎◌, inl, inr, ℕ, Bool, true, false, cond, subst, Option, Some, List, [], ◌∷◌, ◌==◌, length, refl, sym, ap}
 use Rattle.std.specs.Prelude.{find, All}
 use Rattle.std.specs.List.{AllByRecursion}
 use Rattle.std.specs.Cmp.Lexicographic.{pointwise, bytes_decides}
 use Rattle.std.proofs.lemmas.Bool.{false≢true}
 use Rattle.std.proofs.lemmas.List.Elements.{recursion_from_All}
-use Rattle.sql_lexer.specs.declared.keyword.TheConstants.{KEYWORDS}
 use Rattle.sql_lexer.specs.declared.token.Keyword.{Keyword}
 use Rattle.sql_lexer.specs.declared.token.Keyword.TheVariants as keyword
-use Rattle.sql_lexer.specs.Token.{spelling}
+use Rattle.sql_lexer.specs.Token.{keywords_of, spelling}
 
 -- the keyword of this spelling
 named : List ℕ → Option Keyword
-named word = find (λ k. pointwise ◌==◌ (spelling k) word) KEYWORDS
+named word = find (λ k. pointwise ◌==◌ (spelling k) word) (keywords_of (length word))
 
 named-spelling : (k : Keyword) → named (spelling k) ≡ Some k
 unfolding named
@@ -32,13 +31,21 @@ found_of_all P test (j ∷ js) k each found = pick (test j) found (found_of_all 
     pick true e rest = let same : j ≡ k = cc in subst P same each.0
     pick false e rest = rest e
 
--- what holds of all that the list has holds of every keyword
-every_keyword : (P : Keyword → Type 0) → AllByRecursion P KEYWORDS → (k : Keyword) → P k
+-- what holds of all keywords of a length holds of every keyword whose word has it
+every_keyword : (P : Keyword → Type 0) (n : ℕ) → AllByRecursion P (keywords_of n) → (k : Keyword) → length (spelling k) ≡ n → P k
 unfolding named
-every_keyword P each k = found_of_all P (λ j. pointwise ◌==◌ (spelling j) (spelling k)) KEYWORDS k each (named-spelling k)
+every_keyword P n each k e =
+    let Q : ℕ → Type 0 = λ x. AllByRecursion P (keywords_of x) in
+    found_of_all P (λ j. pointwise ◌==◌ (spelling j) (spelling k)) (keywords_of (length (spelling k))) k (subst Q (sym e) each) (named-spelling k)
 
-pub each_keyword : (P : Keyword → Type 0) → All P KEYWORDS → (k : Keyword) → P k
-each_keyword P each = every_keyword P (recursion_from_All P KEYWORDS each)
+-- a word that no keyword of its length spells is no keyword's
+differs : (word : List ℕ) → AllByRecursion (λ k. word ≢ spelling k) (keywords_of (length word)) → (k : Keyword) → word ≢ spelling k
+differs word each k same = every_keyword (λ j. word ≢ spelling j) (length word) each k (ap length (sym same)) same
+
+pub each_differs : (word : List ℕ) (n : ℕ) → length word ≡ n → All (λ k. word ≢ spelling k) (keywords_of n) → (k : Keyword) → word ≢ spelling k
+each_differs word n e each =
+    let Q : ℕ → Type 0 = λ x. All (λ k. word ≢ spelling k) (keywords_of x) in
+    differs word (recursion_from_All (λ k. word ≢ spelling k) (keywords_of (length word)) (subst Q (sym e) each))
 
 same_or_not : (xs ys : List ℕ) → (xs ≡ ys) ⊎ (xs ≢ ys)
 same_or_not xs ys = go (pointwise ◌==◌ xs ys) refl
@@ -56,7 +63,7 @@ one_of (k ∷ ks) word = elim (same_or_not word (spelling k)) [
 
 -- a word is a keyword's or no keyword's
 pub keyword_or_not : (word : List ℕ) → ((k : Keyword) × (word ≡ spelling k)) ⊎ ((k : Keyword) → word ≢ spelling k)
-keyword_or_not word = elim (one_of KEYWORDS word) [
+keyword_or_not word = elim (one_of (keywords_of (length word)) word) [
   | inl found ↦ inl found
-  | inr none ↦ inr (every_keyword (λ k. word ≢ spelling k) none)
+  | inr none ↦ inr (differs word none)
 ]

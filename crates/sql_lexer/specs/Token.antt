@@ -59,6 +59,28 @@ spelling keyword.Values = codes "VALUES"
 spelling keyword.Where = codes "WHERE"
 spelling keyword.With = codes "WITH"
 
+-- the keywords whose words have this many bytes
+abbrev pub keywords_of : ℕ → List Keyword
+keywords_of n =
+    if n == 2 then keyword.As ∷ keyword.By ∷ keyword.Of ∷ keyword.On ∷ keyword.Or ∷ []
+    else if n == 3 then
+    keyword.And ∷ keyword.Asc ∷ keyword.Int ∷ keyword.Max ∷ keyword.Min ∷ keyword.Not ∷ keyword.Set ∷ keyword.Sum ∷ []
+    else if n == 4 then keyword.Desc ∷ keyword.Drop ∷ keyword.From ∷ keyword.Into ∷ keyword.Text ∷ keyword.With ∷ []
+    else if n == 5 then
+    keyword.Below ∷ keyword.Count ∷ keyword.Group ∷ keyword.Index ∷ keyword.Limit ∷ keyword.Order ∷ keyword.Table
+    ∷ keyword.Where ∷ []
+    else if n == 6 then
+    keyword.Commit ∷ keyword.Create ∷ keyword.Delete ∷ keyword.Insert ∷ keyword.Select ∷ keyword.Update
+    ∷ keyword.Values ∷ []
+    else if n == 8 then keyword.Distinct ∷ keyword.Rollback ∷ keyword.Snapshot ∷ []
+    else if n == 9 then keyword.Snapshots ∷ []
+    else if n == 11 then keyword.CollateData ∷ []
+    else if n == 16 then keyword.CurrentSnapshot ∷ []
+    else if n == 20 then keyword.AggregateDataInTable ∷ []
+    else if n == 23 then keyword.AggregateDataInVariable ∷ []
+    else if n == 24 then keyword.CollateDataIntoIntervals ∷ []
+    else []
+
 -- the bytes of a sign
 abbrev pub sign_bytes : Sign → List ℕ
 sign_bytes sign.Open = codes "("

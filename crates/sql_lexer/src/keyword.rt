@@ -2,54 +2,49 @@
 
 ghost use Rattle.std.specs.Prelude.{◌≡◌, ◌≢◌, ◌↔◌, IsTrue, IfSome, IfNone, All};
 ghost use Rattle.std.specs.Str.{str_to_ascii_uppercase};
-ghost use Rattle.sql_lexer.specs.Token.{spelling};
+ghost use Rattle.sql_lexer.specs.Token.{keywords_of, spelling};
 
 use crate::token::Keyword;
 
-const KEYWORDS: [Keyword; 43] = [
-    Keyword::AggregateDataInTable,
-    Keyword::AggregateDataInVariable,
+const THREE: [Keyword; 8] = [
     Keyword::And,
-    Keyword::As,
     Keyword::Asc,
-    Keyword::Below,
-    Keyword::By,
-    Keyword::CollateData,
-    Keyword::CollateDataIntoIntervals,
-    Keyword::Commit,
-    Keyword::Count,
-    Keyword::Create,
-    Keyword::CurrentSnapshot,
-    Keyword::Delete,
-    Keyword::Desc,
-    Keyword::Distinct,
-    Keyword::Drop,
-    Keyword::From,
-    Keyword::Group,
-    Keyword::Index,
-    Keyword::Insert,
     Keyword::Int,
-    Keyword::Into,
-    Keyword::Limit,
     Keyword::Max,
     Keyword::Min,
     Keyword::Not,
-    Keyword::Of,
-    Keyword::On,
-    Keyword::Or,
-    Keyword::Order,
-    Keyword::Rollback,
-    Keyword::Select,
     Keyword::Set,
-    Keyword::Snapshot,
-    Keyword::Snapshots,
     Keyword::Sum,
-    Keyword::Table,
+];
+
+const FOUR: [Keyword; 6] = [
+    Keyword::Desc,
+    Keyword::Drop,
+    Keyword::From,
+    Keyword::Into,
     Keyword::Text,
+    Keyword::With,
+];
+
+const FIVE: [Keyword; 8] = [
+    Keyword::Below,
+    Keyword::Count,
+    Keyword::Group,
+    Keyword::Index,
+    Keyword::Limit,
+    Keyword::Order,
+    Keyword::Table,
+    Keyword::Where,
+];
+
+const SIX: [Keyword; 7] = [
+    Keyword::Commit,
+    Keyword::Create,
+    Keyword::Delete,
+    Keyword::Insert,
+    Keyword::Select,
     Keyword::Update,
     Keyword::Values,
-    Keyword::Where,
-    Keyword::With,
 ];
 
 impl Keyword {
@@ -117,7 +112,34 @@ pub(crate) fn keyword_of(word: &[u8]) -> Option<Keyword>
     ensures found { IfSome result (λ k. str_to_ascii_uppercase word.now ≡ spelling k) }
     ensures none { IfNone result ((k : Keyword) → str_to_ascii_uppercase word.now ≢ spelling k) }
 {
-    keyword_among(&KEYWORDS, word)
+    keyword_among(keywords_of(word.len()), word)
+}
+
+// The keywords whose words have this many bytes.
+fn keywords_of(length: usize) -> &'static [Keyword]
+    ensures { result.now ≡ keywords_of length }
+{
+    match length {
+        2 => &[
+            Keyword::As,
+            Keyword::By,
+            Keyword::Of,
+            Keyword::On,
+            Keyword::Or,
+        ],
+        3 => &THREE,
+        4 => &FOUR,
+        5 => &FIVE,
+        6 => &SIX,
+        8 => &[Keyword::Distinct, Keyword::Rollback, Keyword::Snapshot],
+        9 => &[Keyword::Snapshots],
+        11 => &[Keyword::CollateData],
+        16 => &[Keyword::CurrentSnapshot],
+        20 => &[Keyword::AggregateDataInTable],
+        23 => &[Keyword::AggregateDataInVariable],
+        24 => &[Keyword::CollateDataIntoIntervals],
+        _ => &[],
+    }
 }
 
 fn keyword_among(keywords: &[Keyword], word: &[u8]) -> Option<Keyword>

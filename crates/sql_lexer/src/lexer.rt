@@ -30,7 +30,8 @@ enum Front {
 pub fn lex(alloc: Global, line: &[u8]) -> Result<Lexed, AllocError>
     ensures { IfOk result (λ lexed. Lexes 0 line.now lexed.tokens lexed.ending) }
 {
-    let mut tokens = Seq::new(alloc);
+    // Most tokens take two bytes or more.
+    let mut tokens = Seq::from(Vec::with_capacity(alloc, line.len() / 2)?);
     let mut place = 0;
     while place < line.len() {
         match front_of(alloc, &line[place..])? {

@@ -3,6 +3,7 @@
 #![tactic(auto)]
 
 mod action;
+mod apart;
 mod parsed;
 mod part;
 
@@ -10,5 +11,6 @@ pub use action::{
     Action, LineAction, ListAction, Op, OutputAction, QueryAction, RowAction, StepAction,
     TableAction, TermAction, UpdateAction,
 };
+pub use apart::Apart;
 pub use parsed::{AsOf, Mechanism, Parsed, RqlCall};
 pub use part::{Part, Parts};

@@ -3,6 +3,7 @@
 ghost use Rattle.std.specs.Prelude.{◌≡◌, ◌∷◌, [], MatchOption, OnOk};
 ghost use Rattle.sql_parts.specs.Taking.{a_column, a_column_name, a_condition, a_create_table, a_line, a_literal, a_name, a_number, a_query, a_row, a_text, an_argument, an_assignment, an_expression, an_insert, an_operand, an_output, an_output_value, an_update, outputs, Takes};
 
+use crate::apart::Apart;
 use crate::parsed::Parsed;
 use sql_tree::{
     Assignment, Column, ColumnName, Condition, CreateTable, Expression, Insert, Operand, Output,
@@ -35,8 +36,8 @@ pub enum Part {
     OutputValue(OutputValue),
     Output(Output),
     Outputs(Seq<Output>),
-    Query(Select),
-    Parsed(Parsed),
+    Query(Apart<Select>),
+    Parsed(Apart<Parsed>),
 }
 
 /// Parts, one above the other. Contracts see the last first.
@@ -276,7 +277,7 @@ impl Parts {
         ensures { Takes result self.new (a_query self.old) }
     {
         match self.pop()? {
-            Part::Query(part) => Some(part),
+            Part::Query(part) => Some(part.into_inner()),
             other => none_of(other),
         }
     }
@@ -286,7 +287,7 @@ impl Parts {
         ensures { Takes result self.new (a_line self.old) }
     {
         match self.pop()? {
-            Part::Parsed(part) => Some(part),
+            Part::Parsed(part) => Some(part.into_inner()),
             other => none_of(other),
         }
     }

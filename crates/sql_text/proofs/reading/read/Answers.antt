@@ -2,7 +2,11 @@ use Rattle.std.proofs.lemmas.Result.{err_from_is_err_and, IfErr-weaker}
 use Rattle.sql_grammar.specs.declared.grammar.Rule.TheVariants.{Sentence}
 use Rattle.sql_text.proofs.Saying.{open_at_end, refused_early, refused_whole}
 use Rattle.sql_grammar.proofs.Steps.{reads}
+use Rattle.sql_text.specs.Places.{tokens_of}
 use Rattle.sql_text.proofs.reading.read.Goals as goal
+
+pub finish-requires-clause-stands : goal.finish-requires-clause-stands
+finish-requires-clause-stands c = (tokens_of c.args.lexed.tokens, c.in_ok-begin-in-Whole.ensures.ok)
 
 pub returns-in_err-begin-in-Whole-clause-err : goal.returns-in_err-begin-in-Whole-clause-err
 returns-in_err-begin-in-Whole-clause-err c =
