@@ -86,10 +86,10 @@ impl Assembly {
         ensures { IfOk result (λ done. MatchBool done (taken op self.old ≡ Some self.new) (taken op self.old ≡ None)) }
     {
         match op {
-            Op::Name(name) => self.put(Some(Part::Name(name))),
-            Op::Integer(number) => self.put(Some(Part::Number(number))),
-            Op::Text(text) => self.put(Some(Part::Text(text))),
-            Op::LongText(text) => self.put(Some(Part::Argument(text))),
+            Op::Name(name) => self.put_down(Part::Name(name)),
+            Op::Integer(number) => self.put_down(Part::Number(number)),
+            Op::Text(text) => self.put_down(Part::Text(text)),
+            Op::LongText(text) => self.put_down(Part::Argument(text)),
             Op::Act(action) => self.act(alloc, action),
         }
     }
@@ -118,12 +118,17 @@ impl Assembly {
             (part ≡ None)) }
     {
         match part {
-            Some(part) => {
-                self.parts.push(part)?;
-                Ok(true)
-            }
+            Some(part) => self.put_down(part),
             None => Ok(false),
         }
+    }
+
+    #[inline(always)]
+    fn put_down(&mut self, part: Part) -> Result<bool, AllocError>
+        ensures { IfOk result (λ done. IsTrue done × (self.new ≡ with_parts (part ∷ self.old.parts) self.old)) }
+    {
+        self.parts.push(part)?;
+        Ok(true)
     }
 
     fn step(&mut self, alloc: Global, action: StepAction) -> Result<bool, AllocError>
@@ -141,7 +146,7 @@ impl Assembly {
             StepAction::Or => self.judge(ConditionStep::Or),
             StepAction::Expression => self.end_expression(alloc),
             StepAction::Condition => self.end_condition(alloc),
-            StepAction::NoCondition => self.put(Some(Part::Condition(None))),
+            StepAction::NoCondition => self.put_down(Part::Condition(None)),
         }
     }
 
@@ -188,7 +193,7 @@ impl Assembly {
     {
         let steps = mem::replace(&mut self.expression, Seq::new(alloc));
         match Expression::new(steps) {
-            Some(expression) => self.put(Some(Part::Expression(expression))),
+            Some(expression) => self.put_down(Part::Expression(expression)),
             None => Ok(false),
         }
     }
@@ -200,7 +205,7 @@ impl Assembly {
     {
         let steps = mem::replace(&mut self.condition, Seq::new(alloc));
         match Condition::new(steps) {
-            Some(condition) => self.put(Some(Part::Condition(Some(condition)))),
+            Some(condition) => self.put_down(Part::Condition(Some(condition))),
             None => Ok(false),
         }
     }

@@ -75,12 +75,13 @@ pub fn right_side(rule: Rule, class: Class) -> &'static [Symbol]
             Use(MoreValues),
             CLOSE,
         ],
-        // The rules of expressions and conditions, which a long line has most of, are not looked for behind all others.
+        // The rules which a long line has most of are not looked for behind all others.
+        MoreOutputs | Output | OutputValue => output_side(rule, class),
+        OutputName | Value | Expression => group_side(rule, class),
         MoreTerms | Term | MoreFactors | Factor => operand_side(rule, class),
         Operand | ColumnName | Qualifier | Literal | Condition => condition_side(rule, class),
-        MoreConjunctions | Conjunction | MoreNegations | Negation | Compared => {
-            line_side(rule, class)
-        }
+        MoreConjunctions | Conjunction => line_side(rule, class),
+        MoreNegations | Negation | Compared => line_side(rule, class),
         _ => change_side(rule, class),
     }
 }

@@ -69,6 +69,7 @@ impl Parts {
     }
 
     /// Adds a part behind the others.
+    #[inline(always)]
     pub fn push(&mut self, part: Part) -> Result<(), AllocError>
         ensures { OnOk result (self.new ≡ part ∷ self.old) }
     {
