@@ -50,7 +50,9 @@ pub fn plain(alloc: Global, statement: Statement) -> Result<Option<Part>, AllocE
 
 /// Puts literals, columns and operands above the other parts; false where the last are not those that the action wants.
 pub fn term(action: TermAction, parts: &mut Parts) -> Result<bool, AllocError>
-    ensures { IfOk result (λ done. MatchBool done (term action parts.old ≡ Some parts.new) (term action parts.old ≡ None)) }
+    ensures { IfOk result (λ done. MatchBool done
+        (term action parts.old ≡ Some parts.new)
+        (term action parts.old ≡ None)) }
 {
     match action {
         TermAction::Integer => match parts.number() {

@@ -17,7 +17,9 @@ use values::{Name, Seq, Value};
 
 /// Puts the outputs of a select above the other parts; false where the last are not those that the action wants.
 pub fn output(action: OutputAction, parts: &mut Parts) -> Result<bool, AllocError>
-    ensures { IfOk result (λ done. MatchBool done (output action parts.old ≡ Some parts.new) (output action parts.old ≡ None)) }
+    ensures { IfOk result (λ done. MatchBool done
+        (output action parts.old ≡ Some parts.new)
+        (output action parts.old ≡ None)) }
 {
     match action {
         OutputAction::Value => match parts.expression() {
