@@ -1,16 +1,26 @@
 -- Snapshots of pages and of tables.
-use Rattle.std.proofs.Common.{◌≡◌, ◌+◌, ◌++◌, ◌==◌, ◌||◌, ℕ, Bool, true, false, cond, List, [], ◌∷◌, Some, None, Result, Ok, Err, ltb, refl, ap, sym, subst, ◌∙◌}
+use Rattle.std.proofs.Common.{◌≡◌, ◌≤◌, ◌+◌, ◌++◌, ◌==◌, ◌||◌, ◌&&◌, ℕ, Bool, true, false, cond, List, [], ◌∷◌, map, Some, None, Result, Ok, Err, ltb, refl, ap, sym, subst, arith, ◌∙◌}
 use Rattle.std.specs.Prelude.{nat_le}
+use Rattle.std.proofs.lemmas.Bool.{le-leb}
 use Rattle.retro_base.specs.declared.refusal.Refusal.{Refusal}
 use Rattle.retro_base.specs.declared.refusal.Refusal.TheVariants.{NoSuchSnapshot}
+use Rattle.history.specs.declared.entry.Mark.{Mark as MarkOf}
 use Rattle.history.specs.declared.journal.What.{What}
 use Rattle.history.specs.declared.journal.What.TheVariants.{Done, Dropped}
 use Rattle.history.specs.Journal.{pages_behind}
 use Rattle.history.specs.History.{written}
+use Rattle.history.specs.Marks.{MarksRise}
+use Rattle.history.specs.Writes.{rises}
 use Rattle.journal_law.specs.Language.{Language}
 use Rattle.journal_law.specs.Pages.{Pages}
 use Rattle.journal_law.specs.Shows.{MarksShow, Shows}
 use Rattle.journal_law.specs.World.{Mark, World, as_of, behind, held_by, kept, mark_of, newest, newest_behind, oldest_of}
+
+-- the numbers of a log's marks rise behind the one before them
+pub numbers_rise : (captures number start : ℕ) (marks : List MarkOf) → MarksRise captures number start marks → (least : ℕ) → least ≤ number + 1 → rises least (map (λ (mark : MarkOf). mark.number) marks) ≡ true
+numbers_rise captures number start [] up least low = refl
+numbers_rise captures number start (mark ∷ marks) up least low =
+    ap (λ (b : Bool). b && rises (mark.number + 1) (map (λ (m : MarkOf). m.number) marks)) (le-leb least mark.number (omega (arith, low, up.0))) ∙ numbers_rise captures mark.number mark.start marks up.2 (mark.number + 1) (omega arith)
 
 module _ (L : Language) where
   marks_push : (ps : List (Mark Pages)) (ts : List (Mark L.Tables)) (p : Mark Pages) (t : Mark L.Tables) → MarksShow L ps ts → p.number ≡ t.number → p.label ≡ t.label → L.IsStored p.held t.held

@@ -1,6 +1,6 @@
 -- The store as one seat sees it: what it has seen of the journal, and the transaction or look that it has open. Between
 -- two calls other sessions may have added lines.
-use Rattle.std.specs.Prelude.{◌≡◌, ◌⊎◌, ◌<◌, ◌+◌, ◌-◌, ◌^◌, ◌++◌, ℕ, Bool, true, false, List, [], ◌∷◌, length, map, Option, Some, None, is_some, Result, Ok, Err, IsTrue, Contains}
+use Rattle.std.specs.Prelude.{◌≡◌, ◌⊎◌, ◌<◌, ◌≤◌, ◌+◌, ◌-◌, ◌^◌, ◌++◌, ℕ, Bool, true, false, List, [], ◌∷◌, length, map, Option, Some, None, is_some, Result, Ok, Err, IsTrue, Contains}
 use Rattle.retro_base.specs.declared.device.Device.{Device}
 use Rattle.retro_base.specs.declared.limits.TheConstants.{EDITED_PAGES, JOURNAL_LINES, WORKER_LINES}
 use Rattle.retro_base.specs.declared.refusal.Refusal.{Refusal}
@@ -14,7 +14,7 @@ use Rattle.history.specs.declared.journal.What.{What}
 use Rattle.history.specs.declared.journal.What.TheVariants.{Began, Done, Overlapped, RolledBack, Looked, LookedAll, Unlooked, Dropped, Refused, Fault}
 use Rattle.history.specs.declared.writes.PageImage.{PageImage}
 use Rattle.history.specs.History.{with_write, written}
-use Rattle.history.specs.Lines.{base_of, first_stop}
+use Rattle.history.specs.Lines.{base_of, first_stop, images_in}
 use Rattle.history.specs.Writes.{is_among, pages_of, rises}
 use Rattle.journal_law.specs.Facts.{AreOthers}
 use Rattle.journal_law.specs.Lawful.{DropRefused, Ground, IsCommitRefused, IsOverlapBy, MayDrop, at_drop}
@@ -103,6 +103,28 @@ at_look view look = page_world view.opened.pages look.since
 -- the fault's count is above the device's at the opening
 abbrev pub IsNew : View → Device → ℕ → Type 0
 IsNew view device count = count < 2 ^ 64 - 1 → view.opened.faults device < count
+
+-- ---- room
+
+-- What a call that needs so many lines tells where these leave it no room: how many they are, with those that are kept
+-- for what seats have open, at most one each, and its own; and how many page images they have.
+pub record NeedsLines (seats : ℕ) (front : List Line) (more lines images : ℕ) : Type 0 where
+  pub kept : ℕ
+  pub one_each : kept ≤ seats
+  pub sum : lines ≡ length front + kept + more
+  pub images_are : images ≡ images_in front
+
+-- a call that is refused for room tells what it needs behind what the seat has seen
+abbrev pub TellsNeed : {T : Type 0} → ℕ → ℕ → View → Result T Refusal → Type 0
+TellsNeed seats more new (Err (refusal.JournalFull lines images)) = NeedsLines seats new.front more lines images
+TellsNeed seats more new result = Unit {0}
+
+-- a drop, what it needed at some place on the way there
+abbrev pub TellsDropNeed : ℕ → View → View → Result (Unit {0}) Refusal → Type 0
+TellsDropNeed seats old new (Err (refusal.JournalFull lines images)) =
+    (others : List Line) × (later : List Line) × (new.front ≡ (old.front ++ others) ++ later)
+    × NeedsLines seats (old.front ++ others) 1 lines images
+TellsDropNeed seats old new result = Unit {0}
 
 -- ---- begin
 
@@ -267,7 +289,7 @@ abbrev pub LookGives : Who → ℕ → View → View → Result (Unit {0}) Refus
 LookGives who n old new (Ok u) =
     (since : List Line) × Adds old new who (Looked n) (Looking (record { who = who; since = since; snapshot = Some n }))
     × (new.front ≡ since ++ one who (Looked n))
-    × ((held : Pages) × (as_of n (page_world old.opened.pages since) ≡ Ok held))
+    × ((held : Pages) × (as_of n (page_world old.opened.pages since) ≡ Ok held)) × (n < 2 ^ 32)
 LookGives who n old new (Err (refusal.JournalFull lines images)) =
     Waits old new old.work × (JOURNAL_LINES - WORKER_LINES < lines)
 LookGives who n old new (Err refusal.OutOfMemory) = Waits old new old.work
@@ -289,6 +311,7 @@ abbrev pub LookAllGives : Who → View → View → Result (List MarkOf) Refusal
 LookAllGives who old new (Ok marks) =
     (since : List Line) × Adds old new who LookedAll (Looking (record { who = who; since = since; snapshot = None }))
     × (new.front ≡ since ++ one who LookedAll) × (names_of marks ≡ names_in (page_world old.opened.pages since))
+    × (rises 1 (map (λ mark. mark.number) marks) ≡ true)
 LookAllGives who old new (Err (refusal.JournalFull lines images)) =
     Waits old new old.work × (JOURNAL_LINES - WORKER_LINES < lines)
 LookAllGives who old new (Err why) = Waits old new old.work × (why ≡ refusal.OutOfMemory)

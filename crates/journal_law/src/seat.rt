@@ -1,11 +1,11 @@
 //! The store as one seat sees it.
 
-ghost use Rattle.std.specs.Prelude.{◌≡◌, ◌<◌, ◌↔◌, true, IfSome, IsTrue};
+ghost use Rattle.std.specs.Prelude.{◌≡◌, ◌<◌, ◌↔◌, ℕ, true, IfSome, IsTrue};
 ghost use Rattle.std.specs.Option.{option_copied};
 ghost use Rattle.history.specs.Label.{is_label};
 ghost use Rattle.journal_law.specs.Seats.{Attempt, BeginGives, CommitGives, DropGives, EditGives, Idle, Look};
 ghost use Rattle.journal_law.specs.Seats.{LookAllGives, LookGives, Looking, MayEnd, Open, PastGives, Pins, ReadGives};
-ghost use Rattle.journal_law.specs.Seats.{RollbackGives, UnlookGives, is_looking, is_open};
+ghost use Rattle.journal_law.specs.Seats.{RollbackGives, TellsDropNeed, TellsNeed, UnlookGives, is_looking, is_open};
 
 use history::Mark;
 use retro_base::{Device, Page, Refusal, Who};
@@ -47,6 +47,9 @@ pub trait Seat {
 
     ghost honest_stays: { (s t : Self) → goes s t → is_honest s ↔ is_honest t };
 
+    // How many seats the store has.
+    ghost seats: { Self → ℕ };
+
     /// How many pages the store has.
     fn pages(&self) -> u32
         ensures { result ≡ (view self.now).opened.base.page_count };
@@ -56,6 +59,7 @@ pub trait Seat {
         requires idle { (view self.old).work ≡ Idle }
         requires own { who.session ≡ (view self.old).session }
         ensures gives { BeginGives who (view self.old) (view self.new) result }
+        ensures need { TellsNeed (seats self.new) 2 (view self.new) result }
         ensures goes { goes self.old self.new };
 
     /// Reads a page as at the attempt's beginning, with its own edits.
@@ -95,6 +99,7 @@ pub trait Seat {
         requires idle { (view self.old).work ≡ Idle }
         requires own { who.session ≡ (view self.old).session }
         ensures gives { LookGives who snapshot (view self.old) (view self.new) result }
+        ensures need { TellsNeed (seats self.new) 2 (view self.new) result }
         ensures goes { goes self.old self.new };
 
     /// Begins a look at all retained snapshots, and gives them in rising number.
@@ -102,6 +107,7 @@ pub trait Seat {
         requires idle { (view self.old).work ≡ Idle }
         requires own { who.session ≡ (view self.old).session }
         ensures gives { LookAllGives who (view self.old) (view self.new) result }
+        ensures need { TellsNeed (seats self.new) 2 (view self.new) result }
         ensures goes { goes self.old self.new };
 
     /// Reads a page as of a snapshot that the look pins.
@@ -126,5 +132,6 @@ pub trait Seat {
         requires idle { (view self.old).work ≡ Idle }
         requires own { who.session ≡ (view self.old).session }
         ensures gives { DropGives who below (view self.old) (view self.new) result }
+        ensures need { TellsDropNeed (seats self.new) (view self.old) (view self.new) result }
         ensures goes { goes self.old self.new };
 }

@@ -1,5 +1,5 @@
 -- What drops keep and give.
-use Rattle.std.proofs.Common.{◌≡◌, ◌∙◌, ◌⊎◌, ◌+◌, ◌<◌, ◌≤◌, ◌==◌, ◌||◌, ◌++◌, ℕ, zero, suc, Bool, true, false, cond, leb, ltb, List, [], ◌∷◌, refl, sym, ap, subst, inl, inr, arith}
+use Rattle.std.proofs.Common.{◌≡◌, ◌∙◌, ◌⊎◌, ◌+◌, ◌<◌, ◌≤◌, ◌==◌, ◌||◌, ◌++◌, ℕ, zero, suc, Bool, true, false, cond, leb, ltb, List, [], ◌∷◌, refl, sym, ap, subst, inl, inr, arith, append-nil}
 use Rattle.std.specs.Prelude.{Option, Some, None, Ok, Err}
 use Rattle.std.specs.List.{AllByRecursion}
 use Rattle.std.specs.Option.{option_to_list}
@@ -15,12 +15,12 @@ use Rattle.history.specs.declared.journal.Line.{Line}
 use Rattle.history.specs.declared.journal.What.TheVariants.{Dropped, Refused}
 use Rattle.history.specs.History.{base_after, bases_after}
 use Rattle.history.specs.Journal.{change_of}
-use Rattle.history.specs.Lines.{first_stop}
+use Rattle.history.specs.Lines.{first_stop, images_in}
 use Rattle.history.specs.Marks as base
 use Rattle.history.specs.Right.{IsBase}
 use Rattle.history.specs.Sound.{Pin}
 use Rattle.history.proofs.BaseStays.{stays_right}
-use Rattle.journal_book.specs.Book.{Book}
+use Rattle.journal_book.specs.Book.{Book, SESSION_LINES, lines_needed, lines_refused}
 use Rattle.journal_law.specs.Lawful.{DropRefused, MayDrop, at_drop}
 use Rattle.journal_law.specs.Own.{line}
 use Rattle.journal_law.specs.Pages.{Pages, page_world, pins_of}
@@ -28,7 +28,7 @@ use Rattle.journal_law.specs.Seats as seat
 use Rattle.journal_law.specs.World.{Mark, kept, newest, newest_behind, oldest_of}
 use Rattle.plain_store.specs.Numbers.{no_snapshot}
 use Rattle.plain_store.specs.Page.{IsWithin, page_at}
-use Rattle.plain_store.specs.Plain.{AreNumbered, IsPlain, Plain, WorkFits, ground_of, view_of, work_in, world_of, zeros}
+use Rattle.plain_store.specs.Plain.{AreNumbered, IsPlain, Plain, WorkFits, closing_lines, ground_of, view_of, work_in, world_of, zeros}
 use Rattle.plain_store.specs.declared.work.Work.TheVariants as work
 use Rattle.plain_store.proofs.Gives.{adds_here, idle_is}
 use Rattle.plain_store.proofs.Snapshots.{same_newest, same_oldest}
@@ -106,6 +106,23 @@ numbered_not number marks why e = by_test (number == 0) (ltb (base.newest marks)
     by_test true above f g h = (cc, inl (eqb-true number 0 f))
     by_test false true f g h = (cc, inr (ltb-true _ _ g))
     by_test false false f g h = cc
+
+-- a drop that finds no room tells what it needs
+pub drop_tells : (p : Plain) (why : Refusal) → IsPlain p → (view_of p).work ≡ seat.Idle → lines_refused p.book 1 ≡ Some why → seat.TellsDropNeed 1 (view_of p) (view_of p) (Err why)
+drop_tells p why is idle e = by_test (ltb SESSION_LINES (lines_needed p.book 1)) e
+  where
+    none_kept : p.book.kept ≡ 0
+    none_kept = is.kept ∙ ap closing_lines (idle_is _ _ p.work idle)
+
+    needs : seat.NeedsLines 1 p.book.lines 1 (lines_needed p.book 1) (images_in p.book.lines)
+    needs = record { kept = p.book.kept; one_each = omega (arith, none_kept); sum = refl; images_are = refl }
+
+    by_test : (full : Bool) → cond full (Some (refusal.JournalFull (lines_needed p.book 1) (images_in p.book.lines))) None ≡ Some why → seat.TellsDropNeed 1 (view_of p) (view_of p) (Err why)
+    by_test true h =
+        let same : refusal.JournalFull (lines_needed p.book 1) (images_in p.book.lines) ≡ why = cc in
+        subst (λ (w : Refusal). seat.TellsDropNeed 1 (view_of p) (view_of p) (Err w)) same
+        ([], [], sym (append-nil (p.book.lines ++ []) ∙ append-nil p.book.lines), subst (λ (ls : List Line). seat.NeedsLines 1 ls 1 (lines_needed p.book 1) (images_in p.book.lines)) (sym (append-nil p.book.lines)) needs)
+    by_test false h = cc
 
 idle_pins : (p : Plain) → IsPlain p → p.work ≡ work.Idle → pins_of zeros p.book.lines ≡ []
 idle_pins p is idle = subst (WorkFits p.session p.base.page_count p.book.lines (pins_of zeros p.book.lines)) idle is.work

@@ -1,7 +1,8 @@
 -- What looks give.
-use Rattle.std.proofs.Common.{◌≡◌, ◌∙◌, ◌+◌, ◌<◌, ◌==◌, ◌||◌, ◌++◌, ℕ, Bool, true, false, cond, ltb, List, [], ◌∷◌, length, refl, sym, ap, subst, arith, append-nil}
+use Rattle.std.proofs.Common.{◌≡◌, ◌∙◌, ◌+◌, ◌<◌, ◌≤◌, ◌==◌, ◌||◌, ◌++◌, ℕ, Bool, true, false, cond, ltb, List, [], ◌∷◌, length, map, refl, sym, ap, subst, arith, append-nil}
 use Rattle.std.specs.Prelude.{Option, Some, None, Ok, Err}
 use Rattle.std.specs.Option.{option_or}
+use Rattle.std.proofs.lemmas.Bool.{ltb-false}
 use Rattle.retro_base.specs.declared.refusal.Refusal.{Refusal}
 use Rattle.retro_base.specs.declared.refusal.Refusal.TheVariants as refusal
 use Rattle.retro_base.specs.declared.who.Who.{Who}
@@ -9,11 +10,13 @@ use Rattle.history.specs.declared.entry.Mark.{Mark as MarkOf}
 use Rattle.history.specs.declared.journal.Line.{Line}
 use Rattle.history.specs.declared.journal.What.TheVariants.{Looked, LookedAll, Refused}
 use Rattle.history.specs.Marks as base
+use Rattle.history.specs.Writes.{rises}
 use Rattle.journal_book.specs.Book.{Book}
 use Rattle.journal_law.specs.Own.{line}
 use Rattle.journal_law.specs.Pages.{Pages, page_world, pins_of}
 use Rattle.journal_law.specs.Seats as seat
 use Rattle.journal_law.specs.World.{Mark, as_of}
+use Rattle.journal_law.proofs.Marks.{numbers_rise}
 use Rattle.plain_store.specs.Numbers.{look_refused}
 use Rattle.plain_store.specs.Page.{bytes_at, page_at}
 use Rattle.plain_store.specs.Plain.{IsPlain, Plain, WorkFits, ground_of, looked_by, view_of, without_last, work_in, world_of, zeros}
@@ -63,6 +66,17 @@ pub looked_keeps : (p : Plain) (who : Who) (snapshot : ℕ) (book : Book) → Is
 looked_keeps p who snapshot book is idle mine b =
     subst (λ (k : Book). IsPlain (record { session = p.session; base = p.base; book = k; pages = p.pages; work = work.Looking (record { who = who; snapshot = Some snapshot }) })) (sym b) (looked p who snapshot is (idle_is _ _ p.work idle) mine)
 
+-- a number that is not refused is not above the newest
+within : (snapshot : ℕ) (marks : List MarkOf) → look_refused snapshot marks ≡ None → snapshot ≤ base.newest marks
+within snapshot marks e = by_test (snapshot == 0) (ltb (base.newest marks) snapshot) refl e
+  where
+    by_test : (none above : Bool) → ltb (base.newest marks) snapshot ≡ above
+        → option_or (cond (none || above) (Some (refusal.NoSuchSnapshot snapshot (base.newest marks))) None) (cond (ltb snapshot (base.oldest marks)) (Some (refusal.Dropped snapshot (base.oldest marks))) None) ≡ None
+        → snapshot ≤ base.newest marks
+    by_test true above a h = cc
+    by_test false true a h = cc
+    by_test false false a h = ltb-false _ _ a
+
 pub look_gives : (p q : Plain) (who : Who) (snapshot : ℕ) → IsPlain p → q.session ≡ p.session → ground_of q ≡ ground_of p → q.book.lines ≡ p.book.lines ++ line who (Looked snapshot) ∷ []
     → q.work ≡ work.Looking (record { who = who; snapshot = Some snapshot }) → look_refused snapshot p.base.marks ≡ None → seat.LookGives who snapshot (view_of p) (view_of q) (Ok tt)
 look_gives p q who snapshot is session ground lines w free =
@@ -72,6 +86,7 @@ look_gives p q who snapshot is session ground lines w free =
           (ap (work_in q.base.page_count q.book.lines) w ∙ ap (λ (ls : List Line). seat.Looking (record { who = who; since = ls; snapshot = Some snapshot })) since),
       lines,
       look_is_held (world_of p) p.base.marks is.names is.numbered snapshot free,
+      omega (arith, within snapshot p.base.marks free, is.right.limits.newest),
     )
 
 pub looked_all_keeps : (p : Plain) (who : Who) (book : Book) → IsPlain p → (view_of p).work ≡ seat.Idle → who.session ≡ p.session → book ≡ record p.book { lines = p.book.lines ++ line who LookedAll ∷ []; kept = p.book.kept + 1 }
@@ -88,6 +103,7 @@ look_all_gives p q who marks is session ground lines w same =
           (ap (work_in q.base.page_count q.book.lines) w ∙ ap (λ (ls : List Line). seat.Looking (record { who = who; since = ls; snapshot = None })) since),
       lines,
       ap seat.names_of same ∙ sym is.names,
+      ap (λ (ms : List MarkOf). rises 1 (map (λ (mark : MarkOf). mark.number) ms)) same ∙ numbers_rise p.base.captures 0 0 p.base.marks is.right.marks 1 (omega arith),
     )
 
 looked_by_quiet : (o : Option ℕ) → IsQuiet (looked_by o)

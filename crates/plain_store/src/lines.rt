@@ -17,7 +17,7 @@ pub fn open_line(book: &mut Book, line: Line) -> Result<(), Refusal>
     requires { writes_of line.what ≡ [] }
     ensures done { OnOk result (book.new ≡ record book.old
         { lines = book.old.lines ++ line ∷ []; kept = book.old.kept + 1 }) }
-    ensures refused { IfErr result IsNoRoom }
+    ensures refused { IfErr result (IsNoRoom book.old 2) }
     ensures stays { OnErr result (book.new ≡ book.old) }
 {
     if let Some(why) = book.lines_refused(2) {
@@ -33,7 +33,7 @@ pub fn open_line(book: &mut Book, line: Line) -> Result<(), Refusal>
 pub fn add_line(book: &mut Book, line: Line) -> Result<(), Refusal>
     requires { writes_of line.what ≡ [] }
     ensures done { OnOk result (book.new ≡ record book.old { lines = book.old.lines ++ line ∷ [] }) }
-    ensures refused { IfErr result IsNoRoom }
+    ensures refused { IfErr result (IsNoRoom book.old 1) }
     ensures stays { OnErr result (book.new ≡ book.old) }
 {
     if let Some(why) = book.lines_refused(1) {

@@ -20,6 +20,8 @@ impl Seat for PlainStore {
 
     ghost goes = { GoesOn };
 
+    ghost seats = { λ store. 1 };
+
     ghost stays = { stays };
 
     ghost goes_on = { goes_on };

@@ -169,7 +169,3 @@ asked_past query snapshot now_at honest still old before after first last told_l
 
     told_now : IsTold (record { view = after; refused = told_last })
     told_now = subst (λ (r : Option Refusal). IsTold (record { view = after; refused = r })) (sym told_same) (goes.reasons (λ why e. absurd (nothing why (sym begun ∙ e))))
-
-pub at_snapshot : (query : Select) (one other : ℕ) (honest : Type 0) (old new : View) (text : Result (List ℕ) Refusal) → one ≡ other → Concludes (AsksPast query one honest old) new text
-    → Concludes (AsksPast query other honest old) new text
-at_snapshot query one other honest old new text same concludes = subst (λ (n : ℕ). Concludes (AsksPast query n honest old) new text) same concludes

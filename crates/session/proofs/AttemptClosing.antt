@@ -34,7 +34,7 @@ use Rattle.session.proofs.Adding.{added_line, none_mine}
 
 -- a rollback that is asked for so, where this refusal is kept if it may be, adds the line of this refusal
 pub closes_so : (why : Refusal) (kept : Option Refusal) → kept ≡ keeps why None → closing kept (ending_of why) ≡ line_of why
-closes_so (refusal.Overlap session item) kept is = ap (λ (k : Option Refusal). closing k (ending.Refused refusal.OutOfMemory)) is
+closes_so (refusal.Overlap session item) kept is = ap (λ (k : Option Refusal). closing k ending.Asked) is
 closes_so (refusal.DiskFault device count) kept is = ap (λ (k : Option Refusal). closing k (ending.Refused (refusal.DiskFault device count))) is
 closes_so (refusal.TooManyPages needed) kept is = ap (λ (k : Option Refusal). closing k (ending.Refused (refusal.TooManyPages needed))) is
 closes_so why kept is = ap (λ (k : Option Refusal). closing k (ending.Refused why)) is

@@ -46,11 +46,6 @@ module _ {X : Type 0} (key : X → ℕ) (n : ℕ) where
   found (x ∷ xs) place inside at =
       list_any_at (λ (y : X). key y == n) (x ∷ xs) place x inside (equal_is (key (get_or (x ∷ xs) place x)) n (at x))
 
-  pub search_tells : (xs : List X) (r : Result ℕ ℕ) → IsSearchInRange r (length xs)
-      → IsBinarySearchResult (λ (y : X). nat_cmp (key y) n) xs r → is_ok r ≡ true → has xs ≡ true
-  search_tells xs (Ok place) inside is e = found xs place inside is
-  search_tells xs (Err place) inside is e = cc
-
   pub search_is : (xs : List X) (r : Result ℕ ℕ) → IsSearchInRange r (length xs)
       → IsBinarySearchResult (λ (y : X). nat_cmp (key y) n) xs r → IsSortedByKey key nat_cmp xs → is_ok r ≡ has xs
   search_is xs (Ok place) inside is sorted = sym (found xs place inside is)

@@ -27,6 +27,7 @@ pub mod Overlaps
 pub mod PastAnswers
 pub mod ResultTables
 pub mod Retained
+pub mod Rising
 pub mod Running
 pub mod Settling
 pub mod Transacted

@@ -31,7 +31,7 @@ line_of why = Refused why
 
 -- what a rollback is asked for so that the attempt ends so: an overlap is kept, and goes before what is asked
 abbrev pub ending_of : Refusal → Ending
-ending_of (refusal.Overlap session item) = ending.Refused refusal.OutOfMemory
+ending_of (refusal.Overlap session item) = ending.Asked
 ending_of why = ending.Refused why
 
 -- an attempt that ends so is the last one of its item

@@ -1,10 +1,9 @@
 -- Calls over many snapshots, as a session runs them.
-use Rattle.std.specs.Prelude.{◌≡◌, ◌&&◌, ◌==◌, ℕ, Bool, not, List, [], codes, length, map, flat_map, Option, Some, None, is_none, option_to_list, Result, Ok, Err, IfOk, nat_le}
+use Rattle.std.specs.Prelude.{◌≡◌, ◌&&◌, ◌==◌, ℕ, Bool, true, not, List, [], codes, length, map, flat_map, Option, Some, None, is_none, option_to_list, Result, Ok, Err, IfOk, nat_le}
 use Rattle.retro_base.specs.Gives.{◌>>=◌}
 use Rattle.std.specs.List.{list_any}
-use Rattle.std.specs.List.Sorted.{IsSortedByKey}
-use Rattle.std.specs.Ordering.{nat_cmp}
 use Rattle.history.specs.Marks.{newest}
+use Rattle.history.specs.Writes.{rises}
 use Rattle.history.specs.declared.entry.Mark.{Mark as MarkOf}
 use Rattle.pager.specs.declared.stop.Stop.{Stop}
 use Rattle.pager.specs.declared.stop.Stop.TheVariants as stop
@@ -43,10 +42,6 @@ item_call names call = record { names = names; task = Call call }
 
 abbrev pub has_number : ℕ → List MarkOf → Bool
 has_number number marks = list_any (λ (mark : MarkOf). mark.number == number) marks
-
--- the numbers of these marks rise
-abbrev pub AreRising : List MarkOf → Type 0
-AreRising marks = IsSortedByKey (λ (mark : MarkOf). mark.number) nat_cmp marks
 
 -- the number is that of a retained snapshot
 abbrev pub is_retained : ℕ → List MarkOf → Bool
@@ -90,6 +85,10 @@ numbers_listed query marks = do
 -- the numbers of all these marks, in order
 abbrev pub marked_numbers : List MarkOf → List ℕ
 marked_numbers marks = map (λ (mark : MarkOf). mark.number) marks
+
+-- they rise from 1
+abbrev pub AreRising : List MarkOf → Type 0
+AreRising marks = rises 1 (marked_numbers marks) ≡ true
 
 -- whichever snapshots there are, the list gives the numbers of all, in their order
 abbrev pub ListsAll : Select → Type 0

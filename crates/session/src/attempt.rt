@@ -92,7 +92,7 @@ fn ending_of(why: Refusal) -> Ending
     ensures { result ≡ ending_of why }
 {
     match why {
-        Refusal::Overlap { .. } => Ending::Refused(Refusal::OutOfMemory),
+        Refusal::Overlap { .. } => Ending::Asked,
         _ => Ending::Refused(why),
     }
 }

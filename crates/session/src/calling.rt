@@ -6,7 +6,7 @@ ghost use Rattle.retro_base.specs.Gives.{Gives};
 ghost use Rattle.sql_tree.specs.Statement.{IsSelect};
 ghost use Rattle.seat_pager.specs.Past.{pins};
 ghost use Rattle.journal_law.specs.Seats.{Idle, Moves, View, is_looking};
-ghost use Rattle.session.specs.Calls.{CallEnds, CallLeaves, CallsOver, Combines, CombinesNone, LeavesTable};
+ghost use Rattle.session.specs.Calls.{AreRising, CallEnds, CallLeaves, CallsOver, Combines, CombinesNone, LeavesTable};
 ghost use Rattle.session.specs.Calls.{LooksAtMarks, ended, is_retained, item_call, numbers_listed};
 ghost use Rattle.session.specs.Ending.{Concludes};
 ghost use Rattle.session.specs.Singles.{Settles};
@@ -95,6 +95,7 @@ fn combine_none<F: Folds>(
 
 // The numbers that a list of snapshots gives, all of which are among these marks. The plain list needs no query.
 fn numbers_listed(alloc: Global, query: &Select, marks: &[Mark]) -> Result<Vec<u32>, Refusal>
+    requires rising { AreRising marks.now }
     ensures numbers { Gives (λ numbers. numbers.items) result (numbers_listed query.now marks.now) }
     ensures retained { IfOk result
         (λ numbers. AllByRecursion (λ number. is_retained number marks.now ≡ true) numbers.items) }
@@ -116,6 +117,7 @@ fn call_over<S: Seat, F: Folds>(
 ) -> (S, Result<Answer, Refusal>)
     requires looking_now { is_looking (S.view seat).work ≡ true }
     requires all { LooksAtMarks (S.view seat) marks.now }
+    requires rising { AreRising marks.now }
     requires query { IsSelect call.now.query }
     ensures moves { Moves (S.view seat) (S.view result.0) [] }
     ensures work { (S.view result.0).work ≡ (S.view seat).work }
@@ -178,6 +180,7 @@ fn call_up<S: Seat, F: Folds>(
 ) -> (S, Told, Option<ResultTable>)
     requires looking_now { is_looking (S.view seat).work ≡ true }
     requires all { LooksAtMarks (S.view seat) marks.now }
+    requires rising { AreRising marks.now }
     requires query { IsSelect call.now.query }
     ensures ends { CallLeaves names.now call.now (S.is_honest seat) (S.view seat) (S.view result.0) result.1 result.2 }
     ensures goes { S.goes seat result.0 }

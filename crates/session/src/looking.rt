@@ -1,6 +1,6 @@
 //! Queries as of a snapshot.
 
-ghost use Rattle.std.specs.Prelude.{◌≡◌, [], true, IfOk};
+ghost use Rattle.std.specs.Prelude.{◌≡◌, ◌<◌, ◌^◌, [], true, IfOk};
 ghost use Rattle.retro_base.specs.Gives.{Gives};
 ghost use Rattle.journal_law.specs.Seats.{Idle, Look, Looking, Moves, Pins, is_looking};
 ghost use Rattle.session.specs.Ending.{Concludes, LookEnds};
@@ -88,23 +88,18 @@ fn ask_past<S: Seat>(
     (pager.into_seat(), text)
 }
 
-// Ends an open look at the snapshot with the answer of the query there. No store has a number past the last of a u32; as a
-// seat's contract does not say so, a query of one would be refused for want of memory.
+// Ends an open look at the snapshot with the answer of the query there.
 fn look_up<S: Seat>(alloc: Global, seat: S, names: &[SessionName], query: &AsOf) -> (S, Told)
     requires looking_now { is_looking (S.view seat).work ≡ true }
     requires pinned { (look : Look) → (S.view seat).work ≡ Looking look → Pins (S.view seat) look query.now.snapshot }
+    requires number { query.now.snapshot < 2 ^ 32 }
     ensures ends { LookEnds names.now
         (AsksPast query.now.query query.now.snapshot (S.is_honest seat) (S.view seat))
         (S.view seat) (S.view result.0) result.1 }
     ensures goes { S.goes seat result.0 }
 {
-    match u32::try_from(query.snapshot) {
-        Ok(snapshot) => {
-            let (seat, text) = ask_past(alloc, seat, snapshot, &query.query);
-            finish(alloc, seat, names, text)
-        }
-        Err(_) => finish(alloc, seat, names, Err(Refusal::OutOfMemory)),
-    }
+    let (seat, text) = ask_past(alloc, seat, query.snapshot as u32, &query.query);
+    finish(alloc, seat, names, text)
 }
 
 /// Runs a query as of a snapshot, and gives its reply. The gate is told when the look has begun.

@@ -1,7 +1,7 @@
 //! The snapshots of a call, by their numbers.
 
-ghost use Rattle.std.specs.Prelude.{◌≡◌, ◌++◌, ◌==◌, ◌&&◌, IfErr, IfOk, OnOk, nat_le, not, option_to_list, true};
-ghost use Rattle.std.specs.List.{AllByRecursion, flat_map, list_all};
+ghost use Rattle.std.specs.Prelude.{◌≡◌, ◌++◌, IfErr, IfOk, OnOk, option_to_list, true};
+ghost use Rattle.std.specs.List.{AllByRecursion, flat_map};
 ghost use Rattle.retro_base.specs.declared.refusal.Refusal.TheVariants.{OutOfMemory};
 ghost use Rattle.session.specs.OverSnapshots.{numbers_of};
 ghost use Rattle.session.specs.Calls.{AreRising, IsNumber, ListsAll, has_number, is_bare, is_retained};
@@ -26,10 +26,10 @@ fn number_in(row: &[Value]) -> Option<u64>
     }
 }
 
-// Whether a snapshot has this number, where the marks stand in rising number, as those of a store do.
+// Whether a snapshot has this number.
 fn has_number(marks: &[Mark], number: u32) -> bool
-    ensures told { result ≡ true → has_number number marks.now ≡ true }
-    ensures exact { AreRising marks.now → result ≡ has_number number marks.now }
+    requires { AreRising marks.now }
+    ensures { result ≡ has_number number marks.now }
 {
     marks
         .binary_search_by_key(&number, |mark| mark.number)
@@ -37,14 +37,15 @@ fn has_number(marks: &[Mark], number: u32) -> bool
 }
 
 fn is_retained(marks: &[Mark], number: u32) -> bool
-    ensures told { result ≡ true → is_retained number marks.now ≡ true }
-    ensures exact { AreRising marks.now → result ≡ is_retained number marks.now }
+    requires { AreRising marks.now }
+    ensures { result ≡ is_retained number marks.now }
 {
     number != 0 && number <= newest(marks) && has_number(marks, number)
 }
 
 // Adds the number that a row holds, if it holds one, which has to be among these marks.
 fn push_number(row: &[Value], marks: &[Mark], numbers: &mut Vec<u32>) -> Result<(), Refusal>
+    requires rising { AreRising marks.now }
     ensures pushed { OnOk result (numbers.new.items ≡ numbers.old.items ++ numbers_of row.now) }
     ensures retained { OnOk result
         (AllByRecursion (λ number. is_retained number marks.now ≡ true) (numbers_of row.now)) }
@@ -67,6 +68,7 @@ fn push_number(row: &[Value], marks: &[Mark], numbers: &mut Vec<u32>) -> Result<
 /// gives another number; as that is not told of its rows, one that did would be refused for want of memory.
 #[tactic(auto, using(crate::proofs::Going::all_append))]
 pub fn numbers_in(alloc: Global, rows: &[Row], marks: &[Mark]) -> Result<Vec<u32>, Refusal>
+    requires rising { AreRising marks.now }
     ensures numbers { IfOk result (λ numbers. numbers.items ≡ flat_map numbers_of rows.now) }
     ensures retained { IfOk result
         (λ numbers. AllByRecursion (λ number. is_retained number marks.now ≡ true) numbers.items) }
@@ -121,26 +123,14 @@ pub fn lists_all(query: &Select) -> bool
     }
 }
 
-// Whether no number of these marks is 0, and none is above the last.
-fn are_within(marks: &[Mark], last: u32) -> bool
-    ensures { result ≡ list_all (λ mark. not (mark.number == 0) && nat_le mark.number last) marks.now }
-{
-    marks
-        .iter()
-        .all(|mark| mark.number != 0 && mark.number <= last)
-}
-
-/// The numbers of all these marks, in order. Those of a store rise from above 0; as a seat's contract does not say so, others
-/// would be refused for want of memory.
+/// The numbers of all these marks, in order.
 pub fn all_numbers(alloc: Global, marks: &[Mark]) -> Result<Vec<u32>, Refusal>
+    requires rising { AreRising marks.now }
     ensures numbers { IfOk result (λ numbers. numbers.items ≡ marked_numbers marks.now) }
     ensures retained { IfOk result
         (λ numbers. AllByRecursion (λ number. is_retained number marks.now ≡ true) numbers.items) }
     ensures memory { IfErr result (λ why. why ≡ OutOfMemory) }
 {
-    if !are_within(marks, newest(marks)) {
-        return Err(Refusal::OutOfMemory);
-    }
     let numbers = marks.iter().map(|mark| mark.number).collect(alloc)?;
     Ok(numbers)
 }

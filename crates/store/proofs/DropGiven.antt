@@ -1,9 +1,7 @@
 -- What a drop gives.
-use Rattle.std.proofs.Common.{◌≡◌, ◌≤◌, ◌<◌, ◌-◌, ◌⊎◌, ◌||◌, ◌++◌, ◌==◌, ◌∙◌, ℕ, zero, suc, Bool, true, false, cond, List, [], ◌∷◌, length, reverse, Option, Some, None, Result, Ok, Err, refl, sym, ap, subst, inl, inr, ⊎_elim, arith, append-nil, append_assoc}
-use Rattle.std.specs.Prelude.{IfErr, MatchResult, OnOk, is_some, nat_lt, option_map}
+use Rattle.std.proofs.Common.{◌≡◌, ◌≤◌, ◌<◌, ◌-◌, ◌⊎◌, ◌++◌, ◌∙◌, ℕ, Bool, true, false, cond, List, [], ◌∷◌, length, reverse, Option, Some, None, Result, Ok, Err, refl, sym, ap, subst, inl, inr, ⊎_elim, arith, append-nil, append_assoc}
+use Rattle.std.specs.Prelude.{IfErr, MatchResult, OnOk, is_some}
 use Rattle.std.specs.List.{AllByRecursion}
-use Rattle.std.specs.Option.{option_or}
-use Rattle.std.proofs.lemmas.Bool.{eqb-true, ltb-false, ltb-true}
 use Rattle.std.proofs.lemmas.List.{length-append}
 use Rattle.atomic_table.specs.Seated.{TableId}
 use Rattle.disk_model.specs.Disk.{State}
@@ -34,69 +32,40 @@ use Rattle.journal_law.specs.Lawful.{AtDrop, DropRefused, IsLeastPin, IsNone, Ma
 use Rattle.journal_law.specs.Own.{line}
 use Rattle.journal_law.specs.Pages.{Pages, page_world, pins_of}
 use Rattle.journal_law.specs.Seats as seat
-use Rattle.journal_law.specs.Seats.{Adds, DropGives, DropRefusedThere, IsNew, MayDropThere, View, Waits, one}
+use Rattle.journal_law.specs.Seats.{Adds, DropGives, DropRefusedThere, IsNew, MayDropThere, NeedsLines, TellsDropNeed, View, Waits, one}
 use Rattle.journal_law.specs.World.{World, newest}
 use Rattle.records.specs.Entries.{change_bytes}
 use Rattle.desk.specs.Cause.{IsChangeRefusal}
 use Rattle.txn_set.specs.declared.ledger.Ledger.{Ledger}
 use Rattle.txn_set.specs.Ledger.{closed, drop_kept, faulted, given_up, gives_up, is_closed, line_of}
-use Rattle.txn_set.specs.Refused.{drop_refused, no_snapshot, pinned_below, stopped, where_so}
+use Rattle.txn_set.specs.Refused.{drop_refused}
 use Rattle.txn_set.specs.WorksFit.{PinsFit}
 use Rattle.store_core.specs.Drops.{HasEndedDrop, drop_line_refused, drop_refused_by, is_kept_drop}
 use Rattle.store_core.proofs.Cores.{base_is}
-use Rattle.turn.specs.Seats.{IsSame, mine, opening, seen}
+use Rattle.turn.specs.Seats.{mine, opening, seen}
 use Rattle.store.specs.declared.desk_side.DeskSide.{DeskSide}
 use Rattle.store.specs.declared.start.Start.{Start}
 use Rattle.store.specs.RoundCalls.{DropDoes}
-use Rattle.store.specs.Rounds.{DropAnswers, IsNoRoom, Passes, tells_drop}
-use Rattle.store.specs.Seats.{IsReady, Sat, Visited, Visits, Waits as SeatWaits, journal, slots_of}
+use Rattle.store.specs.Rounds.{DropAnswers, IsNoRoom, tells_drop}
+use Rattle.store.specs.Seats.{IsReady, Sat, Visited, Visits, journal, slots_of}
 use Rattle.store.specs.Start.{opened_base}
 use Rattle.store.proofs.Adding.{given_lines, kept_lines}
 use Rattle.store.proofs.Finding.{some_is}
 use Rattle.store.proofs.Leaving.{sound_journal}
 use Rattle.store.proofs.Passing.{new_fault}
-use Rattle.store.proofs.Recalling.{waits_on}
-use Rattle.store.proofs.Reaching.{AnswersSo, DropSo, IsNewSince, RoomRefused, same_on}
+use Rattle.store.proofs.Reaching.{AnswersSo, DropSo, IsNewSince, RoomRefused}
 use Rattle.store.proofs.Redropping.{drop_as}
 use Rattle.journal_law.specs.declared.seat.ToldFault.{ToldFault}
 use Rattle.store.specs.Ground.{ground_of}
-use Rattle.store.specs.Seen.{ground_in, view_of, work_in}
+use Rattle.store.specs.Seen.{ground_in, seats_in, view_of, work_in}
 use Rattle.store.specs.Worlds.{AreNamed}
 use Rattle.store.proofs.Coming.{Came, lines_append, moves, work_so}
+use Rattle.store.proofs.DropKinds.{Kind, Numbers, Pins, Stops, goes_on, kind_of}
 use Rattle.store.proofs.Gives.{full_is, own_names}
 use Rattle.store.proofs.LeastPins.{least_pin_is}
+use Rattle.store.proofs.Needs.{drop_needs}
+use Rattle.store.proofs.SeenMore.{Reached, reached_none, reached_on, reached_passes, reached_quiet}
 use Rattle.store.proofs.Named.{names_same, names_stay, pins_same}
-
--- ---- why a drop is refused
-
--- a refusal of these three, in this order
-data Kind (newest below : ℕ) (pins : Option (ℕ × ℕ)) (stop : Option Stop) (why : Refusal) : Type 0 where
-  Stops : (s : Stop) → stop ≡ Some s → why ≡ stopped s → Kind newest below pins stop why
-  Numbers : stop ≡ None → IsNone below newest → why ≡ refusal.NoSuchSnapshot below newest → Kind newest below pins stop why
-  Pins : stop ≡ None → 1 ≤ below → below ≤ newest → (pin : ℕ × ℕ) → pins ≡ Some pin → pin.0 < below → why ≡ refusal.Pinned pin.0 pin.1 → Kind newest below pins stop why
-
-kind_of : (newest below : ℕ) (pins : Option (ℕ × ℕ)) (stop : Option Stop) (why : Refusal) → option_or (option_map stopped stop) (option_or (no_snapshot below newest) (pinned_below below pins)) ≡ Some why → Kind newest below pins stop why
-kind_of newest below pins (Some s) why e = Stops s refl (sym (some_is (stopped s) why e))
-kind_of newest below pins None why e = numbered (below == 0) refl (nat_lt newest below) refl e where
-  positive : (n : ℕ) → (n == 0) ≡ false → 1 ≤ n
-  positive zero f = absurd (cc f)
-  positive (suc n) f = omega arith
-
-  pinned : 1 ≤ below → below ≤ newest → (ps : Option (ℕ × ℕ)) → pins ≡ ps → pinned_below below ps ≡ Some why → Kind newest below pins None why
-  pinned low high None is f = absurd (cc f)
-  pinned low high (Some pin) is f = at (nat_lt pin.0 below) refl f where
-    at : (test : Bool) → nat_lt pin.0 below ≡ test → where_so test (refusal.Pinned pin.0 pin.1) ≡ Some why → Kind newest below pins None why
-    at true less g = Pins refl low high pin is (ltb-true pin.0 below less) (sym (some_is _ why g))
-    at false less g = absurd (cc g)
-
-  numbered : (zero_there : Bool) → (below == 0) ≡ zero_there → (above : Bool) → nat_lt newest below ≡ above → option_or (where_so (zero_there || above) (refusal.NoSuchSnapshot below newest)) (pinned_below below pins) ≡ Some why → Kind newest below pins None why
-  numbered true z above a f = Numbers refl (inl (eqb-true below 0 z)) (sym (some_is _ why f))
-  numbered false z true a f = Numbers refl (inr (ltb-true newest below a)) (sym (some_is _ why f))
-  numbered false z false a f = pinned (positive below z) (ltb-false newest below a) pins refl f
-
-goes_on : (stop : Option Stop) (rest : Option Refusal) → option_or (option_map stopped stop) rest ≡ None → stop ≡ None
-goes_on None rest e = refl
-goes_on (Some s) rest e = absurd (cc e)
 
 -- the line of a fault stands in any case
 faulted_line : (who : Who) (device : Device) (count : ℕ) (call : FailedCall) (l : Ledger) → (faulted who device count call l).book.lines ≡ l.book.lines ++ line who (Fault device count call) ∷ []
@@ -105,26 +74,7 @@ faulted_line who device count call l = at (is_some (work_at l.works.slots who.se
   at true = refl
   at false = refl
 
--- ---- seats that have seen more
-
--- it is the seat that it was, and has seen more, with no line of its own
-record Reached {D : Type 0} (s0 s1 : Sat D) : Type 0 where
-  same : IsSame s0 s1
-  waits : SeatWaits s0 s1
-
-reached_none : {D : Type 0} (s : Sat D) → Reached s s
-reached_none s = record { same = record { id = refl; number = refl; opening = refl }; waits = record { others = []; front = append-nil (seen s); apart = refl } }
-
-reached_on : {D : Type 0} (s0 s1 s2 : Sat D) → Reached s0 s1 → Reached s1 s2 → Reached s0 s2
-reached_on s0 s1 s2 one two = record { same = same_on s0 s1 s2 one.same two.same; waits = waits_on s0 s1 s2 one.same.number one.waits two.waits }
-
-reached_passes : {D : Type 0} (z : TableId) (s0 s1 : Sat D) → Passes z s0 s1 → Reached s0 s1
-reached_passes z s0 s1 p = record { same = p.stays.same; waits = p.waits }
-
 module _ {D : Type 0} (is_honest : D → Type 0) (state : D → State) (faults : D → ℕ) (z : TableId) where
-  reached_quiet : (s0 s1 : Sat D) (d0 d1 : DeskSide D) → Visited is_honest state faults z s0 s1 d0 d1 → journal d1 ≡ journal d0 → Reached s0 s1
-  reached_quiet s0 s1 d0 d1 v quiet = record { same = v.same; waits = record { others = v.others; front = v.place ∙ (sym quiet ∙ sym v.seen); apart = v.apart } }
-
   -- ---- one visit to the desk
 
   module _ (remembers : Type 0) (clock : D → Clock) (who : Who) (below : ℕ) (m s1 : Sat D) (d0 d1 : DeskSide D) (v : Visited is_honest state faults z m s1 d0 d1) where
@@ -138,7 +88,7 @@ module _ {D : Type 0} (is_honest : D → Type 0) (state : D → State) (faults :
     abbrev Left : Result (Unit {0}) Refusal → Type 0
     Left (Ok u) = Told (Dropped below) × (drop_refused_by Newest below d0.core.ledger ≡ None)
     Left (Err (refusal.DiskFault d c)) = Told (Fault d c (Append (Drop below))) × (drop_refused_by Newest below d0.core.ledger ≡ None) × IsNewSince is_honest state faults z d c s1
-    Left (Err (refusal.JournalFull lines images)) = (journal d1 ≡ journal d0) × (JOURNAL_LINES - WORKER_LINES < lines)
+    Left (Err (refusal.JournalFull lines images)) = (journal d1 ≡ journal d0) × (JOURNAL_LINES - WORKER_LINES < lines) × NeedsLines (seats_in (opening s1)) (journal d0) 1 lines images
     Left (Err refusal.OutOfMemory) = journal d1 ≡ journal d0
     Left (Err (refusal.NoRoom needed free)) = journal d1 ≡ journal d0
     Left (Err why) = Told (Refused why) × (drop_refused_by Newest below d0.core.ledger ≡ Some why)
@@ -211,7 +161,7 @@ module _ {D : Type 0} (is_honest : D → Type 0) (state : D → State) (faults :
         at (Some why) full =
             let f = does.dropped.full why full in
             let w = full_is (given_up who d0.core.ledger).book _ why full in
-            subst Left (sym (f.0 ∙ ap Err w.2)) (given_line f.1, w.3)
+            subst Left (sym (f.0 ∙ ap Err w.2)) (given_line f.1, w.3, drop_needs is_honest state faults z m s1 d0 d1 v who w.0 w.1 (full ∙ ap Some w.2))
 
   -- ---- what the seat has seen by then
 
@@ -378,7 +328,7 @@ module _ {D : Type 0} (is_honest : D → Type 0) (state : D → State) (faults :
     -- a visit that found no room left nothing
     first_reached : (s0 s1 : Sat D) (first : Result (Unit {0}) Refusal) → IsNoRoom first → Visit first s0 s1 → Reached s0 s1
     first_reached s0 s1 (Ok u) room v = absurd room
-    first_reached s0 s1 (Err (refusal.NoRoom needed free)) room v = reached_quiet s0 s1 v.before v.after v.visited (left remembers clock who below s0 s1 v.before v.after v.visited (Err (refusal.NoRoom needed free)) v.does)
+    first_reached s0 s1 (Err (refusal.NoRoom needed free)) room v = reached_quiet is_honest state faults z s0 s1 v.before v.after v.visited (left remembers clock who below s0 s1 v.before v.after v.visited (Err (refusal.NoRoom needed free)) v.does)
     first_reached s0 s1 (Err _) room v = absurd room
 
     module _ (s0 s1 : Sat D) (asked : Option ℕ) (told : List ToldFault) (quiet : told ≡ []) (none : (mine s1).work ≡ None) where
@@ -415,20 +365,52 @@ module _ {D : Type 0} (is_honest : D → Type 0) (state : D → State) (faults :
         again (inr (why, e, refused)) = subst Gives (sym e) (at why (subst (λ (x : Result (Unit {0}) Refusal). tells_drop x ≡ true) e tells) refused)
 
     -- what is known where no line tells it
-    abbrev Untold : Result (Unit {0}) Refusal → Type 0
-    Untold (Err (refusal.JournalFull lines images)) = JOURNAL_LINES - WORKER_LINES < lines
-    Untold (Err refusal.OutOfMemory) = Unit {0}
-    Untold r = ⊥
+    abbrev Untold : Sat D → Sat D → Result (Unit {0}) Refusal → Type 0
+    Untold s0 s1 (Err (refusal.JournalFull lines images)) =
+        (JOURNAL_LINES - WORKER_LINES < lines)
+        × ((others : List Line) × (later : List Line) × (seen s1 ≡ (seen s0 ++ others) ++ later) × NeedsLines (seats_in (opening s1)) (seen s0 ++ others) 1 lines images)
+    Untold s0 s1 (Err refusal.OutOfMemory) = Unit {0}
+    Untold s0 s1 r = ⊥
+
+    -- between seats that have seen more
+    untold_within : (s0 m n s1 : Sat D) (r : Result (Unit {0}) Refusal) → Reached s0 m → Reached n s1 → Untold m n r → Untold s0 s1 r
+    untold_within s0 m n s1 (Err (refusal.JournalFull lines images)) before after u =
+        let w = before.waits in
+        let from : seen m ++ u.1.0 ≡ seen s0 ++ (w.others ++ u.1.0) = ap (λ (l : List Line). l ++ u.1.0) (sym w.front) ∙ append_assoc (seen s0) w.others u.1.0 in
+        let whole : seen s1 ≡ (seen m ++ u.1.0) ++ (u.1.1 ++ after.waits.others) = sym after.waits.front ∙ (ap (λ (l : List Line). l ++ after.waits.others) u.1.2 ∙ append_assoc (seen m ++ u.1.0) u.1.1 after.waits.others) in (
+          u.0,
+          (
+            w.others ++ u.1.0,
+            u.1.1 ++ after.waits.others,
+            whole ∙ ap (λ (l : List Line). l ++ (u.1.1 ++ after.waits.others)) from,
+            subst (λ (l : List Line). NeedsLines (seats_in (opening s1)) l 1 lines images) from (subst (λ (n : ℕ). NeedsLines n (seen m ++ u.1.0) 1 lines images) (ap seats_in (sym after.same.opening)) u.1.3),
+          ),
+        )
+    untold_within s0 m n s1 (Err refusal.OutOfMemory) before after u = tt
+    untold_within s0 m n s1 (Ok x) before after u = absurd u
+    untold_within s0 m n s1 (Err _) before after u = absurd u
 
     -- a visit that no line tells
-    visit_untold : (s0 s1 : Sat D) (r : Result (Unit {0}) Refusal) → tells_drop r ≡ false → (IsNoRoom r → ⊥) → Visit r s0 s1 → Reached s0 s1 × Untold r
+    visit_untold : (s0 s1 : Sat D) (r : Result (Unit {0}) Refusal) → tells_drop r ≡ false → (IsNoRoom r → ⊥) → Visit r s0 s1 → Reached s0 s1 × Untold s0 s1 r
     visit_untold s0 s1 r untold room v = at r untold room (left remembers clock who below s0 s1 v.before v.after v.visited r v.does) refl where
       Here : Result (Unit {0}) Refusal → Type 0
       Here = Left remembers clock who below s0 s1 v.before v.after v.visited
 
-      at : (x : Result (Unit {0}) Refusal) → tells_drop x ≡ false → (IsNoRoom x → ⊥) → Here x → r ≡ x → Reached s0 s1 × Untold x
-      at (Err (refusal.JournalFull lines images)) t n l e = (reached_quiet s0 s1 v.before v.after v.visited l.0, l.1)
-      at (Err refusal.OutOfMemory) t n l e = (reached_quiet s0 s1 v.before v.after v.visited l, tt)
+      at : (x : Result (Unit {0}) Refusal) → tells_drop x ≡ false → (IsNoRoom x → ⊥) → Here x → r ≡ x → Reached s0 s1 × Untold s0 s1 x
+      at (Err (refusal.JournalFull lines images)) t n l e =
+          let w = v.visited in (
+            reached_quiet is_honest state faults z s0 s1 v.before v.after w l.0,
+            (
+              l.1,
+              (
+                w.others,
+                [],
+                w.seen ∙ (l.0 ∙ (sym w.place ∙ sym (append-nil (seen s0 ++ w.others)))),
+                subst (λ (ls : List Line). NeedsLines (seats_in (opening s1)) ls 1 lines images) (sym w.place) l.2,
+              ),
+            ),
+          )
+      at (Err refusal.OutOfMemory) t n l e = (reached_quiet is_honest state faults z s0 s1 v.before v.after v.visited l, tt)
       at (Err (refusal.NoRoom needed free)) t n l e = absurd (n tt)
       at (Ok u) t n l e = absurd (cc t)
       at (Err (refusal.DiskFault d c)) t n l e = absurd (cc t)
@@ -443,48 +425,60 @@ module _ {D : Type 0} (is_honest : D → Type 0) (state : D → State) (faults :
           kinds (Numbers goes none_there e) = other _ refl e
           kinds (Pins goes low high pin there less e) = other _ refl e
 
-    asked_untold : (s0 s1 : Sat D) (r : Result (Unit {0}) Refusal) → tells_drop r ≡ false → Asks r s0 s1 → Reached s0 s1 × Untold r
+    asked_untold : (s0 s1 : Sat D) (r : Result (Unit {0}) Refusal) → tells_drop r ≡ false → Asks r s0 s1 → Reached s0 s1 × Untold s0 s1 r
     asked_untold s0 s1 r untold (inl (v, room)) = visit_untold s0 s1 r untold room v
     asked_untold s0 s1 r untold (inr (first, kept, room, v, answers)) = again answers where
       to_kept : Reached s0 kept
       to_kept = first_reached s0 kept first room v
 
-      at : (why : Refusal) → tells_drop (Err why) ≡ false → RoomRefused is_honest state faults z who why kept s1 → Reached s0 s1 × Untold (Err why)
+      at : (why : Refusal) → tells_drop (Err why) ≡ false → RoomRefused is_honest state faults z who why kept s1 → Reached s0 s1 × Untold s0 s1 (Err why)
       at (refusal.DiskFault d c) t f = absurd (cc t)
       at (refusal.Stopped d c) t f = absurd f
       at refusal.OutOfMemory t f = (reached_on s0 kept s1 to_kept (reached_passes z kept s1 f), tt)
       at _ t f = absurd f
 
-      again : Again r kept s1 → Reached s0 s1 × Untold r
+      again : Again r kept s1 → Reached s0 s1 × Untold s0 s1 r
       again (inl (reaches, none_room)) =
           let u = visit_untold reaches.middle s1 r untold none_room reaches.visits in
-          (reached_on s0 kept s1 to_kept (reached_on kept reaches.middle s1 (reached_passes z kept reaches.middle reaches.passes) u.0), u.1)
-      again (inr (why, e, refused)) = subst (λ (x : Result (Unit {0}) Refusal). Reached s0 s1 × Untold x) (sym e) (at why (subst (λ (x : Result (Unit {0}) Refusal). tells_drop x ≡ false) e untold) refused)
+          let to_middle = reached_on s0 kept reaches.middle to_kept (reached_passes z kept reaches.middle reaches.passes) in
+          (reached_on s0 reaches.middle s1 to_middle u.0, untold_within s0 reaches.middle s1 s1 r to_middle (reached_none s1) u.1)
+      again (inr (why, e, refused)) = subst (λ (x : Result (Unit {0}) Refusal). Reached s0 s1 × Untold s0 s1 x) (sym e) (at why (subst (λ (x : Result (Unit {0}) Refusal). tells_drop x ≡ false) e untold) refused)
 
     module _ (s0 s1 : Sat D) (asked : Option ℕ) (told : List ToldFault) (quiet : told ≡ []) (none_before : (mine s0).work ≡ None) (none : (mine s1).work ≡ None) where
       abbrev Answer : Result (Unit {0}) Refusal → Type 0
       Answer r = DropGives who below (view_of state faults asked told s0) (view_of state faults asked told s1) r
 
-      untold_gives : (r : Result (Unit {0}) Refusal) → Reached s0 s1 → Untold r → Answer r
-      untold_gives (Err (refusal.JournalFull lines images)) reached many = (waits_so s0 s1 asked told quiet none reached none_before, many)
+      untold_gives : (r : Result (Unit {0}) Refusal) → Reached s0 s1 → Untold s0 s1 r → Answer r
+      untold_gives (Err (refusal.JournalFull lines images)) reached many = (waits_so s0 s1 asked told quiet none reached none_before, many.0)
       untold_gives (Err refusal.OutOfMemory) reached x = waits_so s0 s1 asked told quiet none reached none_before
       untold_gives (Ok u) reached x = absurd x
       untold_gives (Err _) reached x = absurd x
 
+      asks : IsReady z s0 → who.session ≡ s0.number → (r : Result (Unit {0}) Refusal) → (answers : DropAnswers is_honest state faults z remembers clock who below r s0 s1) → Asks r s0 answers.asked
+      asks ready own r answers = drop_as is_honest state faults z remembers clock who below r s0 answers.asked ready own (ap is_closed none_before) answers.asks
+
+      -- a drop that no line tells gives up its own
+      gave_up : IsReady z s0 → who.session ≡ s0.number → (r : Result (Unit {0}) Refusal) → DropAnswers is_honest state faults z remembers clock who below r s0 s1 → tells_drop r ≡ false → Reached s0 s1 × Untold s0 s1 r
+      gave_up ready own r answers tells =
+          let u = asked_untold s0 answers.asked r tells (asks ready own r answers) in
+          let v = answers.gives_up tells in
+          let on = reached_quiet is_honest state faults z answers.asked s1 v.before v.after v.visited (without_lines (is_kept_drop (work_at (slots_of v.before) who.session)) v.before v.after v.does.ledger) in
+          (reached_on s0 answers.asked s1 u.0 on, untold_within s0 s0 answers.asked s1 r (reached_none s0) on u.1) where
+            without_lines : (test : Bool) (d0 d1 : DeskSide D) → d1.core.ledger ≡ cond test (gives_up who.session d0.core.ledger) d0.core.ledger → journal d1 ≡ journal d0
+            without_lines true d0 d1 e = ap (λ (l : Ledger). l.book.lines) e
+            without_lines false d0 d1 e = ap (λ (l : Ledger). l.book.lines) e
+
       pub drop_gives : IsReady z s0 → who.session ≡ s0.number → (r : Result (Unit {0}) Refusal) → DropAnswers is_honest state faults z remembers clock who below r s0 s1 → Answer r
       drop_gives ready own r answers = at (tells_drop r) refl where
-        asks : Asks r s0 answers.asked
-        asks = drop_as is_honest state faults z remembers clock who below r s0 answers.asked ready own (ap is_closed none_before) answers.asks
-
         at : (test : Bool) → tells_drop r ≡ test → Answer r
         at true tells =
             let same = answers.told tells in
             subst (λ (s : Sat D). DropGives who below (view_of state faults asked told s0) (view_of state faults asked told s) r) (sym same)
-            (asked_gives s0 answers.asked asked told quiet (subst (λ (s : Sat D). (mine s).work ≡ None) same none) r tells asks)
-        at false tells =
-            let u = asked_untold s0 answers.asked r tells asks in
-            let v = answers.gives_up tells in
-            untold_gives r (reached_on s0 answers.asked s1 u.0 (reached_quiet answers.asked s1 v.before v.after v.visited (without_lines (is_kept_drop (work_at (slots_of v.before) who.session)) v.before v.after v.does.ledger))) u.1 where
-              without_lines : (test : Bool) (d0 d1 : DeskSide D) → d1.core.ledger ≡ cond test (gives_up who.session d0.core.ledger) d0.core.ledger → journal d1 ≡ journal d0
-              without_lines true d0 d1 e = ap (λ (l : Ledger). l.book.lines) e
-              without_lines false d0 d1 e = ap (λ (l : Ledger). l.book.lines) e
+            (asked_gives s0 answers.asked asked told quiet (subst (λ (s : Sat D). (mine s).work ≡ None) same none) r tells (asks ready own r answers))
+        at false tells = let gave = gave_up ready own r answers tells in untold_gives r gave.0 gave.1
+
+      pub drop_tells : IsReady z s0 → who.session ≡ s0.number → (r : Result (Unit {0}) Refusal) → DropAnswers is_honest state faults z remembers clock who below r s0 s1
+          → TellsDropNeed (seats_in (opening s1)) (view_of state faults asked told s0) (view_of state faults asked told s1) r
+      drop_tells ready own (Err (refusal.JournalFull lines images)) answers = (gave_up ready own (Err (refusal.JournalFull lines images)) answers refl).1.1
+      drop_tells ready own (Err _) answers = tt
+      drop_tells ready own (Ok x) answers = tt

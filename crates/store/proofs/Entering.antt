@@ -23,11 +23,11 @@ use Rattle.store_core.proofs.Cores.{base_is}
 use Rattle.turn.specs.declared.view.Holding.{Holding}
 use Rattle.turn.specs.declared.view.Place.{Place}
 use Rattle.turn.specs.declared.view.Place.TheVariants.{Inside}
-use Rattle.turn.specs.Seats.{IsInDesk, IsSame, Rests, held, mine, seen}
+use Rattle.turn.specs.Seats.{IsInDesk, IsSame, Rests, held, mine, opening, seen}
 use Rattle.turn.specs.Views.{behind_desk}
 use Rattle.store.specs.declared.desk_side.DeskSide.{DeskSide}
 use Rattle.store.specs.declared.start.Start.{Start}
-use Rattle.store.specs.Seats.{ArchiveBeside, HasEntered, HasOwn, IsLookingIn, IsOpenIn, IsOwnWork, IsPage, IsVisit, IsWhole, KeptIsTold, MayGiveBack, Sat, Visited, began_of, journal, slots_of}
+use Rattle.store.specs.Seats.{ArchiveBeside, HasEntered, HasOwn, IsLookingIn, IsOneOf, IsOpenIn, IsOwnWork, IsPage, IsVisit, IsWhole, KeptIsTold, MayGiveBack, Sat, Visited, began_of, journal, slots_of}
 use Rattle.store.specs.Sides.{DeskStands, of_desk}
 use Rattle.store.specs.Start.{opened_base}
 
@@ -61,6 +61,10 @@ capacity_after base (Drop below) = refl
 slots_stay : (base : Base) (changes : List Change) → (bases_after base changes).capacity ≡ base.capacity
 slots_stay base [] = refl
 slots_stay base (change ∷ changes) = slots_stay (base_after base change) changes ∙ capacity_after base change
+
+-- the number of a seat that is the same is still one of the store's
+pub one_still : {D : Type 0} (s0 s1 : Sat D) → s1.number ≡ s0.number → opening s1 ≡ opening s0 → IsOneOf (opening s0) s0.number → IsOneOf (opening s1) s1.number
+one_still s0 s1 number same one = λ start e. subst (λ (n : ℕ). n < start.seats.value) (sym number) (one start (sym same ∙ e))
 
 module _ {D : Type 0} (is_honest : D → Type 0) (state : D → State) where
   pub own_work : (side : DeskSide D) (n : ℕ) → DeskStands is_honest state side → IsOwnWork (journal side) n (work_at (slots_of side) n)
@@ -115,7 +119,9 @@ module _ {D : Type 0} (is_honest : D → Type 0) (state : D → State) where
       work = entered.work ∙ ap (work_at (slots_of d0)) (sym own);
       kept = whole.kept;
       told = told;
+      one = subst (λ (n : ℕ). n < d0.start.seats.value) (sym own) (entered.ready.one d0.start entered.opening);
       workers = entered.keeps.workers;
+      of_seats = entered.keeps.of_seats;
       tried = entered.keeps.tried;
     }
 
@@ -134,6 +140,7 @@ module _ {D : Type 0} (is_honest : D → Type 0) (state : D → State) where
           record {
             ready = record {
               rests = rests;
+              one = one_still s0 s2 number (same.opening ∙ entered.same.opening) entered.ready.one;
               lines = ap (λ (h : Holding Work). h.lines) behind ∙ (ap (λ (n : ℕ). lines_of n (journal d1)) own ∙ ap (lines_of s2.number) (sym sees));
               work = subst (λ (w : Option Work). IsOwnWork (seen s2) s2.number w) (sym (ap (λ (h : Holding Work). h.work) behind ∙ ap (work_at (slots_of d1)) own))
                   (subst (λ (l : List Line). IsOwnWork l s2.number (work_at (slots_of d1) s2.number)) (sym sees) (own_work d1 s2.number stands));

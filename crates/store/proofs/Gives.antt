@@ -1,8 +1,8 @@
 -- What the calls give that read no bytes.
-use Rattle.std.proofs.Common.{◌≡◌, ◌<◌, ◌-◌, ◌⊎◌, ◌++◌, ◌==◌, ◌∙◌, ℕ, Bool, true, false, cond, List, [], ◌∷◌, length, map, reverse, take, Option, Some, None, Result, Ok, Err, refl, sym, ap, subst, inl, inr, ⊎_elim, append-nil}
+use Rattle.std.proofs.Common.{◌≡◌, ◌≤◌, ◌<◌, ◌-◌, ◌⊎◌, ◌++◌, ◌==◌, ◌∙◌, ℕ, Bool, true, false, cond, List, [], ◌∷◌, length, map, reverse, take, Option, Some, None, Result, Ok, Err, refl, sym, ap, subst, inl, inr, ⊎_elim, arith, append-nil}
 use Rattle.std.specs.Prelude.{◌||◌, nat_lt}
 use Rattle.std.specs.Option.{option_or}
-use Rattle.std.proofs.lemmas.Bool.{ltb-true}
+use Rattle.std.proofs.lemmas.Bool.{ltb-false, ltb-true}
 use Rattle.atomic_table.specs.Seated.{TableId}
 use Rattle.disk_model.specs.Disk.{State}
 use Rattle.retro_base.specs.declared.limits.TheConstants.{JOURNAL_LINES, WORKER_LINES}
@@ -17,6 +17,8 @@ use Rattle.history.specs.declared.journal.What.TheVariants.{Began, Looked, Looke
 use Rattle.history.specs.Lines.{base_of, images_in}
 use Rattle.history.specs.Marks as marks
 use Rattle.history.specs.Marks.{is_retained}
+use Rattle.history.specs.Right.{IsBase}
+use Rattle.history.specs.Writes.{rises}
 use Rattle.history.specs.Sound.{IsSound}
 use Rattle.history.proofs.Lines.{base_of_one_more}
 use Rattle.history.proofs.SoundLaws.{base_stays_right, looked_at_stays}
@@ -25,6 +27,7 @@ use Rattle.journal_book.specs.declared.work.Transaction.{Transaction}
 use Rattle.journal_book.specs.declared.work.Work.{Work}
 use Rattle.journal_book.specs.declared.work.Work.TheVariants as work
 use Rattle.journal_book.specs.Book.{Book, lines_needed, lines_refused}
+use Rattle.journal_law.proofs.Marks.{numbers_rise}
 use Rattle.journal_law.specs.Own.{line}
 use Rattle.journal_law.specs.Pages.{Pages, page_world}
 use Rattle.journal_law.specs.Seats as seat
@@ -104,7 +107,7 @@ module _ {D : Type 0} (is_honest : D → Type 0) (state : D → State) (faults :
         (there is_honest state faults z s0 s1 d0 d1 ready v who own None _ e (slot_own d0.core.ledger.works.slots who.session None))
 
     module _ (none : (mine s0).work ≡ None) where
-      same_given : given_up who d0.core.ledger ≡ d0.core.ledger
+      pub same_given : given_up who d0.core.ledger ≡ d0.core.ledger
       same_given = given_none who d0.core.ledger (none_there is_honest state faults z s0 s1 d0 d1 ready v who own none)
 
       given_came : d1.core.ledger ≡ given_up who d0.core.ledger → Came s0 s1 v.others [] None
@@ -175,8 +178,11 @@ module _ {D : Type 0} (is_honest : D → Type 0) (state : D → State) (faults :
           (subst (λ (l : List Line). AreNamed (base_of (opened_base d0.start) (journal d0)).marks (page_world (world_of state d0.start.core.value d0.start.archive.value) l).marks) (sym v.place)
           (names_stay (opened_base d0.start) (world_of state d0.start.core.value d0.start.archive.value) (journal d0) (own_names state d0.start.core.value d0.start.archive.value))))
 
+      right_there : IsBase d0.core.desk.base
+      right_there = subst IsBase (sym base_there) (base_stays_right (opened_base d0.start) (journal d0) (sound_journal is_honest state d0 v.stands))
+
       marks_there : marks.AreMarks d0.core.desk.base.captures d0.core.desk.base.marks
-      marks_there = subst (λ (b : Base). marks.AreMarks b.captures b.marks) (sym base_there) (base_stays_right (opened_base d0.start) (journal d0) (sound_journal is_honest state d0 v.stands)).marks
+      marks_there = right_there.marks
 
       opened_there : (start : Start D) → opening s1 ≡ Some start → d0.start ≡ start
       opened_there start e = some_is d0.start start (sym v.opening ∙ (sym v.same.opening ∙ e))
@@ -193,6 +199,7 @@ module _ {D : Type 0} (is_honest : D → Type 0) (state : D → State) (faults :
             adds LookedAll (Some All) None before _ quiet c (ap (λ (l : List Line). seat.Looking (record { who = who; since = l; snapshot = None })) (since_is (one who LookedAll))),
             c.front,
             ap seat.names_of does.marks ∙ (names_same d0.core.desk.base There named).0,
+            ap (λ (ms : List MarkOf). rises 1 (map (λ (mark : MarkOf). mark.number) ms)) does.marks ∙ numbers_rise d0.core.desk.base.captures 0 0 d0.core.desk.base.marks marks_there 1 (omega arith),
           )
 
       all_seated : (marks : List MarkOf) → before ≡ [] → LookAllDoes is_honest state who (Ok marks) d0.core d1.core → IsSeated who None before s1
@@ -235,6 +242,16 @@ module _ {D : Type 0} (is_honest : D → Type 0) (state : D → State) (faults :
             let behind = looked_at_stays (opened_base d0.start) (journal d0) [] (line who (Looked n)) n whole refl tt in
             ap (λ (b : Base). is_retained n b.marks) (base_there ∙ sym (base_of_one_more (opened_base d0.start) (journal d0) (line who (Looked n)))) ∙ behind
 
+        -- a number that is not refused is not above the newest
+        allowed_below : look_refused n (marks.oldest d0.core.desk.base.marks) (marks.newest d0.core.desk.base.marks) ≡ None → n ≤ marks.newest d0.core.desk.base.marks
+        allowed_below e = by_test (n == 0) (nat_lt (marks.newest d0.core.desk.base.marks) n) refl e where
+          by_test : (zero_there above : Bool) → nat_lt (marks.newest d0.core.desk.base.marks) n ≡ above
+              → option_or (where_so (zero_there || above) (refusal.NoSuchSnapshot n (marks.newest d0.core.desk.base.marks))) (where_so (nat_lt n (marks.oldest d0.core.desk.base.marks)) (refusal.Dropped n (marks.oldest d0.core.desk.base.marks))) ≡ None
+              → n ≤ marks.newest d0.core.desk.base.marks
+          by_test true above a s = absurd (cc s)
+          by_test false true a s = absurd (cc s)
+          by_test false false a s = ltb-false (marks.newest d0.core.desk.base.marks) n a
+
         pub look_ok : (start : ℕ) → before ≡ [] → LookDoes is_honest state who n (Ok start) d0.core d1.core → LookGives who n Old (New (Some n) before) (Ok tt)
         look_ok start quiet does =
             let c = opened_came (Looked n) At does.looked.done.1 in (
@@ -242,6 +259,7 @@ module _ {D : Type 0} (is_honest : D → Type 0) (state : D → State) (faults :
               adds (Looked n) (Some At) (Some n) before _ quiet c (ap (λ (l : List Line). seat.Looking (record { who = who; since = l; snapshot = Some n })) (since_is (one who (Looked n)))),
               c.front,
               retained_held d0.core.desk.base There n marks_there named (retained_there (ap (λ (l : Ledger). l.book.lines) (does.looked.done.1 ∙ ap (opened who (Looked n) At) same_given))),
+              let low = allowed_below does.looked.done.0 in let high = right_there.limits.newest in omega (arith, low, high),
             )
 
         look_seated : (start : ℕ) → before ≡ [] → LookDoes is_honest state who n (Ok start) d0.core d1.core → IsSeated who (Some n) before s1

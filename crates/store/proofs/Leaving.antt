@@ -56,6 +56,10 @@ module _ {D : Type 0} (is_honest : D → Type 0) (state : D → State) where
     pub stands_stays : StaysCore is_honest state old.core new.core → AreAsHonest is_honest old.core new.core → DeskStands is_honest state old → DeskStands is_honest state new
     stands_stays stays = stands_moved (λ origin from_. record { plain = from_.plain; is = stays origin.history from_.plain from_.is; floor = from_.floor; in_version = from_.in_version })
 
+    -- seats are as many
+    below : (n : ℕ) → new.start.seats.value ≤ n → old.start.seats.value ≤ n
+    below n = subst (λ (s : Start D). s.seats.value ≤ n) start
+
     -- faults are not fewer than at the opening
     later_on : (faults : D → ℕ) → IsLaterCore faults old.start.core.value old.core → ((d : Device) → desk_counts faults old.core d ≤ desk_counts faults new.core d) → IsLaterCore faults new.start.core.value new.core
     later_on faults later counts = subst (λ (s : Start D). IsLaterCore faults s.core.value new.core) (sym start) (λ d. let a = later d in let b = counts d in omega (arith, a, b))
@@ -73,7 +77,15 @@ module _ {D : Type 0} (is_honest : D → Type 0) (state : D → State) where
         works = λ n ne. adds.works n (λ e. ne (e ∙ sym own.number));
         journal = ⊎_elim (λ same. inl same) (λ one. inr (record { line = one.line; number = one.of ∙ sym own.number; journal = one.is; told = one.may })) adds.lines;
       });
-      fits = (stands, record { workers = adds.workers own.workers; tried = adds.tried own.tried; later = later_on faults later counts });
+      fits = (
+        stands,
+        record {
+          workers = adds.workers own.workers;
+          of_seats = λ n le. let few = below n le in adds.works n (λ e. let one = own.one in absurd (omega (arith, one, few, e))) ∙ own.of_seats n few;
+          tried = adds.tried own.tried;
+          later = later_on faults later counts;
+        },
+      );
       lawful = sound_journal new stands;
       acked = subst (λ (k : ℕ). k ≤ most) (sym acked) le;
     }
@@ -85,7 +97,15 @@ module _ {D : Type 0} (is_honest : D → Type 0) (state : D → State) where
       opening = start;
       counts = counts;
       change = inl (record { journal = ap (λ (l : Ledger). l.book.lines) same; works = λ n. ap (λ (l : Ledger). work_at l.works.slots n) same });
-      fits = (stands, record { workers = subst WorkersFit (sym same) keeps.workers; tried = subst AreTried (sym same) keeps.tried; later = later_on faults keeps.later counts });
+      fits = (
+        stands,
+        record {
+          workers = subst WorkersFit (sym same) keeps.workers;
+          of_seats = λ n le. ap (λ (l : Ledger). work_at l.works.slots n) same ∙ keeps.of_seats n (below n le);
+          tried = subst AreTried (sym same) keeps.tried;
+          later = later_on faults keeps.later counts;
+        },
+      );
       lawful = sound_journal new stands;
       acked = acked;
     }

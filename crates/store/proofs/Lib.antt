@@ -14,6 +14,7 @@ pub mod CopyRounds
 pub mod Copying
 pub mod Crashing
 pub mod DropGiven
+pub mod DropKinds
 pub mod Dropping
 pub mod Edited
 pub mod Entering
@@ -30,6 +31,7 @@ pub mod Looked
 pub mod Meeting
 pub mod Moments
 pub mod Named
+pub mod Needs
 pub mod Opened
 pub mod Overlaps
 pub mod Passing
@@ -44,6 +46,7 @@ pub mod Recovery
 pub mod Redropping
 pub mod Rooming
 pub mod Seating
+pub mod SeenMore
 pub mod Serving
 pub mod Showing
 pub mod Tabling

@@ -8,11 +8,11 @@ use Rattle.history.specs.declared.journal.Line.{Line}
 use Rattle.history.specs.Lines.{lines_of}
 use Rattle.journal_book.specs.declared.work.Work.{Work}
 use Rattle.turn.specs.declared.view.Holding.{Holding}
-use Rattle.turn.specs.Seats.{IsSame, Rests, held, mine, seen}
+use Rattle.turn.specs.Seats.{IsSame, Rests, held, mine, opening, seen}
 use Rattle.store.specs.Seats.{HasEntered, IsOwnWork, IsReady, IsWhole, KeptIsTold, MayGiveBack, Sat, StaysIn, Waits}
 use Rattle.store.specs.declared.desk_side.DeskSide.{DeskSide}
 use Rattle.store.proofs.Calling.{told_more}
-use Rattle.store.proofs.Entering.{apart}
+use Rattle.store.proofs.Entering.{apart, one_still}
 use Rattle.store.proofs.Leaving.{may_leave_quiet}
 use Rattle.store.proofs.Recalling.{lines_append}
 use Rattle.store.proofs.Visiting.{work_goes_on}
@@ -31,9 +31,10 @@ between n old middle whole one two same =
 
 module _ {D : Type 0} (z : TableId) (s0 s1 : Sat D) (ready : IsReady z s0) where
   -- a seat whose holding has the same lines and work, and that has seen more
-  pub ready_on : Rests z s1 → s1.number ≡ s0.number → (mine s1).lines ≡ (mine s0).lines → (mine s1).work ≡ (mine s0).work → IsPrefix (seen s0) (seen s1) → (mine s0).lines ≡ lines_of s0.number (seen s1) → IsReady z s1
-  ready_on rests number lines work front own = record {
+  pub ready_on : Rests z s1 → s1.number ≡ s0.number → opening s1 ≡ opening s0 → (mine s1).lines ≡ (mine s0).lines → (mine s1).work ≡ (mine s0).work → IsPrefix (seen s0) (seen s1) → (mine s0).lines ≡ lines_of s0.number (seen s1) → IsReady z s1
+  ready_on rests number opens lines work front own = record {
     rests = rests;
+    one = one_still s0 s1 number opens ready.one;
     lines = lines ∙ (own ∙ ap (λ (n : ℕ). lines_of n (seen s1)) (sym number));
     work = subst (λ (w : Option Work). IsOwnWork (seen s1) s1.number w) (sym work)
         (subst (λ (n : ℕ). IsOwnWork (seen s1) n (mine s0).work) (sym number) (work_goes_on (seen s0) (seen s1) s0.number (mine s0).work front ready.work));

@@ -1,5 +1,6 @@
 -- The seats of a store that was just opened.
-use Rattle.std.proofs.Common.{◌≡◌, ◌∙◌, ℕ, List, [], Option, Some, None, sym, ap, subst, slice_get, arith}
+use Rattle.std.proofs.Common.{◌≡◌, ◌<◌, ◌∙◌, ℕ, List, [], length, Option, Some, None, sym, ap, subst, slice_get, arith}
+use Rattle.std.proofs.lemmas.Option.{slice_get_within}
 use Rattle.atomic_table.specs.Seated.{TableId}
 use Rattle.disk_model.specs.Disk.{State}
 use Rattle.history.specs.declared.entry.Base.{Base}
@@ -28,11 +29,15 @@ module _ {D : Type 0} (z : TableId) (o : Start D) (seats : List (Sat D)) (new : 
   no_work : (mine s).work ≡ None
   no_work = ap (λ (h : Holding Work). h.work) (new k s there).2
 
-  pub new_ready : IsReady z s × IsWhole s
-  new_ready =
+  same_start : (start : Start D) → Some o ≡ Some start → o ≡ start
+  same_start start e = cc e
+
+  pub new_ready : o.seats.value ≡ length seats → IsReady z s × IsWhole s
+  new_ready many =
       let is = new k s there in (
         record {
           rests = is.0;
+          one = λ start e. subst (λ (x : Start D). s.number < x.seats.value) (same_start start (sym is.4 ∙ e)) (let number = is.1 in let inside = slice_get_within seats k s there in omega (arith, number, inside, many));
           lines = ap (λ (h : Holding Work). h.lines) is.2 ∙ ap (lines_of s.number) (sym is.3);
           work = record { number = λ w e. absurd (cc (e, no_work)); began = λ w e. absurd (cc (e, no_work)) };
         },
@@ -102,7 +107,7 @@ module _ {D : Type 0} (is_honest : D → Type 0) (state : D → State) (faults :
     empty = just.lines;
     idle = idle_so;
     lawful = sound_journal is_honest state Side stands_so;
-    desk_fits = (stands_so, record { workers = let w = just.workers in omega (arith, w); tried = tried_so; later = later_same faults start.core.value core core_is });
+    desk_fits = (stands_so, record { workers = let w = just.workers in omega (arith, w); of_seats = λ n le. idle_so n; tried = tried_so; later = later_same faults start.core.value core core_is });
     vault_fits = (vault_so, later_vault faults start.archive.value archive archive_is);
     acked = just.held;
     counts = λ d. let q = ap (λ (c : Core D). count_of (desk_counts faults c) (vault_counts faults start.archive.value) d) core_is in let p = ap (λ (a : Running D). count_of (desk_counts faults core) (vault_counts faults a) d) archive_is in omega (arith, q, p);

@@ -17,7 +17,7 @@ use Rattle.store.specs.declared.start.Start.{Start}
 use Rattle.store.specs.Seats.{DeskSideBeside, HasEnteredVault, IsOwnWork, Sat, VisitedVault, journal}
 use Rattle.store.specs.Sides.{VaultStands, of_vault}
 use Rattle.store.specs.Start.{opened_base}
-use Rattle.store.proofs.Entering.{apart}
+use Rattle.store.proofs.Entering.{apart, one_still}
 
 -- what a seat has open is still its own where it has seen more
 pub work_goes_on : (front whole : List Line) (session : ℕ) (work : Option Work) → IsPrefix front whole → IsOwnWork front session work → IsOwnWork whole session work
@@ -43,6 +43,7 @@ module _ {D : Type 0} (is_honest : D → Type 0) (state : D → State) (faults :
       record {
         ready = record {
           rests = rests;
+          one = one_still s0 s2 number (same.opening ∙ entered.same.opening) entered.ready.one;
           lines = ap (λ (h : Holding Work). h.lines) behind ∙ (entered.lines ∙ (ap (λ (n : ℕ). lines_of n (seen s1)) (sym number) ∙ ap (lines_of s2.number) (sym sees)));
           work = subst (λ (w : Option Work). IsOwnWork (seen s2) s2.number w) (sym (ap (λ (h : Holding Work). h.work) behind))
               (subst (λ (n : ℕ). IsOwnWork (seen s2) n (mine s0).work) (sym number)

@@ -1,5 +1,5 @@
 -- How a store is opened from its four devices.
-use Rattle.std.specs.Prelude.{◌≡◌, ◌↔◌, ◌*◌, ℕ, List, slice_get, Some}
+use Rattle.std.specs.Prelude.{◌≡◌, ◌↔◌, ◌*◌, ℕ, List, length, slice_get, Some}
 use Rattle.disk_model.specs.declared.four.Four.{Four}
 use Rattle.disk_model.specs.declared.four.Sizes.{Sizes}
 use Rattle.disk_model.specs.Disk.{State}
@@ -120,6 +120,7 @@ pub record BeginsWith {D : Type 0} (extent faults : D → ℕ) (is_honest : D �
   pub read : AreReadBy extent is_honest remembers state clock disks core archive
   pub counts : SameCounts (of_each faults disks) (of_each faults (disks_of core archive))
   pub begins : IsStartOf core archive (Some start)
+  pub sat : start.seats.value ≡ length seats
   pub each : (k : ℕ) (s : Sat D) → slice_get seats k ≡ Some s → IsStartOf core archive (seats_of_turn.opening s)
   pub honestly : AreHonest is_honest disks → IsHonestlyOpened is_honest state start opened.opened.origin
 

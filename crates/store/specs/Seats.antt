@@ -28,7 +28,7 @@ use Rattle.turn.specs.Seats.{IsInDesk, IsInVault, IsSame, MayLeave, MayLeaveVaul
 use Rattle.turn.specs.Views.{PARTS, behind_desk, behind_vault}
 use Rattle.store.specs.declared.desk_side.DeskSide.{DeskSide}
 use Rattle.store.specs.declared.start.Start.{Start}
-use Rattle.store.specs.Sides.{DeskStands, Keeps, VaultStands, of_desk, of_vault}
+use Rattle.store.specs.Sides.{AreOfSeats, DeskStands, Keeps, VaultStands, of_desk, of_vault}
 use Rattle.store.specs.Start.{IsLaterArchive, IsLaterCore, of_start, opened_base}
 use Rattle.store.specs.Tried.{AreTried}
 use Rattle.store.specs.Workers.{WorkersFit}
@@ -58,9 +58,14 @@ pub record IsOwnWork (lines : List Line) (session : ℕ) (open_work : Option Wor
   pub number : (w : Work) → open_work ≡ Some w → (who_of w).session ≡ session
   pub began : (w : Work) → open_work ≡ Some w → began_of w ≤ length lines
 
+-- the number is one of the store's seats
+abbrev pub IsOneOf : {D : Type 0} → Option (Start D) → ℕ → Type 0
+IsOneOf {D} begun number = (start : Start D) → begun ≡ Some start → number < start.seats.value
+
 -- Outside both locks. The seat has seen all its own lines, and the line of what it has open.
 pub record IsReady {D : Type 0} (z : TableId) (s : Sat D) : Type 0 where
   pub rests : Rests z s
+  pub one : IsOneOf (opening s) s.number
   pub lines : (mine s).lines ≡ lines_of s.number (seen s)
   pub work : IsOwnWork (seen s) s.number (mine s).work
 
@@ -123,15 +128,18 @@ pub record StaysIn {D : Type 0} (old new : Sat D) : Type 0 where
   pub more : List (Device × ℕ)
   pub mine_is : mine new ≡ record (mine old) { faults = (mine old).faults ++ more }
 
--- what a seat that calls the desk has under its number, and the lines that are kept for workers
+-- What a seat that calls the desk has under its number, which is one of the store's; the lines that are kept for
+-- workers, and whose what is open there is.
 pub record HasOwn {D : Type 0} (who : Who) (tells : List (Device × ℕ) →
     Type 0) (side : DeskSide D) (mine : Holding Work) : Type 0 where
   pub parts : mine.parts ≡ PARTS
+  pub one : who.session < side.start.seats.value
   pub number : mine.number ≡ who.session
   pub work : mine.work ≡ work_at (slots_of side) who.session
   pub kept : KeptIsTold mine.work mine.faults
   pub told : tells mine.faults
   pub workers : WorkersFit side.core.ledger
+  pub of_seats : AreOfSeats side
   pub tried : AreTried side.core.ledger
 
 module _ {D : Type 0} (is_honest : D → Type 0) (state : D → State) (faults : D → ℕ) where

@@ -52,6 +52,11 @@ pub record HasBegun (lines : List Line) (session : ℕ) (t : Transaction) : Type
   pub here : drop t.began lines ≡ line t.who Began ∷ drop (t.began + 1) lines
   pub last : lines_of session (drop (t.began + 1) lines) ≡ []
 
+-- how many seats the store has
+abbrev pub seats_in : {D : Type 0} → Option (Start D) → ℕ
+seats_in (Some start) = start.seats.value
+seats_in None = 0
+
 module _ {D : Type 0} (state : D → State) (faults : D → ℕ) where
   abbrev pub ground_in : Option (Start D) → Ground
   ground_in (Some start) = ground_of state faults start

@@ -1,5 +1,5 @@
 -- What the locks know of the two sides of a store.
-use Rattle.std.proofs.Common.{◌≡◌, ◌++◌, ℕ, List, sym, subst}
+use Rattle.std.proofs.Common.{◌≡◌, ◌≤◌, ◌++◌, ℕ, List, None, sym, subst}
 use Rattle.disk_model.specs.Disk.{State}
 use Rattle.history.specs.declared.entry.Base.{Base}
 use Rattle.history.specs.declared.journal.Line.{Line}
@@ -16,6 +16,10 @@ use Rattle.store.specs.Tried.{AreTried}
 use Rattle.store.specs.Workers.{WorkersFit}
 use Rattle.store.specs.Start.{AreAsHonest, IsAsHonest, IsCoreFrom, IsLaterArchive, IsLaterCore, IsOpenedTo, IsVaultFrom, Origin, desk_counts, opened_base, vault_counts, with_slots}
 
+-- what is open is of a seat of the store
+abbrev pub AreOfSeats : {D : Type 0} → DeskSide D → Type 0
+AreOfSeats side = (n : ℕ) → side.start.seats.value ≤ n → work_at side.core.ledger.works.slots n ≡ None
+
 module _ {D : Type 0} (is_honest : D → Type 0) (state : D → State) where
   -- The store was opened to some history, and the core is a plain desk behind each to which it was opened. Its
   -- devices are as honest as they were.
@@ -26,10 +30,11 @@ module _ {D : Type 0} (is_honest : D → Type 0) (state : D → State) where
     pub stands : (other : Origin) → IsOpenedTo is_honest state side.start other →
         IsCoreFrom is_honest state other side.core
 
-  -- Each worker that told no fault has its line; each commit ended an attempt; and no device has had fewer faults than
-  -- at the opening.
+  -- Each worker that told no fault has its line; what is open is of a seat of the store; each commit ended an attempt;
+  -- and no device has had fewer faults than at the opening.
   pub record Keeps (faults : D → ℕ) (side : DeskSide D) : Type 0 where
     pub workers : WorkersFit side.core.ledger
+    pub of_seats : AreOfSeats side
     pub tried : AreTried side.core.ledger
     pub later : IsLaterCore faults side.start.core.value side.core
 

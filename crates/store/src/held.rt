@@ -121,7 +121,8 @@ impl<'a, R: Wait, D: Disk + Drop> Held<'a, R, D> {
 
 impl<'a, R: Wait, D: Disk + Drop> Seat for Held<'a, R, D> {
     ghost use Rattle.store.specs.Frames.{GoesOn, goes_on, honest_stays, stays};
-    ghost use Rattle.store.specs.Seen.{IsHonest, view_of};
+    ghost use Rattle.store.specs.Seen.{IsHonest, seats_in, view_of};
+    ghost use Rattle.turn.specs.Seats.{opening};
     ghost use Rattle.turn.specs.Tables.{table_of};
 
     ghost view = { λ h. view_of D.state D.faults h.asked h.told.items h.seat };
@@ -137,6 +138,8 @@ impl<'a, R: Wait, D: Disk + Drop> Seat for Held<'a, R, D> {
 
     ghost honest_stays = { λ h k goes. honest_stays D.is_honest D.state (table_of h.store.now.turn)
         (table_of k.store.now.turn) h.seat k.seat goes };
+
+    ghost seats = { λ h. seats_in (opening h.seat) };
 
     fn pages(&self) -> u32 {
         self.store.pages()

@@ -2,6 +2,7 @@
 
 ghost use Rattle.std.specs.Prelude.{◌≡◌, ◌≤◌, IfErr, IfOk, MatchResult, OnOk};
 ghost use Rattle.store.specs.Calls.{PeekDoes};
+ghost use Rattle.store.specs.Moments.{KeepsDevices};
 ghost use Rattle.store.specs.Past.{FindsIn, IsNewFault, IsPastOf, IsPastRefusal, IsPinnedBy, IsRetainedBy, IsSeeking};
 ghost use Rattle.store.specs.Past.{IsTableOf, ReadsAtMost, RefusesPast, ScansBelow, new_table};
 ghost use Rattle.store.specs.Seats.{CountFits, IsPage, IsReady, IsWhole, StaysIn, Visits, Waits};
@@ -54,6 +55,7 @@ impl<D: Disk + Drop> Store<D> {
         ensures work { (mine seat.new).work ≡ (mine seat.old).work }
         ensures waits { Waits seat.old seat.new }
         ensures first_met { IsTableOf D.is_honest D.state seat.new snapshot (new_table result) }
+        ensures visits { Visits D.is_honest D.state D.faults (table_of self.now.turn) KeepsDevices seat.old seat.new }
     {
         let side = self.enter(rt, seat);
         let start = side.core.start_of(snapshot);

@@ -2,7 +2,8 @@
 
 ghost use Rattle.std.specs.Prelude.{◌≡◌, ◌<◌, ◌≤◌, ℕ, is_some, IfSome};
 ghost use Rattle.history.specs.Lines.{first_stop, horizon_of};
-ghost use Rattle.store.specs.Seats.{IsPage, IsReady, IsWhole, StaysIn, Waits};
+ghost use Rattle.store.specs.Moments.{KeepsDevices};
+ghost use Rattle.store.specs.Seats.{IsPage, IsReady, IsWhole, StaysIn, Visits, Waits};
 ghost use Rattle.store.specs.Start.{opened_base};
 ghost use Rattle.turn.specs.Seats.{IsSame, held, mine, opening, seen};
 ghost use Rattle.turn.specs.Tables.{table_of};
@@ -24,6 +25,7 @@ impl<D: Disk + Drop> Store<D> {
         ensures pages { IfSome (opening seat.old) (λ start. result.pages ≡ (opened_base start).page_count) }
         ensures capacity { IfSome (opening seat.old) (λ start. result.capacity ≡ (opened_base start).capacity) }
         ensures inside { (page : ℕ) → page < result.pages → IsPage seat.new page }
+        ensures visits { Visits D.is_honest D.state D.faults (table_of self.now.turn) KeepsDevices seat.old seat.new }
     {
         let side = self.enter(rt, seat);
         let sizes = side.core.sizes();
@@ -40,6 +42,7 @@ impl<D: Disk + Drop> Store<D> {
         ensures work { (mine seat.new).work ≡ (mine seat.old).work }
         ensures waits { Waits seat.old seat.new }
         ensures stopped { result ≡ is_some (first_stop (seen seat.new)) }
+        ensures visits { Visits D.is_honest D.state D.faults (table_of self.now.turn) KeepsDevices seat.old seat.new }
     {
         let side = self.enter(rt, seat);
         let stopped = side.core.stopped();

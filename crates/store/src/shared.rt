@@ -50,6 +50,7 @@ impl<D: Disk + Drop> Store<D> {
             → (s.number ≡ k) × ((mine s).work ≡ None) × (seen s ≡ []) × IsStartOf core archive (opening s)) }
         ensures sized { IfOk result (λ r. (k : ℕ) (s : Sat D) → slice_get r.1.items k ≡ Some s → IsSized r.0.pages s) }
         ensures begins { IfOk result (λ r. IsStartOf core archive (Some (start_of r.0.turn))) }
+        ensures sat { IfOk result (λ r. (start_of r.0.turn).seats.value ≡ seats) }
         ensures newest { IfOk result (λ r. r.0.newest ≡ newest core.desk.base.marks) }
         ensures back { IfErr result (λ r. (r.0 ≡ core) × (r.1 ≡ archive)) }
     {
@@ -58,6 +59,7 @@ impl<D: Disk + Drop> Store<D> {
         let start = Start {
             core: Snapshot::of(&core),
             archive: Snapshot::of(&archive),
+            seats: Snapshot::of(&seats),
         };
         match Turn::new(alloc, DeskSide { core, start }, archive, seats) {
             Ok((turn, seats)) => Ok((

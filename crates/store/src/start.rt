@@ -6,11 +6,13 @@ use std::snapshot::Snapshot;
 use store_core::Core;
 use turn::locked::Opening;
 
-/// The core and the archive as they were when the store was opened; known to contracts alone.
+/// The core and the archive as they were when the store was opened, and how many seats it has; known to contracts
+/// alone.
 #[derive(Drop)]
 pub struct Start<D: Disk> {
     pub core: Snapshot<Core<D>>,
     pub archive: Snapshot<Archive<D>>,
+    pub seats: Snapshot<u32>,
 }
 
 impl<D: Disk> Opening for Start<D> {

@@ -1,9 +1,13 @@
-use Rattle.std.proofs.Common.{◌∙◌, None, Ok, refl}
+use Rattle.std.proofs.Common.{◌∙◌, None, Ok, refl, subst, sym}
+use Rattle.session.specs.Calls.{AreRising}
 use Rattle.session.proofs.Called.{RepliesOver, call_refused_settles, called_settles, look_of}
 use Rattle.session.proofs.Ends.{ended_left}
 use Rattle.session.proofs.Leaving.{leaves_table, none_left}
 use Rattle.session.proofs.Lists.{is_now_listing}
 use Rattle.session.proofs.calling.call.Goals as goal
+
+pub call_up-requires-clause-rising : goal.call_up-requires-clause-rising
+call_up-requires-clause-rising g c = subst AreRising (sym c.as_slice.ensures) c.in-Ok.ensures.gives.4
 
 pub returns-in-Ok-clause-settles : goal.returns-in-Ok-clause-settles
 returns-in-Ok-clause-settles g c = λ honest.

@@ -4,6 +4,9 @@ use Rattle.session.proofs.AsOf.{is_now_looking, look_refused_settles, looked_set
 use Rattle.session.proofs.Ends.{ended_left}
 use Rattle.session.proofs.looking.as_of.Goals as goal
 
+pub look_up-requires-clause-number : goal.look_up-requires-clause-number
+look_up-requires-clause-number g c = c.in-Ok.ensures.gives.4
+
 pub returns-in-Ok-clause-settles : goal.returns-in-Ok-clause-settles
 returns-in-Ok-clause-settles g c = λ honest.
     looked_settles c.args.names.now c.args.who c.args.query.now (g.S.Seat.is_honest c.look.new.self) (g.S.Seat.view c.args.seat) (g.S.Seat.view c.look.new.self) (g.S.Seat.view c.look_up.result.0) c.look_up.result.1

@@ -5,10 +5,16 @@ use Rattle.journal_book.specs.Book.{Book}
 use Rattle.journal_law.specs.Seats as seat
 use Rattle.plain_store.specs.Numbers.{no_snapshot}
 use Rattle.plain_store.specs.Plain.{Plain, ground_of, view_of}
-use Rattle.plain_store.proofs.Drops.{drop_gives, drop_refused_gives, dropped_none, dropped_some}
+use Rattle.plain_store.proofs.Drops.{drop_gives, drop_refused_gives, drop_tells, dropped_none, dropped_some}
 use Rattle.plain_store.proofs.Gives.{goes}
 use Rattle.plain_store.proofs.Looks.{refused_keeps}
 use Rattle.plain_store.proofs.seat.PlainStoreSeat.drop_below.Goals as goal
+
+pub returns-in-Some-clause-need : goal.returns-in-Some-clause-need
+returns-in-Some-clause-need c =
+    let p : Plain = record { session = c.self.inside.session; base = c.self.inside.base; book = c.self.inside.book; pages = c.self.inside.pages.items; work = c.self.inside.work } in
+    subst (λ (r : Plain). seat.TellsDropNeed 1 (view_of r) (view_of r) (Err c.in-Some.why)) c.self.view_is
+    (drop_tells p c.in-Some.why c.self.invariant (ap (λ (r : Plain). (view_of r).work) c.self.view_is ∙ c.requires.idle) (sym c.lines_refused.ensures ∙ c.in-Some.is))
 
 pub invariant_of-self-in-Some-no_snapshot : goal.invariant_of-self-in-Some-no_snapshot
 invariant_of-self-in-Some-no_snapshot c = refused_keeps _ c.args.who c.in-Some-no_snapshot.why c.add_line.new.book c.self.invariant (ap (λ (r : Plain). (view_of r).work) c.self.view_is ∙ c.requires.idle) c.in_ok-add_line.ensures.done

@@ -1,7 +1,9 @@
-use Rattle.std.proofs.Common.{ap, refl}
+use Rattle.std.proofs.Common.{None, ap, refl}
+use Rattle.history.specs.declared.journal.What.TheVariants.{LookedAll}
 use Rattle.store.specs.Kept.{looks}
 use Rattle.store.proofs.Coming.{idle_is}
-use Rattle.store.proofs.Gives.{all_gives, all_keeps}
+use Rattle.store.proofs.Gives.{all_gives, all_keeps, same_given}
+use Rattle.store.proofs.Needs.{opened_tells}
 use Rattle.store.proofs.Recalled.{no_table, sized_on}
 use Rattle.store.proofs.held.HeldSeat.look_all.Goals as goal
 
@@ -17,4 +19,4 @@ returns g c =
     let h = c.args.self.now in
     let v = c.look_all.ensures.visits in
     let none = idle_is h.who h.asked h.told.items h.seat h.seated c.requires.idle in
-    record { gives = all_gives g.D.Disk.is_honest g.D.Disk.state g.D.Disk.faults _ h.seat c.look_all.new.seat v.before v.after h.ready v.visited c.args.who h.asked h.told.items c.requires.own none (h.seated.quiet none) c.look_all.result v.does; goes = record { store = refl; same = c.look_all.ensures.same } }
+    record { gives = all_gives g.D.Disk.is_honest g.D.Disk.state g.D.Disk.faults _ h.seat c.look_all.new.seat v.before v.after h.ready v.visited c.args.who h.asked h.told.items c.requires.own none (h.seated.quiet none) c.look_all.result v.does; need = opened_tells g.D.Disk.is_honest g.D.Disk.state g.D.Disk.faults _ h.seat c.look_all.new.seat v.before v.after v.visited c.args.who None h.told.items (same_given g.D.Disk.is_honest g.D.Disk.state g.D.Disk.faults _ h.seat c.look_all.new.seat v.before v.after h.ready v.visited c.args.who h.asked h.told.items c.requires.own none) LookedAll _ c.look_all.result v.does.looked; goes = record { store = refl; same = c.look_all.ensures.same } }

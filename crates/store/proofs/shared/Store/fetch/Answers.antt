@@ -1,4 +1,4 @@
-use Rattle.std.proofs.Common.{◌≡◌, sym, subst}
+use Rattle.std.proofs.Common.{◌≡◌, ◌∙◌, sym, subst}
 use Rattle.opening.specs.Devices.{AreUnwritten}
 use Rattle.store.specs.Opening.{disks_of}
 use Rattle.store.proofs.Crashing.{opened_honestly}
@@ -16,6 +16,7 @@ returns-in-Ok-new-clause-begins g c = record {
   read = c.in-Ok.ensures.opened.1;
   counts = c.in-Ok.ensures.cause;
   begins = c.in-Ok-new.ensures.begins;
+  sat = c.in-Ok-new.ensures.sat ∙ sym c.in-Ok-new.ensures.seats.1;
   each = λ k s there. (c.in-Ok-new.ensures.new k s there).3;
   honestly = opened_honestly g.D.Disk.extent g.D.Disk.is_honest g.D.Disk.remembers g.D.Disk.state g.D.Disk.clock c.args.version c.args.disks c.in-Ok.core c.in-Ok.archive _ c.in-Ok.ensures.opened.0 c.in-Ok.ensures.opened.1 c.in-Ok-new.ensures.begins;
 }

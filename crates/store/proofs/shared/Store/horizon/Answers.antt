@@ -5,7 +5,7 @@ use Rattle.store.proofs.shared.Store.horizon.Goals as goal
 pub returns-clause-ready : goal.returns-clause-ready
 returns-clause-ready g c =
     let e = c.horizon.ensures in
-    ready_on _ c.args.seat.now c.horizon.new.seat c.requires e.rests e.same.0.number (ap (λ h. h.lines) e.same.1) (ap (λ h. h.work) e.same.1) e.front e.own
+    ready_on _ c.args.seat.now c.horizon.new.seat c.requires e.rests e.same.0.number e.same.0.opening (ap (λ h. h.lines) e.same.1) (ap (λ h. h.work) e.same.1) e.front e.own
 
 pub returns-clause-same : goal.returns-clause-same
 returns-clause-same g c = let e = c.horizon.ensures in stays_same c.args.seat.now c.horizon.new.seat e.same.0 e.same.1 (let h = e.same.2 in omega (arith, h))

@@ -10,7 +10,7 @@ pub returns-clause-ready : goal.returns-clause-ready
 returns-clause-ready g c =
     let e = c.lend.ensures in
     let s = c.args.seat.now in (
-      ready_on _ s c.lend.new.seat c.requires.ready e.rests.0 e.same.0.number (ap (λ h. h.lines) e.seat) (ap (λ h. h.work) e.seat) (subst (IsPrefix (seen s)) (sym e.same.1) (prefix_self (seen s))) (c.requires.ready.lines ∙ ap (lines_of s.number) (sym e.same.1)),
-      ready_on _ s c.lend.result c.requires.ready e.rests.1 (sym e.rests.1.seat.number ∙ (ap (λ h. h.number) e.helper.0 ∙ c.requires.ready.rests.seat.number)) (ap (λ h. h.lines) e.helper.0) (ap (λ h. h.work) e.helper.0) (subst (IsPrefix (seen s)) (sym e.helper.1) (prefix_self (seen s)))
+      ready_on _ s c.lend.new.seat c.requires.ready e.rests.0 e.same.0.number e.same.0.opening (ap (λ h. h.lines) e.seat) (ap (λ h. h.work) e.seat) (subst (IsPrefix (seen s)) (sym e.same.1) (prefix_self (seen s))) (c.requires.ready.lines ∙ ap (lines_of s.number) (sym e.same.1)),
+      ready_on _ s c.lend.result c.requires.ready e.rests.1 (sym e.rests.1.seat.number ∙ (ap (λ h. h.number) e.helper.0 ∙ c.requires.ready.rests.seat.number)) e.helper.3 (ap (λ h. h.lines) e.helper.0) (ap (λ h. h.work) e.helper.0) (subst (IsPrefix (seen s)) (sym e.helper.1) (prefix_self (seen s)))
           (c.requires.ready.lines ∙ ap (lines_of s.number) (sym e.helper.1)),
     )

@@ -6,8 +6,8 @@ use Rattle.store.proofs.shared.Store.meet.Goals as goal
 pub returns-clause-ready : goal.returns-clause-ready
 returns-clause-ready g c =
     let e = c.meet.ensures in (
-      ready_on _ c.args.one.now c.meet.new.one c.requires.ready.0 e.rests.0 e.same.0.number (ap (λ h. h.lines) e.mine.0) (ap (λ h. h.work) e.mine.0) e.fronts.0 (own_in _ c.args.one.now c.meet.new.one c.requires.ready.0 e.agrees.0.journal e.fronts.0 e.agrees.0.begins (sym (ap (λ h. h.lines) e.mine.0) ∙ (e.agrees.0.own ∙ ap (λ n. lines_of n e.agrees.0.journal) e.same.0.number))),
-      ready_on _ c.args.other.now c.meet.new.other c.requires.ready.1 e.rests.1 e.same.1.number (ap (λ h. h.lines) e.mine.1) (ap (λ h. h.work) e.mine.1) e.fronts.1 (own_in _ c.args.other.now c.meet.new.other c.requires.ready.1 e.agrees.1.journal e.fronts.1 e.agrees.1.begins (sym (ap (λ h. h.lines) e.mine.1) ∙ (e.agrees.1.own ∙ ap (λ n. lines_of n e.agrees.1.journal) e.same.1.number))),
+      ready_on _ c.args.one.now c.meet.new.one c.requires.ready.0 e.rests.0 e.same.0.number e.same.0.opening (ap (λ h. h.lines) e.mine.0) (ap (λ h. h.work) e.mine.0) e.fronts.0 (own_in _ c.args.one.now c.meet.new.one c.requires.ready.0 e.agrees.0.journal e.fronts.0 e.agrees.0.begins (sym (ap (λ h. h.lines) e.mine.0) ∙ (e.agrees.0.own ∙ ap (λ n. lines_of n e.agrees.0.journal) e.same.0.number))),
+      ready_on _ c.args.other.now c.meet.new.other c.requires.ready.1 e.rests.1 e.same.1.number e.same.1.opening (ap (λ h. h.lines) e.mine.1) (ap (λ h. h.work) e.mine.1) e.fronts.1 (own_in _ c.args.other.now c.meet.new.other c.requires.ready.1 e.agrees.1.journal e.fronts.1 e.agrees.1.begins (sym (ap (λ h. h.lines) e.mine.1) ∙ (e.agrees.1.own ∙ ap (λ n. lines_of n e.agrees.1.journal) e.same.1.number))),
     )
 
 pub returns-clause-same : goal.returns-clause-same

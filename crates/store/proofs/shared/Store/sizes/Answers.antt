@@ -32,3 +32,6 @@ pub returns-clause-inside : goal.returns-clause-inside
 returns-clause-inside g c = λ page less.
     of_opening _ _ _ ((c.leave.ensures c.args.seat.now c.enter-side.result c.enter-side.ensures).same.opening ∙ c.enter-side.ensures.opening)
     (subst (λ n. page < n) (ap (λ s. s.pages) c.sizes-sizes.ensures ∙ c.enter-side.ensures.pages) less)
+
+pub returns-clause-visits : goal.returns-clause-visits
+returns-clause-visits g c = record { before = c.enter-side.result; after = c.enter-side.result; visited = c.leave.ensures c.args.seat.now c.enter-side.result c.enter-side.ensures; does = record { log = refl; file = refl } }

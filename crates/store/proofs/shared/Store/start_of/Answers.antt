@@ -33,3 +33,6 @@ returns-clause-work g c = work_stays c.args.seat.now c.leave.new.seat (stays_gla
 
 pub returns-clause-first_met : goal.returns-clause-first_met
 returns-clause-first_met g c = glanced_table g.D.Disk.is_honest g.D.Disk.state g.D.Disk.faults _ c.args.seat.now c.leave.new.seat c.enter-side.result c.enter-side.result (c.leave.ensures c.args.seat.now c.enter-side.result c.enter-side.ensures) c.args.snapshot c.start_of-start.result refl c.start_of-start.ensures
+
+pub returns-clause-visits : goal.returns-clause-visits
+returns-clause-visits g c = record { before = c.enter-side.result; after = c.enter-side.result; visited = c.leave.ensures c.args.seat.now c.enter-side.result c.enter-side.ensures; does = record { log = refl; file = refl } }

@@ -25,3 +25,6 @@ returns-clause-whole g c = λ w. whole_stays c.args.seat.now c.leave.new.seat (s
 
 pub returns-clause-work : goal.returns-clause-work
 returns-clause-work g c = work_stays c.args.seat.now c.leave.new.seat (stays_glance g.D.Disk.is_honest g.D.Disk.state g.D.Disk.faults _ c.args.seat.now c.leave.new.seat c.enter-side.result c.enter-side.result c.requires (c.leave.ensures c.args.seat.now c.enter-side.result c.enter-side.ensures) refl)
+
+pub returns-clause-visits : goal.returns-clause-visits
+returns-clause-visits g c = record { before = c.enter-side.result; after = c.enter-side.result; visited = c.leave.ensures c.args.seat.now c.enter-side.result c.enter-side.ensures; does = record { log = refl; file = refl } }
