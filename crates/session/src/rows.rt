@@ -11,26 +11,26 @@ use std::alloc::{AllocError, Global};
 use values::{Row, Value};
 
 // Appends an integer in decimal as a field, all of it printable.
-fn push_digits(alloc: Global, record: &mut ByteRecord, number: i64) -> Result<(), AllocError>
-    ensures fields { OnOk result (fields_of record.new
-        ≡ fields_of record.old ++ ((partial_of record.old ++ text_of (Value.Int number)) ∷ [])) }
-    ensures whole { OnOk result (partial_of record.new ≡ []) }
+fn push_digits(alloc: Global, out: &mut ByteRecord, number: i64) -> Result<(), AllocError>
+    ensures fields { OnOk result (fields_of out.new
+        ≡ fields_of out.old ++ ((partial_of out.old ++ text_of (Value.Int number)) ∷ [])) }
+    ensures whole { OnOk result (partial_of out.new ≡ []) }
     ensures shown { OnOk result (IsShown (Value.Int number)) }
 {
     let digits = number.to_string(alloc)?;
-    record.push_field(digits.as_bytes())
+    out.push_field(digits.as_bytes())
 }
 
 // Appends the text of a value as a field, all of it printable.
-fn push_text(alloc: Global, record: &mut ByteRecord, value: &Value) -> Result<(), AllocError>
-    ensures fields { OnOk result (fields_of record.new
-        ≡ fields_of record.old ++ ((partial_of record.old ++ text_of value.now) ∷ [])) }
-    ensures whole { OnOk result (partial_of record.new ≡ []) }
+fn push_text(alloc: Global, out: &mut ByteRecord, value: &Value) -> Result<(), AllocError>
+    ensures fields { OnOk result (fields_of out.new
+        ≡ fields_of out.old ++ ((partial_of out.old ++ text_of value.now) ∷ [])) }
+    ensures whole { OnOk result (partial_of out.new ≡ []) }
     ensures shown { OnOk result (IsShown value.now) }
 {
     match value {
-        Value::Int(number) => push_digits(alloc, record, *number),
-        Value::Text(text) => record.push_field(text.bytes()),
+        Value::Int(number) => push_digits(alloc, out, *number),
+        Value::Text(text) => out.push_field(text.bytes()),
     }
 }
 
