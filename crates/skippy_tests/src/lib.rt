@@ -4,4 +4,6 @@
 #[cfg(test)]
 mod page_tables;
 #[cfg(test)]
+mod support;
+#[cfg(test)]
 mod tests;
