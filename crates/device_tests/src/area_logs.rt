@@ -2,10 +2,12 @@
 
 use crate::faults::{Act, FAULT, Trial, wrong_in_four, wrong_in_six};
 use crate::support::{
-    again, append, are_these, calls_of, crash, fetch, fill, framed, make, open, put, replace, zeros,
+    again, again_failing, append, are_these, calls_of, crash, fetch, fill, framed, make, open, put,
+    replace, zeros,
 };
 use disk_mem::{Call, MemDisk, RamDisk};
 use disk_model::Disk;
+use gate_log::Framed;
 use retro_base::{Device, Refusal};
 use std::alloc::Global;
 use std::test::Fail;
@@ -91,8 +93,7 @@ fn opened_twice(
     call: Call,
     number: u64,
 ) -> Result<(Option<Refusal>, bool), Refusal> {
-    let failing = vec![in alloc; (call, number)]?;
-    let mut faulty = disk.again(alloc, failing, None)?;
+    let mut faulty = again_failing(alloc, disk, call, number)?;
     let first = open(alloc, &mut faulty).err();
     Ok((first, lists(alloc, &mut faulty, &[&[1]])?))
 }
@@ -144,8 +145,8 @@ fn a_closed_gate_is_not_written_again(rt: HostRuntime) -> Result<(), Fail> {
     let disk = replaced_log(alloc)?;
     let (first, left) = stopped_replace(alloc, &disk, 3, &[3])?;
     let (second, mut left) = stopped_replace(alloc, &left, 1, &[4])?;
-    let same = lists(alloc, &mut left, &[&[2]])?;
-    assert!(rt; (first, second, same) == (FAULT, FAULT, true));
+    let same = lists(alloc, &mut left, &[&[2]]);
+    assert!(rt; (first, second, same) == (FAULT, FAULT, Ok(true)));
     Ok(())
 }
 
@@ -186,10 +187,10 @@ fn a_full_log_has_room_again_after_a_replace(rt: HostRuntime) -> Result<(), Fail
         replace(alloc, &mut disk, &[8]),
         append(alloc, &mut disk, &[1, 2, 3, 4, 5]),
     ];
-    let both = lists(alloc, &mut disk, &[&[8], &[1, 2, 3, 4, 5]])?;
+    let both = lists(alloc, &mut disk, &[&[8], &[1, 2, 3, 4, 5]]);
     let (needed, free) = (11, 10);
     let full = Err(Refusal::NoRoom { needed, free });
-    assert!(rt; (outcomes, both) == ([full, Ok(()), Ok(())], true));
+    assert!(rt; (outcomes, both) == ([full, Ok(()), Ok(())], Ok(true)));
     Ok(())
 }
 
@@ -222,24 +223,29 @@ fn a_region_is_opened_appended_to_and_replaced(rt: HostRuntime) -> Result<(), Fa
         append(alloc, &mut disk, &[2]),
         append(alloc, &mut disk, &[3, 3]),
     ];
-    let three = lists(alloc, &mut disk, &[&[1], &[2], &[3, 3]])?;
+    let three = lists(alloc, &mut disk, &[&[1], &[2], &[3, 3]]);
     let replaced = replace(alloc, &mut disk, &[4]);
-    let one = lists(alloc, &mut disk, &[&[4]])?;
+    let one = lists(alloc, &mut disk, &[&[4]]);
     let (device, place) = (Device::Log, 0);
     assert!(rt; (filled, closed) == (Ok(()), Some(Refusal::NotAStore { device, place })));
-    assert!(rt; (writes, replaced, three, one) == ([Ok(()); 3], Ok(()), true, true));
+    assert!(rt; (writes, replaced, three, one) == ([Ok(()); 3], Ok(()), Ok(true), Ok(true)));
     Ok(())
 }
 
-// Whether a log of that many bytes holds a body of so many beside the one that it was made with, and alone.
+// Whether a log on these zeros holds this body beside the one that it was made with, and alone.
+fn holds<D: Disk>(alloc: Global, disk: &mut D, body: &[u8]) -> Result<bool, Refusal> {
+    make(alloc, disk, &[1])?;
+    append(alloc, disk, body)?;
+    let two = lists(alloc, disk, &[&[1], body])?;
+    replace(alloc, disk, body)?;
+    Ok(two && lists(alloc, disk, &[body])?)
+}
+
+// Whether a log of that many bytes holds a body of so many.
 fn holds_much(alloc: Global, size: u64, count: usize) -> Result<bool, Refusal> {
     let body = vec![in alloc; 0xa5; count]?;
     let mut disk = zeros(alloc, size)?;
-    make(alloc, &mut disk, &[1])?;
-    append(alloc, &mut disk, &body)?;
-    let two = lists(alloc, &mut disk, &[&[1], &body])?;
-    replace(alloc, &mut disk, &body)?;
-    Ok(two && lists(alloc, &mut disk, &[&body])?)
+    holds(alloc, &mut disk, &body)
 }
 
 #[test]
@@ -265,20 +271,34 @@ fn are_numbers(bodies: &[Vec<u8>]) -> bool {
         == number.to_be_bytes().as_slice())
 }
 
+// How many bodies the log has, and whether they are the numbers in order.
+fn counted<D: Disk>(alloc: Global, disk: &mut D) -> Result<(usize, bool), Refusal> {
+    let bodies = open(alloc, disk)?;
+    Ok((bodies.len(), are_numbers(&bodies)))
+}
+
+// What an opening gives once a record stands at that place whose length passes the half.
+fn opened_broken<D: Disk>(
+    alloc: Global,
+    disk: &mut D,
+    place: u64,
+) -> Result<Option<Refusal>, Refusal> {
+    put(disk, place, &[0xa5, 0xff])?;
+    Ok(open(alloc, disk).err())
+}
+
 // How many bodies a log of the numbers below this one holds, and whether they are the numbers in order; and what an
 // opening gives once a record stands behind them, at that place, whose length passes the half.
 fn numbers_and_break(
     alloc: Global,
     end: u32,
     place: u64,
-) -> Result<(usize, bool, Option<Refusal>), Refusal> {
+) -> Result<((usize, bool), Option<Refusal>), Refusal> {
     let mut disk = RamDisk::new(alloc, 131_072)?;
     make(alloc, &mut disk, &[0, 0, 0, 0])?;
     append_numbers(alloc, &mut disk, end)?;
-    let bodies = open(alloc, &mut disk)?;
-    put(&mut disk, place, &[0xa5, 0xff])?;
-    let refusal = open(alloc, &mut disk).err();
-    Ok((bodies.len(), are_numbers(&bodies), refusal))
+    let numbers = counted(alloc, &mut disk)?;
+    Ok((numbers, opened_broken(alloc, &mut disk, place)?))
 }
 
 #[test]
@@ -288,27 +308,32 @@ fn five_thousand_bodies_are_read_back_and_a_break_behind_them_is_told(
     // Each record has nine bytes, and the first stands behind a header of sixteen.
     let (device, place) = (Device::Log, 45_016);
     let held = numbers_and_break(rt.alloc(), 5000, place);
-    assert!(rt; held == Ok((5000, true, Some(Refusal::NotAStore { device, place }))));
+    assert!(rt; held == Ok(((5000, true), Some(Refusal::NotAStore { device, place }))));
     Ok(())
 }
 
-// Puts the numbers below this one, each in four bytes, in the place of all bodies.
-fn replace_by_numbers<D: Disk>(alloc: Global, disk: &mut D, end: u32) -> Result<(), Refusal> {
+// The numbers below this one, each in four bytes.
+fn numbers(alloc: Global, end: u32) -> Result<Vec<Framed>, Refusal> {
     let mut bodies = Vec::new(alloc);
     for number in 0..end {
         bodies.push(framed(alloc, &number.to_be_bytes())?)?;
     }
+    Ok(bodies)
+}
+
+// Puts these bodies in the place of all.
+fn replace_all<D: Disk>(alloc: Global, disk: &mut D, bodies: &[Framed]) -> Result<(), Refusal> {
     let (mut log, _bodies) = fetch(alloc, disk)?;
-    log.replace(alloc, disk, &bodies)
+    log.replace(alloc, disk, bodies)
 }
 
 // How many bodies a log holds whose one body was replaced by the numbers below this one, and whether they are those.
 fn holds_replaced(alloc: Global, end: u32) -> Result<(usize, bool), Refusal> {
+    let bodies = numbers(alloc, end)?;
     let mut disk = RamDisk::new(alloc, 131_072)?;
     make(alloc, &mut disk, &[9])?;
-    replace_by_numbers(alloc, &mut disk, end)?;
-    let bodies = open(alloc, &mut disk)?;
-    Ok((bodies.len(), are_numbers(&bodies)))
+    replace_all(alloc, &mut disk, &bodies)?;
+    counted(alloc, &mut disk)
 }
 
 #[test]

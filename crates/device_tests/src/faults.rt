@@ -1,6 +1,8 @@
 //! The device calls of a write of a log, each failing in turn, and what a crash then leaves.
 
-use crate::support::{append, are_these, crash, crash_half, make, open, replace};
+use crate::support::{
+    again, again_failing, append, are_these, crash, crash_half, make, open, replace,
+};
 use disk_mem::{Call, MemDisk};
 use retro_base::{Device, Refusal};
 use std::alloc::Global;
@@ -131,18 +133,26 @@ fn happens(
     Ok((done, left))
 }
 
-// The same bytes on a device with that fault. An opening is a sync and three reads.
+// The fault behind an opening, which is a sync and three reads.
+fn behind_opening(fault: Fault) -> Fault {
+    match fault {
+        Fault::Stop(after) => Fault::Stop(after.saturating_add(4)),
+        Fault::Fails(Call::Sync, number) => Fault::Fails(Call::Sync, number.saturating_add(1)),
+        Fault::Fails(call, number) => Fault::Fails(call, number),
+    }
+}
+
+// The same bytes on a device with that fault of the write.
 fn again_with(alloc: Global, disk: &MemDisk, act: Act, fault: Fault) -> Result<MemDisk, Refusal> {
-    let (calls, syncs) = if act == Act::Make { (0, 0) } else { (4, 1) };
-    let (failing, stop) = match fault {
-        Fault::Stop(after) => (Vec::new(alloc), Some(after.saturating_add(calls))),
-        Fault::Fails(Call::Sync, number) => {
-            let later = number.saturating_add(syncs);
-            (vec![in alloc; (Call::Sync, later)]?, None)
-        }
-        Fault::Fails(call, number) => (vec![in alloc; (call, number)]?, None),
+    let fault = if act == Act::Make {
+        fault
+    } else {
+        behind_opening(fault)
     };
-    disk.again(alloc, failing, stop)
+    match fault {
+        Fault::Stop(calls) => again(alloc, disk, Some(calls)),
+        Fault::Fails(call, number) => again_failing(alloc, disk, call, number),
+    }
 }
 
 fn write(alloc: Global, disk: &mut MemDisk, trial: &Trial) -> Result<(), Refusal> {

@@ -1,7 +1,5 @@
 //! Files of pages.
 
-ghost use Rattle.std.specs.Prelude.{◌≡◌, ◌<◌, IfOk};
-
 use crate::support::{calls_of, crash, failing, page, zeros};
 use block_file::PageFile;
 use disk_mem::{Call, MemDisk};
@@ -11,9 +9,7 @@ use std::alloc::Global;
 use std::test::Fail;
 
 // The three pages of a device.
-fn pages_on<D: Disk + Drop>(disk: D) -> Result<PageFile<D>, Refusal>
-    ensures { IfOk result (λ file. file.blocks ≡ 3) }
-{
+fn pages_on<D: Disk + Drop>(disk: D) -> Result<PageFile<D>, Refusal> {
     if disk.size() != 3072 {
         return Err(Refusal::BadSizes);
     }
@@ -21,31 +17,27 @@ fn pages_on<D: Disk + Drop>(disk: D) -> Result<PageFile<D>, Refusal>
 }
 
 // The pages that a crash leaves.
-fn left_by(alloc: Global, file: PageFile<MemDisk>, fill: u8) -> Result<PageFile<MemDisk>, Refusal>
-    ensures { IfOk result (λ file. file.blocks ≡ 3) }
-{
+fn left_by(alloc: Global, file: PageFile<MemDisk>, fill: u8) -> Result<PageFile<MemDisk>, Refusal> {
     pages_on(crash(alloc, &file.into_disk(), fill)?)
 }
 
 // Writes a page of this byte alone.
-fn write<D: Disk>(file: &mut PageFile<D>, number: u32, byte: u8) -> Result<(), Refusal>
-    requires { number < file.old.blocks }
-    ensures { file.new.blocks ≡ file.old.blocks }
-{
+fn write<D: Disk>(file: &mut PageFile<D>, number: u32, byte: u8) -> Result<(), Refusal> {
+    if number >= file.pages() {
+        return Err(Refusal::BadSizes);
+    }
     file.write(number, &page(byte))
 }
 
-fn settle<D: Disk>(file: &mut PageFile<D>) -> Result<(), Refusal>
-    ensures { file.new.blocks ≡ file.old.blocks }
-{
+fn settle<D: Disk>(file: &mut PageFile<D>) -> Result<(), Refusal> {
     file.settle()
 }
 
 // Whether a page is of this byte alone.
-fn holds<D: Disk>(file: &mut PageFile<D>, number: u32, byte: u8) -> Result<bool, Refusal>
-    requires { number < file.old.blocks }
-    ensures { file.new.blocks ≡ file.old.blocks }
-{
+fn holds<D: Disk>(file: &mut PageFile<D>, number: u32, byte: u8) -> Result<bool, Refusal> {
+    if number >= file.pages() {
+        return Err(Refusal::BadSizes);
+    }
     let mut out = page(!byte);
     file.read(number, &mut out)?;
     Ok(out == page(byte))

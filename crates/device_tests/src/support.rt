@@ -25,6 +25,16 @@ pub fn again(alloc: Global, disk: &MemDisk, stop: Option<u64>) -> Result<MemDisk
     disk.again(alloc, Vec::new(alloc), stop)
 }
 
+/// The same bytes on a device of which the call of that kind with that number fails.
+pub fn again_failing(
+    alloc: Global,
+    disk: &MemDisk,
+    call: Call,
+    number: u64,
+) -> Result<MemDisk, Refusal> {
+    disk.again(alloc, vec![in alloc; (call, number)]?, None)
+}
+
 /// What a crash leaves of a device.
 pub fn crash(alloc: Global, disk: &MemDisk, fill: u8) -> Result<MemDisk, Refusal> {
     disk.crash(alloc, fill)
