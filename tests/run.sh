@@ -81,6 +81,9 @@ beside words.sh "$tests/words/words.sh" "$program"
 beside judge python3 "$tests/judge/run.py" --program "$program" --seeds 1 6 --edges
 beside sums.py python3 "$tests/at_once/sums.py" "$program" 10
 beside at_once.py python3 "$tests/at_once/at_once.py" "$program" 100
+beside threads.py python3 "$tests/at_once/threads.py" "$program"
+beside rest.py python3 "$tests/at_once/rest.py" "$program"
+beside turns.py python3 "$tests/at_once/turns.py" "$program"
 if may_be_another; then
     beside no_threads.py python3 "$tests/at_once/no_threads.py" "$program"
 else

@@ -2,10 +2,14 @@
 """at_once.py PROGRAM [CYCLES [SEED]]: kills the program while eight sessions commit at once, and opens the store again
 each time.
 
-Every transaction moves a number from one row to another and declares a snapshot. So whatever was committed when a run
-ended, the sum over the table is what it was at first, now and as of each snapshot, and no snapshot that was seen, or
-told as committed by a run that was not killed, is lost; the last run is one of those, and is short. It works in a folder
-of its own under the current one, prints its seed first, and ends with status 1 at the first difference.
+Every transaction moves a number from one row to another and declares a snapshot, whose label names the session and the
+move. So whatever was committed when a run ended, the sum over the table is what it was at first, now and as of each
+snapshot, and no snapshot that was seen, or told as committed by a run that was not killed, is lost. The labels stand in
+the order of the commits: each session's moves in theirs, and of a run that was not killed those that its journal tells,
+in its order. They show what a kill came upon: there are more runs, up to twenty, until one was killed while two sessions
+at least had made some of their moves and not their last. The first run, which tells how long one takes, and the last,
+which is short, have all the time that they need. It works in a folder of its own under the current one, prints its seed
+first, and ends with status 1 at the first difference.
 """
 import os
 import random
@@ -15,22 +19,25 @@ import sys
 import tempfile
 import time
 
-ROWS, FIRST, SESSIONS, MOVES, FEW = 64, 1000, "abcdefgh", 60, 6
+ROWS, FIRST, SESSIONS, MOVES, FEW = 64, 1000, "abcdefgh", 40, 6
 
 # The longest that a run may take, in seconds, which is not killed.
 LONGEST = 110
+
+# So many runs more than asked for, where no kill came upon two sessions.
+MORE = 20
 
 
 def moving(moves):
     lines = ["PHASE"]
     for session in SESSIONS:
         lines.append(f"SESSION {session}")
-        for _ in range(moves):
+        for move in range(1, moves + 1):
             giver, taker = random.sample(range(ROWS), 2)
             much = random.randrange(1, 50)
             lines.append(f"UPDATE t SET v = v - {much} WHERE k = {giver}")
             lines.append(f"UPDATE t SET v = v + {much} WHERE k = {taker}")
-            lines.append("COMMIT WITH SNAPSHOT")
+            lines.append(f"COMMIT WITH SNAPSHOT '{session} {move}'")
     return lines
 
 
@@ -50,24 +57,54 @@ def run(program, lines, seconds):
             return None
 
 
-def newest_told(text):
-    """The newest snapshot that a run tells as committed."""
-    return max((int(line.split()[2]) for line in text.splitlines() if line.startswith("committed as ")), default=0)
+def told_in(text):
+    """The snapshots that a run which was not killed tells as committed, by the order of its journal, and who made each."""
+    lines = (line.split() for line in text.split("journal\n")[1].splitlines())
+    told = [(int(line[5]), f"{line[1]} {line[2]}") for line in lines if line[3:5] == ["done", "as"]]
+    replied = sorted(int(line.split()[2]) for line in text.splitlines() if line.startswith("committed as "))
+    assert replied == sorted(number for number, _ in told), "replies and journal"
+    return told
 
 
 def check(program, seen):
-    """The newest snapshot, behind a look at the table now and as of some snapshots."""
+    """The snapshots above those that were seen, with their labels, behind a look at the table now and as of some."""
     shown = subprocess.run([program, "show", "books"], capture_output=True, text=True, check=True, timeout=LONGEST).stdout
     newest = next(int(line.split()[1]) for line in shown.splitlines() if line.startswith("newest"))
     assert newest >= seen, (newest, seen)
     some = sorted({1, newest, *random.sample(range(1, newest + 1), min(6, newest))})
     asked = [f"SELECT AS OF {n} SUM(v) FROM t" for n in some]
-    text = run(program, ["PHASE", "SESSION a", "SELECT SUM(v) FROM t", "COMMIT", *asked], LONGEST)
+    made = f"SELECT * FROM SnapIds WHERE snap_id > {seen}"
+    text = run(program, ["PHASE", "SESSION a", "SELECT SUM(v) FROM t", "COMMIT", *asked, made], LONGEST)
     assert text is not None, "a look did not end"
-    lines = text.splitlines()
-    sums = [lines[at + 1] for at, line in enumerate(lines) if line == "rows 1"]
+    lines = text.split("journal\n")[0].splitlines()
+    ends = [at for at, line in enumerate(lines) if line.startswith("item ")][-1]
+    sums = [lines[at + 1] for at, line in enumerate(lines[:ends]) if line == "rows 1"]
     assert sums == [str(ROWS * FIRST)] * (1 + len(some)), (some, sums)
-    return newest
+    rows = [line.split(",") for line in lines[ends + 2 :]]
+    found = [(int(number), label) for number, label in rows]
+    assert [number for number, _ in found] == list(range(seen + 1, newest + 1)), (seen, newest, found)
+    return found
+
+
+def orders(found):
+    """The moves of each session, of which each was made behind those before it."""
+    moves = {session: [int(label.split()[1]) for _, label in found if label[0] == session] for session in SESSIONS}
+    assert all(those == sorted(set(those)) for those in moves.values()), moves
+    return moves
+
+
+def most_inside(found):
+    """How many sessions at most had made a move and not yet their last of those found."""
+    made = [label[0] for _, label in found]
+    spans = [(made.index(session), len(made) - 1 - made[::-1].index(session)) for session in set(made)]
+    return max((sum(first <= at < last for first, last in spans) for at in range(len(made))), default=0)
+
+
+def make(program):
+    subprocess.run([program, "format", "books", "256", "65536"], check=True, capture_output=True)
+    made = ",".join(f"({k},{FIRST})" for k in range(ROWS))
+    lines = ["PHASE", "SESSION a", "CREATE TABLE t(k INT, v INT)", f"INSERT INTO t VALUES {made}", "COMMIT WITH SNAPSHOT"]
+    assert run(program, lines, LONGEST) is not None, "the table was not made"
 
 
 def main():
@@ -75,20 +112,38 @@ def main():
     seed = int(sys.argv[3]) if len(sys.argv) > 3 else random.randrange(1 << 32)
     random.seed(seed)
     print(f"seed {seed}", flush=True)
-    killed, seen = 0, 1
+    runs, killed, upon, inside, seen = 0, 0, 0, 0, 1
     with tempfile.TemporaryDirectory(dir=".") as folder:
         os.chdir(folder)
-        subprocess.run([program, "format", "books", "256", "65536"], check=True, capture_output=True)
-        made = ",".join(f"({k},{FIRST})" for k in range(ROWS))
-        making = ["PHASE", "SESSION a", "CREATE TABLE t(k INT, v INT)", f"INSERT INTO t VALUES {made}", "COMMIT WITH SNAPSHOT"]
-        assert run(program, making, LONGEST) is not None, "the table was not made"
-        for left in reversed(range(cycles)):
-            text = run(program, moving(MOVES if left else FEW), random.uniform(0.05, 1.2) if left else LONGEST)
-            killed += text is None
-            seen = check(program, max(seen, newest_told(text or "")))
+        make(program)
+        span, is_last = LONGEST, False
+        while not is_last:
+            is_last = runs >= cycles - 1 and (upon > 0 or runs >= cycles + MORE)
+            # The first run tells how long one takes.
+            seconds = LONGEST if runs == 0 or is_last else min(LONGEST, random.uniform(0.05, 0.9) * span)
+            began = time.monotonic()
+            text = run(program, moving(FEW if is_last else MOVES), seconds)
+            took = time.monotonic() - began
+            found = check(program, seen)
+            moves = orders(found)
+            if text is None:
+                killed += 1
+                came = sum(0 < len(those) and those[-1] < MOVES for those in moves.values()) > 1
+                upon, inside = upon + came, max(inside, most_inside(found))
+                # A machine that is busier than it was takes longer.
+                span *= 1 if came else 1.5
+            else:
+                assert found == told_in(text), (found, told_in(text))
+                # A machine that is less busy than it was takes less.
+                span = min(span, took)
+            assert text is not None or not is_last, f"the last run did not end within {LONGEST} seconds"
+            runs, seen = runs + 1, seen + len(found)
         os.chdir("..")
-    assert 0 < killed < cycles and seen > 1, (killed, seen)
-    print(f"{cycles} runs of eight sessions, {killed} of them killed before their end; {seen} snapshots, each sum that was asked the same")
+    assert upon > 0 and inside > 1 and seen > 1, (killed, upon, inside, seen)
+    print(
+        f"{runs} runs of eight sessions, {killed} of them killed before their end, {upon} of these while two or more had made "
+        f"some of their moves, with {inside} at most inside one another; {seen} snapshots, each sum that was asked the same"
+    )
 
 
 main()
