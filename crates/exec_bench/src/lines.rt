@@ -22,6 +22,18 @@ pub const FULL: [&str; 16] = [
     "CREATE TABLE o(x INT)",
 ];
 
+/// A table of which all row numbers are given but the last two: what wants more is refused, and the next number is then none.
+pub const LAST_NUMBERS: [&str; 8] = [
+    "INSERT INTO t VALUES (1),(2),(3)",
+    "INSERT INTO t VALUES (1)",
+    "INSERT INTO t VALUES (2),(3)",
+    "INSERT INTO t VALUES (2)",
+    "INSERT INTO t VALUES (3)",
+    "UPDATE t SET k = k + 10",
+    "SELECT k FROM t",
+    "DELETE FROM t",
+];
+
 /// A row takes 819 bytes and those of its fifth text: 900 are the most.
 pub const LONG: [&str; 5] = [
     "CREATE TABLE t(a TEXT, b TEXT, c TEXT, d TEXT, e TEXT)",

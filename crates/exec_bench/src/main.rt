@@ -13,12 +13,13 @@ use retro_base::Failed;
 use std::alloc::Global;
 use std::env::{self, Env};
 use std::process::ExitCode;
-use stories::{compared, faults, large, many, replies_of, texts_indexed, wide};
+use stories::{compared, faults, large, last_numbers, many, replies_of, texts_indexed, wide};
 
 fn story(alloc: Global, out: &mut String) -> Result<(), Stop<Failed>> {
     replies_of(alloc, &FULL, out)?;
     replies_of(alloc, &LONG, out)?;
     replies_of(alloc, &REFUSED, out)?;
+    last_numbers(alloc, out)?;
     many(alloc, out)?;
     wide(alloc, out)?;
     texts_indexed(alloc, out)?;

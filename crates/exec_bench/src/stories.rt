@@ -4,8 +4,8 @@ use crate::both::{
     Both, Replies, nothing, over_pages, pages_text, parsed, plain_text, reply_twice, zero_pages,
 };
 use crate::lines::{
-    BIG, COMPARED, INDEXES, KEY, KEYED, KINDS, LARGE, LOOK_UPS, MANY, PAIRS, TEXTS, TWO_PAGES,
-    WALKS, WIDE,
+    BIG, COMPARED, INDEXES, KEY, KEYED, KINDS, LARGE, LAST_NUMBERS, LOOK_UPS, MANY, PAIRS, TEXTS,
+    TWO_PAGES, WALKS, WIDE,
 };
 use crate::texts::text_of;
 use pager::{MemPager, Pager, Stop};
@@ -17,6 +17,9 @@ use tables::{Reply, Tables};
 const ROWS: u32 = 10_000;
 /// How many of them one statement inserts.
 const TUPLES: u32 = 250;
+
+/// Where a table's first page has its next row number.
+const NEXT_NUMBER_PLACE: usize = 8;
 
 // The tables of so many rows.
 #[derive(Clone, Copy)]
@@ -33,7 +36,16 @@ fn reply(alloc: Global, line: &str, pager: &mut MemPager) -> Result<Reply, Stop<
 
 /// Each line with its reply over a store of sixteen pages; of a refused one also how many pages it edited.
 pub fn replies_of(alloc: Global, lines: &[&str], out: &mut String) -> Result<(), AllocError> {
-    let mut pager = zero_pages(alloc, 16)?;
+    replies_over(alloc, zero_pages(alloc, 16)?, lines, out)
+}
+
+// The same over these pages.
+fn replies_over(
+    alloc: Global,
+    mut pager: MemPager,
+    lines: &[&str],
+    out: &mut String,
+) -> Result<(), AllocError> {
     for line in lines {
         let before = pager.edits().len();
         let reply = reply(alloc, line, &mut pager);
@@ -47,6 +59,17 @@ pub fn replies_of(alloc: Global, lines: &[&str], out: &mut String) -> Result<(),
         out.push_str("\n")?;
     }
     Ok(())
+}
+
+/// The lines over a table whose next row number is the last but two.
+pub fn last_numbers(alloc: Global, out: &mut String) -> Result<(), Stop<Failed>> {
+    let mut pager = zero_pages(alloc, 16)?;
+    reply(alloc, "CREATE TABLE t(k INT)", &mut pager)?;
+    let mut pages = pager.pages().to_vec(alloc)?;
+    if let Some(first_of_t) = pages.get_mut(2) {
+        first_of_t.put_u64(NEXT_NUMBER_PLACE, u64::MAX - 2);
+    }
+    Ok(replies_over(alloc, failing_at(alloc, &pages, 0)?, &LAST_NUMBERS, out)?)
 }
 
 /// How many of the statements of all kinds there are, were refused, and were answered otherwise by plain tables.
