@@ -1,7 +1,7 @@
 //! Sixteen sessions that change tables of their own, all of them inside their items at once.
 
 use crate::devices::{formatted, run_at};
-use crate::held_up::{TURNS, told_gated, turn};
+use crate::held_up::{told_gated, wait};
 use crate::trial::Outcome;
 use retro_base::SESSIONS;
 use session::{Gate, Point};
@@ -71,18 +71,6 @@ impl<'a, R: Wait> AllHeld<'a, R> {
         }
     }
 
-    fn wait(&self) {
-        for _ in 0..TURNS {
-            if SESSIONS as u64 <= self.came.load(Ordering::SeqCst)
-                || self.ran_out.load(Ordering::SeqCst)
-            {
-                return;
-            }
-            turn(self.rt);
-        }
-        self.ran_out.store(true, Ordering::SeqCst);
-    }
-
     // Whether each came once: one that overlapped another comes again.
     fn each_came_once(&self) -> bool {
         self.came.load(Ordering::SeqCst) == SESSIONS as u64 && !self.ran_out.load(Ordering::SeqCst)
@@ -94,7 +82,7 @@ impl<'a, R: Wait> Gate for AllHeld<'a, R> {
         match (point, item) {
             (Point::BeforeCommit, 2) => {
                 self.came.fetch_add(1, Ordering::SeqCst);
-                self.wait();
+                wait(self.rt, &self.came, SESSIONS as u64, &self.ran_out);
             }
             _ => {}
         }

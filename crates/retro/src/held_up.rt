@@ -9,17 +9,28 @@ use retro_base::SESSIONS;
 use session::{Gate, Point};
 use std::alloc::{AllocError, Global};
 use std::sync::Wait;
-use std::sync::atomic::{AtomicBool, Ordering};
+use std::sync::atomic::{AtomicBool, AtomicU64, Ordering};
 use std::test::Fail;
 use std::thread::{Parker, Threads};
 use std::time::Duration;
 
-/// The most turns of a wait, of a millisecond each. The tests fail where one ran out.
-pub const TURNS: u32 = 20_000;
+// The most turns of a wait, of a millisecond each. The tests fail where one ran out.
+const TURNS: u32 = 20_000;
 
-/// Waits for a turn.
-pub fn turn<R: Wait>(rt: &R) {
+// Waits for a turn.
+fn turn<R: Wait>(rt: &R) {
     Parker::new().park_timeout(rt, Duration::from_millis(1));
+}
+
+/// Waits until so many are counted, and says where its turns ran out. Behind that nobody waits.
+pub fn wait<R: Wait>(rt: &R, counted: &AtomicU64, least: u64, ran_out: &AtomicBool) {
+    for _ in 0..TURNS {
+        if least <= counted.load(Ordering::SeqCst) || ran_out.load(Ordering::SeqCst) {
+            return;
+        }
+        turn(rt);
+    }
+    ran_out.store(true, Ordering::SeqCst);
 }
 
 // Places that a session has come to, and whether a wait for one ran out.

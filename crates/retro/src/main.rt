@@ -20,6 +20,8 @@ mod log_fault;
 mod memory;
 #[cfg(test)]
 mod moving;
+#[cfg(test)]
+mod overlapping;
 mod phases;
 mod program;
 #[cfg(test)]
