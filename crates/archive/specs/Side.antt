@@ -1,5 +1,6 @@
 -- The mappings of an archive, in memory and on their device.
-use Rattle.std.specs.Prelude.{◌≡◌, ◌⊎◌, ◌↔◌, ◌+◌, ◌-◌, ◌*◌, ◌<◌, ◌≤◌, ℕ, None, true, false, List, length, take, drop, max, Result, OnOk, OnErr, IfErr, MatchResult}
+use Rattle.std.specs.Prelude.{◌≡◌, ◌⊎◌, ◌↔◌, ◌+◌, ◌-◌, ◌*◌, ◌<◌, ◌≤◌, ℕ, None, true, false, List}
+use Rattle.std.specs.Prelude.{length, take, drop, max, Result, OnOk, OnErr, IfErr, MatchResult}
 use Rattle.std.specs.List.{AllByRecursion}
 use Rattle.disk_model.specs.Disk.{State, IsImage}
 use Rattle.disk_model.specs.Moments.{Clock, LeavesOnly}

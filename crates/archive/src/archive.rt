@@ -1,6 +1,7 @@
 //! The archive: a batch is laid and entered, mappings are trimmed, the page image of a first mapping is found.
 
-ghost use Rattle.std.specs.Prelude.{◌≡◌, ◌+◌, ◌*◌, ◌<◌, ◌≤◌, ◌^◌, None, false, is_some, length, max, Ok, OnOk, OnErr, IfOk, IfErr, MatchResult};
+ghost use Rattle.std.specs.Prelude.{◌≡◌, ◌+◌, ◌*◌, ◌<◌, ◌≤◌, ◌^◌, None, false, is_some};
+ghost use Rattle.std.specs.Prelude.{length, max, Ok, OnOk, OnErr, IfOk, IfErr, MatchResult};
 ghost use Rattle.disk_model.specs.Moments.{LeavesOnly};
 ghost use Rattle.disk_model.specs.Runs.{OnlyReads};
 ghost use Rattle.retro_base.specs.declared.device.Device.TheVariants.{Maplog as OfMaplog, Pagelog as OfPagelog};

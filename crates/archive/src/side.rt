@@ -1,6 +1,7 @@
 //! The mappings of an archive, in memory and on their device.
 
-ghost use Rattle.std.specs.Prelude.{◌≡◌, ◌+◌, ◌-◌, ◌*◌, ◌<◌, ◌≤◌, ◌∷◌, [], None, false, length, max, Ok, OnOk, OnErr, IfOk, IfErr, MatchResult};
+ghost use Rattle.std.specs.Prelude.{◌≡◌, ◌+◌, ◌-◌, ◌*◌, ◌<◌, ◌≤◌, ◌∷◌, [], None, false};
+ghost use Rattle.std.specs.Prelude.{length, max, Ok, OnOk, OnErr, IfOk, IfErr, MatchResult};
 ghost use Rattle.retro_base.specs.declared.limits.TheConstants.{BATCH};
 ghost use Rattle.gate_log.specs.Cause.{HasRoom};
 ghost use Rattle.history.specs.Writes.{pages_of};
@@ -15,7 +16,9 @@ ghost use Rattle.archive.specs.Cause.{FaultsOrMemory};
 ghost use Rattle.archive.specs.Fetching.{kept_mappings};
 ghost use Rattle.archive.specs.Finding.{below, Covers};
 ghost use Rattle.retro_base.specs.declared.refusal.Refusal.TheVariants.{OutOfMemory};
-ghost use Rattle.archive.specs.Side.{AddsRun, EntersBatch, IsEntering, IsMapSide, IsNextBatch, Lowers, MapsBehind, Moves, SameSide, StaysInPlace, stopped_with, TrimmedAtMost, with_mappings, WritesNoMark};
+ghost use Rattle.archive.specs.Side.{AddsRun, EntersBatch, IsEntering, IsMapSide, IsNextBatch};
+ghost use Rattle.archive.specs.Side.{Lowers, MapsBehind, Moves, SameSide, StaysInPlace};
+ghost use Rattle.archive.specs.Side.{stopped_with, TrimmedAtMost, with_mappings, WritesNoMark};
 
 use disk_model::Disk;
 use map_log::MapLog;

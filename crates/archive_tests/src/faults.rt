@@ -29,8 +29,8 @@ use Answer::{Broke, Is, IsNone, NotAsked, Stopped, Unread};
 
 // A call of a device, numbered among those of its kind, fails in this sequence on an archive of captures 0 and 1: two
 // captures more are laid (it tells below which number slots are), and entered (how many captures are) behind a low of
-// 1; page 1 is found from 1 on, and page 3; mappings below 2 are forgotten (it tells the lowest); page 2 is found from 2
-// on. Then these mappings are kept.
+// 1; page 1 is found from 1 on, and page 3; mappings below 2 are forgotten (it tells the lowest); page 2 is found from
+// 2 on. Then these mappings are kept.
 type Row = (Device, Call, u64, [Answer; 6], &'static [(u64, u32)]);
 
 const UNLAID: [Answer; 6] = [Broke, NotAsked, Is(2), IsNone, Stopped, IsNone];

@@ -24,8 +24,8 @@ enum Act {
 type Kept = (u64, u64);
 
 // So many calls of the Pagelog and of the Maplog succeed, and all later ones fail; whether the act is then done; and
-// what is kept on images where the loose bytes become 0x00, 0xa5 and 0xff. An opening is a sync, and for the Maplog three
-// reads.
+// what is kept on images where the loose bytes become 0x00, 0xa5 and 0xff. An opening is a sync, and for the Maplog
+// three reads.
 type Row = (Option<u64>, Option<u64>, bool, [Kept; 3]);
 
 const TWO_MORE: [Row; 13] = [
@@ -56,8 +56,8 @@ const TRIM: [Row; 5] = [
 ];
 
 // Behind the list's 36 bytes stand 64 runs of one page of 20 bytes each, and for each later one a low mark of 14 and a
-// run. A mark and a run need 35 bytes with the gate behind them, and the half has 6,144: so they fit behind 204 captures,
-// at place 6,076, and not behind 205, at place 6,110.
+// run. A mark and a run need 35 bytes with the gate behind them, and the half has 6,144: so they fit behind 204
+// captures, at place 6,076, and not behind 205, at place 6,110.
 const UNTIL_FULL: u64 = 205;
 
 const REWRITE: [Row; 9] = [

@@ -56,7 +56,7 @@ pub either_at_rest : (area : Area) (bodies new : List (List ℕ)) (state : State
 either_at_rest area bodies new state holds image is = record { whole = whole_at_rest area bodies state holds image is; lists = inl (at_rest area bodies state holds image is) }
 
 -- as a log of the half that counts it holds the same
-pub holds_log : (area : Area) (bodies : List (List ℕ)) (state : State) → Holds area bodies state → log.Holds area.log bodies state
+pub holds_log : (area : Area) (bodies : List (List ℕ)) (state : State) → Holds area bodies state → log.HoldsBodies area.log bodies state
 holds_log area bodies state holds = record { lists = holds.lists; gate = holds.gate; durable = λ i low high. holds.durable i }
 
 module _ (area : Area) (bodies : List (List ℕ)) (state : State) (holds : Holds area bodies state) where
@@ -116,7 +116,7 @@ module _ (area : Area) (bodies : List (List ℕ)) (state : State) (holds : Holds
         ];
       }
 
-  pub holds_appended : (body : List ℕ) → HasRoom area.log (length body) → (new : State) → Appending area.log bodies body state new.seen → log.Holds (after_append area.log body true) (bodies ++ body ∷ []) new → IsDurable new
+  pub holds_appended : (body : List ℕ) → HasRoom area.log (length body) → (new : State) → Appending area.log bodies body state new.seen → log.HoldsBodies (after_append area.log body true) (bodies ++ body ∷ []) new → IsDurable new
       → Holds (appended area body) (bodies ++ body ∷ []) new
   holds_appended body room new is more durable =
       let same = outside_alone state (place + area.log.gate) (length body + 6) state.seen new.seen holds.durable is.same in

@@ -1,6 +1,7 @@
 //! The headers of the two halves, and which half counts.
 
-ghost use Rattle.std.specs.Prelude.{◌≡◌, ◌≤◌, ◌<◌, ◌+◌, ◌*◌, ◌↔◌, ℕ, List, IsTrue, IfOk, IfSome, MatchOption, MatchResult};
+ghost use Rattle.std.specs.Prelude.{◌≡◌, ◌≤◌, ◌<◌, ◌+◌, ◌*◌, ◌↔◌, ℕ, List, IsTrue};
+ghost use Rattle.std.specs.Prelude.{IfOk, IfSome, MatchOption, MatchResult};
 ghost use Rattle.disk_model.specs.Runs.{OnlyReads, SameDevice};
 ghost use Rattle.retro_base.specs.Framing.{next_generation};
 ghost use Rattle.retro_base.specs.Cause.{FaultsAlone};

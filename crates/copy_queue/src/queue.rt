@@ -1,6 +1,7 @@
 //! The captures that the archive is not known to hold, in order and by page.
 
-ghost use Rattle.std.specs.Prelude.{◌≡◌, ◌==◌, ◌≤◌, ◌<◌, ◌+◌, ◌-◌, ◌++◌, ◌∷◌, [], max, length, take, drop, slice_index_or, OnOk, OnErr, IfErr};
+ghost use Rattle.std.specs.Prelude.{◌≡◌, ◌==◌, ◌≤◌, ◌<◌, ◌+◌, ◌-◌, ◌++◌, ◌∷◌, [], max};
+ghost use Rattle.std.specs.Prelude.{length, take, drop, slice_index_or, OnOk, OnErr, IfErr};
 ghost use Rattle.retro_base.specs.FirstMet.{first_met};
 ghost use Rattle.retro_base.specs.declared.limits.TheConstants.{MAX_CAPTURES};
 ghost use Rattle.retro_base.specs.declared.refusal.Refusal.TheVariants.{OutOfMemory};

@@ -173,8 +173,8 @@ const CUT_FAILS: [Other; 6] = [
     (29, NOT_ASKED),
 ];
 
-// The read fails: the transaction keeps it, and stays open. Nothing is stopped; there is no second snapshot, and nothing
-// to copy or to write back.
+// The read fails: the transaction keeps it, and stays open. Nothing is stopped; there is no second snapshot, and
+// nothing to copy or to write back.
 const READ_FAILS: [Other; 14] = [
     (5, PAGES_FAULT),
     (6, PAGES_FAULT),
@@ -298,9 +298,9 @@ fn line(fails: Fails) -> (Who, Said) {
 // A call of a device, by its kind and its number among those of its kind.
 pub type Failing = (Device, Call, u64);
 
-// An opening is a sync and three reads of the log, and a sync of the pages. A commit, with a mark or without, is a write,
-// a sync, a write and a sync of the log; so is a drop, and the first cut. The second closes the other half before, by a
-// write and a sync.
+// An opening is a sync and three reads of the log, and a sync of the pages. A commit, with a mark or without, is a
+// write, a sync, a write and a sync of the log; so is a drop, and the first cut. The second closes the other half
+// before, by a write and a sync.
 const CASES: [(Failing, Fails); 40] = [
     ((LOG, Call::Write, 1), Fails::FirstCommit),
     ((LOG, Call::Sync, 2), Fails::FirstCommit),

@@ -223,8 +223,8 @@ fn three_openings_declare_65536_snapshots(rt: HostRuntime) -> Result<(), Fail> {
     Ok(())
 }
 
-// A header of 16 bytes, a base of 39 and its five. A commit of 1,024 pages takes 1,050,633 bytes of the region, one of 991
-// takes 1,016,775, and one without pages or a label ten.
+// A header of 16 bytes, a base of 39 and its five. A commit of 1,024 pages takes 1,050,633 bytes of the region, one of
+// 991 takes 1,016,775, and one without pages or a label ten.
 const FILLED: [Row; 5] = [
     BEGINS,
     (Ask::EditAll(A, 0, 991, 3), Answer::Done),

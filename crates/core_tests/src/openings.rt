@@ -25,7 +25,8 @@ const OPENINGS: [Failing; 7] = [
 // Of an empty store it reads no page.
 const OF_AN_EMPTY_STORE: usize = 5;
 
-// How many rows of the sequence leave these two captures, of which none was copied, and two pages that were not written.
+// How many rows of the sequence leave these two captures, of which none was copied, and two pages that were not
+// written.
 const CHANGES: usize = 9;
 
 const STANDS: [Row; 1] = [(Ask::Owed, Answer::Pair(2, 2))];
@@ -62,7 +63,8 @@ fn first_opened(
     Ok(None)
 }
 
-// Whether each of its calls refuses the opening of an empty store, and of one that was changed, which opens where none fails.
+// Whether each of its calls refuses the opening of an empty store, and of one that was changed, which opens where none
+// fails.
 fn are_refused(alloc: Global) -> Result<bool, Refusal> {
     let empty = devices(alloc, 16, 64)?;
     let opened = first_opened(alloc, &empty, &OPENINGS[..OF_AN_EMPTY_STORE])?;

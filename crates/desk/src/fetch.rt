@@ -1,6 +1,7 @@
 //! The desk that its devices open to.
 
-ghost use Rattle.std.specs.Prelude.{◌≡◌, ◌<◌, ◌++◌, ◌∷◌, ◌⊎◌, ◌↔◌, ◌&&◌, ◌||◌, ◌-◌, ◌*◌, [], drop, false, None, not, ℕ, Bool, List, OnOk, IfErr, IfOk, MatchResult};
+ghost use Rattle.std.specs.Prelude.{◌≡◌, ◌<◌, ◌++◌, ◌∷◌, ◌⊎◌, ◌↔◌, ◌&&◌, ◌||◌, ◌-◌, ◌*◌, [], drop};
+ghost use Rattle.std.specs.Prelude.{false, None, not, ℕ, Bool, List, OnOk, IfErr, IfOk, MatchResult};
 ghost use Rattle.std.specs.List.{AllByRecursion};
 ghost use Rattle.disk_model.specs.Runs.{OnlyReads, SameDevice, WritesNothing};
 ghost use Rattle.retro_base.specs.Cause.{IsFault};
@@ -18,7 +19,8 @@ ghost use Rattle.race_model.specs.Reopened.{opened_desk};
 ghost use Rattle.redo_log.specs.Side.{IsLogSide};
 ghost use Rattle.replay.specs.Joined.{AreJoined};
 ghost use Rattle.desk.specs.Desk.{IsDesk, IsWhole};
-ghost use Rattle.desk.specs.Fetched.{ArePagesUnread, contents_of, FetchesDesk, IsLogUnread, IsMemoryOf, IsPagesRefusal, IsReadable, IsRedone, IsSizeRefusal, ReadsBytes};
+ghost use Rattle.desk.specs.Fetched.{ArePagesUnread, contents_of, FetchesDesk, IsLogUnread, IsMemoryOf};
+ghost use Rattle.desk.specs.Fetched.{IsPagesRefusal, IsReadable, IsRedone, IsSizeRefusal, ReadsBytes};
 
 use crate::change::{enter, label_of, pre_states, writes_of};
 use crate::desk::{Passed, RunningDesk};

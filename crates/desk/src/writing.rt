@@ -1,6 +1,7 @@
 //! Pages written back, and the log cut.
 
-ghost use Rattle.std.specs.Prelude.{◌≡◌, ◌<◌, true, false, None, Some, ℕ, Bool, List, IfOk, IfErr, MatchOption, MatchResult, OnErr, OnOk};
+ghost use Rattle.std.specs.Prelude.{◌≡◌, ◌<◌, true, false, None, Some, ℕ, Bool, List};
+ghost use Rattle.std.specs.Prelude.{IfOk, IfErr, MatchOption, MatchResult, OnErr, OnOk};
 ghost use Rattle.std.specs.Option.{option_or};
 ghost use Rattle.block_file.specs.Blocks.{IsAsLong, SameFile};
 ghost use Rattle.disk_model.specs.Moments.{LeavesOnly};
@@ -12,7 +13,8 @@ ghost use Rattle.history.specs.Writes.{pages_of, is_among};
 ghost use Rattle.page_pool.specs.Side.{HoldsSame, soiled};
 ghost use Rattle.race_model.specs.Desk.{Desk};
 ghost use Rattle.race_model.specs.Fits.{DeskFits};
-ghost use Rattle.race_model.specs.Machine.{cut, cut_failed, MayCut, MayWrite, settled, stopped, write_failed, written_desk};
+ghost use Rattle.race_model.specs.Machine.{cut, cut_failed, MayCut, MayWrite, settled};
+ghost use Rattle.race_model.specs.Machine.{stopped, write_failed, written_desk};
 ghost use Rattle.redo_log.specs.Cause.{IsMemoryOrFault};
 ghost use Rattle.desk.specs.Cause.{IsWriteRefusal, stop_behind};
 ghost use Rattle.desk.specs.Desk.{HoldsPagesOf, IsDesk, IsWhole, ListsLogOf};
@@ -102,11 +104,11 @@ impl<D: Disk + Drop> RunningDesk<D> {
     }
 
     /// Writes back the least dirty page all of whose captures are acknowledged; false exactly where there is none.
-    /// A dirty page that waits for a capture costs a look-up to pass. Between two acknowledgements the calls that answer
-    /// true pass each such page once, and once more for each commit that makes a lower page one that may be written. A
-    /// call that answers false passes all that wait behind the last one written, each time.
-    /// It is refused, in this order, after the first fault, which is told, and exactly where a call of the pages'
-    /// device failed: then the page may have any bytes there, and the desk has stopped.
+    /// A dirty page that waits for a capture costs a look-up to pass. Between two acknowledgements the calls that
+    /// answer true pass each such page once, and once more for each commit that makes a lower page one that may be
+    /// written. A call that answers false passes all that wait behind the last one written, each time. It is refused,
+    /// in this order, after the first fault, which is told, and exactly where a call of the pages' device failed: then
+    /// the page may have any bytes there, and the desk has stopped.
     pub fn write_back(&mut self) -> Result<bool, Refusal>
         requires whole { IsWhole D.is_honest D.state self.old }
         ensures whole { IsWhole D.is_honest D.state self.new }

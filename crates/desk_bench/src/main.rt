@@ -1,7 +1,7 @@
-//! What the calls of a desk cost, by how many lines its journal has, how many snapshots are retained, how many pages were
-//! changed and wait for their captures, and how many pages there are: each call is made so often in a function of its own.
-//! With four numbers, as `60000 10 100 200`, at that many lines, snapshots, changed pages and pages; with no words at few of
-//! each, and at many. What the calls did is told.
+//! What the calls of a desk cost, by how many lines its journal has, how many snapshots are retained, how many pages
+//! were changed and wait for their captures, and how many pages there are: each call is made so often in a function of
+//! its own. With four numbers, as `60000 10 100 200`, at that many lines, snapshots, changed pages and pages; with no
+//! words at few of each, and at many. What the calls did is told.
 #![tactic(auto)]
 
 mod measured;

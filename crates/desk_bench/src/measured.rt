@@ -169,8 +169,8 @@ fn copy_some<D: Disk + Drop>(trial: &mut Trial<D>, batch: &mut Batch) -> Result<
     Ok(FEWER)
 }
 
-// Writes pages back behind others that wait for their captures: all of them in one function, since one like `write_back`
-// would be folded with it.
+// Writes pages back behind others that wait for their captures: all of them in one function, since one like
+// `write_back` would be folded with it.
 #[inline(never)]
 fn write_behind<D: Disk + Drop>(trial: &mut Trial<D>) -> Result<u32, Refusal> {
     for count in 0..BEHIND {

@@ -9,7 +9,8 @@ const OPEN: u8 = 0xa5;
 
 const CLOSED: u8 = 0;
 
-// The gates and generations of the two halves, and how many bodies the log is of: the first half has one, the other two.
+// The gates and generations of the two halves, and how many bodies the log is of: the first half has one, the other
+// two.
 const HALVES: [((u8, u64), (u8, u64), Option<usize>); 8] = [
     ((CLOSED, 1), (CLOSED, 0), None),
     ((OPEN, 1), (CLOSED, 2), Some(1)),

@@ -54,7 +54,8 @@ pub fn replace_on(
 /// Writes a page. Each crash within it leaves every other settled page as it was.
 pub fn write_on(file: &mut PageFile<MemDisk>, page: u32, bytes: &Page) -> Result<(), Refusal>
     requires { page < file.old.blocks }
-    ensures cause { FaultsAlone Pages (⟦<MemDisk as Disk>⟧.faults file.old.disk) (⟦<MemDisk as Disk>⟧.faults file.new.disk) result }
+    ensures cause { FaultsAlone Pages (⟦<MemDisk as Disk>⟧.faults file.old.disk)
+        (⟦<MemDisk as Disk>⟧.faults file.new.disk) result }
     ensures written { OnOk result (block_at (state_of file.new.disk.past).seen page ≡ bytes.now) }
     ensures left { EachLeft file.old.disk file.new.disk
         (KeepsSettled (λ other. other ≡ page) (state_of file.old.disk.past)) }

@@ -1,6 +1,7 @@
 //! A device that fails and stops as a test says.
 
-ghost use Rattle.std.specs.Prelude.{◌≡◌, ◌≤◌, ◌↔◌, [], ◌+◌, length, take, drop, replicate, refl, None, IfOk, IfErr, IsErr, OnOk, OnErr};
+ghost use Rattle.std.specs.Prelude.{◌≡◌, ◌≤◌, ◌↔◌, [], ◌+◌, length, take, drop, replicate};
+ghost use Rattle.std.specs.Prelude.{refl, None, IfOk, IfErr, IsErr, OnOk, OnErr};
 ghost use Rattle.disk_mem.specs.Disks.{called, failed, fresh, MustFail, settled, with_step, WriteFailed};
 ghost use Rattle.disk_mem.specs.History.{clock_of, Filled, state_of, TakenFrom};
 ghost use Rattle.disk_mem.specs.Plan.{made};

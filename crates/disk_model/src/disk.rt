@@ -5,8 +5,8 @@ ghost use Rattle.disk_model.specs.Cause.{HasCause};
 ghost use Rattle.disk_model.specs.Disk.{IsImage, Reads, State, Syncs, Writes};
 ghost use Rattle.disk_model.specs.Moments.{Clock, Elapses};
 
-/// A call of a device failed. This crate stands on no other, so that the longest chain of crates stays eight: so it has a
-/// `Failed` of its own, beside that of `retro_base` for sources and sinks, and its own words for the cause of a fault
+/// A call of a device failed. This crate stands on no other, so that the longest chain of crates stays eight: so it has
+/// a `Failed` of its own, beside that of `retro_base` for sources and sinks, and its own words for the cause of a fault
 /// (specs/Cause.antt).
 #[derive(Clone, Copy, Debug, PartialEq, Eq)]
 pub struct Failed;

@@ -14,7 +14,7 @@ use Rattle.sql_tree.specs.declared.name.ColumnName.{ColumnName}
 use Rattle.sql_tree.specs.declared.schema.TableSchema.{TableSchema}
 use Rattle.sql_tree.specs.Condition as condition_tree
 use Rattle.sql_tree.specs.Condition.{ConditionTree}
-use Rattle.sql_tree.specs.Evaluation.{column_value, compared, is_true, known, operand_value, snapshot_value, value_at as value_in, value_of}
+use Rattle.sql_tree.specs.Evaluation.{column_value, compared, is_true, found_value, operand_value, snapshot_value, value_at as value_in, value_of}
 use Rattle.sql_tree.specs.Expression.{ExpressionTree, postfix}
 use Rattle.sql_tree.specs.Scope.{place_of}
 use Rattle.sql_tree.specs.Steps.{judge, judged, last, pushed, run, stepped}
@@ -27,7 +27,7 @@ use Rattle.evaluation.specs.Bound.{at_place, bound_condition_step, bound_step, c
 use Rattle.evaluation.proofs.Running.{truth_is, value_is}
 
 module _ (scope : List TableSchema) (n : Option ℕ) (row : List Value) where
-  at_place-value : (place : Option ℕ) → source_value (at_place place) row ≡ known (value_in row place)
+  at_place-value : (place : Option ℕ) → source_value (at_place place) row ≡ found_value (value_in row place)
   at_place-value None = refl
   at_place-value (Some place) = refl
 

@@ -1,6 +1,7 @@
 -- Steps over places in place of names. No promise above cites more of it than `seen`, `source_value`, `value_at` and
 -- `truth_at`.
-use Rattle.std.specs.Prelude.{◌&&◌, ◌||◌, ℕ, pos, Bool, not, Option, Some, None, List, [], ◌∷◌, Result, Ok, Err, slice_get}
+use Rattle.std.specs.Prelude.{◌&&◌, ◌||◌, ℕ, pos, Bool, not, Option, Some, None}
+use Rattle.std.specs.Prelude.{List, [], ◌∷◌, Result, Ok, Err, slice_get}
 use denote.Ref.{Bor}
 use Rattle.retro_base.specs.Gives.{◌>>=◌}
 use Rattle.retro_base.specs.declared.refusal.Refusal.{Refusal}
@@ -16,7 +17,7 @@ use Rattle.sql_tree.specs.declared.expression.ExpressionStep.{ExpressionStep}
 use Rattle.sql_tree.specs.declared.expression.ExpressionStep.TheVariants as step
 use Rattle.sql_tree.specs.declared.name.ColumnName.{ColumnName}
 use Rattle.sql_tree.specs.declared.schema.TableSchema.{TableSchema}
-use Rattle.sql_tree.specs.Evaluation.{compared, known}
+use Rattle.sql_tree.specs.Evaluation.{compared, found_value}
 use Rattle.sql_tree.specs.Scope.{place_of}
 use Rattle.sql_tree.specs.Steps.{apply_top, last, one_truth, pushed, two_truths}
 use Rattle.evaluation.specs.declared.condition.BoundCondition.{BoundCondition}
@@ -60,7 +61,7 @@ operand_source scope snapshot operand.CurrentSnapshot = snapshot_source snapshot
 -- the value at a row
 abbrev pub source_value : Source → List Value → Result Value Refusal
 source_value (Constant value) row = Ok value
-source_value (Place place) row = known (slice_get row place)
+source_value (Place place) row = found_value (slice_get row place)
 source_value Unknown row = Err UnknownName
 
 -- a step of an expression, and what it does

@@ -36,8 +36,8 @@ pub struct BoundCondition {
 }
 
 impl BoundCondition {
-    /// The condition over the columns of a scope; `snapshot` is the number of `current_snapshot()`. A name that stands for
-    /// nothing is refused at a row.
+    /// The condition over the columns of a scope; `snapshot` is the number of `current_snapshot()`. A name that stands
+    /// for nothing is refused at a row.
     pub fn bind(
         alloc: Global,
         scope: &Scope<'_>,

@@ -30,8 +30,8 @@ pub struct BoundExpression {
 }
 
 impl BoundExpression {
-    /// The expression over the columns of a scope; `snapshot` is the number of `current_snapshot()`. A name that stands for
-    /// nothing is refused at a row.
+    /// The expression over the columns of a scope; `snapshot` is the number of `current_snapshot()`. A name that stands
+    /// for nothing is refused at a row.
     pub fn bind(
         alloc: Global,
         scope: &Scope<'_>,
@@ -44,9 +44,9 @@ impl BoundExpression {
         Ok(BoundExpression { steps })
     }
 
-    /// The value at a row. `stack` may hold anything. Refused for want of memory, or for the first of these, left before
-    /// right: UnknownName at a column that is not there, or a snapshot's number where there is none; WrongType at an
-    /// operator over a text; Overflow at a result outside i64.
+    /// The value at a row. `stack` may hold anything. Refused for want of memory, or for the first of these, left
+    /// before right: UnknownName at a column that is not there, or a snapshot's number where there is none; WrongType
+    /// at an operator over a text; Overflow at a result outside i64.
     pub fn worked<'a>(
         &'a self,
         alloc: Global,

@@ -8,8 +8,8 @@ use std::alloc::{AllocError, Global};
 use std::marker::Model;
 use values::{Duplicate, Row, Seq, Value};
 
-/// A row of one table, or a row of it beside one of another. Contracts see the values, those of the first before those of
-/// the second.
+/// A row of one table, or a row of it beside one of another. Contracts see the values, those of the first before those
+/// of the second.
 #[derive(Debug, Drop)]
 pub struct JoinedRow<'a> {
     first: &'a [Value],

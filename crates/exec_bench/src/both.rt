@@ -41,7 +41,8 @@ pub fn nothing(alloc: Global, count: u16) -> Result<Both, AllocError> {
     Ok(Both { pages, plain })
 }
 
-/// The line with `~` spelled out as a hundred letters, `^` as a hundred of the greatest byte and `#` as thirty-one letters.
+/// The line with `~` spelled out as a hundred letters, `^` as a hundred of the greatest byte and `#` as thirty-one
+/// letters.
 pub fn spelled(alloc: Global, line: &str) -> Result<Vec<u8>, AllocError> {
     let mut bytes = Vec::new(alloc);
     for byte in line.as_bytes() {

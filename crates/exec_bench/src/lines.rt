@@ -1,8 +1,8 @@
 //! The statements. In each `~` stands for a hundred letters, `^` for a hundred of the greatest byte, and `#` for
 //! thirty-one letters.
 
-/// In sixteen pages the catalog's first page tells thirteen tables, and one page is free. A fourteenth table needs two, and
-/// so does an index: one for its row, and its root page.
+/// In sixteen pages the catalog's first page tells thirteen tables, and one page is free. A fourteenth table needs two,
+/// and so does an index: one for its row, and its root page.
 pub const FULL: [&str; 16] = [
     "CREATE TABLE a(x INT)",
     "CREATE TABLE b(x INT)",
@@ -22,7 +22,7 @@ pub const FULL: [&str; 16] = [
     "CREATE TABLE o(x INT)",
 ];
 
-/// A table of which all row numbers are given but the last two: what wants more is refused, and the next number is then none.
+/// A table of which all row numbers are given but the last two: an INSERT that wants more than are left is refused.
 pub const LAST_NUMBERS: [&str; 8] = [
     "INSERT INTO t VALUES (1),(2),(3)",
     "INSERT INTO t VALUES (1)",
@@ -149,7 +149,8 @@ pub const BIG: [&str; 1] = ["CREATE TABLE big(k INT, g INT, p TEXT)"];
 /// One whose rows are pairs of numbers.
 pub const PAIRS: [&str; 1] = ["CREATE TABLE pairs(k INT, v INT)"];
 
-/// Statements over the pairs whose costs are compared: a filter, a sum, a grouping, and an UPDATE of one row in a hundred.
+/// Statements over the pairs whose costs are compared: a filter, a sum, a grouping, and an UPDATE of one row in a
+/// hundred.
 pub const COMPARED: [&str; 4] = [
     "SELECT v FROM pairs WHERE k = 3 AND v < 500",
     "SELECT SUM(v) FROM pairs",

@@ -1,5 +1,5 @@
-//! Statements over pages in memory: what they reply at the limits, beside plain tables, over ten thousand rows, and when a
-//! call fails. With a word only those whose costs over pages and over plain tables are compared.
+//! Statements over pages in memory: what they reply at the limits, beside plain tables, over ten thousand rows, and
+//! when a call fails. With a word only those whose costs over pages and over plain tables are compared.
 #![tactic(auto)]
 
 mod both;

@@ -128,8 +128,8 @@ pub fn texts_indexed(alloc: Global, out: &mut String) -> Result<(), Refusal> {
     agreed(alloc, &TEXTS, &mut both, out)
 }
 
-// The tuple of that number: of the large table a row of sixty bytes, of the other a pair of which a hundred differ in the
-// first.
+// The tuple of that number: of the large table a row of sixty bytes, of the other a pair of which a hundred differ in
+// the first.
 fn tuple(alloc: Global, table: Table, number: u32) -> Result<String, AllocError> {
     match table {
         Table::Big => {
@@ -189,8 +189,8 @@ fn filled(
     Ok(both)
 }
 
-/// The statements whose costs are compared: first all over plain tables, so that none of those has to tidy memory that one
-/// over pages gave back.
+/// The statements whose costs are compared: first all over plain tables, so that none of those has to tidy memory that
+/// one over pages gave back.
 pub fn compared(alloc: Global, out: &mut String) -> Result<(), Refusal> {
     let mut both = filled(alloc, 500, Table::Pairs, &PAIRS, out)?;
     let plain = plain_replies(alloc, &mut both.plain)?;
@@ -289,7 +289,8 @@ fn edits_of(alloc: Global, pages: &[Page], line: &str) -> Result<usize, Stop<Fai
     Ok(pager.edits().len())
 }
 
-// Whether the call of that number comes, fails, and its fault is what the statement ends by; false where the statement succeeds.
+// Whether the call of that number comes, fails, and its fault is what the statement ends by; false where the statement
+// succeeds.
 fn fault_comes_out(
     alloc: Global,
     pages: &[Page],
@@ -305,7 +306,8 @@ fn fault_comes_out(
     }
 }
 
-// How many calls a statement makes, where the fault of each comes out, and the statement then succeeds on a fresh pager.
+// How many calls a statement makes, where the fault of each comes out, and the statement then succeeds on a fresh
+// pager.
 fn calls_of(alloc: Global, pages: &[Page], line: &str) -> Result<usize, Stop<Failed>> {
     let mut calls = 0_usize;
     for call in 1..1000 {
@@ -318,7 +320,8 @@ fn calls_of(alloc: Global, pages: &[Page], line: &str) -> Result<usize, Stop<Fai
     Err(Stop::Refused(Refusal::BadSizes))
 }
 
-/// For each kind of statement: how many edits it makes, and whether the fault of each edit and of two reads or more came out.
+/// For each kind of statement: how many edits it makes, and whether the fault of each edit and of two reads or more
+/// came out.
 pub fn faults(alloc: Global, out: &mut String) -> Result<(), Stop<Failed>> {
     kinds(alloc, &two_pages(alloc, &[])?, &KINDS, out)?;
     kinds(alloc, &two_pages(alloc, &[KEY])?, &KEYED, out)

@@ -77,7 +77,8 @@ impl<W: Write> Sink for StdSink<W> {
         ensures cause { HasCause self.old.faults self.new.faults result }
 
         // The writer was given what is reported, where that is known, and was flushed.
-        ensures writes { IfOk result (λ n. Appends (W.contents self.old.writer) (W.contents self.new.writer) (take n bytes.now)) }
+        ensures writes { IfOk result (λ n. Appends (W.contents self.old.writer) (W.contents self.new.writer)
+            (take n bytes.now)) }
     {
         if let Ok(taken) = self.writer.write(bytes)
             && taken > 0

@@ -59,8 +59,14 @@ impl Sink for MemSink {
         // The listed calls fail, and else only those for which there is no memory.
         ensures listed { Contains self.old.failing (raised self.old.calls) → IsErr result }
         ensures all { IfOk result (λ n. n ≡ length bytes.now) }
-        ensures ok { OnOk result (self.new ≡ record self.old { bytes = self.old.bytes ++ bytes.now; calls = raised self.old.calls }) }
-        ensures err { OnErr result (self.new ≡ record self.old { calls = raised self.old.calls; faults = raised self.old.faults }) }
+        ensures ok { OnOk result (self.new ≡ record self.old {
+          bytes = self.old.bytes ++ bytes.now;
+          calls = raised self.old.calls;
+        }) }
+        ensures err { OnErr result (self.new ≡ record self.old {
+          calls = raised self.old.calls;
+          faults = raised self.old.faults;
+        }) }
         ensures cause { HasCause self.old.faults self.new.faults result }
     {
         if self.schedule.fails() {

@@ -56,8 +56,14 @@ impl Source for MemSource {
         ensures listed { IsErr result ↔ Contains self.old.failing (raised self.old.calls) }
         ensures most { IfOk result (λ n. n ≡ min (length self.old.bytes) (length out.old)) }
         ensures bytes { IfOk result (λ n. take n out.new ≡ take n self.old.bytes) }
-        ensures ok { IfOk result (λ n. self.new ≡ record self.old { bytes = drop n self.old.bytes; calls = raised self.old.calls }) }
-        ensures err { OnErr result (self.new ≡ record self.old { calls = raised self.old.calls; faults = raised self.old.faults }) }
+        ensures ok { IfOk result (λ n. self.new ≡ record self.old {
+          bytes = drop n self.old.bytes;
+          calls = raised self.old.calls;
+        }) }
+        ensures err { OnErr result (self.new ≡ record self.old {
+          calls = raised self.old.calls;
+          faults = raised self.old.faults;
+        }) }
         ensures cause { HasCause self.old.faults self.new.faults result }
     {
         if self.schedule.fails() {

@@ -32,7 +32,8 @@ pub trait Sink {
 /// Puts all of these bytes into the sink, in order. After an error it holds a front of them.
 pub fn put_all<K: Sink>(sink: &mut K, bytes: &[u8]) -> Result<(), Failed>
     ensures ok { OnOk result (K.held sink.new ≡ added (K.held sink.old) bytes.now) }
-    ensures err { OnErr result ((n : ℕ) × (n ≤ length bytes.now) × (K.held sink.new ≡ added (K.held sink.old) (take n bytes.now))) }
+    ensures err { OnErr result ((n : ℕ) × (n ≤ length bytes.now) ×
+        (K.held sink.new ≡ added (K.held sink.old) (take n bytes.now))) }
     ensures cause { HasCause (K.faults sink.old) (K.faults sink.new) result }
 {
     let mut place = 0;

@@ -106,7 +106,8 @@ pub fn read_front<S: Source>(
     ensures bytes { IfOk result (λ v. IfSome (S.left source.old) (λ bytes. v.items ≡ take limit bytes)) }
     ensures bound { IfOk result (λ v. length v.items ≤ limit) }
     ensures rest { IfOk result (λ v. S.left source.new ≡ option_map (drop (length v.items)) (S.left source.old)) }
-    ensures lost { OnErr result ((n : ℕ) × (n ≤ limit) × (S.left source.new ≡ option_map (drop n) (S.left source.old))) }
+    ensures lost { OnErr result ((n : ℕ) × (n ≤ limit) ×
+        (S.left source.new ≡ option_map (drop n) (S.left source.old))) }
 
     ensures later { S.faults source.old ≤ S.faults source.new }
     ensures steady { OnOk result (S.faults source.new ≡ S.faults source.old) }

@@ -10,14 +10,14 @@ use Rattle.retro_base.specs.Framing.{sized, record_of, records_of}
 use Rattle.retro_base.specs.declared.limits.TheConstants.{OPEN_GATE}
 use Rattle.gate_log.specs.Appending.{after_append, Appending, LooseOrIn}
 use Rattle.gate_log.specs.Cause.{HasRoom}
-use Rattle.gate_log.specs.Log.{Region, Holds}
+use Rattle.gate_log.specs.Log.{Region, HoldsBodies}
 use Rattle.gate_log.specs.Region.{gate_behind, Lists}
 use Rattle.gate_log.proofs.Ranges.{outside_alone}
 use Rattle.gate_log.proofs.Framing.{length-piece, length-sized, records-push, length-records-push, AreBodies-push}
 use Rattle.gate_log.proofs.Regions.{Stands, stands, lists, stands_same}
 
 -- where nothing was written
-pub untouched : (log : Region) (bodies : List (List ℕ)) (body : List ℕ) (old : State) → Holds log bodies old → log.place + log.size ≤ length old.seen → (image : List ℕ) → IsImage old image → Appending log bodies body old image
+pub untouched : (log : Region) (bodies : List (List ℕ)) (body : List ℕ) (old : State) → HoldsBodies log bodies old → log.place + log.size ≤ length old.seen → (image : List ℕ) → IsImage old image → Appending log bodies body old image
 untouched log bodies body old holds fits image is =
     let there : Stands log.place log.size bodies old.seen = stands log.place log.size old.seen fits bodies holds.lists in
     record {
@@ -26,7 +26,7 @@ untouched log bodies body old holds fits image is =
     }
 
 module _ (log : Region) (bodies : List (List ℕ)) (body bytes : List ℕ) (gate : ℕ) (old : State)
-    (holds : Holds log bodies old) (short : length body < 2 ^ 32) (room : HasRoom log (length body)) (fits : log.place + log.size ≤ length old.seen)
+    (holds : HoldsBodies log bodies old) (short : length body < 2 ^ 32) (room : HasRoom log (length body)) (fits : log.place + log.size ≤ length old.seen)
     (is_gate : gate ≡ log.place + log.gate) (is_bytes : bytes ≡ sized body ++ 0 ∷ []) where
   there : Stands log.place log.size bodies old.seen
   there = stands log.place log.size old.seen fits bodies holds.lists
@@ -149,7 +149,7 @@ module _ (log : Region) (bodies : List (List ℕ)) (body bytes : List ℕ) (gate
       joined remembers start next last _ (staged remembers start next first) (weaker remembers next last _ _ (λ image same. at_gate mid.seen is_mid image (outside_alone mid gate 1 mid.seen image durable same)) second)
 
   -- at the end the log holds the body too
-  pub holds_more : (mid new : State) → mid.seen ≡ written (gate + 1) bytes old.seen → new.seen ≡ written gate (OPEN_GATE ∷ []) mid.seen → IsDurable new → Holds (after_append log body true) (bodies ++ body ∷ []) new
+  pub holds_more : (mid new : State) → mid.seen ≡ written (gate + 1) bytes old.seen → new.seen ≡ written gate (OPEN_GATE ∷ []) mid.seen → IsDurable new → HoldsBodies (after_append log body true) (bodies ++ body ∷ []) new
   holds_more mid new is_mid is_new durable =
       let fits_mid : gate + 1 ≤ length mid.seen = omega (arith, inside_fits mid.seen is_mid, length-mid mid.seen is_mid) in
       let none : gate - gate ≡ 0 = omega arith in

@@ -3,7 +3,7 @@ use Rattle.std.specs.Prelude.{◌⊎◌, ◌+◌, ℕ, List, [], ◌∷◌, ◌+
 use Rattle.disk_model.specs.Disk.{State, InRange, IsDurable, SameOutside}
 use Rattle.disk_model.specs.Moments.{Clock, LeavesOnly}
 use Rattle.retro_base.specs.declared.refusal.Refusal.{Refusal}
-use Rattle.gate_log.specs.Log.{Region, Holds}
+use Rattle.gate_log.specs.Log.{Region, HoldsBodies}
 use Rattle.gate_log.specs.Region.{Lists}
 
 -- the place was loose, or lies in the range
@@ -25,8 +25,8 @@ after_append log body succeeded = if succeeded then record log { gate = log.gate
 -- list with it or without.
 pub record Appends {Device : Type 0} (log after : Region) (body : List ℕ) (remembers : Type 0) (state : Device → State)
     (clock : Device → Clock) (old new : Device) (result : Result (Unit {0}) Refusal) : Type 0 where
-  pub holds : (bodies : List (List ℕ)) → Holds log bodies (state old)
-      → OnOk result (Holds after (bodies ++ body ∷ []) (state new))
+  pub holds : (bodies : List (List ℕ)) → HoldsBodies log bodies (state old)
+      → OnOk result (HoldsBodies after (bodies ++ body ∷ []) (state new))
   pub durable : OnOk result (IsDurable (state new))
-  pub any_moment : (bodies : List (List ℕ)) → Holds log bodies (state old)
+  pub any_moment : (bodies : List (List ℕ)) → HoldsBodies log bodies (state old)
       → LeavesOnly remembers (clock old) (clock new) (Appending log bodies body (state old))

@@ -1,5 +1,6 @@
 -- Why a call was refused.
 use Rattle.std.specs.Prelude.{◌≡◌, ℕ, ◌+◌, ◌-◌, ◌<◌, ◌≤◌, List, length}
+use Rattle.gate_log.specs.declared.log.TheConstants.{HEADER_BYTES}
 use Rattle.retro_base.specs.Cause.{IsFault}
 use Rattle.retro_base.specs.Framing.{records_of, BreaksAt}
 use Rattle.retro_base.specs.declared.device.Device.{Device}
@@ -24,13 +25,13 @@ IsAppendRefusal log count before now e = HasRoom log count × IsFault log.device
 
 -- the records of these bodies and the gate behind them fit behind the header of a region of that size
 abbrev pub Fit : ℕ → List (List ℕ) → Type 0
-Fit size bodies = length (records_of bodies) + 1 ≤ size - 16
+Fit size bodies = length (records_of bodies) + 1 ≤ size - HEADER_BYTES
 
 -- a refused preparation: memory ran out, or the records do not fit
 abbrev pub IsPrepareRefusal : ℕ → List (List ℕ) → Refusal → Type 0
 IsPrepareRefusal size bodies OutOfMemory = Unit {0}
 IsPrepareRefusal size bodies (NoRoom needed free) =
-    (needed ≡ length (records_of bodies) + 1) × (free ≡ size - 16) × (free < needed)
+    (needed ≡ length (records_of bodies) + 1) × (free ≡ size - HEADER_BYTES) × (free < needed)
 IsPrepareRefusal size bodies _ = ⊥
 
 -- a region that was not filled: it was not prepared, or a call of the device failed

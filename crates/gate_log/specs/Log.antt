@@ -14,7 +14,7 @@ pub record Region : Type 0 where
   pub gate : ℕ
 
 -- The log's region lists these bodies, and all of the region but the gate of its header is durable.
-pub record Holds (log : Region) (bodies : List (List ℕ)) (state : State) : Type 0 where
+pub record HoldsBodies (log : Region) (bodies : List (List ℕ)) (state : State) : Type 0 where
   pub lists : Lists log.place log.size bodies state.seen
   pub gate : log.gate ≡ gate_behind bodies
   pub durable : (place : ℕ) → log.place < place → place < log.place + log.size → state.is_loose place → ⊥

@@ -1,5 +1,5 @@
-//! A heap table of a thousand rows and one of ten thousand, told by the pages that the calls read: an insert, or a change
-//! of one row, never walks the chain.
+//! A heap table of a thousand rows and one of ten thousand, told by the pages that the calls read: an insert, or a
+//! change of one row, never walks the chain.
 #![tactic(auto)]
 
 ghost use Rattle.std.specs.Prelude.{IfOk};

@@ -1,8 +1,9 @@
 -- Pages that hold rows.
-use Rattle.std.specs.Prelude.{◌≡◌, ◌<◌, ◌≤◌, ◌-◌, ◌^◌, ◌++◌, ℕ, Bool, IsTrue, List, [], ◌∷◌, length, drop, replicate, nat_le, slice_index, Option, Some, None}
+use Rattle.std.specs.Prelude.{◌≡◌, ◌<◌, ◌≤◌, ◌-◌, ◌^◌, ◌++◌, ℕ, Bool, IsTrue, List, [], ◌∷◌}
+use Rattle.std.specs.Prelude.{length, drop, replicate, nat_le, slice_index, Option, Some, None}
 use Rattle.std.specs.List.{flat_map, AllByRecursion}
 use Rattle.retro_base.specs.Fields.{number_at, field_bytes}
-use Rattle.retro_base.specs.declared.limits.TheConstants.{ROW_BYTES}
+use Rattle.retro_base.specs.declared.limits.TheConstants.{COLUMNS, PAGE_BYTES, ROW_BYTES}
 use Rattle.values.specs.declared.value.Value.{Value}
 use Rattle.values.specs.Row.{row_bytes}
 use Rattle.row_codec.specs.RowCode.{row_code, IsEncoded}
@@ -20,7 +21,7 @@ IsEntry entry = IsEncoded (row_code entry.number entry.row) entry.number entry.r
 -- what a row may be that is put into a page: one to sixteen values, and at most 900 bytes encoded
 pub record IsShort (row : List Value) : Type 0 where
   pub some : 1 ≤ length row
-  pub few : length row ≤ 16
+  pub few : length row ≤ COLUMNS
   pub short : row_bytes row ≤ ROW_BYTES
 
 -- the bytes that entries take
@@ -96,7 +97,7 @@ HoldsOne = (bytes : List ℕ) (p q : HeapPage) → HoldsRows bytes p → HoldsRo
 
 -- a page that was never written is an empty heap page
 abbrev pub ZeroIsEmpty : Type 0
-ZeroIsEmpty = HoldsRows (replicate 1024 0) empty_page
+ZeroIsEmpty = HoldsRows (replicate PAGE_BYTES 0) empty_page
 
 -- a page that was written holds what was written
 abbrev pub WrittenHolds : Type 0

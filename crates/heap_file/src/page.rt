@@ -2,7 +2,8 @@
 
 ghost use Rattle.std.specs.Prelude.{◌≡◌, ◌≤◌, ◌++◌, ◌∷◌, [], IfErr, IfOk, IfSome, OnOk, length};
 ghost use Rattle.retro_base.specs.declared.refusal.Refusal.TheVariants.{OutOfMemory};
-ghost use Rattle.heap_file.specs.HeapPage.{have_room, HaveRoom, IsEntry, IsHeapPage, IsHeld, IsNarrow, IsShort, entry_bytes, entry_code, page_bytes};
+ghost use Rattle.heap_file.specs.HeapPage.{have_room, HaveRoom, IsEntry, IsHeapPage, IsHeld};
+ghost use Rattle.heap_file.specs.HeapPage.{IsNarrow, IsShort, entry_bytes, entry_code, page_bytes};
 ghost use Rattle.std.specs.List.{AllByRecursion};
 ghost use Rattle.row_codec.specs.RowCode.{IsRow};
 

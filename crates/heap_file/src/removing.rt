@@ -6,7 +6,8 @@ ghost use Rattle.pager.specs.Pages.{Pages};
 ghost use Rattle.pager.specs.Stop.{OnlyDrafts, OnlyReads};
 ghost use Rattle.heap_file.specs.declared.page.HeapPage as heap;
 ghost use Rattle.heap_file.specs.Chain.{IsAt, IsWritable};
-ghost use Rattle.heap_file.specs.Route.{IsCursor, IsPassed, IsRoute, NextStays, PassesOver, left, routed, with_cursor, with_route};
+ghost use Rattle.heap_file.specs.Route.{IsCursor, IsPassed, IsRoute, NextStays, PassesOver};
+ghost use Rattle.heap_file.specs.Route.{left, routed, with_cursor, with_route};
 ghost use Rattle.heap_file.specs.Work.{last_field, removed, renamed, unlinked};
 
 use crate::chain::{Link, load, store};

@@ -1,7 +1,9 @@
 -- What the calls do to well-formed pages.
-use Rattle.std.specs.Prelude.{◌≡◌, ◌<◌, ◌≤◌, ◌+◌, ◌-◌, ◌^◌, ◌++◌, ℕ, List, [], ◌∷◌, length, replicate, slice_index, Some, Result, Ok, Err}
+use Rattle.std.specs.Prelude.{◌≡◌, ◌<◌, ◌≤◌, ◌+◌, ◌-◌, ◌^◌, ◌++◌, ℕ, List, [], ◌∷◌}
+use Rattle.std.specs.Prelude.{length, replicate, slice_index, Some, Result, Ok, Err}
 use Rattle.std.specs.List.{Contains}
 use Rattle.std.specs.List.Sorted.{IsPermutation}
+use Rattle.retro_base.specs.declared.limits.TheConstants.{PAGE_BYTES}
 use Rattle.retro_base.specs.declared.refusal.Refusal.{Refusal}
 use Rattle.retro_base.specs.declared.refusal.Refusal.TheVariants.{PagesFull}
 use Rattle.values.specs.declared.value.Value.{Value}
@@ -17,7 +19,8 @@ use Rattle.heap_file.specs.HeapPage.{HoldsRows}
 use Rattle.heap_file.specs.Laws.{IsOne}
 use Rattle.heap_file.specs.Work.{added, changed, got, made, next_of, removed}
 use Rattle.heap_laws.specs.Store.{IsSized, WellFormed, end_of, free_pages, times_numbered}
-use Rattle.heap_laws.specs.Table.{AllStay, EditsExactly, EndsAt, Table, TakesPage, IsNumbered, IsTable, IsStorable, AddsRow, AddIsFull, MakesTable, RemovesRow, ChangesRow, ChangeIsFull}
+use Rattle.heap_laws.specs.Table.{AllStay, EditsExactly, EndsAt, Table, TakesPage, IsNumbered, IsTable, IsStorable}
+use Rattle.heap_laws.specs.Table.{AddsRow, AddIsFull, MakesTable, RemovesRow, ChangesRow, ChangeIsFull}
 
 -- an answer with the pages after it is this, and a refusal is want of pages, as this says
 abbrev pub DoesOrIsFull : {A : Type 0} → ℕ → (A → Pages → Type 0) → Type 0 → Result (A × Pages) Refusal → Type 0
@@ -94,7 +97,7 @@ pub record ReadLaw : Type 0 where
 
 -- every page of the store is zero, as where it was never written
 abbrev pub AreZero : ℕ → Pages → Type 0
-AreZero size pages = (page : ℕ) → page < size → pages.at page ≡ replicate 1024 0
+AreZero size pages = (page : ℕ) → page < size → pages.at page ≡ replicate PAGE_BYTES 0
 
 -- A store of zero pages is well-formed, without a table and also with the one that begins with page 1, which has no
 -- row.
@@ -107,7 +110,8 @@ pub record FreshLaw : Type 0 where
 
 -- A page of bytes holds only what can be written again.
 abbrev pub SizedLaw : Type 0
-SizedLaw = (bytes : List ℕ) (held : HeapPage) → length bytes ≡ 1024 → ((place : ℕ) → slice_index bytes place < 256)
+SizedLaw = (bytes : List ℕ) (held : HeapPage) → length bytes ≡ PAGE_BYTES →
+    ((place : ℕ) → slice_index bytes place < 256)
     → HoldsRows bytes held → IsSized held
 
 -- a page was taken for an index

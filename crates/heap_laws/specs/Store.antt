@@ -1,5 +1,6 @@
 -- A store of tables, whole: the chains of its tables, the pages of its indexes and the free list, no page twice.
-use Rattle.std.specs.Prelude.{◌≡◌, ◌<◌, ◌≤◌, ◌+◌, ◌^◌, ◌++◌, ◌==◌, ℕ, List, [], ◌∷◌, length, map, drop, Ok, if◌then◌else◌}
+use Rattle.std.specs.Prelude.{◌≡◌, ◌<◌, ◌≤◌, ◌+◌, ◌^◌, ◌++◌, ◌==◌, ℕ, List}
+use Rattle.std.specs.Prelude.{[], ◌∷◌, length, map, drop, Ok, if◌then◌else◌}
 use Rattle.std.specs.List.{flat_map, count_by, AllByRecursion}
 use Rattle.pager.specs.Pages.{Pages}
 use Rattle.pager.specs.Root.{root_of, root_in, free_count, IsFreeList}

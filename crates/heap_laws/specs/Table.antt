@@ -1,5 +1,6 @@
 -- What a call does to a table as a whole, and to the store around it.
-use Rattle.std.specs.Prelude.{◌≡◌, ◌<◌, ◌≢◌, ◌+◌, ◌++◌, ◌==◌, ◌||◌, ◌&&◌, not, ℕ, Bool, true, false, List, [], ◌∷◌, length, slice_index_or, map, Some, Ok, if◌then◌else◌}
+use Rattle.std.specs.Prelude.{◌≡◌, ◌<◌, ◌≢◌, ◌+◌, ◌++◌, ◌==◌, ◌||◌, ◌&&◌, not, ℕ, Bool, true, false}
+use Rattle.std.specs.Prelude.{List, [], ◌∷◌, length, slice_index_or, map, Some, Ok, if◌then◌else◌}
 use Rattle.std.specs.List.{Contains, filter, list_any}
 use Rattle.values.specs.declared.value.Value.{Value}
 use Rattle.row_codec.specs.RowCode.{row_code, IsEncoded}

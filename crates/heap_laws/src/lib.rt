@@ -3,7 +3,8 @@
 
 mod store;
 
-ghost use Rattle.heap_laws.specs.Laws.{AddLaw, ChainAnswersAreOne, ChangeLaw, FreshLaw, IndexPagesLaw, IndexesStayLaw, MakeLaw, ReadLaw, RemoveLaw, SizedLaw};
+ghost use Rattle.heap_laws.specs.Laws.{AddLaw, ChainAnswersAreOne, ChangeLaw, FreshLaw, IndexPagesLaw};
+ghost use Rattle.heap_laws.specs.Laws.{IndexesStayLaw, MakeLaw, ReadLaw, RemoveLaw, SizedLaw};
 
 pub use store::with_table;
 

@@ -1,5 +1,7 @@
 -- What changes make of the pages of a store and of the list of its captures.
-use Rattle.std.specs.Prelude.{◌+◌, ◌-◌, ◌%◌, ◌^◌, ◌==◌, nat_lt, ℕ, Bool, true, false, not, ◌&&◌, List, [], ◌∷◌, ◌++◌, length, map, filter, drop, Option, Some, None, slice_get, unwrap_or, option_map, if◌then◌else◌}
+use Rattle.std.specs.Prelude.{◌+◌, ◌-◌, ◌%◌, ◌^◌, ◌==◌, nat_lt, ℕ, Bool, true, false, not}
+use Rattle.std.specs.Prelude.{◌&&◌, List, [], ◌∷◌, ◌++◌, length, map, filter, drop, Option}
+use Rattle.std.specs.Prelude.{Some, None, slice_get, unwrap_or, option_map, if◌then◌else◌}
 use Rattle.retro_base.specs.FirstMet.{first_met}
 use Rattle.history.specs.declared.entry.Mark.{Mark}
 use Rattle.history.specs.declared.entry.Base.{Base}

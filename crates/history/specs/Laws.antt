@@ -1,5 +1,6 @@
 -- What follows from these definitions, in the words of the subject.
-use Rattle.std.specs.Prelude.{◌≡◌, ◌≤◌, ◌++◌, ◌+◌, ◌&&◌, ℕ, true, not, List, [], ◌∷◌, length, map, filter, take, drop, Option, Some}
+use Rattle.std.specs.Prelude.{◌≡◌, ◌≤◌, ◌++◌, ◌+◌, ◌&&◌, ℕ, true, not, List, []}
+use Rattle.std.specs.Prelude.{◌∷◌, length, map, filter, take, drop, Option, Some}
 use Rattle.std.specs.List.{AllByRecursion}
 use Rattle.std.specs.Option.{option_to_list}
 use Rattle.history.specs.declared.entry.Base.{Base}
@@ -9,7 +10,8 @@ use Rattle.history.specs.declared.journal.Line.{Line}
 use Rattle.history.specs.declared.writes.PageImage.{PageImage}
 use Rattle.history.specs.Marks.{oldest, newest, is_retained, start_of, oldest_start, newest_start, AreMarks}
 use Rattle.history.specs.Writes.{pages_of, is_among}
-use Rattle.history.specs.History.{History, now, captures, with_change, with_changes, is_declared, before_write, base_after, bases_after, captured_by, pages_as_of}
+use Rattle.history.specs.History.{History, now, captures, with_change, with_changes, is_declared}
+use Rattle.history.specs.History.{before_write, base_after, bases_after, captured_by, pages_as_of}
 use Rattle.history.specs.Journal.{change_of, changes_of, pages_after_journal, after_journal}
 use Rattle.history.specs.Right.{IsBase, IsRight, WritesRise}
 use Rattle.history.specs.Sound.{Pin, pins_of, IsSound}

@@ -1,7 +1,9 @@
 -- What one line more tells, behind the lines before it.
-use Rattle.std.specs.Prelude.{◌⊎◌, ◌↔◌, ◌≡◌, ◌≤◌, ◌<◌, ◌+◌, ◌==◌, nat_le, ℕ, Bool, true, false, List, [], ◌∷◌, ◌++◌, length, map, filter, Option, Some, None, if◌then◌else◌}
+use Rattle.std.specs.Prelude.{◌⊎◌, ◌↔◌, ◌≡◌, ◌≤◌, ◌<◌, ◌+◌, ◌==◌, nat_le, ℕ, Bool, true, false, List}
+use Rattle.std.specs.Prelude.{[], ◌∷◌, ◌++◌, length, map, filter, Option, Some, None, if◌then◌else◌}
 use Rattle.std.specs.Option.{option_or}
 use Rattle.std.specs.List.{AllByRecursion}
+use Rattle.retro_base.specs.declared.limits.TheConstants.{JOURNAL_LINES}
 use Rattle.retro_base.specs.declared.device.Device.{Device}
 use Rattle.retro_base.specs.declared.who.Who.{Who}
 use Rattle.history.specs.declared.entry.Base.{Base}
@@ -9,11 +11,14 @@ use Rattle.history.specs.declared.entry.Change.TheVariants.{Commit}
 use Rattle.history.specs.declared.journal.FailedCall.{FailedCall}
 use Rattle.history.specs.declared.journal.Line.{Line}
 use Rattle.history.specs.declared.journal.What.{What}
-use Rattle.history.specs.declared.journal.What.TheVariants.{Began, Done, Looked, LookedAll, Unlooked, Dropped, Refused, Fault}
+use Rattle.history.specs.declared.journal.What.TheVariants.{Began, Done, Looked, LookedAll}
+use Rattle.history.specs.declared.journal.What.TheVariants.{Unlooked, Dropped, Refused, Fault}
 use Rattle.history.specs.declared.writes.PageImage.{PageImage}
 use Rattle.history.specs.Journal.{base_behind, changes_of, pages_after_journal, after_journal}
 use Rattle.history.specs.Laws.{IsConsistent}
-use Rattle.history.specs.Lines.{base_of, lines_of, pinned_by, images_of, images_in, open_behind, open_in, is_open, change_by, last_change, changed_since, DeviceFault, fault_of, faults_of, IsNewer, FaultsDiffer, is_write, stop_of, first_stop, doubt_in, doubt_of}
+use Rattle.history.specs.Lines.{base_of, lines_of, pinned_by, images_of, images_in, open_behind, open_in}
+use Rattle.history.specs.Lines.{is_open, change_by, last_change, changed_since, DeviceFault, fault_of, faults_of}
+use Rattle.history.specs.Lines.{IsNewer, FaultsDiffer, is_write, stop_of, first_stop, doubt_in, doubt_of}
 use Rattle.history.specs.Marks.{oldest, newest, is_retained}
 use Rattle.history.specs.History.{History, now, pages_as_of}
 use Rattle.history.specs.Right.{IsBase, MayFollow, AllMayFollow}
@@ -23,7 +28,7 @@ use Rattle.history.specs.Writes.{pages_of, is_among}
 -- One line more is sound where there is room for it and it keeps the rules.
 abbrev pub SoundWithOneMore : Type 0
 SoundWithOneMore = (base : Base) (lines : List Line) (line : Line) →
-    IsSound base (lines ++ line ∷ []) ↔ IsSound base lines × (length lines < 65536)
+    IsSound base (lines ++ line ∷ []) ↔ IsSound base lines × (length lines < JOURNAL_LINES)
     × KeepsRules (base_of base lines) (pins_of base [] lines) line.what
 
 -- The changes that a sound journal leaves may follow one another: each is right at its place.
@@ -54,7 +59,7 @@ DropLeaves = (base : Base) (lines : List Line) (line : Line) (below : ℕ) → I
 -- A commit that may follow a sound journal, with room for a line, makes a sound line.
 abbrev pub CommitsAreSound : Type 0
 CommitsAreSound = (base : Base) (lines : List Line) (line : Line) (label : Option (List ℕ)) (writes : List PageImage) →
-    IsSound base lines → length lines < 65536 →
+    IsSound base lines → length lines < JOURNAL_LINES →
     MayFollow (base_of base lines) (Commit label writes) → line.what ≡ Done label writes →
     IsSound base (lines ++ line ∷ [])
 

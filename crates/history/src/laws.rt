@@ -1,7 +1,18 @@
 //! What follows from the definitions.
 
-ghost use Rattle.history.specs.Laws.{AsOfStays, AsOfTheDeclaration, CapturedByTheRule, CapturesAreCounted, CapturesGrow, FrontIsSound, HorizonRises, JournalCapturesGrow, JournalPages, MadeIsConsistent, NothingTwice, OneMoreLine, PinnedAreRetained, StartsCount, StaysConsistent, StaysRight};
-ghost use Rattle.history.specs.LineLaws.{BaseOfOneMore, BaseStaysRight, ChangedSinceInOneMore, ChangesMayFollow, CommitIsLastChange, CommitsAreSound, CommitsHoldImages, DoubtInOneMore, DropLeaves, DropsAreBelowPins, EndedPinsNothing, FaultsDifferInOneMore, FaultsOfFrontDiffer, FaultsOfOneMore, FirstStopInOneMore, FirstStops, ImagesInOneMore, LastChangeInOneMore, LinesOfOneMore, LookedAtStays, LooksPin, NoneStops, OnlyStopsLeaveDoubt, OpenByALine, OpenInOneMore, OpenWhereLastBegins, OthersHoldNoImages, OthersPinsStay, PageOfTheDeclaringLine, PagesAsOfStay, PinsOfOneMore, SoundWithOneMore, UnchangedStays};
+ghost use Rattle.history.specs.Laws.{AsOfStays, AsOfTheDeclaration, CapturedByTheRule, CapturesAreCounted};
+ghost use Rattle.history.specs.Laws.{CapturesGrow, FrontIsSound, HorizonRises, JournalCapturesGrow};
+ghost use Rattle.history.specs.Laws.{JournalPages, MadeIsConsistent, NothingTwice, OneMoreLine};
+ghost use Rattle.history.specs.Laws.{PinnedAreRetained, StartsCount, StaysConsistent, StaysRight};
+ghost use Rattle.history.specs.LineLaws.{BaseOfOneMore, BaseStaysRight, ChangedSinceInOneMore, ChangesMayFollow};
+ghost use Rattle.history.specs.LineLaws.{CommitIsLastChange, CommitsAreSound, CommitsHoldImages};
+ghost use Rattle.history.specs.LineLaws.{DoubtInOneMore, DropLeaves, DropsAreBelowPins, EndedPinsNothing};
+ghost use Rattle.history.specs.LineLaws.{FaultsDifferInOneMore, FaultsOfFrontDiffer, FaultsOfOneMore};
+ghost use Rattle.history.specs.LineLaws.{FirstStopInOneMore, FirstStops, ImagesInOneMore, LastChangeInOneMore};
+ghost use Rattle.history.specs.LineLaws.{LinesOfOneMore, LookedAtStays, LooksPin, NoneStops};
+ghost use Rattle.history.specs.LineLaws.{OnlyStopsLeaveDoubt, OpenByALine, OpenInOneMore, OpenWhereLastBegins};
+ghost use Rattle.history.specs.LineLaws.{OthersHoldNoImages, OthersPinsStay, PageOfTheDeclaringLine};
+ghost use Rattle.history.specs.LineLaws.{PagesAsOfStay, PinsOfOneMore, SoundWithOneMore, UnchangedStays};
 
 /// Of the captures of a consistent history.
 pub fn laws_of_captures()

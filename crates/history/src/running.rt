@@ -229,8 +229,8 @@ impl RunningBase {
         }
     }
 
-    /// Drops the snapshots below a number. Over all drops it takes a step and at most one move for each snapshot that is
-    /// dropped, and no memory.
+    /// Drops the snapshots below a number. Over all drops it takes a step and at most one move for each snapshot that
+    /// is dropped, and no memory.
     pub fn drop_below(&mut self, below: u32)
         requires { IsRight self.old (Drop below) }
         ensures { self.new ≡ base_after self.old (Drop below) }

@@ -1,7 +1,7 @@
 //! What an opening reads at full size, and whether it is what was made: 65,536 snapshots that roll on, 65,536 commits
 //! that each capture a page, Maplogs of 65,536 low marks over many mappings and over few, a full one of the most slots
-//! on its device, a base of 65,536 snapshots and captured pages, as many mappings that belong to it, the largest commit,
-//! and the store that a log of 4,096 commits opens to. With a word a sixteenth of each.
+//! on its device, a base of 65,536 snapshots and captured pages, as many mappings that belong to it, the largest
+//! commit, and the store that a log of 4,096 commits opens to. With a word a sixteenth of each.
 #![tactic(auto)]
 
 mod bodies;

@@ -1,5 +1,6 @@
 -- Pages of indexes as bytes.
-use Rattle.std.specs.Prelude.{◌≡◌, ◌<◌, ◌≤◌, ◌+◌, ◌-◌, ◌*◌, ◌^◌, ◌++◌, ℕ, suc, Bool, List, [], ◌∷◌, length, take, drop, replicate, slice_index, nat_le, Option, Some, None, if◌then◌else◌}
+use Rattle.std.specs.Prelude.{◌≡◌, ◌<◌, ◌≤◌, ◌+◌, ◌-◌, ◌*◌, ◌^◌, ◌++◌, ℕ, suc, Bool, List, [], ◌∷◌, length}
+use Rattle.std.specs.Prelude.{take, drop, replicate, slice_index, nat_le, Option, Some, None, if◌then◌else◌}
 use Rattle.std.specs.List.{flat_map, AllByRecursion}
 use Rattle.retro_base.specs.Fields.{number_at, field_bytes}
 use Rattle.values.specs.declared.value.Value.{Value}

@@ -5,7 +5,8 @@ ghost use Rattle.std.specs.List.{AllByRecursion};
 ghost use Rattle.retro_base.specs.declared.refusal.Refusal.TheVariants.{OutOfMemory};
 ghost use Rattle.pager.specs.Index.{IsFound, IsIndexed};
 ghost use Rattle.row_codec.specs.RowCode.{value_code};
-ghost use Rattle.index_page.specs.IndexPage.{IsPageForm, IsHeldIndex, AreWritable, entry_bytes, entry_code, form_byte, half, more_for_half, page_bytes, width};
+ghost use Rattle.index_page.specs.IndexPage.{IsPageForm, IsHeldIndex, AreWritable, entry_bytes, entry_code};
+ghost use Rattle.index_page.specs.IndexPage.{form_byte, half, more_for_half, page_bytes, width};
 
 use crate::entries::copy_of;
 use crate::reading::first_entries;

@@ -1,5 +1,6 @@
 -- The journal of a run, with the places that are kept for lines to come.
-use Rattle.std.specs.Prelude.{◌≡◌, ◌+◌, ◌-◌, ◌≤◌, ◌<◌, ◌++◌, nat_lt, ℕ, Option, Some, None, if◌then◌else◌, List, [], ◌∷◌, length, slice_index, set}
+use Rattle.std.specs.Prelude.{◌≡◌, ◌+◌, ◌-◌, ◌≤◌, ◌<◌, ◌++◌, nat_lt, ℕ, Option, Some, None}
+use Rattle.std.specs.Prelude.{if◌then◌else◌, List, [], ◌∷◌, length, slice_index, set}
 use Rattle.retro_base.specs.declared.limits.TheConstants.{JOURNAL_IMAGES, JOURNAL_LINES, WORKER_LINES}
 use Rattle.retro_base.specs.declared.refusal.Refusal.{Refusal}
 use Rattle.retro_base.specs.declared.refusal.Refusal.TheVariants.{JournalFull}

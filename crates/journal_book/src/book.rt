@@ -6,7 +6,8 @@ ghost use Rattle.std.specs.List.{AllByRecursion};
 ghost use Rattle.retro_base.specs.declared.limits.TheConstants.{JOURNAL_IMAGES, WORKER_LINES};
 ghost use Rattle.history.specs.Lines.{images_in, changed_since, first_stop, stop_of};
 ghost use Rattle.history.specs.LineLaws.{NoCommitOf};
-ghost use Rattle.journal_book.specs.Book.{closing_with, giving_up, keeping, lines_needed, lines_refused, noting, writes_of, SESSION_LINES};
+ghost use Rattle.journal_book.specs.Book.{closing_with, giving_up, keeping, lines_needed};
+ghost use Rattle.journal_book.specs.Book.{lines_refused, noting, writes_of, SESSION_LINES};
 
 use crate::mark::mark;
 use history::{Journal, Line, PageImage, Stop, What};
@@ -33,9 +34,15 @@ impl Model for Book {
 
     ghost Value = { book.Book };
 
-    ghost view = { λ b. record { pages = length b.changed.items; lines = b.lines.items; kept = b.kept; workers = b.workers } };
+    ghost view = { λ b. record {
+      pages = length b.changed.items;
+      lines = b.lines.items;
+      kept = b.kept;
+      workers = b.workers;
+    } };
 
-    ghost invariant = { λ b. book.IsBook b.lines.items (vec_capacity b.lines) b.images b.kept b.workers b.stop b.changed.items };
+    ghost invariant = { λ b. book.IsBook b.lines.items
+        (vec_capacity b.lines) b.images b.kept b.workers b.stop b.changed.items };
 }
 
 // The lines that sessions may fill.
@@ -133,7 +140,12 @@ impl Book {
         requires workers { workers ≤ WORKER_LINES }
         requires images { images_in self.old.lines + length (writes_of line.what) ≤ JOURNAL_IMAGES }
         requires pages { AllByRecursion (λ write. write.page < self.old.pages) (writes_of line.what) }
-        ensures { self.new ≡ record { pages = self.old.pages; lines = self.old.lines ++ line ∷ []; kept = kept; workers = workers } }
+        ensures { self.new ≡ record {
+          pages = self.old.pages;
+          lines = self.old.lines ++ line ∷ [];
+          kept = kept;
+          workers = workers;
+        } }
     {
         let writes = written(&line.what);
         mark(&mut self.changed, self.lines.len() as u32 + 1, writes);

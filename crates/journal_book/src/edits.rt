@@ -1,6 +1,7 @@
 //! Edits in rising page.
 
-ghost use Rattle.std.specs.Prelude.{◌≡◌, ◌<◌, ◌≤◌, ℕ, IsTrue, IfOk, IfErr, MatchResult, length, slice_index_or, option_copied};
+ghost use Rattle.std.specs.Prelude.{◌≡◌, ◌<◌, ◌≤◌, ℕ, IsTrue, IfOk, IfErr, MatchResult};
+ghost use Rattle.std.specs.Prelude.{length, slice_index_or, option_copied};
 ghost use Rattle.history.specs.Writes.{is_among, pages_of, rises};
 ghost use Rattle.history.specs.declared.writes.PageImage.{PageImage};
 ghost use Rattle.journal_book.specs.Works.{GoesTo, IsThere, own_edit, with_edit};

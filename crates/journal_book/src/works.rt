@@ -1,11 +1,14 @@
 //! What each session has open, and who holds the latch of each page.
 
-ghost use Rattle.std.specs.Prelude.{◌≡◌, ◌<◌, ◌≤◌, ◌+◌, ℕ, [], length, Some, None, IsOk, IsSome, OnOk, OnErr, IfErr, IfOk, true, option_copied, set};
+ghost use Rattle.std.specs.Prelude.{◌≡◌, ◌<◌, ◌≤◌, ◌+◌, ℕ, [], length, Some, None, IsOk, IsSome};
+ghost use Rattle.std.specs.Prelude.{OnOk, OnErr, IfErr, IfOk, true, option_copied, set};
 ghost use Rattle.history.specs.declared.writes.PageImage.{PageImage};
 ghost use Rattle.journal_book.specs.declared.work.Transaction.{Transaction};
 ghost use Rattle.journal_book.specs.declared.work.Work.TheVariants.{Open};
 ghost use Rattle.history.specs.Writes.{is_among};
-ghost use Rattle.journal_book.specs.Works.{AreFree, IsOpenAt, editing, edits_of, first_pin, least_pin, lesser, edits_page, keeping_refusal, latched_by, latch_holder, reading, with_work, work_at, working};
+ghost use Rattle.journal_book.specs.Works.{AreFree, IsOpenAt, editing, edits_of, first_pin, least_pin};
+ghost use Rattle.journal_book.specs.Works.{lesser, edits_page, keeping_refusal, latched_by};
+ghost use Rattle.journal_book.specs.Works.{latch_holder, reading, with_work, work_at, working};
 
 use crate::edits::with_edit;
 use crate::mark::mark;

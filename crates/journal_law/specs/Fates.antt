@@ -6,7 +6,8 @@ use Rattle.retro_base.specs.declared.refusal.Refusal.TheVariants.{DiskFault, Ove
 use Rattle.retro_base.specs.declared.who.Who.{Who}
 use Rattle.history.specs.declared.journal.Line.{Line}
 use Rattle.history.specs.declared.journal.What.{What}
-use Rattle.history.specs.declared.journal.What.TheVariants.{Done, Overlapped, RolledBack, Unlooked, Dropped, Refused, Fault}
+use Rattle.history.specs.declared.journal.What.TheVariants.{Done, Overlapped, RolledBack}
+use Rattle.history.specs.declared.journal.What.TheVariants.{Unlooked, Dropped, Refused, Fault}
 use Rattle.history.specs.Lines.{begins}
 use Rattle.history.specs.Sound.{same_item}
 use Rattle.journal_law.specs.Language.{Language, answer}

@@ -1,17 +1,22 @@
 -- The journals that a run of these items may leave: eight rules.
-use Rattle.std.specs.Prelude.{◌≡◌, ◌≢◌, ◌⊎◌, ◌≤◌, ◌<◌, ◌+◌, ◌*◌, ◌-◌, ◌^◌, ◌++◌, ℕ, Bool, true, false, ◌||◌, List, [], ◌∷◌, length, Option, Some, None, is_some, IsTrue, Ok, Err}
+use Rattle.std.specs.Prelude.{◌≡◌, ◌≢◌, ◌⊎◌, ◌≤◌, ◌<◌, ◌+◌, ◌*◌, ◌-◌, ◌^◌, ◌++◌, ℕ, Bool, true, false}
+use Rattle.std.specs.Prelude.{◌||◌, List, [], ◌∷◌, length, Option, Some, None, is_some, IsTrue, Ok, Err}
 use Rattle.std.specs.List.{AllByRecursion}
 use Rattle.retro_base.specs.declared.device.Device.{Device}
-use Rattle.retro_base.specs.declared.limits.TheConstants.{ATTEMPTS, EDITED_PAGES, JOURNAL_IMAGES, MAX_CAPTURES, RETAINED_SNAPSHOTS, SESSIONS}
+use Rattle.retro_base.specs.declared.limits.TheConstants.{ATTEMPTS, EDITED_PAGES, JOURNAL_IMAGES}
+use Rattle.retro_base.specs.declared.limits.TheConstants.{MAX_CAPTURES, RETAINED_SNAPSHOTS, SESSIONS}
 use Rattle.retro_base.specs.declared.refusal.Refusal.{Refusal}
-use Rattle.retro_base.specs.declared.refusal.Refusal.TheVariants.{OutOfMemory, ArchiveFull, JournalFull, NoSuchSnapshot, PagesFull, Pinned, SnapshotsFull, Stopped, TooManyPages}
+use Rattle.retro_base.specs.declared.refusal.Refusal.TheVariants.{OutOfMemory, ArchiveFull, JournalFull}
+use Rattle.retro_base.specs.declared.refusal.Refusal.TheVariants.{NoSuchSnapshot, PagesFull, Pinned}
+use Rattle.retro_base.specs.declared.refusal.Refusal.TheVariants.{SnapshotsFull, Stopped, TooManyPages}
 use Rattle.retro_base.specs.declared.who.Who.{Who}
 use Rattle.history.specs.declared.entry.Base.{Base}
 use Rattle.history.specs.declared.entry.Change.{Change}
 use Rattle.history.specs.declared.journal.FailedCall.TheVariants.{Append}
 use Rattle.history.specs.declared.journal.Line.{Line}
 use Rattle.history.specs.declared.journal.What.{What}
-use Rattle.history.specs.declared.journal.What.TheVariants.{Began, Done, Overlapped, RolledBack, Looked, LookedAll, Unlooked, Dropped, Refused, Fault}
+use Rattle.history.specs.declared.journal.What.TheVariants.{Began, Done, Overlapped, RolledBack, Looked}
+use Rattle.history.specs.declared.journal.What.TheVariants.{LookedAll, Unlooked, Dropped, Refused, Fault}
 use Rattle.history.specs.declared.writes.PageImage.{PageImage}
 use Rattle.history.specs.declared.entry.Change.TheVariants as change
 use Rattle.history.specs.History.{base_after, written}
@@ -21,7 +26,8 @@ use Rattle.history.specs.declared.stop.Stop.{Stop}
 use Rattle.history.specs.Sound.{Pin}
 use Rattle.history.specs.Writes.{pages_of, rises}
 use Rattle.journal_law.specs.Fates.{began_of, fate}
-use Rattle.journal_law.specs.Language.{AsOf, Commit, DropBelow, End, Kind, Language, Lineless, OverAll, Rollback, Transaction, answer, kind_of}
+use Rattle.journal_law.specs.Language.{AsOf, Commit, DropBelow, End, Kind, Language, Lineless}
+use Rattle.journal_law.specs.Language.{OverAll, Rollback, Transaction, answer, kind_of}
 use Rattle.journal_law.specs.Own.{SinceBegan, is_looking, is_trying, line, own}
 use Rattle.journal_law.specs.Pages.{Pages, page_world, pins_of}
 use Rattle.journal_law.specs.Shows.{world}

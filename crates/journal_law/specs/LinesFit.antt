@@ -1,5 +1,6 @@
 -- What a session has to know of a line of each kind, so that it fits.
-use Rattle.std.specs.Prelude.{◌≡◌, ◌⊎◌, ◌<◌, ◌-◌, ◌^◌, ℕ, true, false, List, [], Option, Some, None, is_some, Result, Ok, Err}
+use Rattle.std.specs.Prelude.{◌≡◌, ◌⊎◌, ◌<◌, ◌-◌, ◌^◌, ℕ, true, false, List, []}
+use Rattle.std.specs.Prelude.{Option, Some, None, is_some, Result, Ok, Err}
 use Rattle.retro_base.specs.declared.device.Device.{Device}
 use Rattle.retro_base.specs.declared.refusal.Refusal.{Refusal}
 use Rattle.retro_base.specs.declared.refusal.Refusal.TheVariants.{OutOfMemory}
@@ -9,12 +10,14 @@ use Rattle.history.specs.declared.journal.FailedCall.{FailedCall}
 use Rattle.history.specs.declared.journal.FailedCall.TheVariants.{Append, Read}
 use Rattle.history.specs.declared.journal.Line.{Line}
 use Rattle.history.specs.declared.journal.What.{What}
-use Rattle.history.specs.declared.journal.What.TheVariants.{Began, Done, Overlapped, RolledBack, Looked, LookedAll, Unlooked, Dropped, Refused, Fault}
+use Rattle.history.specs.declared.journal.What.TheVariants.{Began, Done, Overlapped, RolledBack, Looked}
+use Rattle.history.specs.declared.journal.What.TheVariants.{LookedAll, Unlooked, Dropped, Refused, Fault}
 use Rattle.history.specs.declared.writes.PageImage.{PageImage}
 use Rattle.history.specs.History.{written}
 use Rattle.history.specs.Lines.{first_stop}
 use Rattle.journal_law.specs.Facts.{Fits}
-use Rattle.journal_law.specs.Language.{AsOf, Commit, DropBelow, End, Kind, Language, OverAll, Rollback, Transaction, answer}
+use Rattle.journal_law.specs.Language.{AsOf, Commit, DropBelow, End, Kind, Language}
+use Rattle.journal_law.specs.Language.{OverAll, Rollback, Transaction, answer}
 use Rattle.journal_law.specs.Lawful.{AtDrop, DropRefused, Ground, IsLimit, IsOverlapBy, IsWorker, MayDrop, at_drop}
 use Rattle.journal_law.specs.Own.{SinceLine, is_looking, line}
 use Rattle.journal_law.specs.Pages.{Pages, page_world}

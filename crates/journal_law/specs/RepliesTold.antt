@@ -7,7 +7,8 @@ use Rattle.retro_base.specs.declared.who.Who.{Who}
 use Rattle.history.specs.declared.journal.FailedCall.{FailedCall}
 use Rattle.history.specs.declared.journal.Line.{Line}
 use Rattle.history.specs.declared.journal.What.{What}
-use Rattle.history.specs.declared.journal.What.TheVariants.{Done, Overlapped, RolledBack, Unlooked, Dropped, Refused, Fault}
+use Rattle.history.specs.declared.journal.What.TheVariants.{Done, Overlapped, RolledBack}
+use Rattle.history.specs.declared.journal.What.TheVariants.{Unlooked, Dropped, Refused, Fault}
 use Rattle.history.specs.declared.writes.PageImage.{PageImage}
 use Rattle.history.specs.Lines.{begins}
 use Rattle.journal_law.specs.Fates.{IsReply, answer_text}

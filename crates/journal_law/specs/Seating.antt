@@ -13,7 +13,8 @@ use Rattle.journal_law.specs.Lawful.{Ground, MeetsLimit}
 use Rattle.journal_law.specs.LinesFit.{Answers, LookAt, kind_at, opened_by}
 use Rattle.journal_law.specs.Own.{SinceLine, line, own}
 use Rattle.journal_law.specs.Pages.{Pages}
-use Rattle.journal_law.specs.Seats.{Agree, Attempt, BeginGives, CommitGives, DropGives, Look, LookAllGives, LookGives, Moves, UnlookGives, View, at_began, lines_before}
+use Rattle.journal_law.specs.Seats.{Agree, Attempt, BeginGives, CommitGives, DropGives, Look, LookAllGives}
+use Rattle.journal_law.specs.Seats.{LookGives, Moves, UnlookGives, View, at_began, lines_before}
 use Rattle.journal_law.specs.declared.seat.Ending.TheVariants as ending
 
 module _ (L : Language) (items : Who → Option L.Item) where

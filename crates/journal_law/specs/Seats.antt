@@ -1,6 +1,7 @@
 -- The store as one seat sees it: what it has seen of the journal, and the transaction or look that it has open. Between
 -- two calls other sessions may have added lines.
-use Rattle.std.specs.Prelude.{◌≡◌, ◌⊎◌, ◌<◌, ◌≤◌, ◌+◌, ◌-◌, ◌^◌, ◌++◌, ℕ, Bool, true, false, List, [], ◌∷◌, length, map, Option, Some, None, is_some, Result, Ok, Err, IsTrue, Contains}
+use Rattle.std.specs.Prelude.{◌≡◌, ◌⊎◌, ◌<◌, ◌≤◌, ◌+◌, ◌-◌, ◌^◌, ◌++◌, ℕ, Bool, true, false, List, [], ◌∷◌}
+use Rattle.std.specs.Prelude.{length, map, Option, Some, None, is_some, Result, Ok, Err, IsTrue, Contains}
 use Rattle.retro_base.specs.declared.device.Device.{Device}
 use Rattle.retro_base.specs.declared.limits.TheConstants.{EDITED_PAGES, JOURNAL_LINES, WORKER_LINES}
 use Rattle.retro_base.specs.declared.refusal.Refusal.{Refusal}
@@ -11,7 +12,8 @@ use Rattle.history.specs.declared.entry.Change.TheVariants as change
 use Rattle.history.specs.declared.journal.FailedCall.TheVariants.{Append, Read, Write}
 use Rattle.history.specs.declared.journal.Line.{Line}
 use Rattle.history.specs.declared.journal.What.{What}
-use Rattle.history.specs.declared.journal.What.TheVariants.{Began, Done, Overlapped, RolledBack, Looked, LookedAll, Unlooked, Dropped, Refused, Fault}
+use Rattle.history.specs.declared.journal.What.TheVariants.{Began, Done, Overlapped, RolledBack, Looked}
+use Rattle.history.specs.declared.journal.What.TheVariants.{LookedAll, Unlooked, Dropped, Refused, Fault}
 use Rattle.history.specs.declared.writes.PageImage.{PageImage}
 use Rattle.history.specs.History.{with_write, written}
 use Rattle.history.specs.Lines.{base_of, first_stop, images_in}

@@ -1,6 +1,7 @@
 //! The list of mappings and low marks on the device of the Maplog.
 
-ghost use Rattle.std.specs.Prelude.{◌≡◌, ◌≤◌, ◌<◌, ◌+◌, ◌*◌, ◌^◌, ◌↔◌, ℕ, None, IsTrue, length, Ok, OnOk, IfOk, IfErr, MatchResult};
+ghost use Rattle.std.specs.Prelude.{◌≡◌, ◌≤◌, ◌<◌, ◌+◌, ◌*◌, ◌^◌, ◌↔◌, ℕ, None, IsTrue};
+ghost use Rattle.std.specs.Prelude.{length, Ok, OnOk, IfOk, IfErr, MatchResult};
 ghost use Rattle.std.specs.List.{AllByRecursion};
 ghost use Rattle.disk_model.specs.Runs.{SameDevice, WritesNothing};
 ghost use Rattle.disk_model.specs.Sizes.{maplog_half};

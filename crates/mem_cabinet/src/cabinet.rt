@@ -1,6 +1,7 @@
 //! Stores in memory, by name.
 
-ghost use Rattle.std.specs.Prelude.{◌≡◌, ◌↔◌, ◌≤◌, ℕ, List, Some, None, IfNone, IfOk, IfSome, IsErr, IsNone, IsTrue, OnErr, OnOk, Contains, length, position};
+ghost use Rattle.std.specs.Prelude.{◌≡◌, ◌↔◌, ◌≤◌, ℕ, List, Some, None, IfNone, IfOk, IfSome, IsErr};
+ghost use Rattle.std.specs.Prelude.{IsNone, IsTrue, OnErr, OnOk, Contains, length, position};
 ghost use Rattle.mem_cabinet.specs.Shelves.{IsOut, blank, blank_store, has_name, none_out, shelf_of, store_of};
 ghost use Rattle.disk_mem.specs.History.{state_of};
 ghost use Rattle.disk_model.specs.Cabinet.{AreSized, Each, GoesOut, IsBlank, OneLessOut, Stands, TakesOut};
@@ -270,7 +271,8 @@ impl Cabinet for MemCabinet {
         requires { IsOut self.old.shelves.items dir.now }
         ensures faults { self.new.faults ≡ self.old.faults }
         ensures out { OneLessOut dir.now (IsOut self.old.shelves.items) (IsOut self.new.shelves.items) }
-        ensures stands { Stands dir.now (Some four) (store_of self.old.shelves.items) (store_of self.new.shelves.items) }
+        ensures stands { Stands dir.now (Some four) (store_of self.old.shelves.items)
+            (store_of self.new.shelves.items) }
     {
         put_back(&mut self.shelves, dir, four);
     }

@@ -44,7 +44,8 @@ pub fn log_of<D: Disk>(alloc: Global, version: Version, disk: &mut D) -> Result<
     }
 }
 
-/// The mappings, in records of that version, and where the closed gate behind their list stands. Their device is read, and synced before that.
+/// The mappings, in records of that version, and where the closed gate behind their list stands. Their device is read,
+/// and synced before that.
 pub fn mappings_of<D: Disk>(
     alloc: Global,
     version: Version,

@@ -6,7 +6,8 @@ ghost use Rattle.replay.specs.Joined.{AreJoined};
 ghost use Rattle.replay.specs.Opened.{contents_of, Opens};
 ghost use Rattle.retro_base.specs.declared.refusal.Refusal.TheVariants.{NotAStore};
 ghost use Rattle.area_log.specs.Listed.{WrongSize};
-ghost use Rattle.opening.specs.Devices.{AreHonest, AreUnwritten, HaveSizes, IsUnopened, of_each, SameCounts, seen_of, SizesTell};
+ghost use Rattle.opening.specs.Devices.{AreHonest, AreUnwritten, HaveSizes, IsUnopened};
+ghost use Rattle.opening.specs.Devices.{of_each, SameCounts, seen_of, SizesTell};
 ghost use Rattle.opening.specs.Opening.{DevicesBreak, DevicesOpen, IsApart};
 
 use crate::devices::{log_of, mappings_of, pages_of};
@@ -53,11 +54,11 @@ fn joined(
     }
 }
 
-/// The store that four devices open to, their logs in records of that version. Refused for want of memory, where a call of a device fails, and exactly where
-/// their bytes are those of no store, with the first device that breaks and the place where it does. The log is looked
-/// at first: its size, its headers, its framing, and its records in turn; then the sizes of the pages and of the page
-/// images; then the Maplog as the log was; then pages and page images are read; and last whether the Maplog belongs to
-/// the log. Nothing is written; log and Maplog are synced before they are read.
+/// The store that four devices open to, their logs in records of that version. Refused for want of memory, where a call
+/// of a device fails, and exactly where their bytes are those of no store, with the first device that breaks and the
+/// place where it does. The log is looked at first: its size, its headers, its framing, and its records in turn; then
+/// the sizes of the pages and of the page images; then the Maplog as the log was; then pages and page images are read;
+/// and last whether the Maplog belongs to the log. Nothing is written; log and Maplog are synced before they are read.
 pub fn open_devices<D: Disk>(
     alloc: Global,
     version: Version,

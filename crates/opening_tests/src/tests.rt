@@ -339,7 +339,8 @@ fn declare<D: Disk>(disks: &mut Four<D>, count: u64) -> Result<(), Refusal> {
     Ok(())
 }
 
-// What devices of 5,000 snapshots open to, and what they do with a drop of the first one, which is no drop, behind them.
+// What devices of 5,000 snapshots open to, and what they do with a drop of the first one, which is no drop, behind
+// them.
 fn opened_long(alloc: Global) -> Result<[Result<(usize, usize), Refusal>; 2], Refusal> {
     let mut disks = made(alloc)?;
     declare(&mut disks, 5000)?;

@@ -1,5 +1,6 @@
 -- The pages' device with the pages in memory, and when they are those of plain data.
-use Rattle.std.specs.Prelude.{◌≡◌, ◌==◌, ◌||◌, ◌*◌, ◌<◌, ◌^◌, length, ℕ, Bool, true, false, List, Option, Contains, IfSome, IsSome, if◌then◌else◌}
+use Rattle.std.specs.Prelude.{◌≡◌, ◌==◌, ◌||◌, ◌*◌, ◌<◌, ◌^◌, length, ℕ, Bool, true, false}
+use Rattle.std.specs.Prelude.{List, Option, Contains, IfSome, IsSome, if◌then◌else◌}
 use Rattle.disk_model.specs.Disk.{State}
 use Rattle.block_file.specs.Blocks.{block_at, File, IsSettled}
 use Rattle.history.specs.declared.writes.PageImage.{PageImage}

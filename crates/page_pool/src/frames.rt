@@ -1,6 +1,7 @@
 //! Pages in memory that are dirty or held.
 
-ghost use Rattle.std.specs.Prelude.{◌≡◌, ◌<◌, ◌≤◌, ◌+◌, ◌^◌, true, false, ℕ, Bool, Option, Some, None, IsSome, OnOk, OnErr, IfErr, MatchOption};
+ghost use Rattle.std.specs.Prelude.{◌≡◌, ◌<◌, ◌≤◌, ◌+◌, ◌^◌, true, false, ℕ, Bool, Option};
+ghost use Rattle.std.specs.Prelude.{Some, None, IsSome, OnOk, OnErr, IfErr, MatchOption};
 ghost use Rattle.retro_base.specs.declared.refusal.Refusal.TheVariants.{OutOfMemory};
 ghost use Rattle.page_pool.specs.Frames.{frame_in, is_dirty_in, IsLeastDirty, IsLeastFrame, SetsFrame};
 

@@ -1,6 +1,7 @@
 //! The pages of a store, in memory and on their device.
 
-ghost use Rattle.std.specs.Prelude.{◌≡◌, ◌==◌, ◌||◌, ◌&&◌, ◌<◌, ◌*◌, true, false, not, ℕ, Bool, List, OnOk, OnErr, IfOk, IfErr, MatchResult, Some, None, IsSome, Contains};
+ghost use Rattle.std.specs.Prelude.{◌≡◌, ◌==◌, ◌||◌, ◌&&◌, ◌<◌, ◌*◌, true, false, not, ℕ, Bool, List};
+ghost use Rattle.std.specs.Prelude.{OnOk, OnErr, IfOk, IfErr, MatchResult, Some, None, IsSome, Contains};
 ghost use Rattle.std.specs.List.{AllByRecursion};
 ghost use Rattle.disk_model.specs.Moments.{LeavesOnly};
 ghost use Rattle.disk_model.specs.Runs.{OnlyReads, WritesNothing};
@@ -13,7 +14,8 @@ ghost use Rattle.history.specs.declared.writes.PageImage.{PageImage};
 ghost use Rattle.history.specs.History.{with_write, written};
 ghost use Rattle.page_pool.specs.Cause.{IsHoldRefusal};
 ghost use Rattle.page_pool.specs.Frames.{count_below, frame_at, is_dirty_in, IsLeastDirty};
-ghost use Rattle.page_pool.specs.Side.{dirty_behind, held, HoldsBut, HoldsSame, HoldsSure, IsNear, IsPageSide, Pool, ShowsPages, soiled, with_page};
+ghost use Rattle.page_pool.specs.Side.{dirty_behind, held, HoldsBut, HoldsSame, HoldsSure};
+ghost use Rattle.page_pool.specs.Side.{IsNear, IsPageSide, Pool, ShowsPages, soiled, with_page};
 
 use crate::clean;
 use crate::frames::{self, Frame, Frames};

@@ -12,7 +12,8 @@ use std::alloc::{AllocError, Global};
 use std::test::Fail;
 use values::{Kind, Row, Seq, Value};
 
-// The first page of the catalog after t(a INT) was made: the header, (1,'t',2) under number 0, (2,'t',0,'a',1) under number 1.
+// The first page of the catalog after t(a INT) was made: the header, (1,'t',2) under number 0, (2,'t',0,'a',1) under
+// number 1.
 const CATALOG_OF_T: [u8; 98] = [
     1, 0, 0, 2, 0, 0, 0, 0, 0, 0, 0, 0, 0, 0, 0, 2, 0, 0, 0, 0, //
     0, 30, 0, 0, 0, 0, 0, 0, 0, 0, 3, //
@@ -36,8 +37,8 @@ fn a_table_in_bytes(rt: HostRuntime) -> Result<(), Fail> {
     Ok(())
 }
 
-// What an index i over t(a) adds to it: the count of rows and the next row number are 3, and (3,'i','t',0,2,3) stands under
-// number 2: it is a tree, and its root page is 3.
+// What an index i over t(a) adds to it: the count of rows and the next row number are 3, and (3,'i','t',0,2,3) stands
+// under number 2: it is a tree, and its root page is 3.
 const ROW_OF_I: [u8; 53] = [
     0, 51, 0, 0, 0, 0, 0, 0, 0, 2, 6, //
     1, 0, 0, 0, 0, 0, 0, 0, 3, 2, 1, b'i', 2, 1, b't', //
@@ -71,8 +72,8 @@ fn an_index_in_bytes(rt: HostRuntime) -> Result<(), Fail> {
     Ok(())
 }
 
-// A store of so many pages with thirteen tables of one column, named a to m: their rows fill the first page of the catalog,
-// and the pages from 15 on are free.
+// A store of so many pages with thirteen tables of one column, named a to m: their rows fill the first page of the
+// catalog, and the pages from 15 on are free.
 fn thirteen_tables(alloc: Global, pages: usize) -> Result<MemPager, Stop<Failed>>
     requires { pages < 2000 }
 {
@@ -83,8 +84,8 @@ fn thirteen_tables(alloc: Global, pages: usize) -> Result<MemPager, Stop<Failed>
     Ok(pager)
 }
 
-// The same of 35 pages with eighteen indexes over the table m, named A to R: their rows fill one more page of the catalog,
-// and with their root pages 34 are taken.
+// The same of 35 pages with eighteen indexes over the table m, named A to R: their rows fill one more page of the
+// catalog, and with their root pages 34 are taken.
 fn eighteen_indexes(alloc: Global) -> Result<MemPager, Stop<Failed>> {
     let mut pager = thirteen_tables(alloc, 35)?;
     for letter in b'A'..=b'R' {
@@ -152,7 +153,8 @@ const DAMAGED: [&[&[(i64, &[u8])]]; 9] = [
         &[(1, b""), (0, b"u"), (9, b"")],
         &[(2, b""), (0, b"u"), (1, b""), (0, b"a"), (1, b"")],
     ],
-    // Indexes of two forms that there are not, one over a table that is not there, and one over a column that is not there.
+    // Indexes of two forms that there are not, one over a table that is not there, and one over a column that is not
+    // there.
     &[&[(3, b""), (0, b"i"), (0, b"t"), (0, b""), (1, b""), (9, b"")]],
     &[&[(3, b""), (0, b"i"), (0, b"t"), (0, b""), (3, b""), (0, b"")]],
     &[&[(3, b""), (0, b"i"), (0, b"u"), (0, b""), (0, b""), (0, b"")]],

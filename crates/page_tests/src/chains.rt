@@ -110,8 +110,8 @@ fn next<P: Pager>(alloc: Global, pager: &mut P, first: u32) -> Result<u64, Stop<
     next_number(alloc, pager, first)
 }
 
-// A store of 16 pages with a table of so many rows of 60 bytes, whose first page is 2: sixteen on page 2, which leave 12 bytes
-// free there, and the next on page 3.
+// A store of 16 pages with a table of so many rows of 60 bytes, whose first page is 2: sixteen on page 2, which leave
+// 12 bytes free there, and the next on page 3.
 fn sixties(alloc: Global, count: u64) -> Result<MemPager, Stop<Failed>> {
     let mut pager = zero_pages(alloc, 16, &[])?;
     let first = make_page(alloc, &mut pager)?;

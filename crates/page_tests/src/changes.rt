@@ -10,7 +10,8 @@ use std::alloc::Global;
 use std::test::Fail;
 use values::Kind;
 
-// How many reads and edits an insert of one row makes: a read of the catalog's page, and a read and an edit of the table's.
+// How many reads and edits an insert of one row makes: a read of the catalog's page, and a read and an edit of the
+// table's.
 const CALLS_OF_INSERT: u64 = 3;
 
 // A store with t(a INT), which has the rows (0), (10) and (20).

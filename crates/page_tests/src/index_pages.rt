@@ -47,8 +47,9 @@ fn a_tree_that_splits_needs_two_pages(rt: HostRuntime) -> Result<(), Fail> {
     Ok(())
 }
 
-// What the root page of an index holds that is no page of a tree of integers: nothing, a page of a table, one of a sorted
-// chain, an inner page over itself, a leaf whose entry is cut off, one whose entry is the text 'a', and no kind of page.
+// What the root page of an index holds that is no page of a tree of integers: nothing, a page of a table, one of a
+// sorted chain, an inner page over itself, a leaf whose entry is cut off, one whose entry is the text 'a', and no kind
+// of page.
 const DAMAGED: [&[u8]; 7] = [
     &[0],
     &[1, 0, 0, 0],
@@ -62,7 +63,8 @@ const DAMAGED: [&[u8]; 7] = [
     &[7, 0, 0, 0],
 ];
 
-// A store of 16 pages with t(a INT), the rows (0), (1) and (2), and an index whose root page, which is page 3, holds this.
+// A store of 16 pages with t(a INT), the rows (0), (1) and (2), and an index whose root page, which is page 3, holds
+// this.
 fn damaged(alloc: Global, held: &[u8]) -> Result<MemPager, Stop<Failed>> {
     let mut pages = indexed_integers(alloc, 16, 3)?.pages().to_vec(alloc)?;
     if pages.len() != 16 || held.len() > 100 {

@@ -1,5 +1,5 @@
-//! Tables on pages: pages byte for byte by hand, which pages each call edits, and that the calls succeed. Each call stands
-//! in a function without clauses of its own, so that the tests stay cheap to prove.
+//! Tables on pages: pages byte for byte by hand, which pages each call edits, and that the calls succeed. Each call
+//! stands in a function without clauses of its own, so that the tests stay cheap to prove.
 #![tactic(auto)]
 
 #[cfg(test)]

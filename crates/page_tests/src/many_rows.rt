@@ -1,4 +1,5 @@
-//! Thousands of rows in one call, counted and summed, and how many reads and edits a call makes on a table of two sizes.
+//! Thousands of rows in one call, counted and summed, and how many reads and edits a call makes on a table of two
+//! sizes.
 
 use crate::support::{
     delete_all, indexed_integers, integers, raise_integers, rows_in_t, sum_between, sum_of,
@@ -8,8 +9,8 @@ use retro_base::{Failed, Refusal};
 use std::alloc::Global;
 use std::test::Fail;
 
-// What an index tells of 1,001 rows of their numbers that are added in one call, and once each rose by one in one call: of
-// all, and of those from 501 on.
+// What an index tells of 1,001 rows of their numbers that are added in one call, and once each rose by one in one call:
+// of all, and of those from 501 on.
 fn many_listed(alloc: Global) -> Result<[(usize, i64); 3], Stop<Failed>> {
     let mut pager = indexed_integers(alloc, 200, 1001)?;
     let before = sum_between(alloc, &mut pager, 0, 1000)?;
@@ -46,8 +47,8 @@ enum Call {
     Delete,
 }
 
-// How many reads and edits each may make for a page of a table with fifty rows a page. The leaves of an index over it hold
-// at least twenty entries each.
+// How many reads and edits each may make for a page of a table with fifty rows a page. The leaves of an index over it
+// hold at least twenty entries each.
 const CALLS: [(Call, u64); 3] = [(Call::Range, 4), (Call::Update, 3), (Call::Delete, 4)];
 
 // A store with a table of so many pages: with an index for a range.

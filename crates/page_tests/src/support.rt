@@ -1,5 +1,5 @@
-//! A store with the table t, and the calls on it: each call of a tested crate stands in a function without clauses, over any
-//! pager.
+//! A store with the table t, and the calls on it: each call of a tested crate stands in a function without clauses,
+//! over any pager.
 
 ghost use Rattle.std.specs.Prelude.{◌≤◌, ◌<◌, All, IsTrue};
 ghost use Rattle.std.specs.List.{AllByRecursion};
@@ -95,7 +95,8 @@ pub fn bytes_of_texts(alloc: Global, last: usize) -> Result<usize, Refusal>
     Ok(encoding(alloc, 7, &five_texts(alloc, last)?)?.len())
 }
 
-// A row of sixteen values that takes 900 bytes: twelve integers from this one on, three texts of 200 letters and one of 175.
+// A row of sixteen values that takes 900 bytes: twelve integers from this one on, three texts of 200 letters and one of
+// 175.
 pub fn sixteen_values(alloc: Global, first: i64) -> Result<Row, AllocError> {
     let mut row = Seq::new(alloc);
     for more in 0..12 {

@@ -1,5 +1,6 @@
 -- The entries of an index, and what its calls do to the pages that hold them.
-use Rattle.std.specs.Prelude.{◌≡◌, ◌⊎◌, ◌<◌, ◌≤◌, ◌^◌, ◌++◌, ◌==◌, ◌&&◌, not, ℕ, Bool, List, [], ◌∷◌, nat_eq, Result, Ok, Err}
+use Rattle.std.specs.Prelude.{◌≡◌, ◌⊎◌, ◌<◌, ◌≤◌, ◌^◌, ◌++◌, ◌==◌, ◌&&◌, not, ℕ}
+use Rattle.std.specs.Prelude.{Bool, List, [], ◌∷◌, nat_eq, Result, Ok, Err}
 use Rattle.std.specs.Int.{w64}
 use Rattle.std.specs.Int.RustNames.{FitsSigned}
 use Rattle.std.specs.List.{AllByRecursion, Contains, IsDistinct, filter}

@@ -1,6 +1,7 @@
 //! Pages in memory.
 
-ghost use Rattle.std.specs.Prelude.{◌≡◌, ◌≤◌, ◌<◌, ◌^◌, ◌++◌, ◌∷◌, ◌↔◌, [], IsErr, IsTrue, OnErr, OnOk, Contains, cond, length, slice_index_or, slice_set};
+ghost use Rattle.std.specs.Prelude.{◌≡◌, ◌≤◌, ◌<◌, ◌^◌, ◌++◌, ◌∷◌, ◌↔◌, [], IsErr, IsTrue, OnErr};
+ghost use Rattle.std.specs.Prelude.{OnOk, Contains, cond, length, slice_index_or, slice_set};
 ghost use Rattle.retro_base.specs.Cause.{HasCause, raised};
 ghost use Rattle.pager.specs.Pages.{with_bytes};
 ghost use Rattle.pager.specs.MemPages.{shown};

@@ -59,7 +59,8 @@ fn run_phase<R: RunItems>(
 ) -> Result<(PlainStore, Seq<Seq<Kept>>), AllocError>
     requires idle { (view_of store).work ≡ seat.Idle }
     requires fit { SessionsFit sessions.now }
-    ensures { IfOk result (λ r. (plan : PlanOf) → IsPhaseOf plan phase sessions.now → PhaseRan plan phase store r.0 r.1) }
+    ensures { IfOk result (λ r. (plan : PlanOf) → IsPhaseOf plan phase sessions.now →
+        PhaseRan plan phase store r.0 r.1) }
 {
     let names = names_of(alloc, sessions)?;
     let mut store = store;

@@ -9,7 +9,8 @@ use std::alloc::Global;
 use std::cell::Cell;
 use std::test::Fail;
 
-/// The times that each point was told, the latest last: of each the session's place and the item, in two decimal digits.
+/// The times that each point was told, the latest last: of each the session's place and the item, in two decimal
+/// digits.
 #[derive(Drop)]
 struct Points {
     after_look: Cell<u32>,
@@ -54,8 +55,8 @@ fn points_of(alloc: Global, script: &[u8]) -> Result<[u32; 3], Refusal> {
     ])
 }
 
-// A session of one commit, and behind it one of two commits, a rollback, and three looks: at a snapshot, at all of them for
-// their table, and at all of them for a call.
+// A session of one commit, and behind it one of two commits, a rollback, and three looks: at a snapshot, at all of them
+// for their table, and at all of them for a call.
 const SCRIPT: &[u8] =
     b"SESSION z\nCOMMIT\nSESSION a\nCREATE TABLE t(a INT)\nCOMMIT WITH SNAPSHOT\nINSERT INTO t VALUES (1)\nROLLBACK\nSELECT AS OF 1 * FROM t\nSELECT * FROM SnapIds\nCollateData('SELECT snap_id FROM SnapIds','SELECT a FROM t','rql_c')\nSELECT * FROM rql_c\nCOMMIT\n";
 

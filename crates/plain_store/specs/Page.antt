@@ -1,5 +1,6 @@
 -- A page, and what it was at earlier snapshots.
-use Rattle.std.specs.Prelude.{◌≡◌, ◌⊎◌, ◌≤◌, ◌==◌, ◌||◌, ◌++◌, nat_lt, ℕ, Bool, true, false, List, [], ◌∷◌, length, slice_index_or, if◌then◌else◌}
+use Rattle.std.specs.Prelude.{◌≡◌, ◌⊎◌, ◌≤◌, ◌==◌, ◌||◌, ◌++◌, nat_lt, ℕ, Bool, true, false}
+use Rattle.std.specs.Prelude.{List, [], ◌∷◌, length, slice_index_or, if◌then◌else◌}
 use Rattle.std.specs.List.{AllByRecursion}
 use Rattle.history.specs.declared.writes.PageImage.{PageImage}
 use Rattle.history.specs.History.{written}

@@ -1,6 +1,7 @@
 //! Commits.
 
-ghost use Rattle.std.specs.Prelude.{◌≡◌, ◌≤◌, ◌<◌, ◌-◌, ◌^◌, is_some, ℕ, List, IfOk, IfSome, IsTrue, Option, Result, true, false, option_copied};
+ghost use Rattle.std.specs.Prelude.{◌≡◌, ◌≤◌, ◌<◌, ◌-◌, ◌^◌, is_some, ℕ, List, IfOk, IfSome};
+ghost use Rattle.std.specs.Prelude.{IsTrue, Option, Result, true, false, option_copied};
 ghost use Rattle.std.specs.Option.{option_to_list};
 ghost use Rattle.retro_base.specs.declared.refusal.Refusal.{Refusal};
 ghost use Rattle.history.specs.Label.{is_label};

@@ -1,5 +1,6 @@
 -- The tokens that say a line. Each writer puts the tokens of a tree before those that follow.
-use Rattle.std.specs.Prelude.{ℕ, pos, negsuc, suc, Bool, true, false, Option, Some, None, List, [], ◌∷◌, length, nat_le, nat_lt, if◌then◌else◌}
+use Rattle.std.specs.Prelude.{ℕ, pos, negsuc, suc, Bool, true, false, Option, Some, None}
+use Rattle.std.specs.Prelude.{List, [], ◌∷◌, length, nat_le, nat_lt, if◌then◌else◌}
 use Rattle.values.specs.declared.value.Kind.{Kind}
 use Rattle.values.specs.declared.value.Kind.TheVariants as kind
 use Rattle.values.specs.declared.value.Value.{Value}

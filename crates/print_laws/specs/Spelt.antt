@@ -7,7 +7,8 @@ use Rattle.values.specs.Text.{IsPrintable, IsText}
 use Rattle.values.specs.Name.{IsName}
 use Rattle.sql_lexer.specs.declared.token.Keyword.{Keyword}
 use Rattle.sql_lexer.specs.declared.token.Token.{Token}
-use Rattle.sql_lexer.specs.declared.token.Token.TheVariants.{Keyword as KeywordToken, Name, Integer, Text, LongText, Sign}
+use Rattle.sql_lexer.specs.declared.token.Token.TheVariants.{Keyword as KeywordToken, Name}
+use Rattle.sql_lexer.specs.declared.token.Token.TheVariants.{Integer, Text, LongText, Sign}
 use Rattle.sql_lexer.specs.Token.{quoted, sign_bytes, spelling}
 use Rattle.sql_parts.specs.declared.parsed.Parsed.{Parsed}
 use Rattle.print_laws.specs.Printed.{printed}

@@ -14,7 +14,8 @@ use Rattle.skippy.specs.Mappings.{Mappings, end_of, first_in}
 use Rattle.race_model.specs.Desk.{Desk, captured, capacity_of}
 use Rattle.race_model.specs.Vault.{Maplog, Vault, Batch, batch_end, IsMaplogOf}
 use Rattle.race_model.specs.Fits.{HistoryFits, DeskFits, VaultFits, BatchFits}
-use Rattle.race_model.specs.Machine.{Machine, MayTake, MayWrite, MayCut, MayLay, MayEnter, batch_of, settled, laid, entered, trimmed}
+use Rattle.race_model.specs.Machine.{Machine, MayTake, MayWrite, MayCut, MayLay, MayEnter}
+use Rattle.race_model.specs.Machine.{batch_of, settled, laid, entered, trimmed}
 use Rattle.race_model.specs.Invariant.{ToldFits, Fits}
 use Rattle.race_model.specs.Reading.{PeekTold, told_of, found}
 

@@ -1,5 +1,6 @@
 -- What holds of a desk and of a vault between their steps.
-use Rattle.std.specs.Prelude.{◌≡◌, ◌⊎◌, ◌+◌, ◌%◌, ◌<◌, ◌≤◌, ◌-◌, ◌++◌, ℕ, true, false, IsTrue, List, length, drop, get_or, Contains}
+use Rattle.std.specs.Prelude.{◌≡◌, ◌⊎◌, ◌+◌, ◌%◌, ◌<◌, ◌≤◌, ◌-◌, ◌++◌, ℕ, true}
+use Rattle.std.specs.Prelude.{false, IsTrue, List, length, drop, get_or, Contains}
 use Rattle.std.specs.List.{AllByRecursion}
 use Rattle.history.specs.declared.entry.Change.{Change}
 use Rattle.history.specs.declared.writes.PageImage.{PageImage}

@@ -14,7 +14,9 @@ use Rattle.race_model.specs.Vault.{Maplog, Vault, Batch, IsMaplogOf, AreSlotsOf,
 use Rattle.race_model.specs.Fits.{HistoryFits, DeskFits, VaultFits, AreOfStore}
 use Rattle.race_model.specs.Images.{AreImagesOf, IsSameWorld, OpenInDoubt, HoldsCaptures}
 use Rattle.race_model.specs.Invariant.{Fits}
-use Rattle.race_model.specs.Machine.{Machine, Step, with_desk, with_vault, changed, change_failed, written_desk, write_failed, settled, stopped, cut, cut_failed, laid, lay_failed, entered, enter_failed, trimmed, trim_failed}
+use Rattle.race_model.specs.Machine.{Machine, Step, with_desk, with_vault, changed, change_failed}
+use Rattle.race_model.specs.Machine.{written_desk, write_failed, settled, stopped, cut, cut_failed}
+use Rattle.race_model.specs.Machine.{laid, lay_failed, entered, enter_failed, trimmed, trim_failed}
 use Rattle.race_model.specs.Reopened.{opened_machine, made, Life}
 
 -- a store that was just made is one that fits, whatever its pages and slots hold

@@ -1,6 +1,7 @@
 -- The steps of a desk and a vault, and of the readers between them. A call that fails is a step too; a crash within a
 -- call leaves what its failing leaves.
-use Rattle.std.specs.Prelude.{◌≡◌, ◌+◌, ◌==◌, ◌||◌, ◌<◌, ◌≤◌, ◌++◌, min, max, ℕ, Bool, true, false, List, [], ◌∷◌, map, take, drop, Contains, if◌then◌else◌}
+use Rattle.std.specs.Prelude.{◌≡◌, ◌+◌, ◌==◌, ◌||◌, ◌<◌, ◌≤◌, ◌++◌, min, max, ℕ, Bool, true}
+use Rattle.std.specs.Prelude.{false, List, [], ◌∷◌, map, take, drop, Contains, if◌then◌else◌}
 use Rattle.std.specs.List.{AllByRecursion}
 use Rattle.retro_base.specs.declared.limits.TheConstants.{BATCH}
 use Rattle.history.specs.declared.entry.Change.{Change}

@@ -1,7 +1,11 @@
 //! What holds of every list of steps and every crash.
 
-ghost use Rattle.race_model.specs.Apart.{AllOutlive, BatchesFit, FindAfterPeek, FindsAlike, HistoryOutlives, HistoryOutlivesLines, MayCutSettled, MaySend, MayWriteBack, Outlives, OutlivesLines, PastIsRight, PastOverLines, PeekTells, TrimLeaves, VaultFinds};
-ghost use Rattle.race_model.specs.Laws.{ApartOpen, BothAtOnce, DeskImagesOpen, FailuresCover, ImagesOpen, LivesKeep, LivesOpen, MadeFits, MaplogInVersion, OpenedFits, ReadFits, SamePast, StepsKeep, VaultImagesHold};
+ghost use Rattle.race_model.specs.Apart.{AllOutlive, BatchesFit, FindAfterPeek, FindsAlike, HistoryOutlives};
+ghost use Rattle.race_model.specs.Apart.{HistoryOutlivesLines, MayCutSettled, MaySend, MayWriteBack, Outlives};
+ghost use Rattle.race_model.specs.Apart.{OutlivesLines, PastIsRight, PastOverLines, PeekTells, TrimLeaves, VaultFinds};
+ghost use Rattle.race_model.specs.Laws.{ApartOpen, BothAtOnce, DeskImagesOpen, FailuresCover};
+ghost use Rattle.race_model.specs.Laws.{ImagesOpen, LivesKeep, LivesOpen, MadeFits, MaplogInVersion};
+ghost use Rattle.race_model.specs.Laws.{OpenedFits, ReadFits, SamePast, StepsKeep, VaultImagesHold};
 
 /// Of the machine's invariant.
 pub fn steps_keep()

@@ -11,7 +11,7 @@ use Rattle.history.specs.declared.log.Version.{Version}
 use Rattle.records.specs.Entries.{entry_bytes, EntryFits}
 use Rattle.history.specs.History.{base_after}
 use Rattle.records.proofs.Spelling.{one_entry}
-use Rattle.records.specs.Reading.{Gives}
+use Rattle.records.specs.Reading.{Decodes}
 use Rattle.history.specs.Right.{IsBase, IsRight}
 use Rattle.history.specs.declared.log.Log.{Log}
 use Rattle.records.specs.Finds.{Finds, FindsNone}
@@ -91,7 +91,7 @@ Spells version body entry = EntryFits version entry × (body ≡ entry_bytes ver
 nothing : (entry : Entry) → Some entry ≡ None → ⊥
 nothing entry e = absurd cc
 
-pub no_base_there : (version : Version) (body : List ℕ) (e : DecodeError) → ((entry : Entry) → EntryFits version entry → body ≡ entry_bytes version entry → Gives (λ (x : Entry). x) (Err e) (Some entry)) → FindsNone (IsBaseBody version body) e
+pub no_base_there : (version : Version) (body : List ℕ) (e : DecodeError) → ((entry : Entry) → EntryFits version entry → body ≡ entry_bytes version entry → Decodes (λ (x : Entry). x) (Err e) (Some entry)) → FindsNone (IsBaseBody version body) e
 no_base_there version body OutOfMemory only = tt
 no_base_there version body Malformed only = λ base is. nothing (entries.Base base) (only (entries.Base base) is.fits is.spelled)
 
@@ -100,7 +100,7 @@ base_there version body entry (Ok base) spells found = record { spelled = spells
 base_there version body entry (Err OutOfMemory) spells found = tt
 base_there version body entry (Err Malformed) spells found = λ base is. found base (one_entry version entry (entries.Base base) spells.0 is.fits (sym spells.1 ∙ is.spelled), is.right)
 
-pub no_change_there : (version : Version) (place : Base) (body : List ℕ) (e : DecodeError) → ((entry : Entry) → EntryFits version entry → body ≡ entry_bytes version entry → Gives (λ (x : Entry). x) (Err e) (Some entry)) → FindsNone (IsChangeBody version place body) e
+pub no_change_there : (version : Version) (place : Base) (body : List ℕ) (e : DecodeError) → ((entry : Entry) → EntryFits version entry → body ≡ entry_bytes version entry → Decodes (λ (x : Entry). x) (Err e) (Some entry)) → FindsNone (IsChangeBody version place body) e
 no_change_there version place body OutOfMemory only = tt
 no_change_there version place body Malformed only = λ change is. nothing (entries.Change change) (only (entries.Change change) is.fits is.spelled)
 

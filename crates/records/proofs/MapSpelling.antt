@@ -10,7 +10,7 @@ use Rattle.history.specs.declared.log.Version.{Version}
 use Rattle.history.specs.declared.log.Version.TheVariants.{One, Two}
 use Rattle.records.specs.Entries.{page_width}
 use Rattle.history.specs.Log.{version_number}
-use Rattle.records.specs.Reading.{◌>>=◌, Gives, where_true, take_number, take_list}
+use Rattle.records.specs.Reading.{◌>>=◌, Decodes, where_true, take_number, take_list}
 use Rattle.records.proofs.Bytes.{IsBytes}
 use Rattle.records.proofs.Fields.{bind_some, where_some, some_is, Takes, Takes-then, number_takes, number_taken}
 use Rattle.records.proofs.Lists.{AllInTurn, list_takes, list_taken}
@@ -160,7 +160,7 @@ whole_taken version entry fits = rw (entry_taken version entry fits) refl
 pub one_map_entry : (version : Version) (entry other : MapEntry) → MapEntryFits version entry → MapEntryFits version other → map_entry_bytes version entry ≡ map_entry_bytes version other → entry ≡ other
 one_map_entry version entry other fits fit e = some_is entry other (sym (whole_taken version entry fits) ∙ ap (whole_map_entry version) e ∙ whole_taken version other fit)
 
-pub is_found : (version : Version) (bytes : List ℕ) (r : Result MapEntry DecodeError) → IsBytes bytes → Gives (λ e. e) r (whole_map_entry version bytes)
+pub is_found : (version : Version) (bytes : List ℕ) (r : Result MapEntry DecodeError) → IsBytes bytes → Decodes (λ e. e) r (whole_map_entry version bytes)
     → Finds (λ entry. MapEntryFits version entry × (bytes ≡ map_entry_bytes version entry)) r
 is_found version bytes (Ok entry) fits given = whole_takes version bytes entry fits given
 is_found version bytes (Err OutOfMemory) fits given = tt

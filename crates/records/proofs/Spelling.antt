@@ -22,7 +22,7 @@ use Rattle.history.specs.Writes.{pages_of, rises}
 use Rattle.records.specs.Entries.{page_width, declaration_bytes, mark_bytes, write_bytes, base_bytes, change_bytes, entry_bytes, MarkFits, BaseFits, WriteFits, ChangeFits, EntryFits}
 use Rattle.history.specs.Log.{version_number}
 use Rattle.records.specs.Laws.{OneEntry}
-use Rattle.records.specs.Reading.{◌>>=◌, Gives, where_true, take_number, take_declaration, take_mark, take_page, take_image, take_list, take_marks, base_from, take_base, take_commit, take_drop, take_entry, whole_entry, after_mark, after_page, after_image}
+use Rattle.records.specs.Reading.{◌>>=◌, Decodes, where_true, take_number, take_declaration, take_mark, take_page, take_image, take_list, take_marks, base_from, take_base, take_commit, take_drop, take_entry, whole_entry, after_mark, after_page, after_image}
 use Rattle.retro_base.proofs.FieldLaws.{length-field_bytes}
 use Rattle.records.proofs.Bytes.{IsBytes, IsBytes-drop, field_of-number, number-drop, number-lt, number-again}
 use Rattle.records.proofs.Fields.{bind_some, where_some, some_is, Takes, Takes-then, number_takes, number_taken, declaration_takes, declaration_taken, mark_takes, mark_taken, page_takes, page_taken, image_takes, image_taken}
@@ -384,7 +384,7 @@ whole_taken version entry fits =
     let all : take_entry version (entry_bytes version entry) ≡ Some (entry, []) = ap (take_entry version) (sym (append-nil (entry_bytes version entry))) ∙ entry_taken version entry [] fits in
     rw all refl
 
-pub is_found : (version : Version) (bytes : List ℕ) (r : Result Entry DecodeError) → IsBytes bytes → Gives (λ e. e) r (whole_entry version bytes) → IfOk r (λ entry. EntryFits version entry × (bytes ≡ entry_bytes version entry))
+pub is_found : (version : Version) (bytes : List ℕ) (r : Result Entry DecodeError) → IsBytes bytes → Decodes (λ e. e) r (whole_entry version bytes) → IfOk r (λ entry. EntryFits version entry × (bytes ≡ entry_bytes version entry))
 is_found version bytes (Ok entry) fits given = whole_takes version bytes entry fits given
 is_found version bytes (Err e) fits given = tt
 

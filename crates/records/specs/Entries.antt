@@ -1,7 +1,7 @@
 -- The bytes of the log's records.
 use Rattle.std.specs.Prelude.{◌≡◌, ◌≤◌, ◌<◌, ◌^◌, ◌+◌, ◌++◌, ℕ, IsTrue, List, [], ◌∷◌, length, Option, Some, None}
 use Rattle.std.specs.List.{AllByRecursion, flat_map}
-use Rattle.retro_base.specs.declared.limits.TheConstants.{EDITED_PAGES}
+use Rattle.retro_base.specs.declared.limits.TheConstants.{EDITED_PAGES, PAGE_BYTES}
 use Rattle.retro_base.specs.Fields.{field_bytes}
 use Rattle.history.specs.declared.entry.Base.{Base}
 use Rattle.history.specs.declared.entry.Mark.{Mark}
@@ -93,7 +93,7 @@ pub record BaseFits (version : Version) (base : Base) : Type 0 where
 -- a page image whose page fits its field
 pub record WriteFits (version : Version) (write : PageImage) : Type 0 where
   pub page : write.page < 256 ^ page_width version
-  pub whole : length write.bytes ≡ 1024
+  pub whole : length write.bytes ≡ PAGE_BYTES
 
 abbrev pub LabelFits : Option (List ℕ) → Type 0
 LabelFits None = Unit {0}

@@ -1,6 +1,7 @@
 -- Reading a record of the Maplog from the front of bytes, field by field. That it gives exactly the records whose bytes
 -- these are is said where one is decoded.
-use Rattle.std.specs.Prelude.{◌==◌, ◌&&◌, nat_le, ℕ, zero, suc, List, [], ◌∷◌, length, Option, Some, None, if◌then◌else◌}
+use Rattle.std.specs.Prelude.{◌==◌, ◌&&◌, nat_le, ℕ, zero, suc, List, [], ◌∷◌}
+use Rattle.std.specs.Prelude.{length, Option, Some, None, if◌then◌else◌}
 use Rattle.history.specs.declared.log.Version.{Version}
 use Rattle.records.specs.Entries.{page_width}
 use Rattle.history.specs.Log.{version_number}

@@ -1,6 +1,7 @@
 -- Reading an entry from the front of bytes, field by field. That it gives exactly the entries whose bytes these are is
 -- said where an entry is decoded.
-use Rattle.std.specs.Prelude.{◌≡◌, ◌+◌, ◌-◌, ◌==◌, ◌&&◌, nat_lt, nat_le, ℕ, zero, suc, Bool, List, [], ◌∷◌, length, take, drop, Option, Some, None, Result, Ok, Err, if◌then◌else◌}
+use Rattle.std.specs.Prelude.{◌≡◌, ◌+◌, ◌-◌, ◌==◌, ◌&&◌, nat_lt, nat_le, ℕ, zero, suc, Bool, List, [], ◌∷◌}
+use Rattle.std.specs.Prelude.{length, take, drop, Option, Some, None, Result, Ok, Err, if◌then◌else◌}
 use Rattle.retro_base.specs.declared.limits.TheConstants.{EDITED_PAGES, PAGE_BYTES}
 use Rattle.retro_base.specs.Fields.{number_at}
 use Rattle.history.specs.declared.entry.Base.{Base}
@@ -28,9 +29,9 @@ Fails OutOfMemory reading = Unit {0}
 Fails Malformed reading = reading ≡ None
 
 -- an answer, seen by `view`, is what reading gives, unless memory ran out
-abbrev pub Gives : {X Y : Type 0} → (X → Y) → Result X DecodeError → Option Y → Type 0
-Gives view (Ok x) reading = reading ≡ Some (view x)
-Gives view (Err e) reading = Fails e reading
+abbrev pub Decodes : {X Y : Type 0} → (X → Y) → Result X DecodeError → Option Y → Type 0
+Decodes view (Ok x) reading = reading ≡ Some (view x)
+Decodes view (Err e) reading = Fails e reading
 
 -- the value if the test passes
 abbrev pub where_true : {X : Type 0} → Bool → X → Option X

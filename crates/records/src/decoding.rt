@@ -4,7 +4,9 @@ ghost use Rattle.std.specs.Prelude.{◌≡◌, ◌≤◌, ◌+◌, ◌^◌, leng
 ghost use Rattle.records.specs.declared.encoding.TheConstants.{BASE_HEAD_BYTES};
 ghost use Rattle.records.specs.declared.entry.Entry.{Entry};
 ghost use Rattle.records.specs.Entries.{page_width, entry_bytes, EntryFits};
-ghost use Rattle.records.specs.Reading.{Gives, take_number, take_label, take_declaration, take_mark, take_page, take_image, take_list, take_marks, base_from, take_base, take_commit, take_drop, take_entry, whole_entry, after_mark, after_page, after_image};
+ghost use Rattle.records.specs.Reading.{Decodes, take_number, take_label, take_declaration, take_mark, take_page};
+ghost use Rattle.records.specs.Reading.{take_image, take_list, take_marks, base_from, take_base, take_commit};
+ghost use Rattle.records.specs.Reading.{take_drop, take_entry, whole_entry, after_mark, after_page, after_image};
 
 use crate::encoding::BASE_HEAD_BYTES;
 use crate::entry::Entry;
@@ -45,7 +47,7 @@ impl<T: Drop> From<AllocFailed<T>> for DecodeError {
 }
 
 fn byte_of(bytes: &[u8]) -> Result<(u8, &[u8]), DecodeError>
-    ensures { Gives (λ x. (x.0, x.1.now)) result (take_number 1 bytes.now) }
+    ensures { Decodes (λ x. (x.0, x.1.now)) result (take_number 1 bytes.now) }
 {
     if bytes.is_empty() {
         return Err(DecodeError::Malformed);
@@ -54,7 +56,7 @@ fn byte_of(bytes: &[u8]) -> Result<(u8, &[u8]), DecodeError>
 }
 
 pub(crate) fn u16_of(bytes: &[u8]) -> Result<(u16, &[u8]), DecodeError>
-    ensures { Gives (λ x. (x.0, x.1.now)) result (take_number 2 bytes.now) }
+    ensures { Decodes (λ x. (x.0, x.1.now)) result (take_number 2 bytes.now) }
 {
     if bytes.len() < 2 {
         return Err(DecodeError::Malformed);
@@ -63,7 +65,7 @@ pub(crate) fn u16_of(bytes: &[u8]) -> Result<(u16, &[u8]), DecodeError>
 }
 
 pub(crate) fn u32_of(bytes: &[u8]) -> Result<(u32, &[u8]), DecodeError>
-    ensures { Gives (λ x. (x.0, x.1.now)) result (take_number 4 bytes.now) }
+    ensures { Decodes (λ x. (x.0, x.1.now)) result (take_number 4 bytes.now) }
 {
     if bytes.len() < 4 {
         return Err(DecodeError::Malformed);
@@ -72,7 +74,7 @@ pub(crate) fn u32_of(bytes: &[u8]) -> Result<(u32, &[u8]), DecodeError>
 }
 
 pub(crate) fn u64_of(bytes: &[u8]) -> Result<(u64, &[u8]), DecodeError>
-    ensures { Gives (λ x. (x.0, x.1.now)) result (take_number 8 bytes.now) }
+    ensures { Decodes (λ x. (x.0, x.1.now)) result (take_number 8 bytes.now) }
 {
     if bytes.len() < 8 {
         return Err(DecodeError::Malformed);
@@ -82,7 +84,7 @@ pub(crate) fn u64_of(bytes: &[u8]) -> Result<(u64, &[u8]), DecodeError>
 
 #[tactic(auto, unfolding(crate::specs::Reading::take_label))]
 fn label_of(alloc: Global, bytes: &[u8]) -> Result<(Label, &[u8]), DecodeError>
-    ensures { Gives (λ x. (x.0, x.1.now)) result (take_label bytes.now) }
+    ensures { Decodes (λ x. (x.0, x.1.now)) result (take_label bytes.now) }
 {
     let (count, rest) = byte_of(bytes)?;
     let count = usize::from(count);
@@ -98,7 +100,7 @@ fn label_of(alloc: Global, bytes: &[u8]) -> Result<(Label, &[u8]), DecodeError>
 
 #[tactic(auto, unfolding(crate::specs::Reading::take_declaration))]
 fn declaration_of(alloc: Global, bytes: &[u8]) -> Result<(Option<Label>, &[u8]), DecodeError>
-    ensures { Gives (λ x. (x.0, x.1.now)) result (take_declaration bytes.now) }
+    ensures { Decodes (λ x. (x.0, x.1.now)) result (take_declaration bytes.now) }
 {
     match bytes {
         [] => Err(DecodeError::Malformed),
@@ -113,7 +115,7 @@ fn declaration_of(alloc: Global, bytes: &[u8]) -> Result<(Option<Label>, &[u8]),
 
 #[tactic(auto, unfolding(crate::specs::Reading::take_mark))]
 fn mark_of(alloc: Global, number: u32, bytes: &[u8]) -> Result<(Mark, &[u8]), DecodeError>
-    ensures { Gives (λ x. (x.0, x.1.now)) result (take_mark number bytes.now) }
+    ensures { Decodes (λ x. (x.0, x.1.now)) result (take_mark number bytes.now) }
 {
     let (start, rest) = u64_of(bytes)?;
     let (label, rest) = label_of(alloc, rest)?;
@@ -128,7 +130,7 @@ fn mark_of(alloc: Global, number: u32, bytes: &[u8]) -> Result<(Mark, &[u8]), De
 }
 
 pub(crate) fn page_number_of(version: Version, bytes: &[u8]) -> Result<(u32, &[u8]), DecodeError>
-    ensures { Gives (λ x. (x.0, x.1.now)) result (take_number (page_width version) bytes.now) }
+    ensures { Decodes (λ x. (x.0, x.1.now)) result (take_number (page_width version) bytes.now) }
 {
     match version {
         Version::One => {
@@ -141,7 +143,7 @@ pub(crate) fn page_number_of(version: Version, bytes: &[u8]) -> Result<(u32, &[u
 
 #[tactic(auto, unfolding(crate::specs::Reading::take_page))]
 fn page_of(version: Version, least: u64, bytes: &[u8]) -> Result<(u32, &[u8]), DecodeError>
-    ensures { Gives (λ x. (x.0, x.1.now)) result (take_page version least bytes.now) }
+    ensures { Decodes (λ x. (x.0, x.1.now)) result (take_page version least bytes.now) }
 {
     let (page, rest) = page_number_of(version, bytes)?;
     if u64::from(page) < least {
@@ -162,7 +164,7 @@ fn page_from(bytes: &[u8]) -> Page
 
 #[tactic(auto, unfolding(crate::specs::Reading::take_image))]
 fn image_of(version: Version, least: u64, bytes: &[u8]) -> Result<(PageImage, &[u8]), DecodeError>
-    ensures { Gives (λ x. (x.0, x.1.now)) result (take_image version least bytes.now) }
+    ensures { Decodes (λ x. (x.0, x.1.now)) result (take_image version least bytes.now) }
 {
     let (page, rest) = page_of(version, least, bytes)?;
     if rest.len() < PAGE_BYTES {
@@ -186,7 +188,7 @@ fn marks_of(
     bytes: &[u8],
 ) -> Result<(Seq<Mark>, &[u8]), DecodeError>
     requires { oldest + count ≤ 2 ^ 32 }
-    ensures { Gives (λ x. (x.0, x.1.now)) result (take_list take_mark after_mark count oldest bytes.now) }
+    ensures { Decodes (λ x. (x.0, x.1.now)) result (take_list take_mark after_mark count oldest bytes.now) }
 {
     let mut marks = Vec::new(alloc);
     let mut rest = bytes;
@@ -206,7 +208,7 @@ fn marks_between(
     newest: u32,
     bytes: &[u8],
 ) -> Result<(Seq<Mark>, &[u8]), DecodeError>
-    ensures { Gives (λ x. (x.0, x.1.now)) result (take_marks oldest newest bytes.now) }
+    ensures { Decodes (λ x. (x.0, x.1.now)) result (take_marks oldest newest bytes.now) }
 {
     if newest < oldest {
         if oldest != 1 || newest != 0 {
@@ -228,7 +230,7 @@ fn pages_of(
     count: u32,
     bytes: &[u8],
 ) -> Result<(Seq<u32>, &[u8]), DecodeError>
-    ensures { Gives (λ x. (x.0, x.1.now)) result (take_list (take_page version) after_page count 0 bytes.now) }
+    ensures { Decodes (λ x. (x.0, x.1.now)) result (take_list (take_page version) after_page count 0 bytes.now) }
 {
     let mut pages = Vec::new(alloc);
     let mut least = 0;
@@ -248,7 +250,8 @@ fn images_of(
     count: u16,
     bytes: &[u8],
 ) -> Result<(Vec<PageImage>, &[u8]), DecodeError>
-    ensures { Gives (λ x. (x.0.items, x.1.now)) result (take_list (take_image version) after_image count 0 bytes.now) }
+    ensures { Decodes (λ x. (x.0.items, x.1.now)) result
+        (take_list (take_image version) after_image count 0 bytes.now) }
 {
     let mut images = Vec::new(alloc);
     let mut least = 0;
@@ -289,7 +292,7 @@ fn base_behind_head(
     bytes: &[u8],
 ) -> Result<(Base, &[u8]), DecodeError>
     requires { BASE_HEAD_BYTES ≤ length bytes.now }
-    ensures { Gives (λ x. (x.0, x.1.now)) result (base_from version bytes.now) }
+    ensures { Decodes (λ x. (x.0, x.1.now)) result (base_from version bytes.now) }
 {
     let (_, rest) = bytes.split_at(BASE_HEAD_BYTES);
     let (marks, rest) = marks_between(alloc, get_u32(bytes, OLDEST), get_u32(bytes, NEWEST), rest)?;
@@ -307,7 +310,7 @@ fn base_behind_head(
 
 #[tactic(auto, unfolding(crate::specs::Reading::take_base))]
 fn base_of(alloc: Global, version: Version, bytes: &[u8]) -> Result<(Base, &[u8]), DecodeError>
-    ensures { Gives (λ x. (x.0, x.1.now)) result (take_base version bytes.now) }
+    ensures { Decodes (λ x. (x.0, x.1.now)) result (take_base version bytes.now) }
 {
     if bytes.len() < BASE_HEAD_BYTES || get_u16(bytes, 1) != version.number() {
         return Err(DecodeError::Malformed);
@@ -317,7 +320,7 @@ fn base_of(alloc: Global, version: Version, bytes: &[u8]) -> Result<(Base, &[u8]
 
 #[tactic(auto, unfolding(crate::specs::Reading::take_commit))]
 fn commit_of(alloc: Global, version: Version, bytes: &[u8]) -> Result<(Change, &[u8]), DecodeError>
-    ensures { Gives (λ x. (x.0, x.1.now)) result (take_commit version bytes.now) }
+    ensures { Decodes (λ x. (x.0, x.1.now)) result (take_commit version bytes.now) }
 {
     let (label, rest) = declaration_of(alloc, bytes)?;
     let (count, rest) = u16_of(rest)?;
@@ -331,7 +334,7 @@ fn commit_of(alloc: Global, version: Version, bytes: &[u8]) -> Result<(Change, &
 
 #[tactic(auto, unfolding(crate::specs::Reading::take_drop))]
 fn drop_of(bytes: &[u8]) -> Result<(Change, &[u8]), DecodeError>
-    ensures { Gives (λ x. (x.0, x.1.now)) result (take_drop bytes.now) }
+    ensures { Decodes (λ x. (x.0, x.1.now)) result (take_drop bytes.now) }
 {
     let (below, rest) = u32_of(bytes)?;
     Ok((Change::Drop { below }, rest))
@@ -339,7 +342,7 @@ fn drop_of(bytes: &[u8]) -> Result<(Change, &[u8]), DecodeError>
 
 #[tactic(auto, unfolding(crate::specs::Reading::take_entry))]
 fn entry_of(alloc: Global, version: Version, bytes: &[u8]) -> Result<(Entry, &[u8]), DecodeError>
-    ensures { Gives (λ x. (x.0, x.1.now)) result (take_entry version bytes.now) }
+    ensures { Decodes (λ x. (x.0, x.1.now)) result (take_entry version bytes.now) }
 {
     match bytes {
         [1, ..] => {
@@ -360,7 +363,7 @@ fn entry_of(alloc: Global, version: Version, bytes: &[u8]) -> Result<(Entry, &[u
 
 #[tactic(auto, unfolding(crate::specs::Reading::whole_entry))]
 fn whole(alloc: Global, version: Version, bytes: &[u8]) -> Result<Entry, DecodeError>
-    ensures { Gives (λ e. e) result (whole_entry version bytes.now) }
+    ensures { Decodes (λ e. e) result (whole_entry version bytes.now) }
 {
     let (entry, rest) = entry_of(alloc, version, bytes)?;
     if !rest.is_empty() {
@@ -374,7 +377,7 @@ fn whole(alloc: Global, version: Version, bytes: &[u8]) -> Result<Entry, DecodeE
 pub fn decode(alloc: Global, version: Version, bytes: &[u8]) -> Result<Entry, DecodeError>
     ensures found { IfOk result (λ entry. EntryFits version entry × (bytes.now ≡ entry_bytes version entry)) }
     ensures only { (entry : Entry) → EntryFits version entry → bytes.now ≡ entry_bytes version entry →
-        Gives (λ e. e) result (Some entry) }
+        Decodes (λ e. e) result (Some entry) }
 {
     whole(alloc, version, bytes)
 }

@@ -4,7 +4,9 @@ ghost use Rattle.std.specs.Prelude.{◌≡◌, ◌<◌, ◌+◌, ◌*◌, ◌^�
 ghost use Rattle.std.specs.List.{AllByRecursion, flat_map};
 ghost use Rattle.retro_base.specs.Fields.{field_bytes};
 ghost use Rattle.retro_base.specs.declared.refusal.Refusal.TheVariants.{OutOfMemory};
-ghost use Rattle.records.specs.Entries.{page_width, label_bytes, mark_bytes, write_bytes, declaration_bytes, sizes_bytes, counts_bytes, base_bytes, change_bytes, entry_bytes, BaseFits, WriteFits, ChangeFits, EntryFits};
+ghost use Rattle.records.specs.Entries.{page_width, label_bytes, mark_bytes, write_bytes, declaration_bytes};
+ghost use Rattle.records.specs.Entries.{sizes_bytes, counts_bytes, base_bytes, change_bytes};
+ghost use Rattle.records.specs.Entries.{entry_bytes, BaseFits, WriteFits, ChangeFits, EntryFits};
 ghost use Rattle.records.specs.Laws.{IsRightBase};
 ghost use Rattle.history.specs.Right.{IsBase};
 ghost use Rattle.history.specs.declared.entry.Change.TheVariants.{Commit};

@@ -1,6 +1,7 @@
 //! What follows from the definitions.
 
-ghost use Rattle.records.specs.Laws.{BasesAreShort, LogIsReadOneWay, MaplogIsReadOneWay, NumberedStays, OneEntry, RecordsAreShort, RetainedBetween};
+ghost use Rattle.records.specs.Laws.{BasesAreShort, LogIsReadOneWay, MaplogIsReadOneWay};
+ghost use Rattle.records.specs.Laws.{NumberedStays, OneEntry, RecordsAreShort, RetainedBetween};
 
 /// Of the bytes of records.
 pub fn laws_of_records()

@@ -1,10 +1,11 @@
 //! Records of the Maplog from their bytes.
 
 ghost use Rattle.std.specs.Prelude.{◌≡◌};
-ghost use Rattle.records.specs.Reading.{Gives, take_list};
+ghost use Rattle.records.specs.Reading.{Decodes, take_list};
 ghost use Rattle.records.specs.Finds.{Finds};
 ghost use Rattle.records.specs.Maplog.{map_entry_bytes, MapEntryFits};
-ghost use Rattle.records.specs.MapReading.{take_start, take_mapped, no_matter, take_run, take_low, take_map_entry, whole_map_entry};
+ghost use Rattle.records.specs.MapReading.{take_start, take_mapped, no_matter, take_run};
+ghost use Rattle.records.specs.MapReading.{take_low, take_map_entry, whole_map_entry};
 
 use crate::decoding::{DecodeError, page_number_of, u16_of, u32_of, u64_of};
 use crate::map_entry::{MapEntry, RUN_PAGES};
@@ -14,7 +15,7 @@ use values::Seq;
 
 #[tactic(auto, unfolding(crate::specs::MapReading::take_start))]
 fn start_of(version: Version, bytes: &[u8]) -> Result<(MapEntry, &[u8]), DecodeError>
-    ensures { Gives (λ x. (x.0, x.1.now)) result (take_start version bytes.now) }
+    ensures { Decodes (λ x. (x.0, x.1.now)) result (take_start version bytes.now) }
 {
     let (number, rest) = u16_of(bytes)?;
     let (low, rest) = u64_of(rest)?;
@@ -31,7 +32,7 @@ fn pages_of(
     count: u32,
     bytes: &[u8],
 ) -> Result<(Seq<u32>, &[u8]), DecodeError>
-    ensures { Gives (λ x. (x.0, x.1.now)) result (take_list (take_mapped version) no_matter count 0 bytes.now) }
+    ensures { Decodes (λ x. (x.0, x.1.now)) result (take_list (take_mapped version) no_matter count 0 bytes.now) }
 {
     let mut pages = Vec::new(alloc);
     let mut rest = bytes;
@@ -45,7 +46,7 @@ fn pages_of(
 
 #[tactic(auto, unfolding(crate::specs::MapReading::take_run))]
 fn run_of(alloc: Global, version: Version, bytes: &[u8]) -> Result<(MapEntry, &[u8]), DecodeError>
-    ensures { Gives (λ x. (x.0, x.1.now)) result (take_run version bytes.now) }
+    ensures { Decodes (λ x. (x.0, x.1.now)) result (take_run version bytes.now) }
 {
     let (first, rest) = u64_of(bytes)?;
     let (count, rest) = u32_of(rest)?;
@@ -58,7 +59,7 @@ fn run_of(alloc: Global, version: Version, bytes: &[u8]) -> Result<(MapEntry, &[
 
 #[tactic(auto, unfolding(crate::specs::MapReading::take_low))]
 fn low_of(bytes: &[u8]) -> Result<(MapEntry, &[u8]), DecodeError>
-    ensures { Gives (λ x. (x.0, x.1.now)) result (take_low bytes.now) }
+    ensures { Decodes (λ x. (x.0, x.1.now)) result (take_low bytes.now) }
 {
     let (low, rest) = u64_of(bytes)?;
     Ok((MapEntry::Low { low }, rest))
@@ -66,7 +67,7 @@ fn low_of(bytes: &[u8]) -> Result<(MapEntry, &[u8]), DecodeError>
 
 #[tactic(auto, unfolding(crate::specs::MapReading::take_map_entry))]
 fn entry_of(alloc: Global, version: Version, bytes: &[u8]) -> Result<(MapEntry, &[u8]), DecodeError>
-    ensures { Gives (λ x. (x.0, x.1.now)) result (take_map_entry version bytes.now) }
+    ensures { Decodes (λ x. (x.0, x.1.now)) result (take_map_entry version bytes.now) }
 {
     match bytes {
         [1, rest @ ..] => start_of(version, rest),
@@ -78,7 +79,7 @@ fn entry_of(alloc: Global, version: Version, bytes: &[u8]) -> Result<(MapEntry, 
 
 #[tactic(auto, unfolding(crate::specs::MapReading::whole_map_entry))]
 fn whole(alloc: Global, version: Version, bytes: &[u8]) -> Result<MapEntry, DecodeError>
-    ensures { Gives (λ e. e) result (whole_map_entry version bytes.now) }
+    ensures { Decodes (λ e. e) result (whole_map_entry version bytes.now) }
 {
     let (entry, rest) = entry_of(alloc, version, bytes)?;
     if !rest.is_empty() {

@@ -1,6 +1,7 @@
 //! The list of a base and its changes on the device of the log.
 
-ghost use Rattle.std.specs.Prelude.{◌≡◌, ◌+◌, ◌-◌, ◌*◌, ◌∷◌, [], None, length, replicate, OnOk, IfOk, IfErr, MatchResult};
+ghost use Rattle.std.specs.Prelude.{◌≡◌, ◌+◌, ◌-◌, ◌*◌, ◌∷◌, [], None, length};
+ghost use Rattle.std.specs.Prelude.{replicate, OnOk, IfOk, IfErr, MatchResult};
 ghost use Rattle.disk_model.specs.Runs.{SameDevice, WritesNothing};
 ghost use Rattle.retro_base.specs.declared.device.Device.TheVariants as kinds;
 ghost use Rattle.retro_base.specs.declared.limits.TheConstants.{LOG_REGION_BYTES};

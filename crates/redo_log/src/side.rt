@@ -1,6 +1,7 @@
 //! The log's device with its log, in one value.
 
-ghost use Rattle.std.specs.Prelude.{◌≡◌, ◌+◌, ◌-◌, ◌*◌, ◌∷◌, [], false, true, None, Some, Option, length, OnOk, IfOk, IfErr, MatchResult};
+ghost use Rattle.std.specs.Prelude.{◌≡◌, ◌+◌, ◌-◌, ◌*◌, ◌∷◌, [], false, true, None, Some};
+ghost use Rattle.std.specs.Prelude.{Option, length, OnOk, IfOk, IfErr, MatchResult};
 ghost use Rattle.disk_model.specs.Moments.{LeavesOnly};
 ghost use Rattle.disk_model.specs.Runs.{SameDevice, WritesNothing};
 ghost use Rattle.retro_base.specs.declared.device.Device.TheVariants as kinds;

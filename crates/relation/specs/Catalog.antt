@@ -1,6 +1,8 @@
 -- What the catalog says: the tables, with their first pages and columns, and the indexes.
-use Rattle.std.specs.Prelude.{◌≡◌, ◌≤◌, ◌<◌, ◌==◌, ℕ, List, length, map, Option, Some, None, Result, Ok, Err, slice_get, slice_index_or, if◌then◌else◌, position}
+use Rattle.std.specs.Prelude.{◌≡◌, ◌≤◌, ◌<◌, ◌==◌, ℕ, List, length, map, Option, Some, None, Result}
+use Rattle.std.specs.Prelude.{Ok, Err, slice_get, slice_index_or, if◌then◌else◌, position}
 use Rattle.std.specs.List.{AllByRecursion, filter_map, find}
+use Rattle.retro_base.specs.declared.limits.TheConstants.{COLUMNS}
 use Rattle.retro_base.specs.declared.refusal.Refusal.{Refusal}
 use Rattle.sql_tree.specs.declared.schema.IndexSchema.{IndexSchema}
 use Rattle.sql_tree.specs.declared.schema.Schema.{Schema}
@@ -94,7 +96,7 @@ row_at place rows = position (λ (row : ColumnRow). row.place == place) rows
 -- row tells there.
 pub record AreColumns (rows : List ColumnRow) (columns : List TableColumn) : Type 0 where
   pub some : 1 ≤ length columns
-  pub few : length columns ≤ 16
+  pub few : length columns ≤ COLUMNS
   pub many : length rows ≡ length columns
   pub each : (place : ℕ) (d : TableColumn) → place < length columns
       → IsColumnTold rows place (slice_index_or columns place d)
@@ -152,7 +154,7 @@ catalog size pages = do
 -- each table has one to sixteen columns
 abbrev pub HaveFewColumns : List StoredTable → Type 0
 HaveFewColumns tables =
-    AllByRecursion (λ (table : StoredTable). (1 ≤ length table.columns) × (length table.columns ≤ 16)) tables
+    AllByRecursion (λ (table : StoredTable). (1 ≤ length table.columns) × (length table.columns ≤ COLUMNS)) tables
 
 -- the catalog without pages
 abbrev pub schema_of : Catalog → Schema

@@ -1,6 +1,7 @@
 -- The entries that a table's rows have in its indexes, and what becomes of them. An index over pages is known here by
 -- how one entry is added to it and taken out of it.
-use Rattle.std.specs.Prelude.{◌==◌, ◌&&◌, ℕ, Bool, false, List, Option, Some, None, Result, Ok, Err, slice_get, if◌then◌else◌}
+use Rattle.std.specs.Prelude.{◌==◌, ◌&&◌, ℕ, Bool, false, List, Option, Some}
+use Rattle.std.specs.Prelude.{None, Result, Ok, Err, slice_get, if◌then◌else◌}
 use Rattle.std.specs.List.{filter_map}
 use Rattle.std.specs.List.Sorted.{IsPermutation, IsSorted}
 use Rattle.std.specs.Option.{option_map}

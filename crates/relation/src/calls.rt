@@ -1,13 +1,15 @@
 //! The calls: each that edits drafts what it does, and then makes the edits.
 
 ghost use Rattle.std.specs.Prelude.{◌≡◌, ◌<◌, ◌≤◌, All, IfOk, length};
+ghost use Rattle.retro_base.specs.declared.limits.TheConstants.{COLUMNS};
 ghost use Rattle.pager.specs.Stop.{Accounts, Answers, Makes, OnlyReads};
 ghost use Rattle.heap_file.specs.HeapPage.{IsShort};
 ghost use Rattle.heap_file.specs.Sieving.{AllPass};
 ghost use Rattle.heap_file.specs.Work.{next_of};
 ghost use Rattle.values.specs.Value.{kind_of};
 ghost use Rattle.relation.specs.Catalog.{HaveFewColumns, catalog};
-ghost use Rattle.relation.specs.Work.{AllPlacedFit, created, ranged_at, ranged_by, rows_at, rows_by, table_deleted, table_indexed, table_inserted, table_updated};
+ghost use Rattle.relation.specs.Work.{AllPlacedFit, created, ranged_at, ranged_by, rows_at, rows_by};
+ghost use Rattle.relation.specs.Work.{table_deleted, table_indexed, table_inserted, table_updated};
 ghost use Rattle.relation.specs.declared.drafting.RowChange.{RowChange};
 
 use crate::catalog::{Catalog, StoredIndex, StoredTable, read_catalog};
@@ -125,7 +127,7 @@ pub fn create_table<P: EditPager>(
     name: &Name,
     columns: &[Column],
 ) -> Result<(), Stop<P::Fault>>
-    requires { length columns.now ≤ 16 }
+    requires { length columns.now ≤ COLUMNS }
     ensures created { Makes (λ u. u) (P.tells pager.old) (P.tells pager.new)
         (λ pages. created (P.size pager.old) pages name.now columns.now) result }
     ensures accounts { Accounts P.goes P.size P.faults pager.old pager.new result }
@@ -156,8 +158,8 @@ pub fn create_index<I: Tree, P: EditPager>(
     Ok(())
 }
 
-/// Adds rows to a table, in order, under the next row numbers, and to its indexes. Each row is to have one value of each
-/// column's kind. Refused before the first edit where more pages are needed than are free.
+/// Adds rows to a table, in order, under the next row numbers, and to its indexes. Each row is to have one value of
+/// each column's kind. Refused before the first edit where more pages are needed than are free.
 pub fn insert<I: Index, P: EditPager>(
     alloc: Global,
     pager: &mut P,
@@ -175,9 +177,9 @@ pub fn insert<I: Index, P: EditPager>(
     Ok(())
 }
 
-/// Changes rows of a table, in order, and its indexes with them: each row stands on its page under its number, as `rows`
-/// or `ranged` told, and becomes this. A row that does not stand there is refused as a page that is broken. Refused
-/// before the first edit where more pages are needed than are free.
+/// Changes rows of a table, in order, and its indexes with them: each row stands on its page under its number, as
+/// `rows` or `ranged` told, and becomes this. A row that does not stand there is refused as a page that is broken.
+/// Refused before the first edit where more pages are needed than are free.
 pub fn update<I: Index, P: EditPager>(
     alloc: Global,
     pager: &mut P,

@@ -3,7 +3,9 @@
 ghost use Rattle.std.specs.Prelude.{◌≡◌, None, Some, MatchOption, IfOk};
 ghost use Rattle.pager.specs.Draft.{Reads};
 ghost use Rattle.pager.specs.Stop.{OnlyReads};
-ghost use Rattle.relation.specs.Catalog.{AreColumnsOf, as_index, as_table, HaveFewColumns, catalog, catalog_rows, index_rows, index_told, schema_of, table_named, table_rows, table_told, table_with, row_told, row_at, table_place};
+ghost use Rattle.relation.specs.Catalog.{AreColumnsOf, as_index, as_table, HaveFewColumns, catalog};
+ghost use Rattle.relation.specs.Catalog.{catalog_rows, index_rows, index_told, schema_of, table_named};
+ghost use Rattle.relation.specs.Catalog.{table_rows, table_told, table_with, row_told, row_at, table_place};
 ghost use Rattle.relation.specs.Each.{each, TellsPage};
 ghost use Rattle.relation.specs.Named.{ArePlaces, rows_under};
 

@@ -2,6 +2,7 @@
 
 ghost use Rattle.std.specs.List.{zip};
 ghost use Rattle.std.specs.Prelude.{◌≡◌, ◌<◌, ◌≤◌, All, IfOk, IfSome, Option, length, map};
+ghost use Rattle.retro_base.specs.declared.limits.TheConstants.{COLUMNS};
 ghost use Rattle.pager.specs.Draft.{Drafts, Reads, drafted};
 ghost use Rattle.pager.specs.Pages.{Pages};
 ghost use Rattle.pager.specs.Stop.{OnlyDrafts, OnlyReads};
@@ -13,7 +14,9 @@ ghost use Rattle.relation.specs.declared.catalog.TheConstants.{CATALOG};
 ghost use Rattle.relation.specs.declared.drafting.RowChange.{RowChange};
 ghost use Rattle.relation.specs.declared.listing.Moved.{Moved};
 ghost use Rattle.relation.specs.CatalogRow.{row_values};
-ghost use Rattle.relation.specs.Work.{AllPlacedFit, all_added, all_changed, all_placed, all_removed, created, entries_at, row_changes, rows_at, rows_by, rows_of_table, standing, table_deleted, table_indexed, table_inserted, table_updated};
+ghost use Rattle.relation.specs.Work.{AllPlacedFit, all_added, all_changed, all_placed, all_removed, created};
+ghost use Rattle.relation.specs.Work.{entries_at, row_changes, rows_at, rows_by, rows_of_table, standing};
+ghost use Rattle.relation.specs.Work.{table_deleted, table_indexed, table_inserted, table_updated};
 
 use crate::catalog::{CATALOG, StoredTable};
 use crate::listing::{EntryEdit, Moved, edit_entries, entries_of, in_order, list_rows, move_rows};
@@ -78,7 +81,7 @@ pub fn create_table<P: Pager>(
     columns: &[Column],
 ) -> Result<(), Stop<P::Fault>>
     requires size { draft.old.size ≡ P.size pager.old }
-    requires few { length columns.now ≤ 16 }
+    requires few { length columns.now ≤ COLUMNS }
     ensures created { Drafts (λ u. u) (P.tells pager.new) draft.old.list draft.new.list
         (λ pages. created draft.old.size pages name.now columns.now) result }
     ensures only_drafts { OnlyDrafts P.tells P.goes P.size P.faults pager.old pager.new result }
@@ -96,7 +99,7 @@ fn rows_of_table(
     first: u32,
     columns: &[Column],
 ) -> Result<Vec<Row>, AllocError>
-    requires { length columns.now ≤ 16 }
+    requires { length columns.now ≤ COLUMNS }
     ensures rows { IfOk result (λ rows. rows.items ≡ map row_values (rows_of_table name.now first columns.now)) }
     ensures short { IfOk result (λ rows. All IsShort rows.items) }
 {

@@ -6,7 +6,8 @@ ghost use Rattle.pager.specs.Draft.{Drafts};
 ghost use Rattle.pager.specs.Stop.{OnlyDrafts};
 ghost use Rattle.values.specs.Value.{value_cmp};
 ghost use Rattle.pager.specs.Allows.{in_turn};
-ghost use Rattle.relation.specs.Entries.{edit_of, entries_edited, entries_of, entry_edited, entry_in, entry_of, entry_out, in_order, row_moved, rows_listed, rows_moved, value_stays};
+ghost use Rattle.relation.specs.Entries.{edit_of, entries_edited, entries_of, entry_edited, entry_in, entry_of};
+ghost use Rattle.relation.specs.Entries.{entry_out, in_order, row_moved, rows_listed, rows_moved, value_stays};
 
 use crate::catalog::StoredIndex;
 use heap_file::Placed;

@@ -36,7 +36,8 @@ pub fn ranged_by<I: Index, S: Sieve + Drop, P: Pager>(
     requires size { draft.now.size ≡ P.size pager.old }
     requires kind { kind_of low.now ≡ kind_of high.now }
     ensures ranged { Reads (λ rows. rows.items) (P.tells pager.new) draft.now.list
-        (λ pages. ranged_by (S.passes sieve) I.ranged draft.now.size pages table.now index.now low.now high.now) result }
+        (λ pages. ranged_by (S.passes sieve) I.ranged draft.now.size pages
+        table.now index.now low.now high.now) result }
     ensures passed { IfOk result (λ rows. AllPass (S.passes sieve) rows.items) }
     ensures fitting { IfOk result (λ rows. AllPlacedFit table.now.columns rows.items) }
     ensures only_reads { OnlyReads P.tells P.goes P.size P.faults pager.old pager.new result }
@@ -58,8 +59,8 @@ fn by_number(found: Vec<Found>) -> Result<Vec<Found>, AllocError>
     Ok(found)
 }
 
-// The rows of these entries that pass, in order, each where its page holds it. A page that was read for the entry before
-// is not read again.
+// The rows of these entries that pass, in order, each where its page holds it. A page that was read for the entry
+// before is not read again.
 fn rows_found<S: Sieve, P: Pager>(
     alloc: Global,
     pager: &mut P,

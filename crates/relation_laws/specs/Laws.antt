@@ -1,9 +1,12 @@
 -- What the calls on tables by name do to the tables of well-formed pages.
-use Rattle.std.specs.Prelude.{◌≡◌, ◌≢◌, ◌<◌, ◌≤◌, ◌+◌, ◌++◌, ◌^◌, ◌==◌, ◌&&◌, not, ℕ, Bool, List, [], ◌∷◌, length, map, slice_get, slice_index_or, true, false, Option, Some, None, Result, Ok, Err, if◌then◌else◌}
+use Rattle.std.specs.Prelude.{◌≡◌, ◌≢◌, ◌<◌, ◌≤◌, ◌+◌, ◌++◌, ◌^◌, ◌==◌, ◌&&◌, not, ℕ, Bool}
+use Rattle.std.specs.Prelude.{List, [], ◌∷◌, length, map, slice_get, slice_index_or, true}
+use Rattle.std.specs.Prelude.{false, Option, Some, None, Result, Ok, Err, if◌then◌else◌}
 use Rattle.std.specs.List.{AllByRecursion, Contains, filter, list_any}
 use Rattle.retro_base.specs.declared.refusal.Refusal.{Refusal}
 use Rattle.retro_base.specs.declared.refusal.Refusal.TheVariants.{PagesFull}
 use Rattle.std.specs.Ordering.{is_gt, is_lt}
+use Rattle.retro_base.specs.declared.limits.TheConstants.{COLUMNS}
 use Rattle.values.specs.Value.{kind_of, value_cmp}
 use Rattle.values.specs.declared.value.Value.{Value}
 use Rattle.pager.specs.Allows.{only}
@@ -21,7 +24,8 @@ use Rattle.relation.specs.declared.catalog.StoredTable.{StoredTable}
 use Rattle.relation.specs.Each.{each}
 use Rattle.tree_index.specs.Work.{added, made, ranged, removed}
 use Rattle.relation.specs.declared.drafting.RowChange.{RowChange}
-use Rattle.relation.specs.Work.{all_placed, change_of, created, deleted, indexed, inserted, next_in, placed_of, ranged_at, rows_at, rows_in, schema_in, table_in, updated}
+use Rattle.relation.specs.Work.{all_placed, change_of, created, deleted, indexed, inserted, next_in}
+use Rattle.relation.specs.Work.{placed_of, ranged_at, rows_at, rows_in, schema_in, table_in, updated}
 use Rattle.sql_tree.specs.Rows.{fits}
 use Rattle.relation_laws.specs.Needs.{CreateNeeds, IndexNeeds, InsertNeeds, TakesNeeded, UpdateNeeds}
 use Rattle.relation_laws.specs.Reach.{EditsEnds, Reaches, ReachesCatalog}
@@ -174,7 +178,7 @@ pub record IsNewName (all : PlainTables) (name : List ℕ) : Type 0 where
 -- the columns of a table: one to sixteen, with different names
 pub record AreTableColumns (columns : List TableColumn) : Type 0 where
   pub some : 1 ≤ length columns
-  pub few : length columns ≤ 16
+  pub few : length columns ≤ COLUMNS
   pub are_names : AllByRecursion (λ (column : TableColumn). IsName column.name) columns
   pub differ : AreDifferent (map (λ (column : TableColumn). column.name) columns)
 

@@ -1,5 +1,6 @@
 -- The pages that a call takes.
-use Rattle.std.specs.Prelude.{◌≡◌, ◌⊎◌, ◌<◌, ◌+◌, ◌-◌, ◌==◌, not, ℕ, zero, suc, Bool, List, [], ◌∷◌, length, map, nat_le, nat_lt, Some, Result, Ok, Err, if◌then◌else◌}
+use Rattle.std.specs.Prelude.{◌≡◌, ◌⊎◌, ◌<◌, ◌+◌, ◌-◌, ◌==◌, not, ℕ, zero, suc, Bool, List, [], ◌∷◌}
+use Rattle.std.specs.Prelude.{length, map, nat_le, nat_lt, Some, Result, Ok, Err, if◌then◌else◌}
 use Rattle.std.specs.List.{filter, range_with_len, sum_by}
 use Rattle.retro_base.specs.Fields.{number_at}
 use Rattle.retro_base.specs.declared.refusal.Refusal.{Refusal}
@@ -21,7 +22,8 @@ use Rattle.relation.specs.CatalogRow.{row_values}
 use Rattle.relation.specs.declared.drafting.RowChange.{RowChange}
 use Rattle.relation.specs.declared.listing.Moved.{Moved}
 use Rattle.relation.specs.Each.{each}
-use Rattle.relation.specs.Work.{all_changed, all_placed, change_of, entries_at, row_of_index, rows_at, rows_of_table, table_in}
+use Rattle.relation.specs.Work.{all_changed, all_placed, change_of, entries_at}
+use Rattle.relation.specs.Work.{row_of_index, rows_at, rows_of_table, table_in}
 use Rattle.sql_tree.specs.Scope.{column_place}
 use Rattle.relation_laws.specs.Turns.{Turn, comes, entries_open, moves, turns_open}
 

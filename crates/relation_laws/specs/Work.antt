@@ -1,5 +1,6 @@
 -- Pieces of work on tables by name: what each does, how many pages it takes, and which pages it may edit.
-use Rattle.std.specs.Prelude.{◌≡◌, ◌⊎◌, ◌<◌, ◌≤◌, ◌+◌, ◌^◌, ℕ, List, [], ◌∷◌, length, map, Result, Ok, Err, if◌then◌else◌}
+use Rattle.std.specs.Prelude.{◌≡◌, ◌⊎◌, ◌<◌, ◌≤◌, ◌+◌, ◌^◌, ℕ, List, [], ◌∷◌}
+use Rattle.std.specs.Prelude.{length, map, Result, Ok, Err, if◌then◌else◌}
 use Rattle.std.specs.List.{AllByRecursion, Contains}
 use Rattle.retro_base.specs.declared.refusal.Refusal.{Refusal}
 use Rattle.retro_base.specs.declared.refusal.Refusal.TheVariants.{PagesFull}
@@ -12,7 +13,9 @@ use Rattle.relation.specs.declared.catalog.StoredTable.{StoredTable}
 use Rattle.relation.specs.declared.catalog.TheConstants.{CATALOG}
 use Rattle.values.specs.Name.{same_name}
 use Rattle.relation.specs.Work.{created, deleted, indexed, inserted, table_in, updated}
-use Rattle.relation_laws.specs.Laws.{AreChangesOf, AreNumbersOf, AreTableColumns, HasColumn, IsNewName, IsRowFor, IsStoreOf, empty_table, with_changes, with_index, with_new, with_rows, without_rows}
+use Rattle.relation_laws.specs.Laws.{AreChangesOf, AreNumbersOf, AreTableColumns, HasColumn}
+use Rattle.relation_laws.specs.Laws.{IsNewName, IsRowFor, IsStoreOf, empty_table, with_changes}
+use Rattle.relation_laws.specs.Laws.{with_index, with_new, with_rows, without_rows}
 use Rattle.relation_laws.specs.Needs.{CreateNeeds, IndexNeeds, InsertNeeds, UpdateNeeds, next_pages}
 use Rattle.relation_laws.specs.Reach.{IsIndexPage, IsPageOf, IsUntouched, with_root}
 use Rattle.relation_laws.specs.Tables.{PlainTable, PlainTables}

@@ -2,7 +2,8 @@
 #![tactic(auto)]
 
 ghost use Rattle.relation_laws.specs.Work.{WorkLaw};
-ghost use Rattle.relation_laws.specs.Laws.{CreateLaw, DeleteLaw, EditsLaw, IndexLaw, InsertLaw, NeedsLaw, PlacedLaw, RangedLaw, ReadLaw, StoreLaw, UpdateLaw};
+ghost use Rattle.relation_laws.specs.Laws.{CreateLaw, DeleteLaw, EditsLaw, IndexLaw, InsertLaw, NeedsLaw};
+ghost use Rattle.relation_laws.specs.Laws.{PlacedLaw, RangedLaw, ReadLaw, StoreLaw, UpdateLaw};
 
 /// Well-formed pages hold one list of tables, and zero pages hold none.
 pub fn store_law()
@@ -44,8 +45,8 @@ pub fn index_law()
     ensures { IndexLaw }
 {}
 
-/// Rows that are added to a table edit its first page, for the next row number, its last page, and no other, unless they
-/// open pages: then also those, and the root page.
+/// Rows that are added to a table edit its first page, for the next row number, its last page, and no other, unless
+/// they open pages: then also those, and the root page.
 pub fn edits_law()
     ensures { EditsLaw }
 {}

@@ -1,5 +1,6 @@
 -- When the log and the Maplog belong together.
-use Rattle.std.specs.Prelude.{◌≤◌, ◌-◌, ◌==◌, ◌&&◌, ℕ, Bool, true, false, not, IsTrue, List, [], ◌∷◌, length, take, drop}
+use Rattle.std.specs.Prelude.{◌≤◌, ◌-◌, ◌==◌, ◌&&◌, ℕ, Bool, true, false, not}
+use Rattle.std.specs.Prelude.{IsTrue, List, [], ◌∷◌, length, take, drop}
 use Rattle.std.specs.List.{list_all}
 use Rattle.history.specs.declared.entry.Base.{Base}
 use Rattle.history.specs.Writes.{pages_of, is_among}

@@ -1,7 +1,13 @@
 -- The refusals by number and by name.
 use Rattle.std.specs.Prelude.{ℕ, List, codes}
 use Rattle.retro_base.specs.declared.refusal.Refusal.{Refusal}
-use Rattle.retro_base.specs.declared.refusal.Refusal.TheVariants.{OutOfMemory, DiskFault, SourceFault, SinkFault, NotAStore, BadWords, BadScript, Overlap, NoSuchSnapshot, Dropped, Pinned, ArchiveFull, JournalFull, PagesFull, TooManyPages, Stopped, NoRoom, SnapshotsFull, Syntax, UnknownName, NameTaken, WrongType, Overflow, RowTooLong, NotOneValue, BadSizes}
+use Rattle.retro_base.specs.declared.refusal.Refusal.TheVariants.{OutOfMemory, DiskFault, SourceFault, SinkFault}
+use Rattle.retro_base.specs.declared.refusal.Refusal.TheVariants.{NotAStore, BadWords, BadScript, Overlap}
+use Rattle.retro_base.specs.declared.refusal.Refusal.TheVariants.{NoSuchSnapshot, Dropped, Pinned}
+use Rattle.retro_base.specs.declared.refusal.Refusal.TheVariants.{ArchiveFull, JournalFull, PagesFull, TooManyPages}
+use Rattle.retro_base.specs.declared.refusal.Refusal.TheVariants.{Stopped, NoRoom, SnapshotsFull, Syntax}
+use Rattle.retro_base.specs.declared.refusal.Refusal.TheVariants.{UnknownName, NameTaken, WrongType}
+use Rattle.retro_base.specs.declared.refusal.Refusal.TheVariants.{Overflow, RowTooLong, NotOneValue, BadSizes}
 
 -- the number of a refusal
 abbrev pub number_of : Refusal → ℕ

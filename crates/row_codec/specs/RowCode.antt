@@ -1,10 +1,11 @@
 -- Rows as bytes.
-use Rattle.std.specs.Prelude.{◌≡◌, ◌<◌, ◌≤◌, ◌^◌, ◌++◌, ℕ, List, [], ◌∷◌, length, drop, Option, Some, None, Result, Ok, Err, nat_le, if◌then◌else◌}
+use Rattle.std.specs.Prelude.{◌≡◌, ◌<◌, ◌≤◌, ◌^◌, ◌++◌, ℕ, List, [], ◌∷◌, length, drop}
+use Rattle.std.specs.Prelude.{Option, Some, None, Result, Ok, Err, nat_le, if◌then◌else◌}
 use Rattle.std.specs.Int.{w64, cast_unsigned}
 use Rattle.std.specs.Int.RustNames.{FitsSigned}
 use Rattle.std.specs.List.{flat_map, AllByRecursion}
 use Rattle.retro_base.specs.Fields.{field_bytes}
-use Rattle.retro_base.specs.declared.limits.TheConstants.{ROW_BYTES}
+use Rattle.retro_base.specs.declared.limits.TheConstants.{COLUMNS, ROW_BYTES}
 use Rattle.retro_base.specs.declared.refusal.Refusal.{Refusal}
 use Rattle.retro_base.specs.declared.refusal.Refusal.TheVariants.{RowTooLong}
 use Rattle.values.specs.Row.{row_bytes}
@@ -29,7 +30,7 @@ IsValue (Text t) = IsText t
 -- what a row may be
 pub record IsRow (row : List Value) : Type 0 where
   pub some : 1 ≤ length row
-  pub few : length row ≤ 16
+  pub few : length row ≤ COLUMNS
   pub values : AllByRecursion IsValue row
 
 -- these bytes are the encoding of this row under this number

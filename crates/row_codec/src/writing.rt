@@ -1,6 +1,7 @@
 //! From rows to bytes.
 
 ghost use Rattle.std.specs.Prelude.{◌≡◌, ◌≤◌, ◌++◌, ◌+◌, IfOk, OnOk, ℕ, length};
+ghost use Rattle.retro_base.specs.declared.limits.TheConstants.{COLUMNS};
 ghost use Rattle.retro_base.specs.Gives.{Gives};
 ghost use Rattle.values.specs.Row.{row_bytes, value_bytes};
 ghost use Rattle.row_codec.specs.RowCode.{encoded, value_code, IsEncoded, IsRow, IsValue};
@@ -14,7 +15,7 @@ use values::{Row, Value};
 #[tactic(auto, unfolding(retro_base::specs::Fields::field_bytes))]
 pub fn encode(alloc: Global, number: u64, row: &Row) -> Result<Vec<u8>, Refusal>
     requires some { 1 ≤ length row.now }
-    requires few { length row.now ≤ 16 }
+    requires few { length row.now ≤ COLUMNS }
     ensures exact { Gives (λ bytes. bytes.items) result (encoded number row.now) }
     ensures lawful { IfOk result (λ bytes. IsEncoded bytes.items number row.now) }
 {
@@ -35,7 +36,7 @@ pub fn encode(alloc: Global, number: u64, row: &Row) -> Result<Vec<u8>, Refusal>
 /// How many bytes the encoding of a row takes.
 pub fn encoded_length(row: &Row) -> usize
     requires some { 1 ≤ length row.now }
-    requires few { length row.now ≤ 16 }
+    requires few { length row.now ≤ COLUMNS }
     ensures length { result ≡ row_bytes row.now }
     ensures lawful { IsRow row.now }
 {

@@ -1,7 +1,8 @@
 -- What a query gives at snapshots, and the forms of contracts over it.
 use Rattle.std.specs.Prelude.{◌≡◌, ◌⊎◌, ℕ, Bool, List, Result, Ok, Err, Contains}
 use Rattle.retro_base.specs.declared.refusal.Refusal.{Refusal}
-use Rattle.retro_base.specs.declared.refusal.Refusal.TheVariants.{OutOfMemory, NotAStore, UnknownName, NameTaken, WrongType, Overflow, NotOneValue}
+use Rattle.retro_base.specs.declared.refusal.Refusal.TheVariants.{OutOfMemory, NotAStore, UnknownName}
+use Rattle.retro_base.specs.declared.refusal.Refusal.TheVariants.{NameTaken, WrongType, Overflow, NotOneValue}
 use Rattle.pager.specs.Stop.{Allowed, IsCaused}
 use Rattle.pager.specs.declared.stop.Stop.{Stop}
 use Rattle.pager.specs.declared.stop.Stop.TheVariants as stop

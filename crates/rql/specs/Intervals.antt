@@ -1,6 +1,8 @@
 -- The runs of places at which a row stands in the answers.
-use Rattle.std.specs.Prelude.{◌≡◌, ◌⊎◌, ◌+◌, ◌<◌, ◌≤◌, ◌++◌, ℕ, zero, suc, pos, Bool, false, not, List, [], ◌∷◌, Result, Ok, Err, codes, drop, length, map, if◌then◌else◌, slice_index}
-use Rattle.std.specs.List.{All, AllPairs, Contains, filter, flat_map, list_any, position_or_len, prefix_len, range_with_len, slice_index_or}
+use Rattle.std.specs.Prelude.{◌≡◌, ◌⊎◌, ◌+◌, ◌<◌, ◌≤◌, ◌++◌, ℕ, zero, suc, pos, Bool, false, not, List, []}
+use Rattle.std.specs.Prelude.{◌∷◌, Result, Ok, Err, codes, drop, length, map, if◌then◌else◌, slice_index}
+use Rattle.std.specs.List.{All, AllPairs, Contains, filter, flat_map, list_any}
+use Rattle.std.specs.List.{position_or_len, prefix_len, range_with_len, slice_index_or}
 use Rattle.retro_base.specs.Gives.{◌>>=◌}
 use Rattle.retro_base.specs.declared.refusal.Refusal.{Refusal}
 use Rattle.retro_base.specs.declared.refusal.Refusal.TheVariants.{NameTaken}

@@ -1,5 +1,6 @@
 -- The runs over the answers so far, of which those that end at the last answer may go on.
-use Rattle.std.specs.Prelude.{◌≡◌, ◌+◌, ◌<◌, ◌++◌, ◌&&◌, ℕ, zero, suc, Bool, true, false, not, eqb, List, [], ◌∷◌, Option, Some, None, length, map, if◌then◌else◌, slice_get}
+use Rattle.std.specs.Prelude.{◌≡◌, ◌+◌, ◌<◌, ◌++◌, ◌&&◌, ℕ, zero, suc, Bool, true, false, not, eqb, List}
+use Rattle.std.specs.Prelude.{[], ◌∷◌, Option, Some, None, length, map, if◌then◌else◌, slice_get}
 use Rattle.std.specs.List.{filter, list_any, slice_index_or}
 use Rattle.values.specs.declared.value.Value.{Value}
 use Rattle.rql.specs.Intervals.{has_row, runs}

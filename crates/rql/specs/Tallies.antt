@@ -1,5 +1,6 @@
 -- What is kept of values for the function that makes one of them.
-use Rattle.std.specs.Prelude.{◌≡◌, ◌++◌, ℤ, pos, List, [], ◌∷◌, Option, Some, None, Result, Ok, Err, length, if◌then◌else◌}
+use Rattle.std.specs.Prelude.{◌≡◌, ◌++◌, ℤ, pos, List, [], ◌∷◌, Option, Some}
+use Rattle.std.specs.Prelude.{None, Result, Ok, Err, length, if◌then◌else◌}
 use Rattle.retro_base.specs.Gives.{◌>>=◌, Gives}
 use Rattle.retro_base.specs.declared.refusal.Refusal.{Refusal}
 use Rattle.retro_base.specs.declared.refusal.Refusal.TheVariants.{WrongType}

@@ -1,5 +1,6 @@
 -- The one value of each answer, all of them in one.
-use Rattle.std.specs.Prelude.{ℕ, Option, Some, None, Bool, true, false, List, [], ◌∷◌, Result, Ok, Err, codes, map, if◌then◌else◌}
+use Rattle.std.specs.Prelude.{ℕ, Option, Some, None, Bool, true, false, List, []}
+use Rattle.std.specs.Prelude.{◌∷◌, Result, Ok, Err, codes, map, if◌then◌else◌}
 use Rattle.std.specs.Option.{option_to_list}
 use Rattle.retro_base.specs.Gives.{◌>>=◌}
 use Rattle.retro_base.specs.declared.refusal.Refusal.{Refusal}

@@ -66,9 +66,9 @@ impl Takes for AllRows {
     }
 }
 
-/// The answers of a query at the snapshots, one after the other, with the columns of the first. Refused by what the query
-/// is refused by, by NameTaken for two columns of one name, by WrongType for columns that are not those of the first
-/// answer, in this order at one snapshot, and the first snapshot's first.
+/// The answers of a query at the snapshots, one after the other, with the columns of the first. Refused by what the
+/// query is refused by, by NameTaken for two columns of one name, by WrongType for columns that are not those of the
+/// first answer, in this order at one snapshot, and the first snapshot's first.
 pub fn collate<A: AsOf>(
     alloc: Global,
     asof: &mut A,

@@ -36,7 +36,8 @@ pub(crate) trait Takes {
         ensures exact { Gives (λ part. part) result (take self.now snapshot columns.now rows) }
         ensures named { IfErr result (IsOfSnapshot snapshot) };
 
-    /// What `take` takes, where it took of an answer with these columns before: what it asks of columns is not asked again.
+    /// What `take` takes, where it took of an answer with these columns before: what it asks of columns is not asked
+    /// again.
     fn take_again(
         &self,
         snapshot: u32,

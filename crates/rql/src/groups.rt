@@ -2,7 +2,8 @@
 
 ghost use Rattle.std.specs.Prelude.{◌≡◌, ◌∷◌, [], IfErr, IfOk, OnOk};
 ghost use Rattle.rql.specs.AsOf.{IsOfQuery};
-ghost use Rattle.rql.specs.Groups.{AreGroups, AreRowsOf, CellAdds, GroupAdds, IsCell, IsGroup, IsRowOf, IsValueOf, RowAdds};
+ghost use Rattle.rql.specs.Groups.{AreGroups, AreRowsOf, CellAdds, GroupAdds};
+ghost use Rattle.rql.specs.Groups.{IsCell, IsGroup, IsRowOf, IsValueOf, RowAdds};
 ghost use Rattle.rql.specs.Table.{key_of};
 
 use crate::function::Function;

@@ -1,5 +1,5 @@
-//! A query over many snapshots: its answers one after the other, their one values in one, their groups in one table, and
-//! the intervals in which their rows stand.
+//! A query over many snapshots: its answers one after the other, their one values in one, their groups in one table,
+//! and the intervals in which their rows stand.
 #![tactic(auto)]
 
 mod as_of;

@@ -8,7 +8,8 @@ ghost use Rattle.values.specs.Name.{IsName};
 ghost use Rattle.sql_tree.specs.Statement.{IsSelect};
 ghost use Rattle.rql.specs.AsOf.{IsOfCall, OnlyAsks, Tells};
 ghost use Rattle.rql.specs.Columns.{name_of};
-ghost use Rattle.rql.specs.Intervals.{RunsAreIntervals, answer_set, end_columns, interval_columns, intervals, row_of_run};
+ghost use Rattle.rql.specs.Intervals.{RunsAreIntervals, answer_set, end_columns};
+ghost use Rattle.rql.specs.Intervals.{interval_columns, intervals, row_of_run};
 ghost use Rattle.rql.specs.RunsSoFar.{AllFit, AreRuns};
 
 use crate::as_of::AsOf;
@@ -133,12 +134,12 @@ fn interval_columns(
     Ok(columns)
 }
 
-/// The runs of consecutive snapshots of the list at which a row stands in the query's answer, where the answer is taken as a
-/// set of rows: one row of its values, and of the snapshots at the first and the last place of the run. The order is by the
-/// first place, and then by the row's first appearance in the answer there. The columns are the query's, and then
-/// `start_snapshot` and `end_snapshot`; over no snapshots there are none. Refused by what the query is refused by, by
-/// NameTaken where two of these columns have one name, by WrongType for columns that are not those of the first answer, in
-/// this order at one snapshot, and the first snapshot's first.
+/// The runs of consecutive snapshots of the list at which a row stands in the query's answer, where the answer is taken
+/// as a set of rows: one row of its values, and of the snapshots at the first and the last place of the run. The order
+/// is by the first place, and then by the row's first appearance in the answer there. The columns are the query's, and
+/// then `start_snapshot` and `end_snapshot`; over no snapshots there are none. Refused by what the query is refused by,
+/// by NameTaken where two of these columns have one name, by WrongType for columns that are not those of the first
+/// answer, in this order at one snapshot, and the first snapshot's first.
 pub fn intervals<A: AsOf>(
     alloc: Global,
     asof: &mut A,

@@ -126,12 +126,13 @@ fn columns_in(
     Ok(Seq::from(found))
 }
 
-/// The rows of a query's answers at the snapshots, one behind the other, in groups by the columns that are in no pair: one
-/// row for each group, in order of first appearance, where a column in a pair has its values in the group in one. COUNT
-/// gives a column of integers. Over no snapshots there is neither column nor row. Refused by what the query is refused by,
-/// by UnknownName for a pair whose column the answer lacks, by NameTaken for one column in two pairs or two columns of one
-/// name, by WrongType for a SUM of a column of texts, by WrongType for columns that are not those of the first answer, in
-/// this order at one snapshot, and the first snapshot's first; then by Overflow for a SUM whose end is outside i64.
+/// The rows of a query's answers at the snapshots, one behind the other, in groups by the columns that are in no pair:
+/// one row for each group, in order of first appearance, where a column in a pair has its values in the group in one.
+/// COUNT gives a column of integers. Over no snapshots there is neither column nor row. Refused by what the query is
+/// refused by, by UnknownName for a pair whose column the answer lacks, by NameTaken for one column in two pairs or two
+/// columns of one name, by WrongType for a SUM of a column of texts, by WrongType for columns that are not those of the
+/// first answer, in this order at one snapshot, and the first snapshot's first; then by Overflow for a SUM whose end is
+/// outside i64.
 pub fn in_table<A: AsOf, F: Folds>(
     alloc: Global,
     asof: &mut A,

@@ -1,5 +1,6 @@
 -- What the parts of the reading give. No promise cites it.
-use Rattle.std.specs.Prelude.{◌≡◌, ◌++◌, ◌==◌, ◌&&◌, ℕ, Bool, true, false, Option, Some, None, List, [], ◌∷◌, MatchOption, is_none, length, if◌then◌else◌}
+use Rattle.std.specs.Prelude.{◌≡◌, ◌++◌, ◌==◌, ◌&&◌, ℕ, Bool, true, false, Option, Some, None}
+use Rattle.std.specs.Prelude.{List, [], ◌∷◌, MatchOption, is_none, length, if◌then◌else◌}
 use Rattle.rql.specs.declared.function.Function.{Function}
 use Rattle.rql.specs.declared.function.Function.TheVariants as function
 use Rattle.rql.specs.declared.pair.Pair.{Pair}

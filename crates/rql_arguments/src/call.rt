@@ -39,8 +39,8 @@ pub struct Call {
     pub combination: Combination,
 }
 
-/// What a call says whose arguments have their opening quotes at these places of its line. Refused for want of memory, or
-/// as bad syntax at the place of the first argument that is outside its form.
+/// What a call says whose arguments have their opening quotes at these places of its line. Refused for want of memory,
+/// or as bad syntax at the place of the first argument that is outside its form.
 pub fn call_of(alloc: Global, call: &RqlCall, places: &[u32]) -> Result<Call, Refusal>
     ensures found { IfOk result (IsCall call.now) }
     ensures only { IfOk result (λ said. (other : Call) → IsCall call.now other → other ≡ said) }

@@ -2,7 +2,8 @@
 
 ghost use Rattle.std.specs.Prelude.{◌≡◌, IfOk};
 ghost use Rattle.rql_arguments.specs.Forms.{ArePairs};
-ghost use Rattle.rql_arguments.specs.Reading.{Finds, function_of, is_close, is_comma, is_open, pair_of, paired, pairs_of};
+ghost use Rattle.rql_arguments.specs.Reading.{Finds, function_of, is_close, is_comma};
+ghost use Rattle.rql_arguments.specs.Reading.{is_open, pair_of, paired, pairs_of};
 ghost use Rattle.sql_text.specs.Places.{tokens_of};
 
 use crate::query::is_whole;

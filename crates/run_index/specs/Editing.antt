@@ -1,5 +1,6 @@
 -- What an edit of one page or two leaves of a chain and of the pages beside it: proofs.
-use Rattle.std.proofs.Common.{◌≡◌, ◌<◌, ◌^◌, ◌++◌, ◌∙◌, ℕ, zero, suc, false, eqb, List, [], ◌∷◌, Ok, refl, sym, ap, subst, inl, inr, arith, append_assoc}
+use Rattle.std.proofs.Common.{◌≡◌, ◌<◌, ◌^◌, ◌++◌, ◌∙◌, ℕ, zero, suc, false, eqb, List, []}
+use Rattle.std.proofs.Common.{◌∷◌, Ok, refl, sym, ap, subst, inl, inr, arith, append_assoc}
 use Rattle.std.specs.Prelude.{nat_eq}
 use Rattle.std.specs.List.{AllByRecursion, Contains, IsDistinct}
 use Rattle.std.specs.List.Sorted.{IsPermutation}

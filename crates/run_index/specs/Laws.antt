@@ -1,5 +1,6 @@
 -- The laws of a sorted chain: proofs.
-use Rattle.std.proofs.Common.{◌≡◌, ◌<◌, ◌≤◌, ◌^◌, ◌++◌, ◌∙◌, not, ℕ, Bool, true, false, cond, eqb, List, [], ◌∷◌, length, map, take, drop, Result, Ok, Err, refl, sym, ap, subst, inl, inr, arith}
+use Rattle.std.proofs.Common.{◌≡◌, ◌<◌, ◌≤◌, ◌^◌, ◌++◌, ◌∙◌, not, ℕ, Bool, true, false, cond, eqb, List, [], ◌∷◌}
+use Rattle.std.proofs.Common.{length, map, take, drop, Result, Ok, Err, refl, sym, ap, subst, inl, inr, arith}
 use Rattle.std.specs.Prelude.{nat_eq}
 use Rattle.std.specs.List.{flat_map, AllByRecursion, Contains, IsDistinct}
 use Rattle.std.specs.List.Sorted.{IsPermutation, IsStrictlySortedBy}
@@ -18,7 +19,8 @@ use Rattle.values.proofs.Orders.{value_total}
 use Rattle.values.specs.Value.{kind_of, value_cmp}
 use Rattle.values.specs.declared.value.Value.{Value}
 use Rattle.pager.specs.Allows.{◌>>=◌, only, either}
-use Rattle.pager.specs.Index.{AddsFound, AreOfKind, EditsOnly, IsApart, IsFound, IsIndexing, IsInOrder, IsListed, MakesIndex, RemovesFound, between, found_cmp}
+use Rattle.pager.specs.Index.{AddsFound, AreOfKind, EditsOnly, IsApart, IsFound, IsIndexing}
+use Rattle.pager.specs.Index.{IsInOrder, IsListed, MakesIndex, RemovesFound, between, found_cmp}
 use Rattle.pager.specs.Pages.{Pages, with_bytes}
 use Rattle.pager.specs.Root.{all_taken, root_bytes, taken}
 use Rattle.pager.specs.declared.index.Found.{Found}
@@ -29,10 +31,15 @@ use Rattle.index_page.proofs.Ordered.{inserted-all, order-right, taken_out-all}
 use Rattle.index_page.proofs.Placing.{taken_out-width}
 use Rattle.index_page.proofs.Taking.{at-other, at-own, no-refusal, taken-is, written-other}
 use Rattle.run_index.specs.declared.walk.Met.{Met}
-use Rattle.run_index.specs.Editing.{all-same, all-two, apart-back, apart-front, contains-front, contains-middle, edits-one, edits-two, flip-false, held-moves, link-narrow, same-answer, same-pages, skips-all}
-use Rattle.run_index.specs.Leading.{Ending, all-from_each, all-more, ending, leads-inside, leads-join, leads-one, leads-same, walked-never}
-use Rattle.run_index.specs.Run.{IsShape, IsWay, Lists, at_target, entries_of, opens, paged, put, run_of, target, without}
-use Rattle.run_index.specs.Shaping.{all-join, all-left, all-right, at_target-is, back-writable, empty-shape, entries-middle, fits-any_page, front-writable, inserted-most, shaped, target-is}
+use Rattle.run_index.specs.Editing.{all-same, all-two, apart-back, apart-front, contains-front}
+use Rattle.run_index.specs.Editing.{contains-middle, edits-one, edits-two, flip-false}
+use Rattle.run_index.specs.Editing.{held-moves, link-narrow, same-answer, same-pages, skips-all}
+use Rattle.run_index.specs.Leading.{Ending, all-from_each, all-more, ending, leads-inside}
+use Rattle.run_index.specs.Leading.{leads-join, leads-one, leads-same, walked-never}
+use Rattle.run_index.specs.Run.{IsShape, IsWay, Lists, at_target, entries_of}
+use Rattle.run_index.specs.Run.{opens, paged, put, run_of, target, without}
+use Rattle.run_index.specs.Shaping.{all-join, all-left, all-right, at_target-is, back-writable, empty-shape}
+use Rattle.run_index.specs.Shaping.{entries-middle, fits-any_page, front-writable, inserted-most, shaped, target-is}
 use Rattle.run_index.specs.Work.{added, made, ranged, removed, stored, taken_page}
 
 rooted-in : (size : ℕ) (pages : Pages) (root : ℕ) (shape : List (List Found)) (held : List ℕ) → 1 ≤ length shape →
@@ -181,13 +188,21 @@ module _ (size root : ℕ) (entry : Found) (pages : Pages) (shape : List (List F
       let put-is : put entry shape ≡ end.before ++ entries ∷ end.behind =
       changed-is (λ page. paged (entry_inserted entry page)) ∙ (rw fit refl) in
       let writable : AreWritable entries =
-      record { lawful = inserted-all IsFound entry met.held.entries found page-writable.lawful; fits = leb-true (width entries) 1016 fit } in
+      record {
+        lawful = inserted-all IsFound entry met.held.entries found page-writable.lawful;
+        fits = leb-true (width entries) 1016 fit;
+      } in
       let leads : IsWay size after root (put entry shape) held 0 =
       subst (λ (s : List (List Found)). IsWay size after root s held 0) (sym put-is)
       (subst (λ (l : List ℕ). IsWay size after root (end.before ++ entries ∷ end.behind) l 0) (sym end.held_is)
       (relisted pages (all-same pages held) entries writable)) in
       let lists : Lists size after root (put entry shape) held =
-      record { narrow = is.narrow; is_shape = (shaped.of_put entry shape is.is_shape found kinds).0; leads = leads; distinct = is.distinct } in
+      record {
+        narrow = is.narrow;
+        is_shape = (shaped.of_put entry shape is.is_shape found kinds).0;
+        leads = leads;
+        distinct = is.distinct;
+      } in
       let there : Contains held met.page =
       subst (λ (l : List ℕ). Contains l met.page) (sym end.held_is) (contains-middle end.front met.page end.back) in
       let edits : EditsOnly (held ++ []) pages after =
@@ -214,7 +229,8 @@ module _ (size root : ℕ) (entry : Found) (pages : Pages) (shape : List (List F
             (run_of met.held.link
             (drop (half (entry_inserted entry met.held.entries)) (entry_inserted entry met.held.entries))))) met.page
             (page_bytes
-            (run_of next.0 (take (half (entry_inserted entry met.held.entries)) (entry_inserted entry met.held.entries)))),
+            (run_of next.0 (take (half (entry_inserted entry met.held.entries))
+            (entry_inserted entry met.held.entries)))),
       ))
       (Ok answer) →
       AddsFound (λ after behind. Lists size after root (put entry shape) behind) size
@@ -290,7 +306,8 @@ module _ (size root : ℕ) (entry : Found) (pages : Pages) (shape : List (List F
                 (with_bytes next.1 next.0
                 (page_bytes
                 (run_of met.held.link
-                (drop (half (entry_inserted entry met.held.entries)) (entry_inserted entry met.held.entries))))) met.page
+                (drop (half (entry_inserted entry met.held.entries)) (entry_inserted entry met.held.entries)))))
+                met.page
                 (page_bytes
                 (run_of next.0
                 (take (half (entry_inserted entry met.held.entries)) (entry_inserted entry met.held.entries)))),
@@ -313,7 +330,8 @@ module _ (size root : ℕ) (entry : Found) (pages : Pages) (shape : List (List F
                 (with_bytes next.1 next.0
                 (page_bytes
                 (run_of met.held.link
-                (drop (half (entry_inserted entry met.held.entries)) (entry_inserted entry met.held.entries))))) met.page
+                (drop (half (entry_inserted entry met.held.entries)) (entry_inserted entry met.held.entries)))))
+                met.page
                 (page_bytes
                 (run_of next.0
                 (take (half (entry_inserted entry met.held.entries)) (entry_inserted entry met.held.entries)))),
@@ -338,13 +356,21 @@ module _ (size root : ℕ) (entry : Found) (pages : Pages) (shape : List (List F
       let rest-is : without entry shape ≡ end.before ++ entries ∷ end.behind =
       changed-is (λ page. taken_out entry page ∷ []) in
       let writable : AreWritable entries =
-      record { lawful = taken_out-all IsFound entry met.held.entries page-writable.lawful; fits = omega (arith, taken_out-width entry met.held.entries, page-writable.fits) } in
+      record {
+        lawful = taken_out-all IsFound entry met.held.entries page-writable.lawful;
+        fits = omega (arith, taken_out-width entry met.held.entries, page-writable.fits);
+      } in
       let leads : IsWay size after root (without entry shape) held 0 =
       subst (λ (s : List (List Found)). IsWay size after root s held 0) (sym rest-is)
       (subst (λ (l : List ℕ). IsWay size after root (end.before ++ entries ∷ end.behind) l 0) (sym end.held_is)
       (relisted pages (all-same pages held) entries writable)) in
       let lists : Lists size after root (without entry shape) held =
-      record { narrow = is.narrow; is_shape = (shaped.of_without entry shape is.is_shape).0; leads = leads; distinct = is.distinct } in
+      record {
+        narrow = is.narrow;
+        is_shape = (shaped.of_without entry shape is.is_shape).0;
+        leads = leads;
+        distinct = is.distinct;
+      } in
       let there : Contains held met.page =
       subst (λ (l : List ℕ). Contains l met.page) (sym end.held_is) (contains-middle end.front met.page end.back) in
       let all : RemovesFound (λ after. Lists size after root (without entry shape) held) held pages (Ok (tt, after)) =

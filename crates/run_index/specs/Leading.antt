@@ -1,5 +1,6 @@
 -- The pages of a sorted chain, and the way along them: proofs.
-use Rattle.std.proofs.Common.{◌⊎◌, ◌≡◌, ◌<◌, ◌≤◌, ◌++◌, ◌∙◌, ℕ, suc, Bool, true, false, eqb, List, [], ◌∷◌, length, map, Err, refl, sym, ap, subst, inl, inr, arith}
+use Rattle.std.proofs.Common.{◌⊎◌, ◌≡◌, ◌<◌, ◌≤◌, ◌++◌, ◌∙◌, ℕ, suc, Bool, true, false, eqb, List}
+use Rattle.std.proofs.Common.{[], ◌∷◌, length, map, Err, refl, sym, ap, subst, inl, inr, arith}
 use Rattle.std.specs.List.{AllByRecursion, Contains, list_any}
 use Rattle.std.proofs.lemmas.Bool.{both_ways, eqb-true, eqb-false, or_parts, or_cases}
 use Rattle.std.proofs.lemmas.Map.Steps.{length-le_from_distinct_below}
@@ -28,7 +29,12 @@ at-one size pages page p q is also = holds_one (pages.at page) p q is.holds also
 pub at-same : (size : ℕ) (pages after : Pages) (page : ℕ) (held : IndexPage) → after.at page ≡ pages.at page →
     IsIndexAt size pages page held → IsIndexAt size after page held
 at-same size pages after page held same is =
-    record { low = is.low; there = is.there; holds = subst (λ (bytes : List ℕ). HoldsIndex bytes held) (sym same) is.holds }
+    record {
+      low = is.low;
+      there = is.there;
+      holds = subst (λ (bytes : List ℕ). HoldsIndex bytes held)
+          (sym same) is.holds;
+    }
 
 pub leads-same : (size : ℕ) (pages after : Pages) (from : ℕ) (shape : List (List Found)) (held : List ℕ) (to : ℕ) →
     AllByRecursion (λ (page : ℕ). after.at page ≡ pages.at page) held → IsWay size pages from shape held to →

@@ -1,5 +1,6 @@
 -- A sorted chain as the entries of its pages.
-use Rattle.std.specs.Prelude.{◌≡◌, ◌<◌, ◌≤◌, ◌^◌, ◌++◌, ◌==◌, ◌||◌, ℕ, List, [], ◌∷◌, length, take, drop, nat_eq, if◌then◌else◌}
+use Rattle.std.specs.Prelude.{◌≡◌, ◌<◌, ◌≤◌, ◌^◌, ◌++◌, ◌==◌, ◌||◌, ℕ, List, []}
+use Rattle.std.specs.Prelude.{◌∷◌, length, take, drop, nat_eq, if◌then◌else◌}
 use Rattle.std.specs.List.{flat_map, AllByRecursion, IsDistinct}
 use Rattle.values.specs.declared.value.Value.{Value}
 use Rattle.pager.specs.Index.{IsInOrder}

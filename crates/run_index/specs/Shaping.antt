@@ -1,5 +1,6 @@
 -- What adding and taking out make of the entries of pages: proofs.
-use Rattle.std.proofs.Common.{◌⊎◌, ◌≡◌, ◌≤◌, ◌+◌, ◌++◌, ◌∙◌, ◌||◌, ℕ, Bool, true, false, cond, eqb, leb, List, [], ◌∷◌, length, take, drop, refl, sym, ap, subst, inl, inr, arith}
+use Rattle.std.proofs.Common.{◌⊎◌, ◌≡◌, ◌≤◌, ◌+◌, ◌++◌, ◌∙◌, ◌||◌, ℕ, Bool, true, false, cond, eqb, leb}
+use Rattle.std.proofs.Common.{List, [], ◌∷◌, length, take, drop, refl, sym, ap, subst, inl, inr, arith}
 use Rattle.std.specs.List.{AllByRecursion, Contains, list_any}
 use Rattle.std.specs.List.Sorted.{IsStrictlySortedBy}
 use Rattle.std.proofs.lemmas.Bool.{le-leb, leb-true, ne_eqb, or_right, or_from, or_parts}
@@ -11,7 +12,9 @@ use Rattle.pager.specs.declared.index.Found.{Found}
 use Rattle.index_page.specs.Entries.{entry_inserted, is_behind, reaches, taken_out}
 use Rattle.index_page.specs.IndexPage.{AreOneMore, AreWritable, have_room, half, width}
 use Rattle.index_page.proofs.Halving.{halves_fit}
-use Rattle.index_page.proofs.Ordered.{inserted-all, inserted-in_order, inserted-is, inserted-same, inserted-skip, inserted-stop, taken_out-all, taken_out-in_order, taken_out-is, taken_out-skip, taken_out-stop}
+use Rattle.index_page.proofs.Ordered.{inserted-all, inserted-in_order, inserted-is, inserted-same}
+use Rattle.index_page.proofs.Ordered.{inserted-skip, inserted-stop, taken_out-all}
+use Rattle.index_page.proofs.Ordered.{taken_out-in_order, taken_out-is, taken_out-skip, taken_out-stop}
 use Rattle.index_page.proofs.Packing.{entry-short}
 use Rattle.index_page.proofs.Placing.{inserted-same_width, inserted-width, taken_out-width}
 use Rattle.run_index.specs.Run.{IsShape, at_target, entries_of, opens, paged, put, target, without}
@@ -251,7 +254,10 @@ without-in entry shape is t =
     subst IsInOrder (sym made)
     (taken_out-in_order entry (entries_of (t.before ++ page ∷ t.behind)) here.in_order) in
     let one : AreWritable (taken_out entry page) =
-    record { lawful = taken_out-all IsFound entry page writable.lawful; fits = omega (arith, taken_out-width entry page, writable.fits) } in (
+    record {
+      lawful = taken_out-all IsFound entry page writable.lawful;
+      fits = omega (arith, taken_out-width entry page, writable.fits);
+    } in (
       subst IsShape (sym without-is) (changed-shape t.before pages t.behind page here (one, tt) (omega arith) order),
       ap entries_of without-is ∙ made ∙ ap (λ (s : List (List Found)). taken_out entry (entries_of s)) (sym t.whole) ∙
           taken_out-is entry (entries_of shape) is.in_order,

@@ -1,5 +1,6 @@
 -- What a statement line that the grammar refuses is, by its first tokens.
-use Rattle.std.specs.Prelude.{◌+◌, ◌&&◌, ◌||◌, ℕ, Bool, true, false, List, Option, Some, None, drop, slice_get, nat_eq, codes, if◌then◌else◌}
+use Rattle.std.specs.Prelude.{◌+◌, ◌&&◌, ◌||◌, ℕ, Bool, true, false, List, Option, Some}
+use Rattle.std.specs.Prelude.{None, drop, slice_get, nat_eq, codes, if◌then◌else◌}
 use Rattle.std.specs.List.{position_or_len, starts_with}
 use Rattle.std.specs.Option.{option_and_then, option_map_or}
 use Rattle.std.specs.Str.{bytes_eq}

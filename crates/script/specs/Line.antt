@@ -1,5 +1,6 @@
 -- What a line of a script is.
-use Rattle.std.specs.Prelude.{◌≡◌, ◌⊎◌, ℕ, Bool, true, false, List, Option, Some, None, MatchBool, filter, map, if◌then◌else◌}
+use Rattle.std.specs.Prelude.{◌≡◌, ◌⊎◌, ℕ, Bool, true, false, List, Option, Some}
+use Rattle.std.specs.Prelude.{None, MatchBool, filter, map, if◌then◌else◌}
 use Rattle.sql_lexer.specs.Lexes.{Lexes}
 use Rattle.sql_lexer.specs.declared.token.Ending.{Ending}
 use Rattle.sql_lexer.specs.declared.token.Placed.{Placed}

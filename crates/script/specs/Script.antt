@@ -1,5 +1,6 @@
 -- The script that lines tell.
-use Rattle.std.specs.Prelude.{◌≡◌, ◌+◌, ◌++◌, ◌==◌, ◌||◌, ℕ, Bool, true, not, List, [], ◌∷◌, Option, Some, None, Result, Ok, Err, length, nat_le, take, if◌then◌else◌}
+use Rattle.std.specs.Prelude.{◌≡◌, ◌+◌, ◌++◌, ◌==◌, ◌||◌, ℕ, Bool, true, not, List, [], ◌∷◌, Option}
+use Rattle.std.specs.Prelude.{Some, None, Result, Ok, Err, length, nat_le, take, if◌then◌else◌}
 use Rattle.std.specs.List.{AllZip, list_any}
 use Rattle.std.specs.Option.{option_map, option_map_or}
 use Rattle.std.specs.Str.{bytes_eq}

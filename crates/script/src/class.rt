@@ -3,7 +3,8 @@
 ghost use Rattle.std.specs.Prelude.{◌≡◌, ◌&&◌, ◌||◌, false, drop, slice_get, if◌then◌else◌};
 ghost use Rattle.std.specs.List.{position_or_len};
 ghost use Rattle.std.specs.Option.{option_map_or};
-ghost use Rattle.script.specs.Class.{keyword_of, keyword_at, is_from, is_as, is_of, is_snapshots, is_snap_ids, is_result_name, is_own_table, names_own_table, reads_own_table, class_of};
+ghost use Rattle.script.specs.Class.{keyword_of, keyword_at, is_from, is_as, is_of, is_snapshots, is_snap_ids};
+ghost use Rattle.script.specs.Class.{is_result_name, is_own_table, names_own_table, reads_own_table, class_of};
 
 use sql_lexer::{Keyword, Placed, Token};
 
@@ -46,7 +47,8 @@ fn drop_class(tokens: &[Placed]) -> Class
 }
 
 fn select_class(text: &[u8], tokens: &[Placed]) -> Class
-    ensures { result ≡ (if (is_as (keyword_at tokens.now 1) && is_of (keyword_at tokens.now 2)) || reads_own_table text.now tokens.now then Class.Single else Class.Statement) }
+    ensures { result ≡ (if (is_as (keyword_at tokens.now 1) && is_of (keyword_at tokens.now 2))
+        || reads_own_table text.now tokens.now then Class.Single else Class.Statement) }
 {
     if (is_as(keyword_at(tokens, 1)) && is_of(keyword_at(tokens, 2)))
         || reads_own_table(text, tokens)
@@ -108,7 +110,8 @@ fn reads_own_table(text: &[u8], tokens: &[Placed]) -> bool
 }
 
 fn names_own_table_at(text: &[u8], tokens: &[Placed], index: usize) -> bool
-    ensures { result ≡ option_map_or (λ t. names_own_table text.now t.place t.token) (slice_get tokens.now index) false }
+    ensures { result ≡ option_map_or (λ t. names_own_table text.now t.place t.token)
+        (slice_get tokens.now index) false }
 {
     match tokens.get(index) {
         Some(placed) => names_own_table(text, placed.place, &placed.token),

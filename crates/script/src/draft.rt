@@ -3,7 +3,9 @@
 ghost use Rattle.std.specs.Prelude.{◌≡◌, ◌==◌, ◌⊎◌, ◌∷◌, [], IfOk, IfErr, length};
 ghost use Rattle.std.specs.List.{list_any};
 ghost use Rattle.std.specs.Str.{bytes_eq};
-ghost use Rattle.script.specs.Script.{end_step, finished, has_name, is_closed, new_session, open_step, opened, phase_step, phases_of, session_step, sessions_of, single_step, statement_step, step};
+ghost use Rattle.script.specs.Script.{end_step, finished, has_name, is_closed, new_session};
+ghost use Rattle.script.specs.Script.{open_step, opened, phase_step, phases_of, session_step};
+ghost use Rattle.script.specs.Script.{sessions_of, single_step, statement_step, step};
 
 use crate::line::Line;
 use crate::name::SessionName;
@@ -62,8 +64,8 @@ impl OpenSession {
         self.statements.is_empty()
     }
 
-    // The number of items opened behind a line that opens one unless a transaction is open, where this many were before;
-    // none where that is one too many.
+    // The number of items opened behind a line that opens one unless a transaction is open, where this many were
+    // before; none where that is one too many.
     fn opened(&self, items: usize) -> Option<usize>
         ensures { result ≡ opened items self.now }
     {
@@ -277,7 +279,8 @@ impl ScriptSoFar {
     /// want of memory.
     pub fn finish(self, alloc: Global, number: u64) -> Result<Script, Refusal>
         ensures good { IfOk result (λ script. finished number self ≡ Ok script) }
-        ensures bad { IfErr result (λ e. (e ≡ Refusal.OutOfMemory) ⊎ ((e ≡ Refusal.BadScript number) × (finished number self ≡ Err number))) }
+        ensures bad { IfErr result (λ e. (e ≡ Refusal.OutOfMemory) ⊎
+            ((e ≡ Refusal.BadScript number) × (finished number self ≡ Err number))) }
     {
         match self {
             ScriptSoFar::Empty => Ok(Script {

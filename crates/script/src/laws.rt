@@ -2,7 +2,8 @@
 
 ghost use Rattle.script.specs.Rules.{FrontDecides, ReadsByTheRules};
 
-/// The law of the script that lines tell: a bad line is the first that breaks a rule, and a script is what its lines tell.
+/// The law of the script that lines tell: a bad line is the first that breaks a rule, and a script is what its lines
+/// tell.
 pub fn script_law()
     ensures { ReadsByTheRules }
 {}

@@ -2,7 +2,8 @@
 
 ghost use Rattle.std.specs.Prelude.{◌≡◌, ◌<◌, ◌^◌, IfOk, IfErr, length, if◌then◌else◌};
 ghost use Rattle.script.specs.Limits.{LineFits};
-ghost use Rattle.script.specs.Line.{IsLine, IsTextLine, IsSessionLine, IsStatementLine, IsOnly, is_text, parsed_line, plain_line, query_line, refused_line, text_places};
+ghost use Rattle.script.specs.Line.{IsLine, IsTextLine, IsSessionLine, IsStatementLine, IsOnly, is_text};
+ghost use Rattle.script.specs.Line.{parsed_line, plain_line, query_line, refused_line, text_places};
 ghost use Rattle.script.specs.Text.{in_bounds};
 ghost use Rattle.sql_text.specs.Line.{HasLimits};
 ghost use Rattle.sql_text.specs.Places.{AllBefore};
@@ -38,7 +39,8 @@ pub enum Line {
     Bad,
 }
 
-/// What a line is, by its bytes without its end, and whether it goes too far in the script. Refused for want of memory alone.
+/// What a line is, by its bytes without its end, and whether it goes too far in the script. Refused for want of memory
+/// alone.
 pub fn read_line(alloc: Global, bytes: &[u8], too_far: bool) -> Result<Line, Refusal>
     ensures found { IfOk result (IsLine (if too_far then None else in_bounds bytes.now)) }
     ensures only { IfOk result (IsOnly (IsLine (if too_far then None else in_bounds bytes.now))) }

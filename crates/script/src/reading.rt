@@ -13,7 +13,8 @@ use crate::text::split_line;
 use retro_base::Refusal;
 use std::alloc::Global;
 
-/// The script that the bytes are. Refused as a bad script, with the number of the first bad line, or for want of memory.
+/// The script that the bytes are. Refused as a bad script, with the number of the first bad line, or for want of
+/// memory.
 pub fn read(alloc: Global, bytes: &[u8]) -> Result<Script, Refusal>
     ensures found { IfOk result (IsScript bytes.now) }
     ensures only { IfOk result (λ script. IsOnlyReading bytes.now (Ok script)) }

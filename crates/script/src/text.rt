@@ -3,7 +3,8 @@
 ghost use Rattle.std.specs.Prelude.{◌≡◌, ◌==◌, ◌∷◌, ◌<◌, length, position};
 ghost use Rattle.std.specs.Str.Lines.{lines, strip_carriage_return};
 ghost use Rattle.sql_lexer.specs.Lexes.{is_blank};
-ghost use Rattle.script.specs.Text.{trim_front, trim_back, drop_semicolon, text_of, is_skipped, is_phase, is_session, ends_word, session_name};
+ghost use Rattle.script.specs.Text.{trim_front, trim_back, drop_semicolon, text_of, is_skipped};
+ghost use Rattle.script.specs.Text.{is_phase, is_session, ends_word, session_name};
 
 /// The first line without its end, and what follows that.
 pub fn split_line(bytes: &[u8]) -> (&[u8], &[u8])

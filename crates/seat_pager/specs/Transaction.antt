@@ -1,5 +1,6 @@
 -- What a pager over an open attempt shows, and what is known of the attempt while it goes on.
-use Rattle.std.specs.Prelude.{◌≡◌, ◌+◌, ◌==◌, ◌||◌, ℕ, Bool, true, false, IsTrue, List, [], length, Option, Some, None, is_some}
+use Rattle.std.specs.Prelude.{◌≡◌, ◌+◌, ◌==◌, ◌||◌, ℕ, Bool, true, false, IsTrue}
+use Rattle.std.specs.Prelude.{List, [], length, Option, Some, None, is_some}
 use Rattle.retro_base.specs.declared.limits.TheConstants.{EDITED_PAGES}
 use Rattle.retro_base.specs.declared.refusal.Refusal.{Refusal}
 use Rattle.retro_base.specs.declared.refusal.Refusal.TheVariants as refusal

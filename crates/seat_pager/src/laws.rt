@@ -1,6 +1,7 @@
 //! What sessions need of the pagers of their seats, proved.
 
-ghost use Rattle.seat_pager.specs.Laws.{NothingIsKept, OverlapsStay, ShownAsOf, ShownAtBegan, ShownIsAsked, ShownIsMade};
+ghost use Rattle.seat_pager.specs.Laws.{NothingIsKept, OverlapsStay, ShownAsOf};
+ghost use Rattle.seat_pager.specs.Laws.{ShownAtBegan, ShownIsAsked, ShownIsMade};
 
 use journal_law::Language;
 

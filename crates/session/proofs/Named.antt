@@ -64,7 +64,7 @@ each_means : {X Y : Type 0} (f : X → Result Y Refusal) (xs : List X) → ((x :
 each_means f [] is = tt
 each_means f (x ∷ xs) is = then_means (f x) (λ y. each f xs >>= (λ ys. Ok (y ∷ ys))) (is x) (λ y. then_means (each f xs) (λ ys. Ok (y ∷ ys)) (each_means f xs is) (λ ys. tt))
 
-known_value : (o : Option Value) → Means (at.known o)
+known_value : (o : Option Value) → Means (at.found_value o)
 known_value None = tt
 known_value (Some value) = tt
 

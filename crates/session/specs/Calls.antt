@@ -1,5 +1,6 @@
 -- Calls over many snapshots, as a session runs them.
-use Rattle.std.specs.Prelude.{◌≡◌, ◌&&◌, ◌==◌, ℕ, Bool, true, not, List, [], codes, length, map, flat_map, Option, Some, None, is_none, option_to_list, Result, Ok, Err, IfOk, nat_le}
+use Rattle.std.specs.Prelude.{◌≡◌, ◌&&◌, ◌==◌, ℕ, Bool, true, not, List, [], codes, length, map, flat_map}
+use Rattle.std.specs.Prelude.{Option, Some, None, is_none, option_to_list, Result, Ok, Err, IfOk, nat_le}
 use Rattle.retro_base.specs.Gives.{◌>>=◌}
 use Rattle.std.specs.List.{list_any}
 use Rattle.history.specs.Marks.{newest}

@@ -1,5 +1,6 @@
 -- Queries of the table of snapshots, of result tables, and over many snapshots.
-use Rattle.std.specs.Prelude.{◌||◌, ℕ, pos, Bool, false, not, List, [], ◌∷◌, codes, flat_map, map, Option, Some, None, Result, Ok, Err, if◌then◌else◌}
+use Rattle.std.specs.Prelude.{◌||◌, ℕ, pos, Bool, false, not, List, [], ◌∷◌, codes, flat_map}
+use Rattle.std.specs.Prelude.{map, Option, Some, None, Result, Ok, Err, if◌then◌else◌}
 use Rattle.retro_base.specs.Gives.{◌>>=◌}
 use Rattle.retro_base.specs.declared.refusal.Refusal.{Refusal}
 use Rattle.retro_base.specs.declared.refusal.Refusal.TheVariants.{UnknownName}
@@ -38,7 +39,11 @@ asked_of query table rows = do
 
 abbrev pub snapshots_table : TableSchema
 snapshots_table =
-    record { name = codes "SnapIds"; columns = record { name = codes "snap_id"; kind = kind.Int } ∷ record { name = codes "label"; kind = kind.Text } ∷ [] }
+    record {
+      name = codes "SnapIds";
+      columns =
+          record { name = codes "snap_id"; kind = kind.Int } ∷ record { name = codes "label"; kind = kind.Text } ∷ [];
+    }
 
 abbrev pub snapshot_row : {X : Type 0} → Mark X → List Value
 snapshot_row mark = Int (pos mark.number) ∷ Text mark.label ∷ []

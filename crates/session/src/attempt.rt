@@ -11,7 +11,8 @@ ghost use Rattle.session.specs.Plan.{Item};
 ghost use Rattle.session.specs.Sql.{sql};
 ghost use Rattle.session.specs.Wording.{committed_as, refusal_text, rolled_back_text};
 ghost use Rattle.session.specs.Attempts.{IsTrying, OverlapsFit, ending_of};
-ghost use Rattle.session.specs.Transacting.{AttemptEnds, HasBegun, HasEnded, HasRun, HasTriedOnce, IsRefused, IsText, Stands, ends_so, is_fault, item_for, overlap_of};
+ghost use Rattle.session.specs.Transacting.{AttemptEnds, HasBegun, HasEnded, HasRun, HasTriedOnce, IsRefused};
+ghost use Rattle.session.specs.Transacting.{IsText, Stands, ends_so, is_fault, item_for, overlap_of};
 
 use crate::gate::{Gate, Point};
 use crate::statements::do_lines;

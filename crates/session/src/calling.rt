@@ -191,8 +191,8 @@ fn call_up<S: Seat, F: Folds>(
     (seat, told, table)
 }
 
-/// Runs a call over many snapshots, and gives its reply, and the result table that it leaves where it has an answer. The
-/// gate is told when the look has begun.
+/// Runs a call over many snapshots, and gives its reply, and the result table that it leaves where it has an answer.
+/// The gate is told when the look has begun.
 pub fn call<S: Seat, G: Gate, F: Folds>(
     alloc: Global,
     seat: S,

@@ -34,8 +34,8 @@ pub fn refused(alloc: Global, names: &[SessionName], why: Refusal) -> Told
     Ok(Some(Seq::from(text)))
 }
 
-/// The reply of an item that has a line of this refusal alone. A full journal and want of memory have no line: they cut the
-/// item short.
+/// The reply of an item that has a line of this refusal alone. A full journal and want of memory have no line: they cut
+/// the item short.
 pub fn refused_alone(alloc: Global, names: &[SessionName], why: Refusal) -> Told
     ensures { IfOk result (λ told. told ≡ told_alone names.now why) }
 {

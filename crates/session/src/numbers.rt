@@ -64,8 +64,8 @@ fn push_number(row: &[Value], marks: &[Mark], numbers: &mut Vec<u32>) -> Result<
     Ok(())
 }
 
-/// The numbers that rows of a list of snapshots hold, all of which are those of these marks. No list that the grammar has
-/// gives another number; as that is not told of its rows, one that did would be refused for want of memory.
+/// The numbers that rows of a list of snapshots hold, all of which are those of these marks. No list that the grammar
+/// has gives another number; as that is not told of its rows, one that did would be refused for want of memory.
 #[tactic(auto, using(crate::proofs::Going::all_append))]
 pub fn numbers_in(alloc: Global, rows: &[Row], marks: &[Mark]) -> Result<Vec<u32>, Refusal>
     requires rising { AreRising marks.now }

@@ -97,8 +97,8 @@ impl Progress {
 }
 
 /// Runs the tasks of the session at a place of a phase, one after the other, and gives what is kept of each. Behind one
-/// that was cut short none is run. AllocError where memory is wanting to keep a reply: the session ends there, with nothing
-/// open.
+/// that was cut short none is run. AllocError where memory is wanting to keep a reply: the session ends there, with
+/// nothing open.
 pub fn run_session<S: Seat, R: RunItems>(
     alloc: Global,
     seat: S,

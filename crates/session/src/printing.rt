@@ -1,7 +1,8 @@
 //! The printing of a run.
 
 ghost use Rattle.std.specs.Prelude.{◌≡◌, ◌+◌, ◌++◌, IfOk, OnOk};
-ghost use Rattle.session.specs.Replies.{cause_of_cut, items_text, kept_at_place, kept_by_place, kept_in_phase, phases_text, printed, sessions_text, text_of};
+ghost use Rattle.session.specs.Replies.{cause_of_cut, items_text, kept_at_place, kept_by_place};
+ghost use Rattle.session.specs.Replies.{kept_in_phase, phases_text, printed, sessions_text, text_of};
 
 use crate::kept::Kept;
 use crate::plan::{Plan, SessionPlan};

@@ -41,8 +41,9 @@ fn answer_of(
     }
 }
 
-/// Runs a transaction of a session: up to 64 attempts, each but the last of which overlapped another item. Gives its reply,
-/// or nothing where it was cut short. An AllocError says that the item has run, but that there was no memory for its reply.
+/// Runs a transaction of a session: up to 64 attempts, each but the last of which overlapped another item. Gives its
+/// reply, or nothing where it was cut short. An AllocError says that the item has run, but that there was no memory for
+/// its reply.
 pub fn transaction<S: Seat, G: Gate>(
     alloc: Global,
     seat: S,
@@ -60,7 +61,8 @@ pub fn transaction<S: Seat, G: Gate>(
     ensures runs { S.is_honest seat
         → RunsItem who (item_for names.now transaction.now) (S.view seat) (S.view result.0) }
     ensures tells { S.is_honest seat
-        → IfOk result.1 (λ told. TellsItem who (item_for names.now transaction.now) (S.view seat) (S.view result.0) (text_told (λ text. text.items) told)) }
+        → IfOk result.1 (λ told. TellsItem who (item_for names.now transaction.now) (S.view seat) (S.view result.0)
+        (text_told (λ text. text.items) told)) }
 {
     let (mut seat, mut tried) = try_once(alloc, seat, gate, who, names, transaction);
     for _attempts in 1..ATTEMPTS {

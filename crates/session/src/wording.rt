@@ -5,7 +5,8 @@ ghost use Rattle.retro_base.specs.Device.{device_name};
 ghost use Rattle.std.specs.Fmt.{decimal};
 ghost use Rattle.session.specs.Line.{line};
 ghost use Rattle.session.specs.Texts.{value_text};
-ghost use Rattle.session.specs.Wording.{committed_as, count_text, not_run_text, refusal_text, rolled_back_text, session_name, values_text, word};
+ghost use Rattle.session.specs.Wording.{committed_as, count_text, not_run_text, refusal_text};
+ghost use Rattle.session.specs.Wording.{rolled_back_text, session_name, values_text, word};
 
 use retro_base::{Device, Refusal};
 use script::SessionName;

@@ -13,11 +13,13 @@ use Rattle.sql_tree.specs.Expression.{ExpressionTree}
 use Rattle.sql_tree.specs.Expression as expression
 use Rattle.sql_build.specs.declared.draft.Assembly.{Assembly}
 use Rattle.sql_parts.specs.declared.action.Action.{Action}
-use Rattle.sql_parts.specs.declared.action.Action.TheVariants.{Term, Step, Table, Row, Update, Output, List as ListAction, Query, Line}
+use Rattle.sql_parts.specs.declared.action.Action.TheVariants.{Term, Step, Table, Row, Update, Output}
+use Rattle.sql_parts.specs.declared.action.Action.TheVariants.{List as ListAction, Query, Line}
 use Rattle.sql_parts.specs.declared.action.Op.{Op}
 use Rattle.sql_parts.specs.declared.action.Op.TheVariants as op
 use Rattle.sql_parts.specs.declared.action.StepAction.{StepAction}
-use Rattle.sql_parts.specs.declared.action.StepAction.TheVariants.{Leaf, Apply, Compare, Not, And, Or, Expression, Condition, NoCondition}
+use Rattle.sql_parts.specs.declared.action.StepAction.TheVariants.{Leaf, Apply, Compare, Not, And, Or}
+use Rattle.sql_parts.specs.declared.action.StepAction.TheVariants.{Expression, Condition, NoCondition}
 use Rattle.sql_parts.specs.declared.parsed.Parsed.{Parsed}
 use Rattle.sql_parts.specs.declared.part.Part.{Part}
 use Rattle.sql_parts.specs.declared.part.Part.TheVariants as part

@@ -39,7 +39,9 @@ use Rattle.sql_parts.specs.declared.part.Part.TheVariants as part
 use Rattle.sql_parts.specs.declared.parsed.Mechanism.{Mechanism}
 use Rattle.sql_parts.specs.declared.parsed.Mechanism.TheVariants as mechanism
 use Rattle.sql_parts.specs.declared.parsed.Parsed.TheVariants as parsed
-use Rattle.sql_parts.specs.Taking.{◌>>=◌, a_column, a_column_name, a_condition, a_create_table, a_literal, a_name, a_number, a_query, a_row, a_text, an_argument, an_assignment, an_expression, an_insert, an_output, an_output_value, an_update, done, outputs}
+use Rattle.sql_parts.specs.Taking.{◌>>=◌, a_column, a_column_name, a_condition, a_create_table, a_literal}
+use Rattle.sql_parts.specs.Taking.{a_name, a_number, a_query, a_row, a_text, an_argument, an_assignment}
+use Rattle.sql_parts.specs.Taking.{an_expression, an_insert, an_output, an_output_value, an_update, done, outputs}
 
 -- the part is what is put together, above those that are left, or nothing is
 abbrev pub Makes : Option Part → List Part → Option (List Part) → Type 0

@@ -3,7 +3,8 @@
 ghost use Rattle.std.specs.Prelude.{◌≡◌, ◌∷◌, [], IfOk, IsTrue, MatchBool, MatchOption, Some, None};
 ghost use Rattle.sql_tree.specs.Condition.{tree_of as condition_tree};
 ghost use Rattle.sql_tree.specs.Expression.{tree_of as expression_tree};
-ghost use Rattle.sql_build.specs.Built.{acted, built, compare_step, condition_ends, condition_on, empty, expression_ends, leaf, leaf_step, said, stepped, taken, with_parts};
+ghost use Rattle.sql_build.specs.Built.{acted, built, compare_step, condition_ends, condition_on, empty};
+ghost use Rattle.sql_build.specs.Built.{expression_ends, leaf, leaf_step, said, stepped, taken, with_parts};
 
 use crate::pieces::{line, row, table, term, update};
 use crate::selects::{output, query, select_list};
@@ -95,7 +96,8 @@ impl Assembly {
     }
 
     fn act(&mut self, alloc: Global, action: Action) -> Result<bool, AllocError>
-        ensures { IfOk result (λ done. MatchBool done (acted action self.old ≡ Some self.new) (acted action self.old ≡ None)) }
+        ensures { IfOk result (λ done. MatchBool done (acted action self.old ≡ Some self.new)
+            (acted action self.old ≡ None)) }
     {
         let part = match action {
             Action::Step(action) => return self.step(alloc, action),
@@ -132,7 +134,8 @@ impl Assembly {
     }
 
     fn step(&mut self, alloc: Global, action: StepAction) -> Result<bool, AllocError>
-        ensures { IfOk result (λ done. MatchBool done (stepped action self.old ≡ Some self.new) (stepped action self.old ≡ None)) }
+        ensures { IfOk result (λ done. MatchBool done (stepped action self.old ≡ Some self.new)
+            (stepped action self.old ≡ None)) }
     {
         match action {
             StepAction::Leaf => self.leaf(),

@@ -16,7 +16,7 @@ use Rattle.sql_tree.specs.declared.expression.Operator.{Operator}
 use Rattle.sql_tree.specs.declared.schema.TableSchema.{TableSchema}
 use Rattle.sql_tree.specs.declared.statement.Column.{Column as ColumnRecord}
 use Rattle.sql_tree.specs.Condition.{Compare, Not, And, Or}
-use Rattle.sql_tree.specs.Evaluation.{applied, column_value, compared, in_range, is_true, known, narrow, operand_value, result_of, value_at, value_of}
+use Rattle.sql_tree.specs.Evaluation.{applied, column_value, compared, in_range, is_true, found_value, narrow, operand_value, result_of, value_at, value_of}
 use Rattle.sql_tree.specs.Evaluation as evaluation
 use Rattle.sql_tree.specs.Expression.{Literal, Column, CurrentSnapshot, Apply}
 use Rattle.sql_tree.specs.Scope.{columns_of, kind_in, place_of}
@@ -49,11 +49,11 @@ at_place (c ∷ columns) (v ∷ row) (suc place) k fit e =
     let here = and_both (same_kind c.kind (value.kind_of v)) (fits columns row) fit in
     at_place columns row place k here.1 e
 
-column_at : (columns : List ColumnRecord) (row : List Value) (place : Option ℕ) (k : Kind) → fits columns row ≡ true → kind_in columns place ≡ Some k → HasKind k (known (value_at row place))
+column_at : (columns : List ColumnRecord) (row : List Value) (place : Option ℕ) (k : Kind) → fits columns row ≡ true → kind_in columns place ≡ Some k → HasKind k (found_value (value_at row place))
 column_at columns row None k fit e = let no : ⊥ = cc in absurd no
 column_at columns row (Some place) k fit e =
     let found = at_place columns row place k fit e in
-    (found.0, ap known found.1, found.2)
+    (found.0, ap found_value found.1, found.2)
 
 snapshot_is : (snapshot : Option ℕ) → is_none snapshot ≡ false → HasKind kind.Int (evaluation.snapshot_value snapshot)
 snapshot_is None e = let no : ⊥ = cc in absurd no

@@ -1,5 +1,6 @@
 -- The names and types of statements.
-use Rattle.std.specs.Prelude.{◌||◌, ℕ, Bool, true, false, not, Option, Some, None, is_none, List, [], ◌∷◌, Result, Ok, Err, if◌then◌else◌}
+use Rattle.std.specs.Prelude.{◌||◌, ℕ, Bool, true, false, not, Option, Some, None}
+use Rattle.std.specs.Prelude.{is_none, List, [], ◌∷◌, Result, Ok, Err, if◌then◌else◌}
 use Rattle.std.specs.List.{list_all, list_any}
 use Rattle.std.specs.Option.{option_map, option_map_or}
 use Rattle.retro_base.specs.declared.refusal.Refusal.{Refusal}
@@ -11,7 +12,8 @@ use Rattle.sql_tree.specs.declared.select.Select.{Select as SelectRecord}
 use Rattle.sql_tree.specs.declared.statement.Assignment.{Assignment}
 use Rattle.sql_tree.specs.declared.statement.Column.{Column}
 use Rattle.sql_tree.specs.declared.statement.Statement.{Statement}
-use Rattle.sql_tree.specs.declared.statement.Statement.TheVariants.{CreateTable, CreateIndex, Insert, Update, Delete, Select}
+use Rattle.sql_tree.specs.declared.statement.Statement.TheVariants.{CreateTable, CreateIndex, Insert}
+use Rattle.sql_tree.specs.declared.statement.Statement.TheVariants.{Update, Delete, Select}
 use Rattle.sql_tree.specs.declared.statement.Update.{Update as UpdateRecord}
 use Rattle.sql_check.specs.Expressions.{agree, has_unknown, kind_of}
 use Rattle.sql_check.specs.Names.{column_named, has_name, has_twins, is_named, is_reserved, stored_table, table_named}

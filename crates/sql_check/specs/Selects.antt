@@ -16,7 +16,8 @@ use Rattle.sql_tree.specs.Condition.{ConditionTree}
 use Rattle.sql_tree.specs.Expression.{ExpressionTree, column_of, is_constant}
 use Rattle.sql_tree.specs.Scope.{place_of}
 use Rattle.sql_tree.specs.Select.{is_grouped, outputs_of}
-use Rattle.sql_check.specs.Expressions.{compares_apart, has_unknown_operand, is_unknown, output_has_unknown, output_kind}
+use Rattle.sql_check.specs.Expressions.{compares_apart, has_unknown_operand}
+use Rattle.sql_check.specs.Expressions.{is_unknown, output_has_unknown, output_kind}
 use Rattle.sql_check.specs.Names.{has_name}
 use Rattle.sql_check.specs.Outputs.{answer_columns}
 

@@ -5,7 +5,9 @@ ghost use Rattle.std.specs.List.{list_any};
 ghost use Rattle.std.specs.Option.{option_copied};
 ghost use Rattle.retro_base.specs.Gives.{Gives};
 ghost use Rattle.sql_tree.specs.declared.statement.Statement.{Statement};
-ghost use Rattle.sql_check.specs.Check.{assigns_other_kind, assigns_unknown, checked, checked_beside, column_kind, first_refusal, has_unknown_name, has_wrong_type, is_twice, names_other, scope_beside, scope_of_two, select_scope, takes_taken_name};
+ghost use Rattle.sql_check.specs.Check.{assigns_other_kind, assigns_unknown, checked, checked_beside, column_kind};
+ghost use Rattle.sql_check.specs.Check.{first_refusal, has_unknown_name, has_wrong_type, is_twice};
+ghost use Rattle.sql_check.specs.Check.{names_other, scope_beside, scope_of_two, select_scope, takes_taken_name};
 
 use crate::expressions::{agree, has_unknown, kind_of};
 use crate::names::{
@@ -242,13 +244,13 @@ fn first_refusal(unknown: bool, taken: bool, mistyped: bool) -> Result<(), Refus
     Ok(())
 }
 
-/// Checks the names and types of the statement; `snapshot` is the number of `current_snapshot()`. Refused for want of memory, or for the
-/// first of these that holds anywhere in the statement:
-/// - UnknownName: a table, a column or a key of ORDER BY that is not there, a plain column name that two tables have, or
-///   `current_snapshot()` without a number.
+/// Checks the names and types of the statement; `snapshot` is the number of `current_snapshot()`. Refused for want of
+/// memory, or for the first of these that holds anywhere in the statement:
+/// - UnknownName: a table, a column or a key of ORDER BY that is not there, a plain column name that two tables have,
+///   or `current_snapshot()` without a number.
 /// - NameTaken: a name of a table or an index that exists or is reserved, a column twice, or a table twice in FROM.
-/// - WrongType: a comparison of INT with TEXT, a text that is reckoned with, a value that does not fit its column, or an
-///   output with more than one value for a group.
+/// - WrongType: a comparison of INT with TEXT, a text that is reckoned with, a value that does not fit its column, or
+///   an output with more than one value for a group.
 pub fn check(
     alloc: Global,
     statement: &Statement,
@@ -295,8 +297,9 @@ fn scope_beside<'a>(table: &'a TableSchema, second: &Option<Name>) -> Scope<'a>
     }
 }
 
-/// Checks the names and types of a select over this table, which the store does not have, whatever name its FROM gives it.
-/// Refused as `check` refuses; beside this table none can stand, so that a second one is unknown, or the same twice.
+/// Checks the names and types of a select over this table, which the store does not have, whatever name its FROM gives
+/// it. Refused as `check` refuses; beside this table none can stand, so that a second one is unknown, or the same
+/// twice.
 pub fn check_beside(alloc: Global, select: &Select, table: &TableSchema) -> Result<(), Refusal>
     ensures { Gives (λ _. tt) result (checked_beside select.now table.now) }
 {

@@ -3,8 +3,12 @@
 ghost use Rattle.std.specs.Prelude.{◌≡◌};
 ghost use Rattle.std.specs.List.{list_any};
 ghost use Rattle.std.specs.Option.{option_copied};
-ghost use Rattle.sql_check.specs.Expressions.{agree, aggregate_has_unknown, aggregate_kind, compares_apart, has_unknown, has_unknown_operand, int_if, is_int, is_unknown, is_unknown_operand, kind_of, operand_kind, output_has_unknown, output_kind};
-ghost use Rattle.sql_check.specs.Steps.{compares_apart_at, is_unknown_at, is_unknown_step, only, reckons_with_numbers, step_kind, steps_kind};
+ghost use Rattle.sql_check.specs.Expressions.{agree, aggregate_has_unknown, aggregate_kind};
+ghost use Rattle.sql_check.specs.Expressions.{compares_apart, has_unknown, has_unknown_operand, int_if};
+ghost use Rattle.sql_check.specs.Expressions.{is_int, is_unknown, is_unknown_operand, kind_of};
+ghost use Rattle.sql_check.specs.Expressions.{operand_kind, output_has_unknown, output_kind};
+ghost use Rattle.sql_check.specs.Steps.{compares_apart_at, is_unknown_at, is_unknown_step};
+ghost use Rattle.sql_check.specs.Steps.{only, reckons_with_numbers, step_kind, steps_kind};
 
 use sql_tree::{
     Aggregate, ColumnName, Condition, ConditionStep, Expression, ExpressionStep, Operand,

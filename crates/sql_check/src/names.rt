@@ -2,7 +2,8 @@
 
 ghost use Rattle.std.specs.Prelude.{◌≡◌};
 ghost use Rattle.std.specs.Option.{option_copied};
-ghost use Rattle.sql_check.specs.Names.{column_named, has_name, has_twins, is_named, is_reserved, stored_table, table_named};
+ghost use Rattle.sql_check.specs.Names.{column_named, has_name, has_twins, is_named};
+ghost use Rattle.sql_check.specs.Names.{is_reserved, stored_table, table_named};
 
 use sql_tree::{Assignment, Column, IndexSchema, Schema, TableSchema};
 use values::Name;

@@ -1,7 +1,8 @@
 //! The columns of a select's answer.
 
 ghost use Rattle.std.specs.Prelude.{◌≡◌, ◌<◌, ◌^◌, IfOk};
-ghost use Rattle.sql_check.specs.Outputs.{answer_columns, numbered_name, output_column, output_columns, output_name, own_name};
+ghost use Rattle.sql_check.specs.Outputs.{answer_columns, numbered_name, output_column};
+ghost use Rattle.sql_check.specs.Outputs.{output_columns, output_name, own_name};
 
 use crate::expressions::output_kind;
 use sql_tree::{Column, Output, OutputValue, Scope, SelectList};
@@ -67,8 +68,8 @@ fn output_columns(
     Ok(columns)
 }
 
-/// The columns of the answer that has these outputs: for `*` all columns of the scope, and else one for each output. An output's name
-/// is its AS name, else its column's, else `col` and its place from 1. Refused for want of memory alone.
+/// The columns of the answer that has these outputs: for `*` all columns of the scope, and else one for each output. An
+/// output's name is its AS name, else its column's, else `col` and its place from 1. Refused for want of memory alone.
 pub fn answer_columns(
     alloc: Global,
     scope: &Scope<'_>,

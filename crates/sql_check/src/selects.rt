@@ -6,7 +6,10 @@ ghost use Rattle.sql_tree.specs.declared.select.OrderKey.{OrderKey};
 ghost use Rattle.sql_tree.specs.declared.select.Output.{Output};
 ghost use Rattle.sql_check.specs.Expressions.{is_unknown, output_has_unknown, output_kind};
 ghost use Rattle.sql_check.specs.Outputs.{answer_columns};
-ghost use Rattle.sql_check.specs.Selects.{breaks_groups, is_grouped_by, is_key, is_of_group, keys_have_unknown, lacks_kind, list_has_unknown, names_output, output_is_of_group, same_place, select_has_unknown, select_is_mistyped, where_compares_apart, where_has_unknown};
+ghost use Rattle.sql_check.specs.Selects.{breaks_groups, is_grouped_by, is_key, is_of_group};
+ghost use Rattle.sql_check.specs.Selects.{keys_have_unknown, lacks_kind, list_has_unknown, names_output};
+ghost use Rattle.sql_check.specs.Selects.{output_is_of_group, same_place, select_has_unknown};
+ghost use Rattle.sql_check.specs.Selects.{select_is_mistyped, where_compares_apart, where_has_unknown};
 
 use crate::expressions::{
     compares_apart, has_unknown_operand, is_unknown, output_has_unknown, output_kind,
@@ -77,7 +80,8 @@ fn keys_have_unknown(alloc: Global, scope: &Scope<'_>, select: &Select) -> Resul
 }
 
 fn any_is_no_key(scope: &Scope<'_>, select: &Select, columns: &[Column], keys: &[OrderKey]) -> bool
-    ensures { result ≡ list_any (λ (key : OrderKey). not (is_key scope.now select.now columns.now key.column)) keys.now }
+    ensures { result ≡ list_any (λ (key : OrderKey). not (is_key scope.now select.now columns.now key.column))
+        keys.now }
 {
     keys.iter()
         .any(|key| !is_key(scope, select, columns, &key.column))

@@ -18,7 +18,7 @@ use Rattle.sql_tree.specs.declared.condition.Operand.TheVariants as operand
 use Rattle.sql_tree.specs.declared.name.ColumnName.{ColumnName}
 use Rattle.sql_tree.specs.declared.schema.TableSchema.{TableSchema}
 use Rattle.sql_tree.specs.Condition.{ConditionTree, Compare, Not, And, Or}
-use Rattle.sql_tree.specs.Evaluation.{agrees, compared, is_true, known, value_at}
+use Rattle.sql_tree.specs.Evaluation.{agrees, compared, is_true, found_value, value_at}
 use Rattle.sql_tree.specs.Rows.{same_kind}
 use Rattle.sql_tree.specs.Scope.{place_of}
 use Rattle.sql_exec.specs.declared.bounds.BoundColumn.{BoundColumn}
@@ -136,13 +136,13 @@ two-true (Err why) b e = let no : ⊥ = cc in absurd no
 
 module _ (scope : List TableSchema) (snapshot : Option ℕ) (row : List Value) (column : BoundColumn) (value : Value) (stands : slice_get row column.place ≡ Some value) where
   -- the named column's value
-  named : (place : Option ℕ) (bound : Value) → is_at column place bound ≡ true → known (value_at row place) ≡ Ok value
+  named : (place : Option ℕ) (bound : Value) → is_at column place bound ≡ true → found_value (value_at row place) ≡ Ok value
   named None bound e = let no : ⊥ = cc in absurd no
   named (Some place) bound e =
       let same = eqb-true place column.place (both (place == column.place) (same_kind (kind_of bound) column.kind) e).0 in
-      ap (λ (p : ℕ). known (slice_get row p)) same ∙ ap known stands
+      ap (λ (p : ℕ). found_value (slice_get row p)) same ∙ ap found_value stands
 
-  column-within : (name : ColumnName) (c : Comparison) (bound : Value) → (known (value_at row (place_of scope name)) ≡ Ok value → is_within (bounds_set c bound) value ≡ true) → is_within (column_bounds scope column name c bound) value ≡ true
+  column-within : (name : ColumnName) (c : Comparison) (bound : Value) → (found_value (value_at row (place_of scope name)) ≡ Ok value → is_within (bounds_set c bound) value ≡ true) → is_within (column_bounds scope column name c bound) value ≡ true
   column-within name c bound follows = go (is_at column (place_of scope name) bound) refl
     where
       go : (t : Bool) → is_at column (place_of scope name) bound ≡ t → is_within (cond t (bounds_set c bound) unbounded) value ≡ true

@@ -6,7 +6,8 @@ use Rattle.values.specs.declared.value.Value.{Value}
 use Rattle.sql_tree.specs.declared.schema.TableSchema.{TableSchema}
 use Rattle.sql_tree.specs.declared.statement.Delete.{Delete as DeleteRecord}
 use Rattle.sql_tree.specs.declared.statement.Statement.{Statement}
-use Rattle.sql_tree.specs.declared.statement.Statement.TheVariants.{CreateTable, CreateIndex, Insert, Update, Delete, Select}
+use Rattle.sql_tree.specs.declared.statement.Statement.TheVariants.{CreateTable, CreateIndex, Insert}
+use Rattle.sql_tree.specs.declared.statement.Statement.TheVariants.{Update, Delete, Select}
 use Rattle.sql_tree.specs.declared.statement.Update.{Update as UpdateRecord}
 use Rattle.tables.specs.declared.contents.NumberedRow.{NumberedRow}
 use Rattle.tables.specs.Meaning.{known, remaining_row, updated_row}

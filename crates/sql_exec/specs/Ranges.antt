@@ -1,5 +1,6 @@
 -- Which rows a statement reads of a table: those in a range of an index, or all.
-use Rattle.std.specs.Prelude.{◌-◌, ◌^◌, ◌∷◌, ◌&&◌, pos, negsuc, Bool, not, Option, Some, None, List, [], replicate, slice_get, if◌then◌else◌}
+use Rattle.std.specs.Prelude.{◌-◌, ◌^◌, ◌∷◌, ◌&&◌, pos, negsuc, Bool, not, Option, Some}
+use Rattle.std.specs.Prelude.{None, List, [], replicate, slice_get, if◌then◌else◌}
 use Rattle.std.specs.List.{filter_map, find}
 use Rattle.std.specs.Option.{option_or}
 use Rattle.values.specs.declared.value.Kind.{Kind}

@@ -1,6 +1,7 @@
 -- What a statement does to the pages, whatever they hold, and what it replies.
 use Rattle.std.specs.Prelude.{◌≤◌, ℕ, List, [], ◌∷◌, length, map, Option, Result, Ok, Err}
 use Rattle.std.specs.List.{AllByRecursion}
+use Rattle.retro_base.specs.declared.limits.TheConstants.{COLUMNS}
 use Rattle.retro_base.specs.declared.refusal.Refusal.{Refusal}
 use Rattle.values.specs.declared.value.Value.{Value}
 use Rattle.row_codec.specs.RowCode.{IsRow}
@@ -12,7 +13,8 @@ use Rattle.sql_tree.specs.declared.statement.CreateIndex.{CreateIndex as IndexRe
 use Rattle.sql_tree.specs.declared.statement.CreateTable.{CreateTable as CreateRecord}
 use Rattle.sql_tree.specs.declared.statement.Delete.{Delete as DeleteRecord}
 use Rattle.sql_tree.specs.declared.statement.Statement.{Statement}
-use Rattle.sql_tree.specs.declared.statement.Statement.TheVariants.{CreateTable, CreateIndex, Insert, Update, Delete, Select}
+use Rattle.sql_tree.specs.declared.statement.Statement.TheVariants.{CreateTable, CreateIndex, Insert}
+use Rattle.sql_tree.specs.declared.statement.Statement.TheVariants.{Update, Delete, Select}
 use Rattle.sql_tree.specs.declared.statement.Update.{Update as UpdateRecord}
 use Rattle.tables.specs.declared.contents.NumberedRow.{NumberedRow}
 use Rattle.tables.specs.declared.reply.Reply.{Reply}
@@ -86,7 +88,7 @@ placed_gone table snapshot delete placed =
 
 -- a row of one to sixteen values
 abbrev pub IsOfWidth : List Value → Type 0
-IsOfWidth row = (1 ≤ length row) × (length row ≤ 16)
+IsOfWidth row = (1 ≤ length row) × (length row ≤ COLUMNS)
 
 -- what rows become
 abbrev pub values_of : List RowChange → List (List Value)

@@ -3,6 +3,7 @@
 ghost use Rattle.retro_base.specs.Gives.{Gives};
 ghost use Rattle.std.specs.Option.{option_copied};
 ghost use Rattle.std.specs.Prelude.{◌≡◌, ◌≤◌, length};
+ghost use Rattle.retro_base.specs.declared.limits.TheConstants.{COLUMNS};
 ghost use Rattle.pager.specs.Stop.{Answers};
 ghost use Rattle.relation.specs.Catalog.{HaveFewColumns};
 ghost use Rattle.sql_exec.specs.Asking.{answered, over_one, over_two, where_alone};
@@ -91,8 +92,8 @@ fn over_two(
     first: &Source,
     second: &Source,
 ) -> Result<Answer, Refusal>
-    requires few_first { length first.now.schema.columns ≤ 16 }
-    requires few_second { length second.now.schema.columns ≤ 16 }
+    requires few_first { length first.now.schema.columns ≤ COLUMNS }
+    requires few_second { length second.now.schema.columns ≤ COLUMNS }
     ensures { Gives (λ answer. answer) result (over_two query.now snapshot first.now second.now) }
 {
     let scope = Scope::of_two(&first.schema, &second.schema);

@@ -1,7 +1,8 @@
 //! The bounds that a condition sets to a column.
 
 ghost use Rattle.std.specs.Prelude.{◌≡◌, ◌∷◌, [], IfOk, OnOk};
-ghost use Rattle.sql_exec.specs.Bounds.{all_bounds, bounds_of, bounds_set, column_bounds, compared_bounds, higher, is_below, is_of, lower, narrower, step_bounds, top, under, unbounded, turned};
+ghost use Rattle.sql_exec.specs.Bounds.{all_bounds, bounds_of, bounds_set, column_bounds, compared_bounds, higher};
+ghost use Rattle.sql_exec.specs.Bounds.{is_below, is_of, lower, narrower, step_bounds, top, under, unbounded, turned};
 
 use sql_tree::{ColumnName, Comparison, Condition, ConditionStep, Operand, Scope};
 use std::alloc::{AllocError, Global};

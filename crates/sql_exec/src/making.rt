@@ -2,6 +2,7 @@
 
 ghost use Rattle.std.specs.Prelude.{◌≡◌, ◌≤◌, List, Ok, None, length};
 ghost use Rattle.std.specs.List.{AllByRecursion};
+ghost use Rattle.retro_base.specs.declared.limits.TheConstants.{COLUMNS};
 ghost use Rattle.values.specs.declared.value.Value.{Value as ValueOf};
 ghost use Rattle.sql_tree.specs.declared.statement.Statement.TheVariants as statement_of;
 ghost use Rattle.sql_check.specs.Check.{checked};
@@ -25,7 +26,7 @@ pub fn make_table<P: EditPager>(
     create: &CreateTable,
     pager: &mut P,
 ) -> Result<Reply, Stop<P::Fault>>
-    requires { length create.now.columns ≤ 16 }
+    requires { length create.now.columns ≤ COLUMNS }
     ensures made { Makes (λ reply. reply) (P.tells pager.old) (P.tells pager.new)
         (made_table (P.size pager.old) create.now) result }
     ensures keeps { Keeps P.goes P.size P.faults pager.old pager.new result }

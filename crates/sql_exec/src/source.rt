@@ -2,6 +2,7 @@
 
 ghost use Rattle.std.specs.Option.{option_copied};
 ghost use Rattle.std.specs.Prelude.{◌≡◌, ◌≤◌, map, length, IfOk};
+ghost use Rattle.retro_base.specs.declared.limits.TheConstants.{COLUMNS};
 ghost use Rattle.pager.specs.Stop.{Answers};
 ghost use Rattle.heap_file.specs.declared.chain.Placed.{Placed as PlacedOf};
 ghost use Rattle.relation.specs.Catalog.{HaveFewColumns, table_named};
@@ -37,7 +38,7 @@ pub fn read_table<P: Pager>(
     ensures source { Answers (λ source. source) (P.tells pager.new)
         (λ pages. source_left (P.size pager.old) snapshot pages (table_named name.now catalog.now.tables)
         (option_copied condition.entry)) result }
-    ensures few { IfOk result (λ source. length source.schema.columns ≤ 16) }
+    ensures few { IfOk result (λ source. length source.schema.columns ≤ COLUMNS) }
     ensures reads { KeepsReading P.tells P.goes P.size P.faults pager.old pager.new result }
 {
     let Some(table) = catalog.table(name) else {

@@ -13,11 +13,13 @@ use Rattle.sql_tree.specs.declared.select.Direction.TheVariants as direction
 use Rattle.values.specs.declared.value.Kind.TheVariants as kind
 use Rattle.sql_parts.specs.declared.action.Action.TheVariants as action
 use Rattle.sql_grammar.specs.declared.grammar.Class.{Class}
-use Rattle.sql_grammar.specs.declared.grammar.Class.TheVariants.{Keyword, Sign, Name, LongWord, Integer, BigInteger, ShortText, Text, LongText}
+use Rattle.sql_grammar.specs.declared.grammar.Class.TheVariants.{Keyword, Sign, Name, LongWord, Integer}
+use Rattle.sql_grammar.specs.declared.grammar.Class.TheVariants.{BigInteger, ShortText, Text, LongText}
 use Rattle.sql_parts.specs.declared.action.Op.{Op}
 use Rattle.sql_parts.specs.declared.action.Op.TheVariants as op
 use Rattle.sql_grammar.specs.declared.grammar.Room.{Room}
-use Rattle.sql_grammar.specs.declared.grammar.Room.TheVariants.{Fifteen, Fourteen, Thirteen, Twelve, Eleven, Ten, Nine, Eight, Seven, Six, Five, Four, Three, Two, One}
+use Rattle.sql_grammar.specs.declared.grammar.Room.TheVariants.{Fifteen, Fourteen, Thirteen, Twelve, Eleven, Ten, Nine}
+use Rattle.sql_grammar.specs.declared.grammar.Room.TheVariants.{Eight, Seven, Six, Five, Four, Three, Two, One}
 use Rattle.sql_grammar.specs.declared.grammar.Rule.{Rule}
 use Rattle.sql_grammar.specs.declared.grammar.Rule.TheVariants as rule
 use Rattle.sql_grammar.specs.declared.grammar.Symbol.{Symbol}

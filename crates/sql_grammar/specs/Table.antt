@@ -3,7 +3,8 @@ use Rattle.std.specs.Prelude.{ℕ, zero, suc, Bool, true, false, List, [], ◌�
 use Rattle.sql_lexer.specs.declared.token.Keyword.TheVariants as keyword
 use Rattle.sql_lexer.specs.declared.token.Sign.TheVariants as sign
 use Rattle.sql_grammar.specs.declared.grammar.Class.{Class}
-use Rattle.sql_grammar.specs.declared.grammar.Class.TheVariants.{Keyword, Sign, Name, Integer, ShortText, Text, LongText, End}
+use Rattle.sql_grammar.specs.declared.grammar.Class.TheVariants.{Keyword, Sign, Name, Integer}
+use Rattle.sql_grammar.specs.declared.grammar.Class.TheVariants.{ShortText, Text, LongText, End}
 use Rattle.sql_grammar.specs.declared.grammar.Rule.{Rule}
 use Rattle.sql_grammar.specs.declared.grammar.Rule.TheVariants as rule
 use Rattle.sql_grammar.specs.declared.grammar.Symbol.{Symbol}

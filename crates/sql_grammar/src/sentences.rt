@@ -1,4 +1,5 @@
-//! The right sides with many forms: a sentence by its first word, what is created, the value of an output, a comparison.
+//! The right sides with many forms: a sentence by its first word, what is created, the value of an output, a
+//! comparison.
 
 ghost use Rattle.std.specs.Prelude.{◌≡◌};
 ghost use Rattle.sql_grammar.specs.Grammar.{more_columns as columns_within};

@@ -1,5 +1,6 @@
 -- The tokens by the bytes that spell them.
-use Rattle.std.specs.Prelude.{◌≡◌, ◌≢◌, ◌<◌, ◌≤◌, ◌^◌, ◌++◌, ◌||◌, ◌==◌, ℕ, Bool, false, IsTrue, List, [], ◌∷◌, length, pos, codes, flat_map, if◌then◌else◌}
+use Rattle.std.specs.Prelude.{◌≡◌, ◌≢◌, ◌<◌, ◌≤◌, ◌^◌, ◌++◌, ◌||◌, ◌==◌, ℕ, Bool, false, IsTrue}
+use Rattle.std.specs.Prelude.{List, [], ◌∷◌, length, pos, codes, flat_map, if◌then◌else◌}
 use Rattle.std.specs.Char.{is_ascii_digit}
 use Rattle.std.specs.List.{list_all, AllByRecursion}
 use Rattle.std.specs.Str.{str_to_ascii_uppercase}
@@ -11,7 +12,8 @@ use Rattle.sql_lexer.specs.declared.token.Keyword.TheVariants as keyword
 use Rattle.sql_lexer.specs.declared.token.Sign.{Sign}
 use Rattle.sql_lexer.specs.declared.token.Sign.TheVariants as sign
 use Rattle.sql_lexer.specs.declared.token.Token.{Token}
-use Rattle.sql_lexer.specs.declared.token.Token.TheVariants.{Keyword as KeywordToken, Name, LongWord, Integer, BigInteger, Text, LongText, Sign as SignToken}
+use Rattle.sql_lexer.specs.declared.token.Token.TheVariants.{Keyword as KeywordToken, Name, LongWord, Integer}
+use Rattle.sql_lexer.specs.declared.token.Token.TheVariants.{BigInteger, Text, LongText, Sign as SignToken}
 
 -- a keyword's word, in capitals
 abbrev pub spelling : Keyword → List ℕ

@@ -1,5 +1,5 @@
-//! What lies between the grammar and the building of trees: what a line of the SQL says, what its sentence puts out, and
-//! the parts that are not put together yet.
+//! What lies between the grammar and the building of trees: what a line of the SQL says, what its sentence puts out,
+//! and the parts that are not put together yet.
 #![tactic(auto)]
 
 mod action;

@@ -1,7 +1,10 @@
 //! The parts of a sentence that are not put together yet.
 
 ghost use Rattle.std.specs.Prelude.{◌≡◌, ◌∷◌, [], MatchOption, OnOk};
-ghost use Rattle.sql_parts.specs.Taking.{a_column, a_column_name, a_condition, a_create_table, a_line, a_literal, a_name, a_number, a_query, a_row, a_text, an_argument, an_assignment, an_expression, an_insert, an_operand, an_output, an_output_value, an_update, outputs, Takes};
+ghost use Rattle.sql_parts.specs.Taking.{a_column, a_column_name, a_condition, a_create_table, a_line};
+ghost use Rattle.sql_parts.specs.Taking.{a_literal, a_name, a_number, a_query, a_row, a_text};
+ghost use Rattle.sql_parts.specs.Taking.{an_argument, an_assignment, an_expression, an_insert, an_operand};
+ghost use Rattle.sql_parts.specs.Taking.{an_output, an_output_value, an_update, outputs, Takes};
 
 use crate::apart::Apart;
 use crate::parsed::Parsed;

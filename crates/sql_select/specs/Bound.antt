@@ -25,7 +25,8 @@ use Rattle.sql_select.specs.Select.{groups_by}
 use Rattle.sql_select.specs.declared.outputs.BoundList.{BoundList}
 use Rattle.sql_select.specs.declared.outputs.BoundList.TheVariants.{All, Outputs}
 use Rattle.sql_select.specs.declared.outputs.BoundOutput.{BoundOutput}
-use Rattle.sql_select.specs.declared.outputs.BoundOutput.TheVariants.{Value as ValueOutput, CountRows, Count, Sum, Extreme}
+use Rattle.sql_select.specs.declared.outputs.BoundOutput.TheVariants.{Value as ValueOutput, CountRows}
+use Rattle.sql_select.specs.declared.outputs.BoundOutput.TheVariants.{Count, Sum, Extreme}
 
 -- whether a row is kept
 abbrev pub keeps_by : Option BoundCondition → List Value → Result Bool Refusal

@@ -44,7 +44,8 @@ pub(crate) fn count_over(
     count(rows.len())
 }
 
-/// SUM: the sum of the expression's numbers at the rows. In 128 bits it does not overflow on the way, whatever the rows hold.
+/// SUM: the sum of the expression's numbers at the rows. In 128 bits it does not overflow on the way, whatever the rows
+/// hold.
 pub(crate) fn sum_over(
     alloc: Global,
     expression: &BoundExpression,

@@ -1,6 +1,7 @@
 //! What follows from the meaning of a select.
 
-ghost use Rattle.sql_select.specs.Laws.{DistinctLeavesOne, GroupsAreNotEmpty, LimitGivesAFront, MinIsLeast, OrderKeepsRows, StarGivesRows};
+ghost use Rattle.sql_select.specs.Laws.{DistinctLeavesOne, GroupsAreNotEmpty, LimitGivesAFront};
+ghost use Rattle.sql_select.specs.Laws.{MinIsLeast, OrderKeepsRows, StarGivesRows};
 
 /// ORDER BY leaves the same rows, none behind one that goes after it, and those that tie as they stood.
 pub fn order_keeps_rows()

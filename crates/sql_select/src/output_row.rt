@@ -5,8 +5,8 @@ use evaluation::JoinedRow;
 use std::hash::{Hash, Hasher};
 use values::Row;
 
-/// A row of the answer, beside the joined row of the tables that it stands for (no values where it stands for a group). Two
-/// are equal where they have the same outputs.
+/// A row of the answer, beside the joined row of the tables that it stands for (no values where it stands for a group).
+/// Two are equal where they have the same outputs.
 #[derive(Debug, Drop)]
 pub struct OutputRow<'a> {
     pub outputs: Row,

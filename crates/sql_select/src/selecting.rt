@@ -23,8 +23,8 @@ use values::{Row, Seq};
 
 /// The answer of a select, with these columns, over the rows of its first table and, where it has one, of its second.
 /// `scope` tells the tables' columns, `columns` the answer's, and `snapshot` is the number of `current_snapshot()`.
-/// A checked select is refused for want of memory, or by Overflow where a number that it works out at a kept row, or the
-/// end of a SUM, is outside i64. What the check refuses is refused here where a row or a key shows it.
+/// A checked select is refused for want of memory, or by Overflow where a number that it works out at a kept row, or
+/// the end of a SUM, is outside i64. What the check refuses is refused here where a row or a key shows it.
 pub fn select<R: HasRow>(
     alloc: Global,
     select: &Select,

@@ -47,8 +47,10 @@ fn begin(alloc: Global, tokens: Seq<Placed>) -> Result<Machine, Refusal>
 fn finish(alloc: Global, mut machine: Machine, end: usize) -> Result<Parsed, Refusal>
     requires end { end < 2 ^ 32 }
     requires stands { (ts : List Token) × Stands rule.Sentence ts machine.expected machine.ops }
-    ensures ok { IfOk result (λ p. (ts : List Token) → Stands rule.Sentence ts machine.expected machine.ops → IsSaid ts p) }
-    ensures err { IfErr result (λ e. (ts : List Token) → Stands rule.Sentence ts machine.expected machine.ops → IsRefusedEarly ts end e) }
+    ensures ok { IfOk result (λ p. (ts : List Token) → Stands rule.Sentence ts machine.expected machine.ops →
+        IsSaid ts p) }
+    ensures err { IfErr result (λ e. (ts : List Token) → Stands rule.Sentence ts machine.expected machine.ops →
+        IsRefusedEarly ts end e) }
 {
     if !machine.finish()? {
         return Err(syntax(end));

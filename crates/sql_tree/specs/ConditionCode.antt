@@ -5,7 +5,8 @@ use Rattle.std.proofs.Common.{◌∙◌, sym, ap, append_assoc, append-nil}
 use Rattle.sql_tree.specs.contracts.condition.ConditionStep as the_step
 use Rattle.sql_tree.specs.declared.condition.ConditionStep.{ConditionStep}
 use Rattle.sql_tree.specs.declared.condition.ConditionStep.TheVariants as step
-use Rattle.sql_tree.specs.Condition.{ConditionTree, Compare, Not, And, Or, condition_of, goes_on, grown, only, or_any, postfix, told, tree_of}
+use Rattle.sql_tree.specs.Condition.{ConditionTree, Compare, Not, And, Or, condition_of}
+use Rattle.sql_tree.specs.Condition.{goes_on, grown, only, or_any, postfix, told, tree_of}
 
 tells_two : (a b : ConditionTree) (s : ConditionStep) (ss : List ConditionStep) (ts : List ConditionTree)
     → ((ss : List ConditionStep) (ts : List ConditionTree) → told (postfix a ++ ss) ts ≡ told ss (a ∷ ts)) →

@@ -1,6 +1,7 @@
 -- The value of an expression and the truth of a condition at a row, whose values are those of all tables side by side.
 -- Left goes before right, and the first refusal stands.
-use Rattle.std.specs.Prelude.{◌+ℤ◌, ◌-ℤ◌, ◌*ℤ◌, ◌&&◌, ◌||◌, ◌^◌, ℕ, ℤ, pos, negsuc, Bool, not, Option, Some, None, List, Result, Ok, Err, nat_lt, slice_get, if◌then◌else◌}
+use Rattle.std.specs.Prelude.{◌+ℤ◌, ◌-ℤ◌, ◌*ℤ◌, ◌&&◌, ◌||◌, ◌^◌, ℕ, ℤ, pos, negsuc, Bool, not, Option}
+use Rattle.std.specs.Prelude.{Some, None, List, Result, Ok, Err, nat_lt, slice_get, if◌then◌else◌}
 use Rattle.std.specs.Ordering.{is_eq, is_ne, is_lt, is_le, is_gt, is_ge}
 use Rattle.std.specs.declared.cmp.Ordering.{Ordering}
 use Rattle.retro_base.specs.Gives.{◌>>=◌}
@@ -21,9 +22,9 @@ use Rattle.sql_tree.specs.Condition.{ConditionTree, Compare, Not, And, Or}
 use Rattle.sql_tree.specs.Expression.{ExpressionTree, Literal, Column, CurrentSnapshot, Apply}
 use Rattle.sql_tree.specs.Scope.{place_of}
 
-abbrev pub known : Option Value → Result Value Refusal
-known None = Err UnknownName
-known (Some value) = Ok value
+abbrev pub found_value : Option Value → Result Value Refusal
+found_value None = Err UnknownName
+found_value (Some value) = Ok value
 
 abbrev pub value_at : List Value → Option ℕ → Option Value
 value_at row None = None
@@ -31,7 +32,7 @@ value_at row (Some place) = slice_get row place
 
 -- the value of a column
 abbrev pub column_value : List TableSchema → List Value → ColumnName → Result Value Refusal
-column_value scope row name = known (value_at row (place_of scope name))
+column_value scope row name = found_value (value_at row (place_of scope name))
 
 -- the value of `current_snapshot()`: the number of the snapshot, where there is one
 abbrev pub snapshot_value : Option ℕ → Result Value Refusal

@@ -5,7 +5,8 @@ use Rattle.std.proofs.Common.{◌∙◌, sym, ap, append_assoc, append-nil}
 use Rattle.sql_tree.specs.contracts.expression.ExpressionStep as the_step
 use Rattle.sql_tree.specs.declared.expression.ExpressionStep.{ExpressionStep}
 use Rattle.sql_tree.specs.declared.expression.ExpressionStep.TheVariants as step
-use Rattle.sql_tree.specs.Expression.{ExpressionTree, Literal, Column, CurrentSnapshot, Apply, expression_of, only, or_any, postfix, told, tree_of}
+use Rattle.sql_tree.specs.Expression.{ExpressionTree, Literal, Column, CurrentSnapshot, Apply}
+use Rattle.sql_tree.specs.Expression.{expression_of, only, or_any, postfix, told, tree_of}
 
 pub tells : (t : ExpressionTree) (ss : List ExpressionStep) (ts : List ExpressionTree) →
     told (postfix t ++ ss) ts ≡ told ss (t ∷ ts)

@@ -2,7 +2,8 @@
 
 ghost use Rattle.std.specs.Option.{option_copied, option_map, option_to_list};
 ghost use Rattle.std.specs.Prelude.{◌≡◌, ◌++◌, ◌+◌, ◌<◌, ◌^◌, ◌∷◌, [], IfOk, IfSome, OnOk, length, slice_get};
-ghost use Rattle.sql_tree.specs.Scope.{chosen, column_place, columns_of, IsNarrow, kind_at, may_be_of, place_of, place_within, places};
+ghost use Rattle.sql_tree.specs.Scope.{chosen, column_place, columns_of, IsNarrow, kind_at};
+ghost use Rattle.sql_tree.specs.Scope.{may_be_of, place_of, place_within, places};
 
 use crate::name::ColumnName;
 use crate::schema::TableSchema;

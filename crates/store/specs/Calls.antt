@@ -1,5 +1,6 @@
 -- What each call does to the core that it finds.
-use Rattle.std.specs.Prelude.{◌≡◌, ◌↔◌, ℕ, List, length, map, Option, Some, None, is_some, true, false, Result, Err, IfErr, IfOk, MatchResult, OnErr, OnOk, if◌then◌else◌}
+use Rattle.std.specs.Prelude.{◌≡◌, ◌↔◌, ℕ, List, length, map, Option, Some, None, is_some, true, false}
+use Rattle.std.specs.Prelude.{Result, Err, IfErr, IfOk, MatchResult, OnErr, OnOk, if◌then◌else◌}
 use Rattle.disk_model.specs.Disk.{IsImage, State}
 use Rattle.disk_model.specs.Moments.{Clock, LeavesOnly}
 use Rattle.block_file.specs.Blocks.{SameFile}

@@ -1,5 +1,6 @@
 -- What each call of a round, and of a drop, does to the core that it finds.
-use Rattle.std.specs.Prelude.{◌≡◌, ◌≤◌, ◌<◌, ◌-◌, ◌↔◌, ℕ, Bool, true, false, List, [], length, max, drop, None, Result, Ok, IfErr, IfOk, MatchResult, OnOk}
+use Rattle.std.specs.Prelude.{◌≡◌, ◌≤◌, ◌<◌, ◌-◌, ◌↔◌, ℕ, Bool, true, false, List, [], length}
+use Rattle.std.specs.Prelude.{max, drop, None, Result, Ok, IfErr, IfOk, MatchResult, OnOk}
 use Rattle.disk_model.specs.Disk.{State}
 use Rattle.disk_model.specs.Moments.{Clock, LeavesOnly}
 use Rattle.block_file.specs.Blocks.{IsAsLong, SameFile}
@@ -17,7 +18,8 @@ use Rattle.history.specs.declared.entry.Change.TheVariants.{Drop}
 use Rattle.history.specs.History.{History}
 use Rattle.history.specs.Marks.{newest, oldest}
 use Rattle.race_model.specs.Desk.{Desk}
-use Rattle.race_model.specs.Machine.{MayCut, MayWrite, acked_to, change_failed, cut, cut_failed, settled, stopped, write_failed, written_desk}
+use Rattle.race_model.specs.Machine.{MayCut, MayWrite, acked_to, change_failed, cut, cut_failed}
+use Rattle.race_model.specs.Machine.{settled, stopped, write_failed, written_desk}
 use Rattle.race_model.specs.Vault.{Batch}
 use Rattle.records.specs.Entries.{change_bytes}
 use Rattle.redo_log.specs.Cause.{IsMemoryOrFault}

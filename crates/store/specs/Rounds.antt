@@ -6,7 +6,8 @@ use Rattle.disk_model.specs.Moments.{Clock}
 use Rattle.retro_base.specs.declared.device.Device.{Device}
 use Rattle.retro_base.specs.declared.limits.TheConstants.{BATCH, LOG_REGION_BYTES}
 use Rattle.retro_base.specs.declared.refusal.Refusal.{Refusal}
-use Rattle.retro_base.specs.declared.refusal.Refusal.TheVariants.{DiskFault, NoRoom, NoSuchSnapshot, OutOfMemory, Pinned, Stopped}
+use Rattle.retro_base.specs.declared.refusal.Refusal.TheVariants.{DiskFault, NoRoom, NoSuchSnapshot}
+use Rattle.retro_base.specs.declared.refusal.Refusal.TheVariants.{OutOfMemory, Pinned, Stopped}
 use Rattle.retro_base.specs.declared.who.Who.{Who}
 use Rattle.history.specs.declared.journal.FailedCall.TheVariants.{Write}
 use Rattle.history.specs.declared.journal.What.TheVariants as what

@@ -14,7 +14,8 @@ use Rattle.store.specs.declared.desk_side.DeskSide.{DeskSide}
 use Rattle.store.specs.declared.start.Start.{Start}
 use Rattle.store.specs.Tried.{AreTried}
 use Rattle.store.specs.Workers.{WorkersFit}
-use Rattle.store.specs.Start.{AreAsHonest, IsAsHonest, IsCoreFrom, IsLaterArchive, IsLaterCore, IsOpenedTo, IsVaultFrom, Origin, desk_counts, opened_base, vault_counts, with_slots}
+use Rattle.store.specs.Start.{AreAsHonest, IsAsHonest, IsCoreFrom, IsLaterArchive, IsLaterCore, IsOpenedTo}
+use Rattle.store.specs.Start.{IsVaultFrom, Origin, desk_counts, opened_base, vault_counts, with_slots}
 
 -- what is open is of a seat of the store
 abbrev pub AreOfSeats : {D : Type 0} → DeskSide D → Type 0

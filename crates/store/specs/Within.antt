@@ -10,7 +10,8 @@ use Rattle.history.specs.Lines.{doubt_in}
 use Rattle.history.specs.Right.{MayFollow}
 use Rattle.race_model.specs.Desk.{Desk}
 use Rattle.race_model.specs.Fits.{BatchFits}
-use Rattle.race_model.specs.Machine.{MayCut, MayEnter, MayLay, MayWrite, change_failed, cut_failed, enter_failed, stopped, write_failed}
+use Rattle.race_model.specs.Machine.{MayCut, MayEnter, MayLay, MayWrite, change_failed}
+use Rattle.race_model.specs.Machine.{cut_failed, enter_failed, stopped, write_failed}
 use Rattle.race_model.specs.Vault.{Batch, Vault}
 use Rattle.archive.specs.Archive.{Running}
 use Rattle.archive.specs.Side.{ListsMaplogOf}

@@ -103,10 +103,11 @@ impl<D: Disk + Drop> Store<D> {
     }
 
     /// Ends the store with all its seats, in any order. Before, unless it has stopped, it makes copy rounds at the seat
-    /// behind those of the sessions, if it is among them, under item 0 in this phase, until nothing is pending or one is
-    /// refused: the line of the fault that ended them, if one did, is that seat's first. Tells whether the archive holds
-    /// captures up to the journal's last, so that none is in the log alone. Where the seats have met, it does unless that
-    /// seat is not among them, a fault of a write has its line, the archive had stopped, or memory was wanting.
+    /// behind those of the sessions, if it is among them, under item 0 in this phase, until nothing is pending or one
+    /// is refused: the line of the fault that ended them, if one did, is that seat's first. Tells whether the archive
+    /// holds captures up to the journal's last, so that none is in the log alone. Where the seats have met, it does
+    /// unless that seat is not among them, a fault of a write has its line, the archive had stopped, or memory was
+    /// wanting.
     pub fn close_copied<R: Wait>(self, rt: &R, seats: Vec<Seat<D>>, phase: u16) -> (Closed<D>, bool)
         requires all { length seats.items ≡ self.turn.table.shared.key.seats }
         requires ready { AreReady (table_of self.turn) seats.items }

@@ -3,7 +3,8 @@
 ghost use Rattle.std.specs.Prelude.{◌≡◌, ◌≤◌, ℕ, None, [], length, slice_get, Some, IfErr, IfOk, MatchResult};
 ghost use Rattle.history.specs.Marks.{newest};
 ghost use Rattle.opening.specs.Devices.{AreUnwritten, IsUnopened, of_each, SameCounts};
-ghost use Rattle.store.specs.Opening.{AreLooked, AreOpenedFrom, AreReadBy, AreRefused, BeginsWith, disks_of, four_of, IsShownOf};
+ghost use Rattle.store.specs.Opening.{AreLooked, AreOpenedFrom, AreReadBy, AreRefused};
+ghost use Rattle.store.specs.Opening.{BeginsWith, disks_of, four_of, IsShownOf};
 ghost use Rattle.store.specs.Seats.{IsReady, IsSized, IsWhole, Sat, start_of};
 ghost use Rattle.store.specs.Start.{opened_base};
 ghost use Rattle.turn.specs.Seats.{mine, seen};

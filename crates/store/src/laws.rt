@@ -4,7 +4,8 @@ ghost use Rattle.store.specs.Moments.{BesideOpens, CarryOpens, CommitOpens, CutO
 ghost use Rattle.store.specs.Moments.{PeekOpens, QuietOpens, ReadOpens, SettleOpens, WriteBackOpens};
 ghost use Rattle.store.specs.Recovery.{ClosedShows, OpeningShows, OpensShown};
 ghost use Rattle.store.specs.Within.{LeftOpens};
-ghost use Rattle.store.specs.Worlds.{NamesAreSame, NamesStay, OthersAreRefused, PinsAreSame, RetainedAreHeld, WorldIsOfHistory};
+ghost use Rattle.store.specs.Worlds.{NamesAreSame, NamesStay, OthersAreRefused};
+ghost use Rattle.store.specs.Worlds.{PinsAreSame, RetainedAreHeld, WorldIsOfHistory};
 
 use disk_model::Disk;
 

@@ -15,8 +15,8 @@ pub enum Worker {
 }
 
 impl Worker {
-    // How long it rests between two rounds at most, so that there is something to do in the next: a write round makes the
-    // pages durable while nobody else is at the desk.
+    // How long it rests between two rounds at most, so that there is something to do in the next: a write round makes
+    // the pages durable while nobody else is at the desk.
     fn rest(self) -> Duration {
         match self {
             Worker::Copier => Duration::from_millis(1),

@@ -92,9 +92,9 @@ impl<D: Disk + Drop> Store<D> {
 
     /// Commits the transaction of this item: its edits become public, and where there is a mark a snapshot with that
     /// label is declared, whose number it answers. The refusals are those of `Core::commit`, in that order, but for
-    /// NoRoom: where the log has no room the session makes rounds under its own item until it has, and asks again. Where
-    /// a round is refused for want of memory, so is the commit; where a device failed in it, the commit answers that, and
-    /// the transaction is closed with the line of the fault.
+    /// NoRoom: where the log has no room the session makes rounds under its own item until it has, and asks again.
+    /// Where a round is refused for want of memory, so is the commit; where a device failed in it, the commit answers
+    /// that, and the transaction is closed with the line of the fault.
     pub fn commit<R: Wait>(
         &self,
         rt: &R,

@@ -1,5 +1,6 @@
 -- What the calls of a core give.
-use Rattle.std.specs.Prelude.{if◌then◌else◌, nat_lt, ◌≡◌, ◌⊎◌, ℕ, Bool, true, false, [], ◌∷◌, Option, Some, None, Result, Err, IfErr, OnErr, OnOk}
+use Rattle.std.specs.Prelude.{if◌then◌else◌, nat_lt, ◌≡◌, ◌⊎◌, ℕ, Bool, true, false, []}
+use Rattle.std.specs.Prelude.{◌∷◌, Option, Some, None, Result, Err, IfErr, OnErr, OnOk}
 use Rattle.retro_base.specs.declared.device.Device.{Device}
 use Rattle.retro_base.specs.declared.refusal.Refusal.{Refusal}
 use Rattle.retro_base.specs.declared.refusal.Refusal.TheVariants.{DiskFault, OutOfMemory}

@@ -1,5 +1,6 @@
 -- Drops of snapshots, as the desk is asked for them.
-use Rattle.std.specs.Prelude.{if◌then◌else◌, ◌≡◌, ◌⊎◌, ℕ, Bool, true, false, Option, Some, None, Result, Err, IfErr, OnOk}
+use Rattle.std.specs.Prelude.{if◌then◌else◌, ◌≡◌, ◌⊎◌, ℕ, Bool, true, false}
+use Rattle.std.specs.Prelude.{Option, Some, None, Result, Err, IfErr, OnOk}
 use Rattle.retro_base.specs.declared.refusal.Refusal.{Refusal}
 use Rattle.retro_base.specs.declared.refusal.Refusal.TheVariants.{OutOfMemory}
 use Rattle.retro_base.specs.declared.who.Who.{Who}

@@ -1,6 +1,7 @@
 //! Commits.
 
-ghost use Rattle.std.specs.Prelude.{◌≡◌, IsTrue, None, is_some, option_copied, length, IfErr, IfOk, IfSome, MatchResult, OnOk};
+ghost use Rattle.std.specs.Prelude.{◌≡◌, IsTrue, None, is_some, option_copied};
+ghost use Rattle.std.specs.Prelude.{length, IfErr, IfOk, IfSome, MatchResult, OnOk};
 ghost use Rattle.disk_model.specs.Moments.{LeavesOnly};
 ghost use Rattle.disk_model.specs.Runs.{SameDevice};
 ghost use Rattle.gate_log.specs.Cause.{IsDiskFault};

@@ -1,6 +1,7 @@
 //! Commits as the desk is asked for them.
 
-ghost use Rattle.std.specs.Prelude.{◌≡◌, ◌&&◌, not, true, false, ℕ, Some, None, is_some, option_copied, length, if◌then◌else◌, IsTrue, Err, IfErr, IfOk, IfSome, MatchResult, OnOk};
+ghost use Rattle.std.specs.Prelude.{◌≡◌, ◌&&◌, not, true, false, ℕ, Some, None, is_some, option_copied, length};
+ghost use Rattle.std.specs.Prelude.{if◌then◌else◌, IsTrue, Err, IfErr, IfOk, IfSome, MatchResult, OnOk};
 ghost use Rattle.disk_model.specs.Moments.{LeavesOnly};
 ghost use Rattle.disk_model.specs.Runs.{SameDevice};
 ghost use Rattle.retro_base.specs.declared.refusal.Refusal.{Refusal};

@@ -23,7 +23,8 @@ ghost use Rattle.txn_set.specs.Ledger.{IsKeptDrop, closed, is_closed};
 ghost use Rattle.txn_set.specs.WorksFit.{WorksFit};
 ghost use Rattle.store_core.specs.Calls.{dropped_behind, has_released};
 ghost use Rattle.store_core.specs.Core.{IsCore, IsWholeCore, StaysCore};
-ghost use Rattle.store_core.specs.Drops.{HasDropped, HasEndedDrop, IsAllowedDrop, drop_refused_by, is_kept_drop, without_drop};
+ghost use Rattle.store_core.specs.Drops.{HasDropped, HasEndedDrop, IsAllowedDrop};
+ghost use Rattle.store_core.specs.Drops.{drop_refused_by, is_kept_drop, without_drop};
 
 use crate::desk_core::Core;
 use desk::RunningDesk;

@@ -1,6 +1,7 @@
 //! Faults of writes and syncs, with their lines, and pages written back by a worker.
 
-ghost use Rattle.std.specs.Prelude.{◌≡◌, ◌&&◌, ℕ, List, None, Some, if◌then◌else◌, not, true, false, IfErr, IfOk, MatchResult, OnOk};
+ghost use Rattle.std.specs.Prelude.{◌≡◌, ◌&&◌, ℕ, List, None, Some, if◌then◌else◌, not};
+ghost use Rattle.std.specs.Prelude.{true, false, IfErr, IfOk, MatchResult, OnOk};
 ghost use Rattle.std.specs.Option.{option_or};
 ghost use Rattle.block_file.specs.Blocks.{IsAsLong, SameFile};
 ghost use Rattle.disk_model.specs.Moments.{LeavesOnly};
@@ -14,7 +15,8 @@ ghost use Rattle.history.specs.History.{History};
 ghost use Rattle.journal_book.specs.Works.{work_at};
 ghost use Rattle.page_pool.specs.Side.{held};
 ghost use Rattle.race_model.specs.Desk.{Desk};
-ghost use Rattle.race_model.specs.Machine.{MayCut, MayWrite, cut, cut_failed, settled, stopped, write_failed, written_desk};
+ghost use Rattle.race_model.specs.Machine.{MayCut, MayWrite, cut, cut_failed, settled};
+ghost use Rattle.race_model.specs.Machine.{stopped, write_failed, written_desk};
 ghost use Rattle.redo_log.specs.Cause.{IsMemoryOrFault};
 ghost use Rattle.desk.specs.Cause.{IsWriteRefusal};
 ghost use Rattle.desk.specs.Desk.{HoldsPagesOf, IsDesk, IsWhole, ListsLogOf};

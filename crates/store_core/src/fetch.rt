@@ -3,7 +3,8 @@
 ghost use Rattle.std.specs.Prelude.{◌≡◌, ◌≤◌, ◌*◌, ◌⊎◌, ◌↔◌, IfOk, MatchResult, OnOk};
 ghost use Rattle.disk_model.specs.Runs.{SameDevice, WritesNothing};
 ghost use Rattle.retro_base.specs.declared.device.Device.TheVariants.{Log};
-ghost use Rattle.retro_base.specs.declared.limits.TheConstants.{LOG_REGION_BYTES, MAX_CAPACITY, MAX_PAGES, MIN_CAPACITY, PAGE_BYTES};
+ghost use Rattle.retro_base.specs.declared.limits.TheConstants.{LOG_REGION_BYTES, MAX_CAPACITY};
+ghost use Rattle.retro_base.specs.declared.limits.TheConstants.{MAX_PAGES, MIN_CAPACITY, PAGE_BYTES};
 ghost use Rattle.gate_log.specs.Cause.{IsReadRefusal};
 ghost use Rattle.area_log.specs.Listed.{IsRefused};
 ghost use Rattle.records.specs.Log.{IsLog};

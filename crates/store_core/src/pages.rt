@@ -1,6 +1,7 @@
 //! Pages read and edited by open transactions.
 
-ghost use Rattle.std.specs.Prelude.{◌≡◌, ◌<◌, ◌==◌, ◌&&◌, not, ℕ, List, Some, None, true, false, length, if◌then◌else◌, Err, IfErr, MatchResult, OnErr, OnOk};
+ghost use Rattle.std.specs.Prelude.{◌≡◌, ◌<◌, ◌==◌, ◌&&◌, not, ℕ, List, Some, None, true, false};
+ghost use Rattle.std.specs.Prelude.{length, if◌then◌else◌, Err, IfErr, MatchResult, OnErr, OnOk};
 ghost use Rattle.block_file.specs.Blocks.{SameFile};
 ghost use Rattle.disk_model.specs.Runs.{OnlyReads};
 ghost use Rattle.retro_base.specs.Cause.{FaultsAlone};

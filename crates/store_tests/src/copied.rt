@@ -293,8 +293,8 @@ const LEFT_BEHIND: [&[Answer]; 5] = [
 // behind how many steps stands what a crash leaves with each loose byte 0, 0xA5 or 0xFF.
 type End = (usize, bool, [usize; 3]);
 
-// By the number of calls, from the 8 of the opening on, behind which it stops. Each step makes 4 of the log: it writes a
-// record and syncs, writes 0xA5 over the gate before it and syncs. The second captures the page.
+// By the number of calls, from the 8 of the opening on, behind which it stops. Each step makes 4 of the log: it writes
+// a record and syncs, writes 0xA5 over the gate before it and syncs. The second captures the page.
 const OF_LOG: [End; 17] = [
     (0, true, [0, 0, 0]),
     (0, true, [0, 0, 0]),
@@ -382,8 +382,8 @@ fn other_end<R: Wait>(
     None
 }
 
-// The first of these devices of which a stop ends a store otherwise, and behind how many calls, from those of the opening
-// on.
+// The first of these devices of which a stop ends a store otherwise, and behind how many calls, from those of the
+// opening on.
 fn first_end<R: Wait>(
     rt: &R,
     alloc: Global,

@@ -1,5 +1,6 @@
 -- The meaning of a statement: what it does to the tables, and what it replies.
-use Rattle.std.specs.Prelude.{◌+◌, ◌-◌, ◌^◌, ◌++◌, ℕ, Bool, List, [], ◌∷◌, length, Option, Some, None, Result, Ok, Err, if◌then◌else◌, nat_le, slice_set}
+use Rattle.std.specs.Prelude.{◌+◌, ◌-◌, ◌^◌, ◌++◌, ℕ, Bool, List, [], ◌∷◌, length, Option}
+use Rattle.std.specs.Prelude.{Some, None, Result, Ok, Err, if◌then◌else◌, nat_le, slice_set}
 use Rattle.retro_base.specs.Gives.{◌>>=◌}
 use Rattle.retro_base.specs.declared.limits.TheConstants.{ROW_BYTES}
 use Rattle.retro_base.specs.declared.refusal.Refusal.{Refusal}
@@ -12,7 +13,8 @@ use Rattle.sql_tree.specs.declared.select.Select.{Select as SelectRecord}
 use Rattle.sql_tree.specs.declared.statement.Assignment.{Assignment}
 use Rattle.sql_tree.specs.declared.statement.Delete.{Delete as DeleteRecord}
 use Rattle.sql_tree.specs.declared.statement.Statement.{Statement}
-use Rattle.sql_tree.specs.declared.statement.Statement.TheVariants.{CreateTable, CreateIndex, Insert, Update, Delete, Select}
+use Rattle.sql_tree.specs.declared.statement.Statement.TheVariants.{CreateTable, CreateIndex, Insert}
+use Rattle.sql_tree.specs.declared.statement.Statement.TheVariants.{Update, Delete, Select}
 use Rattle.sql_tree.specs.declared.statement.Update.{Update as UpdateRecord}
 use Rattle.sql_check.specs.Check.{checked}
 use Rattle.sql_check.specs.Outputs.{answer_columns}

@@ -1,9 +1,10 @@
 -- Tables: their schema, and what each of them holds, in the order of the schema.
-use Rattle.std.specs.Prelude.{◌≡◌, ◌<◌, ◌≤◌, ◌+◌, ◌++◌, ◌==◌, ℕ, IsTrue, List, [], ◌∷◌, length, Option, Some, None, position, slice_get, slice_index_or, slice_set}
+use Rattle.std.specs.Prelude.{◌≡◌, ◌<◌, ◌≤◌, ◌+◌, ◌++◌, ◌==◌, ℕ, IsTrue, List, [], ◌∷◌, length}
+use Rattle.std.specs.Prelude.{Option, Some, None, position, slice_get, slice_index_or, slice_set}
 use Rattle.std.specs.Cmp.Lexicographic.{pointwise}
 use Rattle.std.specs.List.{AllByRecursion, AllZip}
 use Rattle.std.specs.Option.{option_and_then}
-use Rattle.retro_base.specs.declared.limits.TheConstants.{ROW_BYTES}
+use Rattle.retro_base.specs.declared.limits.TheConstants.{COLUMNS, ROW_BYTES}
 use Rattle.values.specs.declared.value.Value.{Value}
 use Rattle.sql_tree.specs.declared.schema.IndexSchema.{IndexSchema}
 use Rattle.sql_tree.specs.declared.schema.Schema.{Schema}
@@ -71,7 +72,7 @@ AllShort rows = AllByRecursion (λ (row : List Value). row_bytes row ≤ ROW_BYT
 -- what holds of every table: at most 16 columns, row numbers that rise below the next one, rows that fit the columns
 -- and are not too long
 pub record IsTable (table : TableSchema) (contents : Contents) : Type 0 where
-  pub few_columns : length table.columns ≤ 16
+  pub few_columns : length table.columns ≤ COLUMNS
   pub rising : NumbersRise 0 contents.rows contents.next
   pub fitting : AllFit table.columns (rows_of contents.rows)
   pub short : AllShort (rows_of contents.rows)

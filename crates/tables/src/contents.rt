@@ -2,6 +2,7 @@
 
 ghost use Rattle.std.specs.Prelude.{◌≡◌, ◌≤◌, ◌+◌, ◌++◌, ◌^◌, ◌<◌, [], List, length, take, OnOk, OnErr};
 ghost use Rattle.std.specs.List.{AllByRecursion};
+ghost use Rattle.retro_base.specs.declared.limits.TheConstants.{COLUMNS};
 ghost use Rattle.retro_base.specs.Gives.{Gives};
 ghost use Rattle.values.specs.declared.value.Value.{Value as ValueOf};
 ghost use Rattle.tables.specs.Fates.{contents_after};
@@ -51,7 +52,7 @@ impl Contents {
 
     /// Adds copies of the tuples as the last rows, all or none of them.
     pub(crate) fn insert(&mut self, alloc: Global, tuples: &[Row]) -> Result<(), Refusal>
-        requires { AllByRecursion (λ (row : List ValueOf). length row ≤ 16) tuples.now }
+        requires { AllByRecursion (λ (row : List ValueOf). length row ≤ COLUMNS) tuples.now }
         ensures means { Gives (λ _. (self.new, length tuples.now)) result (inserted tuples.now self.old) }
         ensures err { OnErr result (self.new ≡ self.old) }
     {

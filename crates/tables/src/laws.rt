@@ -1,7 +1,8 @@
 //! What follows from the meaning of statements.
 
 ghost use Rattle.tables.specs.Checked.{CheckedSelectsAnswer};
-ghost use Rattle.tables.specs.Laws.{CreatedIsEmpty, GoneStaysGone, InsertedAreLast, OthersStay, TablesStaySound, UpdatedKeepPlaces};
+ghost use Rattle.tables.specs.Laws.{CreatedIsEmpty, GoneStaysGone, InsertedAreLast};
+ghost use Rattle.tables.specs.Laws.{OthersStay, TablesStaySound, UpdatedKeepPlaces};
 
 /// After `CREATE TABLE`, `SELECT *` gives the new table's columns, and no rows.
 pub fn created_is_empty()
@@ -33,8 +34,8 @@ pub fn gone_stays_gone()
     ensures { GoneStaysGone }
 {}
 
-/// Where its names are known and its types are right, a select has an answer whose rows fit its columns, unless a number
-/// leaves i64.
+/// Where its names are known and its types are right, a select has an answer whose rows fit its columns, unless a
+/// number leaves i64.
 pub fn checked_selects_answer()
     ensures { CheckedSelectsAnswer }
 {}

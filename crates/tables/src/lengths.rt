@@ -2,6 +2,7 @@
 
 ghost use Rattle.std.specs.Prelude.{◌≡◌, ◌≤◌, ◌∷◌, [], List, length};
 ghost use Rattle.std.specs.List.{AllByRecursion};
+ghost use Rattle.retro_base.specs.declared.limits.TheConstants.{COLUMNS};
 ghost use Rattle.values.specs.declared.value.Value.{Value as ValueOf};
 ghost use Rattle.tables.specs.Fates.{becoming};
 ghost use Rattle.tables.specs.Meaning.{check_lengths};
@@ -13,7 +14,7 @@ use values::{Row, Value, row_bytes};
 
 // Refused where the encoded row takes more than 900 bytes.
 fn check_length(row: &[Value]) -> Result<(), Refusal>
-    requires { length row.now ≤ 16 }
+    requires { length row.now ≤ COLUMNS }
     ensures { result ≡ check_lengths (row.now ∷ []) }
 {
     let bytes = row_bytes(row);
@@ -25,7 +26,7 @@ fn check_length(row: &[Value]) -> Result<(), Refusal>
 
 /// Refused where an encoded row takes more than 900 bytes; the first such row is told.
 pub fn check_tuples(rows: &[Row]) -> Result<(), Refusal>
-    requires { AllByRecursion (λ (row : List ValueOf). length row ≤ 16) rows.now }
+    requires { AllByRecursion (λ (row : List ValueOf). length row ≤ COLUMNS) rows.now }
     ensures { result ≡ check_lengths rows.now }
 {
     for row in rows {
@@ -36,7 +37,7 @@ pub fn check_tuples(rows: &[Row]) -> Result<(), Refusal>
 
 /// The same of what rows become.
 pub(crate) fn check_becoming(fates: &[Fate]) -> Result<(), Refusal>
-    requires { AllByRecursion (λ (row : List ValueOf). length row ≤ 16) (becoming fates.now) }
+    requires { AllByRecursion (λ (row : List ValueOf). length row ≤ COLUMNS) (becoming fates.now) }
     ensures { result ≡ check_lengths (becoming fates.now) }
 {
     for fate in fates {

@@ -13,8 +13,8 @@ use sql_select::Answer;
 use sql_tree::{Select, Statement};
 use std::alloc::Global;
 
-/// Does the statement: changes the tables as it says, and replies. `snapshot` is the number of `current_snapshot()`, where
-/// there is one. After a refusal the tables are as before.
+/// Does the statement: changes the tables as it says, and replies. `snapshot` is the number of `current_snapshot()`,
+/// where there is one. After a refusal the tables are as before.
 pub fn does(
     alloc: Global,
     statement: &Statement,

@@ -1,10 +1,12 @@
 //! Tables by name.
 
-ghost use Rattle.std.specs.Prelude.{◌≡◌, ◌<◌, ◌≤◌, ◌++◌, ◌∷◌, [], List, Ok, None, length, slice_index_or, slice_set, MatchResult, OnOk, OnErr};
+ghost use Rattle.std.specs.Prelude.{◌≡◌, ◌<◌, ◌≤◌, ◌++◌, ◌∷◌, [], List, Ok, None, length};
+ghost use Rattle.std.specs.Prelude.{slice_index_or, slice_set, MatchResult, OnOk, OnErr};
 ghost use Rattle.retro_base.specs.Gives.{Gives};
 ghost use Rattle.retro_base.specs.declared.refusal.Refusal.TheVariants.{UnknownName};
 ghost use Rattle.sql_tree.specs.declared.schema.TableSchema.{TableSchema as TableSchemaOf};
 ghost use Rattle.std.specs.List.{AllByRecursion};
+ghost use Rattle.retro_base.specs.declared.limits.TheConstants.{COLUMNS};
 ghost use Rattle.values.specs.declared.value.Value.{Value as ValueOf};
 ghost use Rattle.sql_check.specs.Check.{checked};
 ghost use Rattle.tables.specs.declared.contents.Contents.{Contents as ContentsOf};
@@ -93,7 +95,7 @@ impl Tables {
         alloc: Global,
         create: &CreateTable,
     ) -> Result<Reply, Refusal>
-        requires { length create.now.columns ≤ 16 }
+        requires { length create.now.columns ≤ COLUMNS }
         ensures means { Gives (λ reply. (self.new, reply)) result
             (performed (Statement.CreateTable create.now) None self.old) }
         ensures refused { OnErr result (self.new ≡ self.old) }
@@ -238,7 +240,7 @@ fn insert_at(
     tuples: &[Row],
 ) -> Result<(), Refusal>
     requires within { place < length contents.old.items }
-    requires width { AllByRecursion (λ (row : List ValueOf). length row ≤ 16) tuples.now }
+    requires width { AllByRecursion (λ (row : List ValueOf). length row ≤ COLUMNS) tuples.now }
     ensures means { (c : ContentsOf) → Gives (λ _. (slice_index_or contents.new.items place c, length tuples.now))
         result (inserted tuples.now (slice_index_or contents.old.items place c)) }
     ensures set { (c : ContentsOf) → OnOk result (contents.new.items ≡ slice_set contents.old.items place
@@ -286,8 +288,8 @@ fn answer_of_two(
     second: &TableSchema,
     seconds: &Contents,
 ) -> Result<Answer, Refusal>
-    requires few_first { length first.now.columns ≤ 16 }
-    requires few_second { length second.now.columns ≤ 16 }
+    requires few_first { length first.now.columns ≤ COLUMNS }
+    requires few_second { length second.now.columns ≤ COLUMNS }
     ensures { Gives (λ answer. answer) result (answer query.now (first.now ∷ second.now ∷ [])
         (answer_columns (first.now ∷ second.now ∷ []) query.now.list) snapshot (rows_of firsts.now.rows)
         (Some (rows_of seconds.now.rows))) }

@@ -1,7 +1,10 @@
 //! What the visible lines of a transcript decide: their text, the tables, and the replies; and what their text decides.
 #![tactic(auto)]
 
-ghost use Rattle.transcript_laws.specs.Laws.{LawfulIsTold, ScriptsHaveNames, ShownLinesDecideReplies, ShownLinesDecideResults, ShownLinesDecideRollbacks, ShownLinesDecideTables, ShownLinesTellText, TextDecidesReplies, TextDecidesResults, TextDecidesTables, TextTellsShownLines};
+ghost use Rattle.transcript_laws.specs.Laws.{LawfulIsTold, ScriptsHaveNames, ShownLinesDecideReplies};
+ghost use Rattle.transcript_laws.specs.Laws.{ShownLinesDecideResults, ShownLinesDecideRollbacks};
+ghost use Rattle.transcript_laws.specs.Laws.{ShownLinesDecideTables, ShownLinesTellText, TextDecidesReplies};
+ghost use Rattle.transcript_laws.specs.Laws.{TextDecidesResults, TextDecidesTables, TextTellsShownLines};
 
 /// Whoever has the visible lines has their text.
 pub fn shown_lines_tell_text()

@@ -60,7 +60,7 @@ cut-last entry [] met = refl
 cut-last entry (first ∷ []) met = refl
 cut-last entry (first ∷ (next ∷ rest)) met = cut-last entry (next ∷ rest) met
 
--- one page more is with_bytes
+-- one page more is written
 pub written-more : (pages : Pages) (edits : List Met) (met : Met) → all_written pages (edits ++ met ∷ []) ≡ with_bytes (all_written pages edits) met.page (page_bytes met.held)
 written-more pages [] met = refl
 written-more pages (first ∷ edits) met = written-more (with_bytes pages first.page (page_bytes first.held)) edits met

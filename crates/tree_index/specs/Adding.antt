@@ -1,11 +1,14 @@
 -- An entry that is added to a tree that pages hold: proofs.
-use Rattle.std.proofs.Common.{◌≡◌, ◌<◌, ◌≤◌, ◌^◌, ◌++◌, ◌∙◌, ℕ, zero, suc, Bool, true, false, eqb, List, [], ◌∷◌, length, Option, Some, None, Ok, refl, sym, ap, subst, arith, append_assoc}
+use Rattle.std.proofs.Common.{◌≡◌, ◌<◌, ◌≤◌, ◌^◌, ◌++◌, ◌∙◌, ℕ, zero, suc, Bool, true, false, eqb, List, []}
+use Rattle.std.proofs.Common.{◌∷◌, length, Option, Some, None, Ok, refl, sym, ap, subst, arith, append_assoc}
 use Rattle.std.specs.List.{flat_map, AllByRecursion}
 use Rattle.std.specs.List.Sorted.{IsPermutation}
 use Rattle.std.proofs.lemmas.Bool.{leb-true}
 use Rattle.std.proofs.lemmas.List.{append-nil, length-append, map-append}
 use Rattle.std.proofs.lemmas.List.Elements.{All-from_recursion, recursion_from_All}
-use Rattle.std.proofs.lemmas.List.Sorted.{All-permutation, IsPermutation-append_left, IsPermutation-append_right, IsPermutation-cons, IsPermutation-refl, IsPermutation-to_front, IsPermutation-trans}
+use Rattle.std.proofs.lemmas.List.Sorted.{All-permutation, IsPermutation-append_left}
+use Rattle.std.proofs.lemmas.List.Sorted.{IsPermutation-append_right, IsPermutation-cons, IsPermutation-refl}
+use Rattle.std.proofs.lemmas.List.Sorted.{IsPermutation-to_front, IsPermutation-trans}
 use Rattle.pager.specs.Allows.{either, only}
 use Rattle.pager.specs.Index.{IsFound}
 use Rattle.pager.specs.Pages.{Pages}
@@ -23,9 +26,11 @@ use Rattle.tree_index.specs.declared.walk.Met.{Met}
 use Rattle.tree_index.specs.Climbing.{Climbs, IsReady, IsTaken, RowClimbs, bare-behind, row-founds, with_up}
 use Rattle.tree_index.specs.Growing.{all-drop}
 use Rattle.tree_index.specs.Marking.{all-join, all-left, all-right}
-use Rattle.tree_index.specs.Placing.{Halves, any-room, any-width, below, inner-halves, inners-room, leaf-halves, leaves-room, nodes-are, parts-writable, perm-kept, perm-one, perm-two}
+use Rattle.tree_index.specs.Placing.{Halves, any-room, any-width, below, inner-halves, inners-room, leaf-halves}
+use Rattle.tree_index.specs.Placing.{leaves-room, nodes-are, parts-writable, perm-kept, perm-one, perm-two}
 use Rattle.tree_index.specs.Taking.{taken-more}
-use Rattle.tree_index.specs.Tree.{Body, Key, Row, Tree, bare, content, inners, leaves, nodes, numbers, row_keys, row_nodes}
+use Rattle.tree_index.specs.Tree.{Body, Key, Row, Tree, bare, content, inners}
+use Rattle.tree_index.specs.Tree.{leaves, nodes, numbers, row_keys, row_nodes}
 use Rattle.tree_index.specs.declared.climb.Climb.{Climb}
 use Rattle.tree_index.specs.Work.{parted, placed, split, with_entries}
 
@@ -162,8 +167,12 @@ module _ (size root : ℕ) (pages : Pages) where
             numbers_are = IsPermutation-refl (t.0 ∷ []);
             in_place = λ none. refl;
             ready = (
-              record
-                  { low = place.low; there = place.there; link = omega arith; writable = record { lawful = lawful; fits = leb-true (width (entry_inserted e t.1)) 1016 room } },
+              record {
+                low = place.low;
+                there = place.there;
+                link = omega arith;
+                writable = record { lawful = lawful; fits = leb-true (width (entry_inserted e t.1)) 1016 room };
+              },
               tt,
             );
           } in
@@ -295,7 +304,14 @@ module _ (size root : ℕ) (pages : Pages) where
           let same : row-founds n rc.row.1 ≡ row-founds n t.1.1 =
           rc.keys_are ∙ ap (λ (u : Option Found). with_up u (row-founds n t.1.1)) q in
           let met : node-of (suc n) t ≡ met_after =
-          λ i. record { page = t.0; held = record { form = form.Inner; link = (sym rc.first_is) i; entries = (sym same) i } } in
+          λ i. record {
+            page = t.0;
+            held = record {
+              form = form.Inner;
+              link = (sym rc.first_is) i;
+              entries = (sym same) i;
+            };
+          } in
           let perm =
           subst (λ (m : Met). IsPermutation (state.edits ++ node-of (suc n) t ∷ rc.others)
           (m ∷ row_nodes (nodes n) rc.row)) met
@@ -330,7 +346,12 @@ module _ (size root : ℕ) (pages : Pages) where
               step true fit m =
                   let given : Climb × Pages = (record { edits = state.edits ++ met_after ∷ []; up = None }, mid) in
                   let place_ready : IsReady size met_after =
-                  record { low = place.low; there = place.there; link = link_small; writable = record { lawful = lawful; fits = leb-true (width (row-founds n rc.row.1)) 1016 fit } } in
+                  record {
+                    low = place.low;
+                    there = place.there;
+                    link = link_small;
+                    writable = record { lawful = lawful; fits = leb-true (width (row-founds n rc.row.1)) 1016 fit };
+                  } in
                   subst (λ (a : Climb × Pages). Climbs size pages (suc n) (inners made_is) t a.0 a.1)
                   (only-is given answer m)
                   (stays fit (state.edits ++ met_after ∷ []) rc.others

@@ -1,5 +1,6 @@
 -- How many pages a tree with one more entry has: proofs.
-use Rattle.std.proofs.Common.{◌≡◌, ◌<◌, ◌≤◌, ◌+◌, ◌*◌, ◌++◌, ◌∙◌, ℕ, zero, suc, Bool, true, false, cond, leb, List, [], ◌∷◌, length, map, take, drop, refl, sym, ap, arith}
+use Rattle.std.proofs.Common.{◌≡◌, ◌<◌, ◌≤◌, ◌+◌, ◌*◌, ◌++◌, ◌∙◌, ℕ, zero, suc, Bool, true, false, cond}
+use Rattle.std.proofs.Common.{leb, List, [], ◌∷◌, length, map, take, drop, refl, sym, ap, arith}
 use Rattle.std.specs.List.{flat_map, drop-map, AllByRecursion}
 use Rattle.std.specs.Ordering.{is_lt}
 use Rattle.std.specs.declared.cmp.Ordering.{Ordering}
@@ -14,7 +15,8 @@ use Rattle.index_page.proofs.Halving.{halves_fit}
 use Rattle.index_page.proofs.Packing.{length-entry, width-cons}
 use Rattle.tree_index.specs.Climbing.{bare-behind, picked}
 use Rattle.tree_index.specs.Shaping.{count-append}
-use Rattle.tree_index.specs.Tree.{Body, Key, Row, Tree, bare, changed, count_behind, grown, inners, key_of, leaves, named, next_inner, next_leaf, nodes, page_count, rooted, row_keys, row_nodes}
+use Rattle.tree_index.specs.Tree.{Body, Key, Row, Tree, bare, changed, count_behind, grown, inners, key_of, leaves}
+use Rattle.tree_index.specs.Tree.{named, next_inner, next_leaf, nodes, page_count, rooted, row_keys, row_nodes}
 
 abbrev pub row-count : (n : ℕ) → Row (Tree n) → ℕ
 row-count n row = page_count n row.0 + count_behind (page_count n) row.1

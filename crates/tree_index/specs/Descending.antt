@@ -1,5 +1,6 @@
 -- The way down a tree that pages hold: proofs.
-use Rattle.std.proofs.Common.{◌≡◌, ◌≤◌, ◌+◌, ◌++◌, ◌∙◌, ℕ, zero, suc, Bool, true, false, cond, List, [], ◌∷◌, length, map, refl, sym, ap, subst, arith, append_assoc}
+use Rattle.std.proofs.Common.{◌≡◌, ◌≤◌, ◌+◌, ◌++◌, ◌∙◌, ℕ, zero, suc, Bool, true, false, cond, List}
+use Rattle.std.proofs.Common.{[], ◌∷◌, length, map, refl, sym, ap, subst, arith, append_assoc}
 use Rattle.std.specs.List.{flat_map, AllByRecursion}
 use Rattle.std.specs.Ordering.{is_lt}
 use Rattle.std.specs.declared.cmp.Ordering.TheVariants.{Less}
@@ -14,9 +15,11 @@ use Rattle.index_page.specs.Paging.{IsIndexAt}
 use Rattle.index_page.specs.declared.page.IndexPage.{IndexPage}
 use Rattle.tree_index.specs.declared.walk.Met.{Met}
 use Rattle.tree_index.specs.Listing.{IsThere, at-one, first-there}
-use Rattle.tree_index.specs.Marking.{all-join, all-left, all-right, entries-all, entries-append, entries-map, rising-before, rising-behind, rising-left, rising-right}
+use Rattle.tree_index.specs.Marking.{all-join, all-left, all-right, entries-all, entries-append}
+use Rattle.tree_index.specs.Marking.{entries-map, rising-before, rising-behind, rising-left, rising-right}
 use Rattle.tree_index.specs.Shaping.{row-one}
-use Rattle.tree_index.specs.Tree.{Body, IsRising, Key, Mark, Precedes, Row, Tree, at_key, bare, content, entries_in, marks, named, nodes, row_marks, row_nodes}
+use Rattle.tree_index.specs.Tree.{Body, IsRising, Key, Mark, Precedes, Row, Tree, at_key, bare}
+use Rattle.tree_index.specs.Tree.{content, entries_in, marks, named, nodes, row_marks, row_nodes}
 use Rattle.tree_index.specs.Walk.{IsOfTree, Meets, children, chosen}
 use Rattle.tree_index.specs.Work.{along, on_leaf}
 

@@ -1,5 +1,6 @@
 -- A tree with one more entry, and with one less: proofs.
-use Rattle.std.proofs.Common.{◌≡◌, ◌≤◌, ◌+◌, ◌*◌, ◌++◌, ◌∙◌, ℕ, zero, suc, Bool, true, false, cond, eqb, leb, List, [], ◌∷◌, length, map, take, drop, refl, sym, ap, subst, arith}
+use Rattle.std.proofs.Common.{◌≡◌, ◌≤◌, ◌+◌, ◌*◌, ◌++◌, ◌∙◌, ℕ, zero, suc, Bool, true, false, cond, eqb}
+use Rattle.std.proofs.Common.{leb, List, [], ◌∷◌, length, map, take, drop, refl, sym, ap, subst, arith}
 use Rattle.std.specs.List.{drop-map, AllByRecursion}
 use Rattle.std.specs.Ordering.{ordering_reverse}
 use Rattle.std.specs.declared.cmp.Ordering.{Ordering}
@@ -10,14 +11,17 @@ use Rattle.std.proofs.lemmas.List.Elements.{All-drop, All-from_recursion, All-ta
 use Rattle.pager.specs.Index.{IsFound, found_cmp}
 use Rattle.pager.specs.declared.index.Found.{Found}
 use Rattle.index_page.specs.Entries.{entry_inserted, taken_out}
-use Rattle.index_page.specs.IndexPage.{AreOneMore, HaveRoom, AreWritable, entry_code, have_room, half, more_for_half, width}
+use Rattle.index_page.specs.IndexPage.{AreOneMore, HaveRoom, AreWritable, entry_code}
+use Rattle.index_page.specs.IndexPage.{have_room, half, more_for_half, width}
 use Rattle.index_page.proofs.Halving.{halves_fit}
 use Rattle.index_page.proofs.Ordered.{inserted-all, inserted-skip}
 use Rattle.index_page.proofs.Packing.{entry-short, width-cons}
 use Rattle.index_page.proofs.Placing.{inserted-width}
 use Rattle.tree_index.specs.Marking.{added-rises, entries-append, entries-map, key-rises}
 use Rattle.tree_index.specs.Shaping.{changed-all, changed-entries, changed-keys, changed-rises, row-more, row-one}
-use Rattle.tree_index.specs.Tree.{Fits, IsRising, Key, Mark, Precedes, Row, Tree, at_entry, at_key, changed, entries_in, grown, inners, key_of, leaves, marks, named, next_inner, next_leaf, row_keys, row_marks}
+use Rattle.tree_index.specs.Tree.{Fits, IsRising, Key, Mark, Precedes, Row, Tree, at_entry}
+use Rattle.tree_index.specs.Tree.{at_key, changed, entries_in, grown, inners, key_of, leaves}
+use Rattle.tree_index.specs.Tree.{marks, named, next_inner, next_leaf, row_keys, row_marks}
 use Rattle.pager.proofs.Orders.{found_total}
 
 pub all-take : {X : Type 0} (P : X → Type 0) (n : ℕ) (xs : List X) → AllByRecursion P xs → AllByRecursion P (take n xs)
@@ -62,10 +66,20 @@ leaves-fit es all most = step (have_room es) refl
     step : (t : Bool) → have_room es ≡ t →
         RowFits 0 (cond t (es, []) (take (half es) es, next_leaf (drop (half es) es)))
     step true q =
-        record { first = record { lawful = all; fits = leb-true (width es) 1016 q }; rest = tt; keys = tt; short = omega arith }
+        record {
+          first = record { lawful = all; fits = leb-true (width es) 1016 q };
+          rest = tt;
+          keys = tt;
+          short = omega arith;
+        }
     step false q =
         let two = next_leaf-fits (drop (half es) es) (all-drop IsFound (half es) es all) (halves_fit es all most).1 in
-        record { first = record { lawful = all-take IsFound (half es) es all; fits = (halves_fit es all most).0 }; rest = two.0; keys = two.1; short = two.2 }
+        record {
+          first = record { lawful = all-take IsFound (half es) es all; fits = (halves_fit es all most).0 };
+          rest = two.0;
+          keys = two.1;
+          short = two.2;
+        }
 
 split-rises : (front l : List Found) (a b : List Mark) → ((f : Found) × (fs : List Found) × (front ≡ f ∷ fs)) →
     IsRising (a ++ (map at_entry (front ++ l) ++ b)) → IsRising (a ++ (row_marks (marks 0) (front, next_leaf l) ++ b))
@@ -130,7 +144,12 @@ inners-fit n row first all keys most = step (have_room (row_keys row.1)) refl
         (cond t (row, [])
         ((row.0, take (half (row_keys row.1)) row.1), next_inner (drop (half (row_keys row.1)) row.1)))
     step true q =
-        record { first = (record { lawful = keys; fits = leb-true (width (row_keys row.1)) 1016 q }, first, all); rest = tt; keys = tt; short = omega arith }
+        record {
+          first = (record { lawful = keys; fits = leb-true (width (row_keys row.1)) 1016 q }, first, all);
+          rest = tt;
+          keys = tt;
+          short = omega arith;
+        }
     step false q =
         let fit = halves_fit (row_keys row.1) keys most in
         let front = take-map (λ (b : Key × Tree n). named b.0 0) (half (row_keys row.1)) row.1 in
@@ -142,7 +161,11 @@ inners-fit n row first all keys most = step (have_room (row_keys row.1)) refl
         (subst HaveRoom back fit.1) in
         record {
           first = (
-            record { lawful = subst (AllByRecursion IsFound) front (all-take IsFound (half (row_keys row.1)) (row_keys row.1) keys); fits = subst HaveRoom front fit.0 },
+            record {
+              lawful = subst (AllByRecursion IsFound) front
+                  (all-take IsFound (half (row_keys row.1)) (row_keys row.1) keys);
+              fits = subst HaveRoom front fit.0;
+            },
             first,
             all-take (λ (b : Key × Tree n). Fits n b.1) (half (row_keys row.1)) row.1 all,
           );

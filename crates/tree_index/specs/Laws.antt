@@ -1,5 +1,7 @@
 -- The laws of a tree: proofs.
-use Rattle.std.proofs.Common.{◌⊎◌, ◌≡◌, ◌<◌, ◌+◌, ◌-◌, ◌^◌, ◌++◌, ◌∙◌, not, ℕ, zero, suc, Bool, true, false, cond, eqb, leb, ltb, List, [], ◌∷◌, length, None, Result, Ok, Err, refl, sym, ap, subst, inl, inr, arith}
+use Rattle.std.proofs.Common.{◌⊎◌, ◌≡◌, ◌<◌, ◌+◌, ◌-◌, ◌^◌, ◌++◌, ◌∙◌, not, ℕ, zero, suc}
+use Rattle.std.proofs.Common.{Bool, true, false, cond, eqb, leb, ltb, List, [], ◌∷◌, length}
+use Rattle.std.proofs.Common.{None, Result, Ok, Err, refl, sym, ap, subst, inl, inr, arith}
 use Rattle.std.specs.Prelude.{nat_eq}
 use Rattle.std.specs.List.{flat_map, AllByRecursion, IsDistinct}
 use Rattle.std.specs.Ordering.{is_gt, is_lt, nat_cmp, ordering_reverse, ordering_then}
@@ -14,7 +16,8 @@ use Rattle.retro_base.specs.declared.refusal.Refusal.{Refusal}
 use Rattle.values.proofs.Orders.{value_total}
 use Rattle.values.specs.Value.{kind_of, value_cmp}
 use Rattle.values.specs.declared.value.Value.{Value}
-use Rattle.pager.specs.Index.{AddsFound, AreOfKind, EditsOnly, IsApart, IsFound, IsIndexing, MakesIndex, RemovesFound, between, found_cmp}
+use Rattle.pager.specs.Index.{AddsFound, AreOfKind, EditsOnly, IsApart, IsFound}
+use Rattle.pager.specs.Index.{IsIndexing, MakesIndex, RemovesFound, between, found_cmp}
 use Rattle.pager.specs.Pages.{Pages, with_bytes}
 use Rattle.pager.specs.declared.index.Found.{Found}
 use Rattle.index_page.specs.IndexPage.{AreWritable, page_bytes}
@@ -33,10 +36,13 @@ use Rattle.tree_index.specs.RootPage.{RootWhole, from-climbs, root-climbs, root-
 use Rattle.tree_index.specs.Rooting.{path}
 use Rattle.tree_index.specs.Shaped.{empty-shape, put-in, without-in}
 use Rattle.tree_index.specs.Taking.{refused}
-use Rattle.tree_index.specs.Tree.{Body, Fits, IsRising, Key, Lists, Row, Shape, Tree, bare, empty, entries_in, entries_of, grown, key_of, marks, named, nodes, numbers, opens, page_count, put, rooted, row_keys, row_nodes, shrunk, without}
+use Rattle.tree_index.specs.Tree.{Body, Fits, IsRising, Key, Lists, Row, Shape, Tree, bare, empty}
+use Rattle.tree_index.specs.Tree.{entries_in, entries_of, grown, key_of, marks, named, nodes, numbers}
+use Rattle.tree_index.specs.Tree.{opens, page_count, put, rooted, row_keys, row_nodes, shrunk, without}
 use Rattle.tree_index.specs.Walk.{walked}
 use Rattle.tree_index.specs.Work.{added, all_written, along, climbed, cut, made, ranged, removed}
-use Rattle.tree_index.specs.Standing.{counted, edits-only, good-of, lists-after, moves, never-refused, none-sees, path-is, walk-leaves}
+use Rattle.tree_index.specs.Standing.{counted, edits-only, good-of, lists-after, moves}
+use Rattle.tree_index.specs.Standing.{never-refused, none-sees, path-is, walk-leaves}
 use Rattle.tree_index.specs.Writing.{flip-false}
 
 -- the page is made
@@ -218,7 +224,11 @@ module _ (size root : ℕ) (e : Found) (pages : Pages) (shape : Shape) (held : L
       let made_is : Row (Tree n) = (shrunk e n (bare n is.body), []) in
       let edits = cut e (path e n (root, is.body)) in
       let shrinks : Shrinks size pages e n (root, is.body) =
-      record { there = is.at; rises = back (λ t. IsRising (marks n t)) is.is_shape.rises; fits = back (Fits n) is.is_shape.fits } in
+      record {
+        there = is.at;
+        rises = back (λ t. IsRising (marks n t)) is.is_shape.rises;
+        fits = back (Fits n) is.is_shape.fits;
+      } in
       let roots =
       from-climbs size pages n made_is (root, is.body) (record { edits = edits; up = None }) pages refl
       (shrink-climbs size pages e n (root, is.body) shrinks) in

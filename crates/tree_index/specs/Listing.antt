@@ -22,7 +22,12 @@ at-one size pages page p q is also = holds_one (pages.at page) p q is.holds also
 pub at-same : (size : ℕ) (pages after : Pages) (page : ℕ) (held : IndexPage) → after.at page ≡ pages.at page →
     IsIndexAt size pages page held → IsIndexAt size after page held
 at-same size pages after page held same is =
-    record { low = is.low; there = is.there; holds = subst (λ (bytes : List ℕ). HoldsIndex bytes held) (sym same) is.holds }
+    record {
+      low = is.low;
+      there = is.there;
+      holds = subst (λ (bytes : List ℕ). HoldsIndex bytes held)
+          (sym same) is.holds;
+    }
 
 abbrev pub IsThere : ℕ → Pages → Met → Type 0
 IsThere size pages met = IsIndexAt size pages met.page met.held

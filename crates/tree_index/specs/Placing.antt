@@ -1,13 +1,16 @@
 -- Keys and entries placed on a page of a tree: proofs.
-use Rattle.std.proofs.Common.{◌≡◌, ◌+◌, ◌*◌, ◌++◌, ◌∙◌, ℕ, zero, suc, Bool, true, false, cond, leb, List, [], ◌∷◌, length, take, drop, Ok, refl, sym, ap, subst, arith, append_assoc}
+use Rattle.std.proofs.Common.{◌≡◌, ◌+◌, ◌*◌, ◌++◌, ◌∙◌, ℕ, zero, suc, Bool, true, false, cond, leb, List}
+use Rattle.std.proofs.Common.{[], ◌∷◌, length, take, drop, Ok, refl, sym, ap, subst, arith, append_assoc}
 use Rattle.std.specs.List.{flat_map, drop-map, AllByRecursion}
 use Rattle.std.specs.List.Sorted.{IsPermutation}
 use Rattle.std.proofs.lemmas.List.{take-append-drop, take-map}
 use Rattle.std.proofs.lemmas.List.Concat.{flat_map-append}
-use Rattle.std.proofs.lemmas.List.Sorted.{IsPermutation-cons, IsPermutation-middle, IsPermutation-sym, IsPermutation-trans}
+use Rattle.std.proofs.lemmas.List.Sorted.{IsPermutation-cons, IsPermutation-middle}
+use Rattle.std.proofs.lemmas.List.Sorted.{IsPermutation-sym, IsPermutation-trans}
 use Rattle.pager.specs.Index.{IsFound}
 use Rattle.pager.specs.declared.index.Found.{Found}
-use Rattle.index_page.specs.IndexPage.{AreOneMore, HaveRoom, AreWritable, entry_code, have_room, half, more_for_half, width}
+use Rattle.index_page.specs.IndexPage.{AreOneMore, HaveRoom, AreWritable, entry_code}
+use Rattle.index_page.specs.IndexPage.{have_room, half, more_for_half, width}
 use Rattle.index_page.specs.declared.page.Form.{Form}
 use Rattle.index_page.specs.declared.page.Form.TheVariants as form
 use Rattle.index_page.specs.declared.page.IndexPage.{IndexPage}
@@ -17,7 +20,8 @@ use Rattle.tree_index.specs.declared.climb.Parts.{Parts}
 use Rattle.tree_index.specs.declared.walk.Met.{Met}
 use Rattle.tree_index.specs.Climbing.{bare-behind, perm-eq, row-founds}
 use Rattle.tree_index.specs.Growing.{all-drop, all-take}
-use Rattle.tree_index.specs.Tree.{Body, Key, Row, Tree, bare, content, inners, key_of, leaves, named, next_inner, next_leaf, nodes, row_keys, row_nodes}
+use Rattle.tree_index.specs.Tree.{Body, Key, Row, Tree, bare, content, inners, key_of, leaves}
+use Rattle.tree_index.specs.Tree.{named, next_inner, next_leaf, nodes, row_keys, row_nodes}
 use Rattle.tree_index.specs.Work.{parted, second}
 
 -- an entry takes the same room whatever page it names

@@ -19,7 +19,8 @@ use Rattle.tree_index.specs.Marking.{all-left, all-right, rising-left, rising-ri
 use Rattle.tree_index.specs.Placing.{perm-kept}
 use Rattle.tree_index.specs.Rooting.{path, picked-all}
 use Rattle.tree_index.specs.Shaped.{shrunk-rises}
-use Rattle.tree_index.specs.Tree.{Body, Fits, IsRising, Key, Row, Tree, at_key, bare, content, marks, nodes, numbers, row_marks, row_nodes, shrunk}
+use Rattle.tree_index.specs.Tree.{Body, Fits, IsRising, Key, Row, Tree, at_key, bare, content}
+use Rattle.tree_index.specs.Tree.{marks, nodes, numbers, row_marks, row_nodes, shrunk}
 use Rattle.tree_index.specs.declared.climb.Climb.{Climb}
 use Rattle.tree_index.specs.Work.{cut}
 
@@ -35,10 +36,21 @@ module _ (size : ℕ) (pages : Pages) (e : Found) where
       IsRising (row_marks (marks n) (bare n first.1, bare-behind n rest)) → Fits n (bare n first.1) →
       AllByRecursion (λ (b : Key × Tree n). Fits n b.1) (bare-behind n rest) → Shrinks n first
       × AllByRecursion (λ (b : Key × (ℕ × Body n)). Shrinks n b.1) rest
-  row-shrinks n first [] there rises fits all =
-      (record { there = all-left (IsThere size pages) (nodes n first) [] there; rises = rising-left (marks n (bare n first.1)) [] rises; fits = fits }, tt)
+  row-shrinks n first [] there rises fits all = (
+    record {
+      there = all-left (IsThere size pages) (nodes n first) [] there;
+      rises = rising-left (marks n (bare n first.1)) [] rises;
+      fits = fits;
+    },
+    tt,
+  )
   row-shrinks n first (b ∷ rest) there rises fits all = (
-    record { there = all-left (IsThere size pages) (nodes n first) _ there; rises = rising-left (marks n (bare n first.1)) (at_key b.0 ∷ row_marks (marks n) (bare n b.1.1, bare-behind n rest)) rises; fits = fits },
+    record {
+      there = all-left (IsThere size pages) (nodes n first) _ there;
+      rises = rising-left (marks n (bare n first.1))
+          (at_key b.0 ∷ row_marks (marks n) (bare n b.1.1, bare-behind n rest)) rises;
+      fits = fits;
+    },
     row-shrinks n b.1 rest (all-right (IsThere size pages) (nodes n first) _ there)
         (rising-right (marks n (bare n first.1)) (at_key b.0 ∷ row_marks (marks n) (bare n b.1.1, bare-behind n rest))
         rises).1 all.0 all.1,
@@ -66,8 +78,15 @@ module _ (size : ℕ) (pages : Pages) (e : Found) where
         numbers_are = IsPermutation-refl (t.0 ∷ []);
         in_place = λ none. refl;
         ready = (
-          record
-              { low = is.there.0.low; there = is.there.0.there; link = omega arith; writable = record { lawful = taken_out-all IsFound e t.1 is.fits.lawful; fits = omega (arith, taken_out-width e t.1, is.fits.fits) } },
+          record {
+            low = is.there.0.low;
+            there = is.there.0.there;
+            link = omega arith;
+            writable = record {
+              lawful = taken_out-all IsFound e t.1 is.fits.lawful;
+              fits = omega (arith, taken_out-width e t.1, is.fits.fits);
+            };
+          },
           tt,
         );
       }
@@ -85,7 +104,14 @@ module _ (size : ℕ) (pages : Pages) (e : Found) where
       (shrink-climbs n (picked e row.0 row.1) child) in
       let met_after : Met = record { page = t.0; held = content (suc n) rc.row } in
       let met : node-of (suc n) t ≡ met_after =
-      λ i. record { page = t.0; held = record { form = form.Inner; link = (sym rc.first_is) i; entries = (sym rc.keys_are) i } } in
+      λ i. record {
+        page = t.0;
+        held = record {
+          form = form.Inner;
+          link = (sym rc.first_is) i;
+          entries = (sym rc.keys_are) i;
+        };
+      } in
       let perm =
       subst (λ (m : Met). IsPermutation (state.edits ++ node-of (suc n) t ∷ rc.others)
       (m ∷ row_nodes (nodes n) rc.row)) met

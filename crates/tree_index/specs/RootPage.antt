@@ -1,11 +1,15 @@
 -- An entry that is added on the root page: proofs.
-use Rattle.std.proofs.Common.{◌⊎◌, ◌≡◌, ◌<◌, ◌≤◌, ◌+◌, ◌^◌, ◌++◌, ◌∙◌, ℕ, zero, suc, Bool, true, false, cond, eqb, leb, List, [], ◌∷◌, length, Option, Some, None, Ok, Err, refl, sym, ap, subst, inl, inr, arith, append_assoc}
+use Rattle.std.proofs.Common.{◌⊎◌, ◌≡◌, ◌<◌, ◌≤◌, ◌+◌, ◌^◌, ◌++◌, ◌∙◌, ℕ, zero, suc, Bool, true}
+use Rattle.std.proofs.Common.{false, cond, eqb, leb, List, [], ◌∷◌, length, Option, Some, None}
+use Rattle.std.proofs.Common.{Ok, Err, refl, sym, ap, subst, inl, inr, arith, append_assoc}
 use Rattle.std.specs.List.{flat_map, AllByRecursion}
 use Rattle.std.specs.List.Sorted.{IsPermutation}
 use Rattle.std.proofs.lemmas.Bool.{eq-eqb, ne_eqb}
 use Rattle.std.proofs.lemmas.List.{append-nil, length-append, map-append}
 use Rattle.std.proofs.lemmas.List.Elements.{All-from_recursion, recursion_from_All}
-use Rattle.std.proofs.lemmas.List.Sorted.{All-permutation, IsPermutation-append_left, IsPermutation-append_right, IsPermutation-cons, IsPermutation-refl, IsPermutation-to_front, IsPermutation-trans}
+use Rattle.std.proofs.lemmas.List.Sorted.{All-permutation, IsPermutation-append_left}
+use Rattle.std.proofs.lemmas.List.Sorted.{IsPermutation-append_right, IsPermutation-cons, IsPermutation-refl}
+use Rattle.std.proofs.lemmas.List.Sorted.{IsPermutation-to_front, IsPermutation-trans}
 use Rattle.retro_base.specs.declared.refusal.Refusal.{Refusal}
 use Rattle.values.specs.declared.value.Kind.{Kind}
 use Rattle.pager.specs.Allows.{either, only}
@@ -23,17 +27,23 @@ use Rattle.index_page.proofs.Placing.{inserted-width}
 use Rattle.index_page.proofs.Taking.{no-refusal}
 use Rattle.tree_index.specs.declared.climb.Parts.{Parts}
 use Rattle.tree_index.specs.declared.walk.Met.{Met}
-use Rattle.tree_index.specs.Adding.{IsPlace, founds-lawful, first-number, inner-climbs, leaf-climbs, node-of, none-taken, only-is, row-numbers}
-use Rattle.tree_index.specs.Climbing.{Climbs, IsReady, IsTaken, RowClimbs, UpIs, bare-behind, picked, row-founds, with_up}
+use Rattle.tree_index.specs.Adding.{IsPlace, founds-lawful, first-number, inner-climbs}
+use Rattle.tree_index.specs.Adding.{leaf-climbs, node-of, none-taken, only-is, row-numbers}
+use Rattle.tree_index.specs.Climbing.{Climbs, IsReady, IsTaken, RowClimbs, UpIs}
+use Rattle.tree_index.specs.Climbing.{bare-behind, picked, row-founds, with_up}
 use Rattle.tree_index.specs.Counting.{changed-counts, inners-count, leaves-count, row-count, rooted-count}
 use Rattle.tree_index.specs.Descending.{IsGood}
 use Rattle.tree_index.specs.Growing.{all-drop}
 use Rattle.tree_index.specs.Listing.{first-there}
 use Rattle.tree_index.specs.Marking.{all-join, all-left, all-right}
-use Rattle.tree_index.specs.Placing.{Halves, any-room, any-width, below, inner-halves, leaf-halves, nodes-are, parts-writable, perm-one, perm-two}
-use Rattle.tree_index.specs.Rooting.{Under, child-whole, climb-fails, climb-tree, inner-full, inners-opened, leaf-step, leaves-opened, made-keys, made-row, path, picked-bare, row-from, under-narrow, under-room}
+use Rattle.tree_index.specs.Placing.{Halves, any-room, any-width, below, inner-halves}
+use Rattle.tree_index.specs.Placing.{leaf-halves, nodes-are, parts-writable, perm-one, perm-two}
+use Rattle.tree_index.specs.Rooting.{Under, child-whole, climb-fails, climb-tree, inner-full}
+use Rattle.tree_index.specs.Rooting.{inners-opened, leaf-step, leaves-opened, made-keys, made-row}
+use Rattle.tree_index.specs.Rooting.{path, picked-bare, row-from, under-narrow, under-room}
 use Rattle.tree_index.specs.Taking.{one-more, taken-more}
-use Rattle.tree_index.specs.Tree.{Body, Fits, Key, Row, Tree, bare, content, grown, inners, leaves, nodes, numbers, page_count, rooted, row_keys, row_nodes}
+use Rattle.tree_index.specs.Tree.{Body, Fits, Key, Row, Tree, bare, content, grown, inners, leaves}
+use Rattle.tree_index.specs.Tree.{nodes, numbers, page_count, rooted, row_keys, row_nodes}
 use Rattle.tree_index.specs.declared.climb.Climb.{Climb}
 use Rattle.tree_index.specs.Work.{climbed, parted, placed, root_over, split, taken_page}
 
@@ -395,12 +405,24 @@ module _ (size : ℕ) (pages : Pages) (kind : Kind) (e : Found) (found : IsFound
           ⊎ ((first : ℕ × Pages) × taken_page size next.1 (Ok first)
           × only {A = Climb × Pages}
           (Ok (
-            record
-                { edits = (edits ++ record { page = next.0; held = parts.right } ∷ []) ++ record { page = first.0; held = parts.left } ∷ root_over t.0 first.0 parts.key ∷ []; up = None },
+            record {
+              edits = (edits ++ record { page = next.0; held = parts.right } ∷ []) ++ record {
+                page = first.0;
+                held = parts.left;
+              } ∷ root_over t.0 first.0 parts.key ∷ [];
+              up = None;
+            },
             first.1,
           )) (Err why))) → RootFails n t why
       last (inl none) =
-          record { opened = suc count; list = list ++ next.0 ∷ []; mid = next.1; took = one-more size count pages mid list next took one.0; none = none.0; more = more }
+          record {
+            opened = suc count;
+            list = list ++ next.0 ∷ [];
+            mid = next.1;
+            took = one-more size count pages mid list next took one.0;
+            none = none.0;
+            more = more;
+          }
       last (inr (first, two, h)) = no-refusal _ why h
 
   grown-rooted : (n : ℕ) (tree : Tree n) → length (row_keys (grown e n tree).1) ≡ 1 →
@@ -483,5 +505,20 @@ module _ (size : ℕ) (pages : Pages) (kind : Kind) (e : Found) (found : IsFound
       ≡ row-count n (grown e n (bare n child.1)) =
       ap (λ (x : Tree n). row-count n (grown e n x)) (picked-bare n e t.1.0 t.1.1) in
       let tree = bare (suc n) t.1 in
-      record { opened = fails.opened; list = fails.list; mid = fails.mid; took = fails.took; none = fails.none; more = omega (arith, inners-count n (made-row size t.0 pages kind e found n t), counts, one, two, fails.more, rooted-count (suc n) (grown e (suc n) tree).0 (grown e (suc n) tree).1) }
+      record {
+        opened = fails.opened;
+        list = fails.list;
+        mid = fails.mid;
+        took = fails.took;
+        none = fails.none;
+        more = omega (
+          arith,
+          inners-count n (made-row size t.0 pages kind e found n t),
+          counts,
+          one,
+          two,
+          fails.more,
+          rooted-count (suc n) (grown e (suc n) tree).0 (grown e (suc n) tree).1,
+        );
+      }
   root-fails (suc n) t is why (inr (s, k, h)) = root-inner-fails n t is why s (child-climbs n t is s k) h

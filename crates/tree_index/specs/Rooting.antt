@@ -1,5 +1,7 @@
 -- An entry that is added under a root page: proofs.
-use Rattle.std.proofs.Common.{◌≡◌, ◌<◌, ◌≤◌, ◌+◌, ◌^◌, ◌++◌, ◌∙◌, ℕ, zero, suc, Bool, true, false, cond, eqb, List, [], ◌∷◌, length, take, drop, Option, Some, None, Result, Ok, Err, refl, sym, ap, subst, inl, inr, arith}
+use Rattle.std.proofs.Common.{◌≡◌, ◌<◌, ◌≤◌, ◌+◌, ◌^◌, ◌++◌, ◌∙◌, ℕ, zero, suc, Bool, true}
+use Rattle.std.proofs.Common.{false, cond, eqb, List, [], ◌∷◌, length, take, drop, Option, Some}
+use Rattle.std.proofs.Common.{None, Result, Ok, Err, refl, sym, ap, subst, inl, inr, arith}
 use Rattle.std.specs.List.{flat_map, drop-map, AllByRecursion}
 use Rattle.std.specs.Ordering.{is_lt}
 use Rattle.std.proofs.lemmas.Bool.{le-leb}
@@ -29,7 +31,9 @@ use Rattle.tree_index.specs.Growing.{grown-fits, grown-rises}
 use Rattle.tree_index.specs.Marking.{all-left, all-more, all-right}
 use Rattle.tree_index.specs.Placing.{any-room, below}
 use Rattle.tree_index.specs.Shaping.{changed-keys, changed-rises}
-use Rattle.tree_index.specs.Tree.{entries_in, Body, Fits, IsRising, Key, Row, Tree, bare, changed, count_behind, grown, inners, leaves, marks, named, next_inner, next_leaf, nodes, numbers, page_count, row_keys, row_marks, row_nodes}
+use Rattle.tree_index.specs.Tree.{entries_in, Body, Fits, IsRising, Key, Row, Tree, bare, changed}
+use Rattle.tree_index.specs.Tree.{count_behind, grown, inners, leaves, marks, named, next_inner, next_leaf}
+use Rattle.tree_index.specs.Tree.{nodes, numbers, page_count, row_keys, row_marks, row_nodes}
 use Rattle.tree_index.specs.declared.climb.Climb.{Climb}
 use Rattle.tree_index.specs.Work.{climbed, placed, split}
 
@@ -247,7 +251,14 @@ module _ (size root : ℕ) (pages : Pages) (kind : Kind) (e : Found) (found : Is
           let opened =
           leaves-opened (entry_inserted e t.1) (inserted-all IsFound e t.1 found is.fits.lawful)
           (omega (arith, inserted-width e t.1, entry-short e found, is.fits.fits)) full in
-          record { opened = 0; list = []; mid = pages; took = refl; none = split-fails 0 t whole [] pages why is.other.0.1 m; more = omega (arith, leaves-count (entry_inserted e t.1), opened) }
+          record {
+            opened = 0;
+            list = [];
+            mid = pages;
+            took = refl;
+            none = split-fails 0 t whole [] pages why is.other.0.1 m;
+            more = omega (arith, leaves-count (entry_inserted e t.1), opened);
+          }
 
   -- a key that finds no room
   pub inner-full : (n : ℕ) (t : ℕ × Body (suc n)) → Under n t →
@@ -312,7 +323,14 @@ module _ (size root : ℕ) (pages : Pages) (kind : Kind) (e : Found) (found : Is
       let two : row-count n (grown e n (picked e (bare n t.1.0.1) (bare-behind n t.1.1)))
       ≡ row-count n (grown e n (bare n child.1)) =
       ap (λ (x : Tree n). row-count n (grown e n x)) (picked-bare n e t.1.0 t.1.1) in
-      record { opened = fails.opened; list = fails.list; mid = fails.mid; took = fails.took; none = fails.none; more = omega (arith, inners-count n (made-row n t), counts, one, two, fails.more) }
+      record {
+        opened = fails.opened;
+        list = fails.list;
+        mid = fails.mid;
+        took = fails.took;
+        none = fails.none;
+        more = omega (arith, inners-count n (made-row n t), counts, one, two, fails.more);
+      }
   climb-fails (suc n) t is why (inr (s, k, h)) =
       let inside = whole-under n t is in
       inner-fails n t is why s

@@ -1,5 +1,6 @@
 -- The shapes of trees: proofs.
-use Rattle.std.proofs.Common.{◌≡◌, ◌<◌, ◌≤◌, ◌+◌, ◌++◌, ◌∙◌, ℕ, zero, suc, Bool, true, false, cond, leb, List, [], ◌∷◌, length, refl, sym, ap, subst, arith, append_assoc}
+use Rattle.std.proofs.Common.{◌≡◌, ◌<◌, ◌≤◌, ◌+◌, ◌++◌, ◌∙◌, ℕ, zero, suc, Bool, true, false, cond}
+use Rattle.std.proofs.Common.{leb, List, [], ◌∷◌, length, refl, sym, ap, subst, arith, append_assoc}
 use Rattle.std.specs.List.{AllByRecursion, Contains}
 use Rattle.std.specs.List.Sorted.{IsStrictlySortedBy}
 use Rattle.std.specs.Ordering.{is_lt}
@@ -11,15 +12,19 @@ use Rattle.pager.specs.declared.index.Found.{Found}
 use Rattle.index_page.specs.Entries.{entry_inserted, reaches, taken_out}
 use Rattle.index_page.specs.IndexPage.{HaveRoom, AreWritable, have_room, width}
 use Rattle.index_page.proofs.Halving.{four_fit}
-use Rattle.index_page.proofs.Ordered.{inserted-all, inserted-is, inserted-same, inserted-skip, taken_out-all, taken_out-is, taken_out-skip}
+use Rattle.index_page.proofs.Ordered.{inserted-all, inserted-is, inserted-same, inserted-skip}
+use Rattle.index_page.proofs.Ordered.{taken_out-all, taken_out-is, taken_out-skip}
 use Rattle.index_page.proofs.Placing.{inserted-length, inserted-same_width, taken_out-width}
 use Rattle.tree_index.specs.Counting.{grown-most, row-count}
 use Rattle.tree_index.specs.Growing.{RowFits, grown-entries, grown-fits, grown-rises, inserted-left, taken_out-left}
-use Rattle.tree_index.specs.Marking.{all-more, entries-all, entries-append, entries-map, lt-from, rising-before, rising-behind, rising-left, rising-right, stop-key, taken-rises, under}
+use Rattle.tree_index.specs.Marking.{all-more, entries-all, entries-append, entries-map, lt-from, rising-before}
+use Rattle.tree_index.specs.Marking.{rising-behind, rising-left, rising-right, stop-key, taken-rises, under}
 use Rattle.tree_index.specs.Opens.{OpensFew, in_row, target}
 use Rattle.tree_index.specs.Placing.{inners-room, leaves-room}
 use Rattle.tree_index.specs.Shaping.{changed-all, changed-entries, changed-rises, none-reach, row-one}
-use Rattle.tree_index.specs.Tree.{Fits, IsRising, IsShape, Key, Mark, Precedes, Row, Shape, Tree, at_entry, at_key, changed, count_behind, empty, entries_in, entries_of, grown, key_of, marks, named, opens, page_count, put, rooted, row_keys, row_marks, shrunk, without}
+use Rattle.tree_index.specs.Tree.{Fits, IsRising, IsShape, Key, Mark, Precedes, Row, Shape, Tree, at_entry, at_key}
+use Rattle.tree_index.specs.Tree.{changed, count_behind, empty, entries_in, entries_of, grown, key_of, marks}
+use Rattle.tree_index.specs.Tree.{named, opens, page_count, put, rooted, row_keys, row_marks, shrunk, without}
 
 rising-order : (ms : List Mark) → IsRising ms → IsInOrder (entries_in ms)
 unfolding IsStrictlySortedBy
@@ -89,8 +94,20 @@ rooted-shape n first [] h fits = (
   record { rises = subst IsRising (row-one (marks n) first) h; fits = fits.first },
   ap entries_in (sym (row-one (marks n) first)),
 )
-rooted-shape n first (b ∷ rest) h fits =
-    (record { rises = h; fits = (record { lawful = fits.keys; fits = omega (arith, fits.short) }, fits.first, fits.rest) }, refl)
+rooted-shape n first (b ∷ rest) h fits = (
+  record {
+    rises = h;
+    fits = (
+      record {
+        lawful = fits.keys;
+        fits = omega (arith, fits.short);
+      },
+      fits.first,
+      fits.rest,
+    );
+  },
+  refl,
+)
 
 pub put-in : (e : Found) (shape : Shape) → IsShape shape → IsFound e → IsShape (put e shape)
     × (entries_of (put e shape) ≡ with_found e (entries_of shape))
@@ -257,7 +274,12 @@ among-back e leaf all back above is = record {
 among : (e : Found) (page n : ℕ) (tree : Tree n) → IsRising (marks n tree) →
     Among e (target (named (key_of e) page) n tree) (entries_in (marks n tree))
 among e page zero es h =
-    record { front = []; back = []; whole = entries-map es ∙ sym (append-nil es); more = ap (entry_inserted e) (entries-map es) ∙ sym (append-nil (entry_inserted e es)) }
+    record {
+      front = [];
+      back = [];
+      whole = entries-map es ∙ sym (append-nil es);
+      more = ap (entry_inserted e) (entries-map es) ∙ sym (append-nil (entry_inserted e es));
+    }
 among e page (suc n) row h = inside row.0 row.1 h (among e page n)
   where
     low : Found

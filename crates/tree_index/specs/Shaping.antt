@@ -1,5 +1,6 @@
 -- What adding and taking out make of a tree: proofs.
-use Rattle.std.proofs.Common.{◌≡◌, ◌≤◌, ◌+◌, ◌++◌, ◌∙◌, not, ℕ, Bool, true, false, cond, List, [], ◌∷◌, refl, sym, ap, subst, arith, append_assoc}
+use Rattle.std.proofs.Common.{◌≡◌, ◌≤◌, ◌+◌, ◌++◌, ◌∙◌, not, ℕ, Bool, true, false, cond}
+use Rattle.std.proofs.Common.{List, [], ◌∷◌, refl, sym, ap, subst, arith, append_assoc}
 use Rattle.std.specs.List.{flat_map, AllByRecursion}
 use Rattle.std.specs.Ordering.{is_lt}
 use Rattle.std.specs.declared.cmp.Ordering.{Ordering}
@@ -12,8 +13,11 @@ use Rattle.pager.specs.declared.index.Found.{Found}
 use Rattle.index_page.specs.Entries.{is_behind, reaches}
 use Rattle.index_page.specs.IndexPage.{width}
 use Rattle.index_page.proofs.Packing.{width-append, width-cons}
-use Rattle.tree_index.specs.Marking.{all-join, all-more, all-right, entries-all, entries-append, lt-from, pass-key, rising-before, rising-behind, rising-left, rising-right, shift, shift-one, stop-key, under}
-use Rattle.tree_index.specs.Tree.{IsRising, Key, Mark, Precedes, Row, at_entry, at_key, changed, count_behind, entries_in, named, row_keys, row_marks}
+use Rattle.tree_index.specs.Marking.{all-join, all-more, all-right, entries-all, entries-append}
+use Rattle.tree_index.specs.Marking.{lt-from, pass-key, rising-before, rising-behind}
+use Rattle.tree_index.specs.Marking.{rising-left, rising-right, shift, shift-one, stop-key, under}
+use Rattle.tree_index.specs.Tree.{IsRising, Key, Mark, Precedes, Row, at_entry, at_key, changed}
+use Rattle.tree_index.specs.Tree.{count_behind, entries_in, named, row_keys, row_marks}
 
 -- a row that goes on
 pub row-more : {X : Type 0} (mark : X → List Mark) (row : Row X) (more : List (Key × X)) →

@@ -1,5 +1,6 @@
 -- A tree that pages hold, before and after its pages are written: proofs.
-use Rattle.std.proofs.Common.{◌≡◌, ◌<◌, ◌≤◌, ◌+◌, ◌^◌, ◌++◌, ◌∙◌, ℕ, zero, suc, Bool, true, false, cond, eqb, List, [], ◌∷◌, length, Err, refl, sym, ap, subst, inl, inr, arith}
+use Rattle.std.proofs.Common.{◌≡◌, ◌<◌, ◌≤◌, ◌+◌, ◌^◌, ◌++◌, ◌∙◌, ℕ, zero, suc, Bool, true, false, cond}
+use Rattle.std.proofs.Common.{eqb, List, [], ◌∷◌, length, Err, refl, sym, ap, subst, inl, inr, arith}
 use Rattle.std.specs.Prelude.{nat_eq}
 use Rattle.std.specs.List.{flat_map, AllByRecursion, Contains, IsDistinct, list_any}
 use Rattle.std.specs.List.Sorted.{IsPermutation}
@@ -8,7 +9,8 @@ use Rattle.std.proofs.lemmas.Bool.{both_ways, eqb-true, or_cases}
 use Rattle.std.proofs.lemmas.Cmp.{nat_eq_equiv}
 use Rattle.std.proofs.lemmas.List.{append-nil, length-append, length-map, map-append}
 use Rattle.std.proofs.lemmas.List.Elements.{All-from_recursion, Contains-append_left, recursion_from_All}
-use Rattle.std.proofs.lemmas.List.Sorted.{All-permutation, Contains-permutation, IsPermutation-map, IsPermutation-sym, length_permutation}
+use Rattle.std.proofs.lemmas.List.Sorted.{All-permutation, Contains-permutation, IsPermutation-map}
+use Rattle.std.proofs.lemmas.List.Sorted.{IsPermutation-sym, length_permutation}
 use Rattle.std.proofs.lemmas.Map.Keys.{IsDistinct-IsPermutation}
 use Rattle.std.proofs.lemmas.Map.Steps.{length-le_from_distinct_below}
 use Rattle.retro_base.specs.declared.refusal.Refusal.{Refusal}
@@ -26,7 +28,8 @@ use Rattle.tree_index.specs.Marking.{all-join, all-left, all-more, all-right, en
 use Rattle.tree_index.specs.RootPage.{Roots}
 use Rattle.tree_index.specs.Rooting.{path, picked-all}
 use Rattle.tree_index.specs.Taking.{taken-same}
-use Rattle.tree_index.specs.Tree.{Body, Fits, IsRising, IsShape, Key, Lists, Row, Shape, Tree, bare, content, entries_in, entries_of, marks, named, nodes, numbers, page_count, row_marks}
+use Rattle.tree_index.specs.Tree.{Body, Fits, IsRising, IsShape, Key, Lists, Row, Shape, Tree, bare, content}
+use Rattle.tree_index.specs.Tree.{entries_in, entries_of, marks, named, nodes, numbers, page_count, row_marks}
 use Rattle.tree_index.specs.Walk.{IsTree, Meets, children, chosen, walked}
 use Rattle.tree_index.specs.Work.{all_written}
 use Rattle.tree_index.specs.Writing.{all-there, distinct-apart, distinct-left, member, other-stays}
@@ -252,7 +255,8 @@ module _ (size root : ℕ) (pages : Pages) (shape : Shape) (held : List ℕ) (is
     others-there (met ∷ ms) there apart = (
       at-same size pages (all_written mid edits) met.page met.held
           ((other-stays edits mid met.page apart.0).0 ∙
-          taken-same size (length roots.opened) pages mid roots.opened roots.taken_is.took met.page there.0.low) there.0,
+          taken-same size (length roots.opened) pages mid roots.opened roots.taken_is.took met.page there.0.low)
+          there.0,
       others-there ms there.1 apart.1,
     )
 

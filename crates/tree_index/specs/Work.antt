@@ -1,5 +1,6 @@
 -- What the calls do to the pages.
-use Rattle.std.specs.Prelude.{◌≡◌, ◌<◌, ◌^◌, ◌++◌, ◌-◌, ◌==◌, ℕ, List, [], ◌∷◌, take, drop, IfOk, Option, Some, None, Result, Ok, Err}
+use Rattle.std.specs.Prelude.{◌≡◌, ◌<◌, ◌^◌, ◌++◌, ◌-◌, ◌==◌, ℕ, List, [], ◌∷◌, take}
+use Rattle.std.specs.Prelude.{drop, IfOk, Option, Some, None, Result, Ok, Err}
 use Rattle.std.specs.List.{flat_map}
 use Rattle.retro_base.specs.declared.refusal.Refusal.{Refusal}
 use Rattle.values.specs.Value.{kind_of}
@@ -23,7 +24,7 @@ use Rattle.tree_index.specs.Walk.{walked}
 abbrev pub taken_page : ℕ → Pages → Result (ℕ × Pages) Refusal → Type 0
 taken_page size pages answer = (taken size pages ≡ answer) × IfOk answer (λ next. next.0 < 2 ^ 32)
 
--- the pages after these are with_bytes, one after the other
+-- the pages after these are written, one after the other
 abbrev pub all_written : Pages → List Met → Pages
 all_written pages [] = pages
 all_written pages (met ∷ rest) = all_written (with_bytes pages met.page (page_bytes met.held)) rest

@@ -1,4 +1,4 @@
--- Pages that are with_bytes one after the other: proofs.
+-- Pages that are written one after the other: proofs.
 use Rattle.std.proofs.Common.{◌⊎◌, ◌≡◌, ◌++◌, ◌∙◌, ℕ, suc, false, eqb, List, [], ◌∷◌, refl, sym, inl, inr, arith}
 use Rattle.std.specs.Prelude.{nat_eq}
 use Rattle.std.specs.List.{AllByRecursion, Contains, IsDistinct}
@@ -29,7 +29,7 @@ other-stays (met ∷ edits) pages page apart =
           unmarked-other pages met.page page (page_bytes met.held) apart.0,
     )
 
--- each of them holds what was with_bytes
+-- each of them holds what was written
 pub all-there : (size : ℕ) (edits : List Met) (pages : Pages) → IsDistinct nat_eq (numbers edits) →
     AllByRecursion (IsReady size) edits → AllByRecursion (IsThere size (all_written pages edits)) edits
 unfolding IsDistinct
@@ -37,7 +37,8 @@ all-there size [] pages distinct ready = tt
 all-there size (met ∷ edits) pages distinct ready =
     let after : Pages = with_bytes pages met.page (page_bytes met.held) in
     let own = at-own size pages met.page met.held ready.0.low ready.0.there ready.0.link ready.0.writable in (
-      at-same size after (all_written after edits) met.page met.held (other-stays edits after met.page distinct.0).0 own,
+      at-same size after (all_written after edits) met.page met.held
+          (other-stays edits after met.page distinct.0).0 own,
       all-there size edits after distinct.1 ready.1,
     )
 

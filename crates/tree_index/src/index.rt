@@ -104,8 +104,8 @@ fn keep(alloc: Global, draft: &mut Draft, count: usize, leaf: &Met) -> Result<()
     store(alloc, draft, leaf.page, &leaf.held)
 }
 
-// Drafts that the first of some entries are added: those that go on one leaf, and one more where that has no room there.
-// Answers how many.
+// Drafts that the first of some entries are added: those that go on one leaf, and one more where that has no room
+// there. Answers how many.
 fn add_run<P: Pager>(
     alloc: Global,
     pager: &mut P,

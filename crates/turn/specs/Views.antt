@@ -1,5 +1,6 @@
 -- The views of seats, and how they are cut and joined.
-use Rattle.std.specs.Prelude.{◌==◌, nat_lt, ℕ, zero, suc, ◌+◌, ◌-◌, max, List, [], ◌∷◌, ◌++◌, map, length, drop, Option, Some, None, if◌then◌else◌}
+use Rattle.std.specs.Prelude.{◌==◌, nat_lt, ℕ, zero, suc, ◌+◌, ◌-◌, max, List, [], ◌∷◌}
+use Rattle.std.specs.Prelude.{◌++◌, map, length, drop, Option, Some, None, if◌then◌else◌}
 use Rattle.retro_base.specs.declared.device.Device.{Device}
 use Rattle.history.specs.declared.journal.Line.{Line}
 use Rattle.turn.specs.declared.view.Holding.{Holding}
@@ -124,7 +125,11 @@ module _ {O W A B : Type 0} where
   -- a view with its helper's
   abbrev pub returned_view : View O W A B → View O W A B → View O W A B
   returned_view v w =
-      record v { heard = v.heard ++ w.seen ∷ w.heard; held = max v.held w.held; holds = map (returned (first_of w.holds)) v.holds }
+      record v {
+        heard = v.heard ++ w.seen ∷ w.heard;
+        held = max v.held w.held;
+        holds = map (returned (first_of w.holds)) v.holds;
+      }
 
   -- what is left of a view that was joined into another
   abbrev pub spent : View O W A B

@@ -29,7 +29,8 @@ impl<A: DeskValue, B: VaultValue<A::Opening>> Turn<A, B> {
         ensures lawful { IfSome (opening seat.old) (λ x. A.Opening.meaning.Lawful x (seen seat.new)) }
         ensures held { held seat.new ≡ B.meaning.held result }
         ensures rises { held seat.old ≤ held seat.new }
-        ensures beside { (near : DeskBeside A.Opening.meaning A.meaning B.meaning result (opening seat.old) (seen seat.new))
+        ensures beside { (near : DeskBeside A.Opening.meaning A.meaning B.meaning result (opening seat.old)
+            (seen seat.new))
             × (A.meaning.journal near.desk ≡ seen seat.new) }
     {
         let ticket = self

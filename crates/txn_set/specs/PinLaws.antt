@@ -12,7 +12,8 @@ use Rattle.journal_book.specs.declared.work.Transaction.{Transaction}
 use Rattle.journal_book.specs.declared.work.Work.TheVariants.{Open}
 use Rattle.journal_book.specs.Works.{work_at}
 use Rattle.txn_set.specs.declared.ledger.Ledger.{Ledger}
-use Rattle.txn_set.specs.Ledger.{closed, committed, drop_kept, faulted, fresh, given_up, is_closed, is_idle, looking, opened, taken, with_told_line, with_open}
+use Rattle.txn_set.specs.Ledger.{closed, committed, drop_kept, faulted, fresh, given_up, is_closed}
+use Rattle.txn_set.specs.Ledger.{is_idle, looking, opened, taken, with_told_line, with_open}
 use Rattle.txn_set.specs.WorksFit.{Closes, PinsFit}
 
 abbrev pub BeginPins : Type 0

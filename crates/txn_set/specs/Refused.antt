@@ -1,9 +1,12 @@
 -- Why calls are refused, over the journal, the works, and numbers of the base.
-use Rattle.std.specs.Prelude.{◌+◌, ◌-◌, ◌≤◌, ◌==◌, ◌&&◌, ◌||◌, nat_lt, nat_le, ℕ, Bool, not, is_some, List, [], ◌∷◌, length, drop, Option, Some, None, option_map, if◌then◌else◌}
+use Rattle.std.specs.Prelude.{◌+◌, ◌-◌, ◌≤◌, ◌==◌, ◌&&◌, ◌||◌, nat_lt, nat_le, ℕ, Bool, not, is_some, List}
+use Rattle.std.specs.Prelude.{[], ◌∷◌, length, drop, Option, Some, None, option_map, if◌then◌else◌}
 use Rattle.std.specs.Option.{option_or}
-use Rattle.retro_base.specs.declared.limits.TheConstants.{EDITED_PAGES, JOURNAL_IMAGES, MAX_CAPTURES, RETAINED_SNAPSHOTS}
+use Rattle.retro_base.specs.declared.limits.TheConstants.{EDITED_PAGES, JOURNAL_IMAGES}
+use Rattle.retro_base.specs.declared.limits.TheConstants.{MAX_CAPTURES, RETAINED_SNAPSHOTS}
 use Rattle.retro_base.specs.declared.refusal.Refusal.{Refusal}
-use Rattle.retro_base.specs.declared.refusal.Refusal.TheVariants.{ArchiveFull, Dropped, JournalFull, NoSuchSnapshot, Overlap, Pinned, SnapshotsFull, Stopped, TooManyPages}
+use Rattle.retro_base.specs.declared.refusal.Refusal.TheVariants.{ArchiveFull, Dropped, JournalFull, NoSuchSnapshot}
+use Rattle.retro_base.specs.declared.refusal.Refusal.TheVariants.{Overlap, Pinned, SnapshotsFull, Stopped, TooManyPages}
 use Rattle.retro_base.specs.declared.who.Who.{Who}
 use Rattle.history.specs.declared.entry.Base.{Base}
 use Rattle.history.specs.declared.journal.Line.{Line}

@@ -1,6 +1,7 @@
 //! What follows where a call is not refused.
 
-ghost use Rattle.txn_set.specs.PinLaws.{BeginPins, ClosePins, CommitPins, DropPins, FaultPins, LookAllPins, LookPins, OpenPins, ToldPins};
+ghost use Rattle.txn_set.specs.PinLaws.{BeginPins, ClosePins, CommitPins, DropPins, FaultPins};
+ghost use Rattle.txn_set.specs.PinLaws.{LookAllPins, LookPins, OpenPins, ToldPins};
 ghost use Rattle.txn_set.specs.Laws.{CommitsAreRight, CommitsStaySound, DeskGoesOn, DropsStaySound, ImagesFit};
 
 /// Of commits that are not refused.

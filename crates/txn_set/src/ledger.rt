@@ -1,6 +1,7 @@
 //! The journal with the works of the sessions: each call of a desk with the line that it adds.
 
-ghost use Rattle.std.specs.Prelude.{◌≡◌, ◌≤◌, ◌<◌, ◌+◌, ℕ, [], IfOk, IfErr, OnOk, OnErr, Some, None, true, false, length, map, option_copied, is_some, Err, IsOk, IsSome, ◌∷◌, ◌^◌};
+ghost use Rattle.std.specs.Prelude.{◌≡◌, ◌≤◌, ◌<◌, ◌+◌, ℕ, [], IfOk, IfErr, OnOk, OnErr, Some, None, true};
+ghost use Rattle.std.specs.Prelude.{false, length, map, option_copied, is_some, Err, IsOk, IsSome, ◌∷◌, ◌^◌};
 ghost use Rattle.retro_base.specs.declared.refusal.Refusal.{Refusal};
 ghost use Rattle.retro_base.specs.declared.refusal.Refusal.TheVariants.{OutOfMemory};
 ghost use Rattle.retro_base.specs.declared.limits.TheConstants.{JOURNAL_IMAGES};
@@ -10,11 +11,15 @@ ghost use Rattle.history.specs.Lines.{images_in};
 ghost use Rattle.journal_book.specs.declared.work.Transaction.{Transaction};
 ghost use Rattle.journal_book.specs.declared.work.Work.TheVariants.{Open};
 ghost use Rattle.journal_book.specs.Book.{lines_refused, writes_of};
-ghost use Rattle.txn_set.specs.Ledger.{IsKeptDrop, IsLookingAs, IsOpenAs, IsRefusedWith, MayFault, closed, closing, committed, doubted, drop_kept, drop_lines, ended, faulted, fresh, given_up, gives_up, is_closed, is_idle, keeping_drop, keeps_drop, keeps_other_drop, kept_behind, looking, no_lines, opened, taken, with_told_line, with_open};
+ghost use Rattle.txn_set.specs.Ledger.{IsKeptDrop, IsLookingAs, IsOpenAs, IsRefusedWith, MayFault, closed, closing};
+ghost use Rattle.txn_set.specs.Ledger.{committed, doubted, drop_kept, drop_lines, ended, faulted, fresh, given_up};
+ghost use Rattle.txn_set.specs.Ledger.{gives_up, is_closed, is_idle, keeping_drop, keeps_drop, keeps_other_drop};
+ghost use Rattle.txn_set.specs.Ledger.{kept_behind, looking, no_lines, opened, taken, with_told_line, with_open};
 ghost use Rattle.std.specs.List.{AllByRecursion};
 ghost use Rattle.history.specs.Writes.{is_among, rises};
 ghost use Rattle.txn_set.specs.Refused.{captures_behind, commit_refused, edit_refused, look_refused, read_refused};
-ghost use Rattle.journal_book.specs.Works.{AreFree, editing, edits_of, latch_holder, own_edit, reading, work_at, working};
+ghost use Rattle.journal_book.specs.Works.{AreFree, editing, edits_of, latch_holder};
+ghost use Rattle.journal_book.specs.Works.{own_edit, reading, work_at, working};
 ghost use Rattle.txn_set.specs.WorksFit.{Closes, WorksFit};
 ghost use Rattle.txn_set.specs.declared.ledger.Ledger.{Ledger};
 

@@ -4,7 +4,10 @@ ghost use Rattle.std.specs.Prelude.{◌≡◌, ◌≤◌, ◌<◌, ◌+◌, ◌^
 ghost use Rattle.std.specs.List.{AllByRecursion};
 ghost use Rattle.retro_base.specs.declared.limits.TheConstants.{MAX_CAPTURES};
 ghost use Rattle.history.specs.Lines.{images_in};
-ghost use Rattle.txn_set.specs.Refused.{IsOpenIn, archive_refused, captures_behind, commit_refused, drop_refused, edit_refused, first_changed, images_refused, leaves_record, look_refused, no_snapshot, overlap, read_refused, snapshots_refused, start_behind, stopped_refused, too_many};
+ghost use Rattle.txn_set.specs.Refused.{IsOpenIn, archive_refused, captures_behind, commit_refused};
+ghost use Rattle.txn_set.specs.Refused.{drop_refused, edit_refused, first_changed, images_refused};
+ghost use Rattle.txn_set.specs.Refused.{leaves_record, look_refused, no_snapshot, overlap, read_refused};
+ghost use Rattle.txn_set.specs.Refused.{snapshots_refused, start_behind, stopped_refused, too_many};
 
 use crate::counts::Counts;
 use history::{PageImage, Stop};

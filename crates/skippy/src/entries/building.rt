@@ -1,6 +1,7 @@
 //! The segments that new mappings complete. To build them takes no step: no scan reads these entries.
 
-ghost use Rattle.std.specs.Prelude.{◌≡◌, ◌+◌, ◌-◌, ◌*◌, ◌<◌, ◌≤◌, ◌++◌, Some, OnOk, IfOk, IfErr, IfSome, length, slice_get};
+ghost use Rattle.std.specs.Prelude.{◌≡◌, ◌+◌, ◌-◌, ◌*◌, ◌<◌, ◌≤◌, ◌++◌, Some, OnOk};
+ghost use Rattle.std.specs.Prelude.{IfOk, IfErr, IfSome, length, slice_get};
 ghost use Rattle.skippy.specs.FirstTable.{meet};
 ghost use Rattle.skippy.specs.Mappings.{coming, end_of, first_mappings};
 ghost use Rattle.skippy.specs.Segments.{size_of, from_start, meet_each, IsLevel};

@@ -91,8 +91,8 @@ fn answer(
     answer_text(rt, alloc, answer)
 }
 
-// Each line is a select, the names of its answer's columns, and the answer: its rows, each ended by a semicolon, or the name
-// of the refusal.
+// Each line is a select, the names of its answer's columns, and the answer: its rows, each ended by a semicolon, or the
+// name of the refusal.
 fn answer_all(
     rt: &impl Abort,
     alloc: Global,

@@ -36,7 +36,7 @@ returns-in-Ok-clause-writes g c = λ honest.
           let step : Appending area.log bodies body state new.seen =
           now_has g.D.Disk.remembers (g.D.Disk.clock disk) (g.D.Disk.clock next) _ _ (appends.any_moment bodies (holds_log area bodies state held))
           (λ t image le image_is. g.met.D.Disk.counts_now next t image (c.append.ensures.same.honest.0 honest) le image_is) new.seen (image-seen new) in
-          let more : log.Holds (after_append area.log body true) (bodies ++ body ∷ []) new = subst (λ (l : log.Region). log.Holds l (bodies ++ body ∷ []) new) log_is ((c.in-Ok.ensures.appends honest).holds bodies (holds_log area bodies state held)) in
+          let more : log.HoldsBodies (after_append area.log body true) (bodies ++ body ∷ []) new = subst (λ (l : log.Region). log.HoldsBodies l (bodies ++ body ∷ []) new) log_is ((c.in-Ok.ensures.appends honest).holds bodies (holds_log area bodies state held)) in
           subst (λ (l : log.Region). Holds (record { log = l; generation = area.generation; is_other_open = area.is_other_open; fault = area.fault }) (bodies ++ body ∷ []) new) (sym log_is)
           (holds_appended area bodies state held body room new step more (c.in-Ok.ensures.appends honest).durable);
       any_moment = λ bodies holds.

@@ -2,7 +2,7 @@ use Rattle.std.proofs.Common.{◌≡◌, ◌+◌, ◌≤◌, ◌<◌, ◌^◌, �
 use Rattle.disk_model.proofs.Moments.{started}
 use Rattle.gate_log.specs.Appending.{after_append}
 use Rattle.gate_log.specs.Cause.{HasRoom}
-use Rattle.gate_log.specs.Log.{Region, Holds}
+use Rattle.gate_log.specs.Log.{Region, HoldsBodies}
 use Rattle.gate_log.proofs.Appends.{untouched, staged, opened, holds_more}
 use Rattle.gate_log.proofs.Framing.{length-piece}
 use Rattle.gate_log.proofs.Results.{err_owes}
@@ -72,11 +72,11 @@ returns-clause-appends g c = λ honest.
     let gate : c.self.inside.gate + length body + 5 ≡ c.self.inside.gate + (c.len.result + 5) = omega (arith, c.len.ensures.same) in
     record {
       holds = λ bodies holds.
-          let more : Holds (after_append log body true) (bodies ++ body ∷ []) new =
+          let more : HoldsBodies (after_append log body true) (bodies ++ body ∷ []) new =
           holds_more log bodies body c.as_bytes-piece.result.now c.end-gate.result (g.D.Disk.state disk) holds short room fits c.end-gate.ensures c.as_bytes-piece.ensures
           (g.D.Disk.state c.put_durably.new.disk) new (first.put honest).written (second.put honest1).written (second.put honest1).durable in
-          subst (λ (n : ℕ). Holds (record { device = c.self.inside.device; place = c.self.inside.place; size = c.self.inside.size; gate = n }) (bodies ++ body ∷ []) new) gate
-          (subst (λ (l : Region). Holds (after_append l body true) (bodies ++ body ∷ []) new) (sym c.self.view_is) more);
+          subst (λ (n : ℕ). HoldsBodies (record { device = c.self.inside.device; place = c.self.inside.place; size = c.self.inside.size; gate = n }) (bodies ++ body ∷ []) new) gate
+          (subst (λ (l : Region). HoldsBodies (after_append l body true) (bodies ++ body ∷ []) new) (sym c.self.view_is) more);
       durable = (second.put honest1).durable;
       any_moment = λ bodies holds.
           opened log bodies c.args.framed.now c.as_bytes-piece.result.now c.end-gate.result (g.D.Disk.state disk) holds short room fits c.end-gate.ensures c.as_bytes-piece.ensures g.D.Disk.remembers
