@@ -1,5 +1,6 @@
 -- A load, and what is written of it.
-use Rattle.std.specs.Prelude.{◌≡◌, ◌==◌, ◌++◌, ◌||◌, ◌∷◌, ℕ, Bool, true, false, not, List, [], length, filter, get_or, codes, Option, Some, None, Result, Ok, Err}
+use Rattle.std.specs.Prelude.{◌≡◌, ◌==◌, ◌++◌, ◌||◌, ◌∷◌, ℕ, Bool, true, false, not, List, []}
+use Rattle.std.specs.Prelude.{length, filter, get_or, codes, Option, Some, None, Result, Ok, Err}
 use Rattle.std.specs.Fmt.{decimal}
 use Rattle.std.specs.List.{flat_map, slice_split}
 use Rattle.std.specs.Option.{option_map_or}

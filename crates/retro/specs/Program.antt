@@ -1,5 +1,6 @@
 -- The run of a script that names no folder, and how it ends.
-use Rattle.std.specs.Prelude.{◌≡◌, ◌≢◌, ◌⊎◌, ◌<◌, ◌-◌, ◌^◌, ◌∷◌, ◌==◌, ℕ, IsTrue, List, [], Some, IfSome, Result, Ok, Err}
+use Rattle.std.specs.Prelude.{◌≡◌, ◌≢◌, ◌⊎◌, ◌<◌, ◌-◌, ◌^◌, ◌∷◌, ◌==◌, ℕ}
+use Rattle.std.specs.Prelude.{IsTrue, List, [], Some, IfSome, Result, Ok, Err}
 use Rattle.std.specs.List.{list_any}
 use Rattle.retro_base.specs.declared.refusal.Refusal.{Refusal}
 use Rattle.script.specs.Script.{ReadsAs}

@@ -1,5 +1,6 @@
 -- What the driver does with the seats: a session runs at its seat; a phase runs; two seats meet; all meet.
-use Rattle.std.specs.Prelude.{◌≡◌, ◌≢◌, ◌<◌, ◌≤◌, ◌+◌, ◌++◌, ℕ, List, [], ◌∷◌, length, Option, Some, Result, Ok, Err, IfOk, slice_get}
+use Rattle.std.specs.Prelude.{◌≡◌, ◌≢◌, ◌<◌, ◌≤◌, ◌+◌, ◌++◌, ℕ, List, [], ◌∷◌, length}
+use Rattle.std.specs.Prelude.{Option, Some, Result, Ok, Err, IfOk, slice_get}
 use Rattle.history.specs.declared.journal.Line.{Line}
 use Rattle.journal_law.specs.Lawful.{Ground}
 use Rattle.journal_law.specs.Seats.{Idle, View, Waits}

@@ -17,6 +17,8 @@ pub const LOG: usize = 0;
 
 pub const PAGES: usize = 1;
 
+pub const PAGELOG: usize = 2;
+
 pub const MAPLOG: usize = 3;
 
 /// Behind so many calls of a kind the next call of that kind of a device fails; with no kind, behind so many calls of
@@ -40,7 +42,7 @@ pub fn device_of(four: &Four<MemDisk>, number: usize) -> &MemDisk {
     match number {
         LOG => &four.log,
         PAGES => &four.pages,
-        2 => &four.pagelog,
+        PAGELOG => &four.pagelog,
         _ => &four.maplog,
     }
 }
@@ -89,10 +91,10 @@ pub fn all_again(
     fault: Fault,
 ) -> Result<Four<MemDisk>, Refusal> {
     Ok(Four {
-        log: again(alloc, four, 0, fault)?,
-        pages: again(alloc, four, 1, fault)?,
-        pagelog: again(alloc, four, 2, fault)?,
-        maplog: again(alloc, four, 3, fault)?,
+        log: again(alloc, four, LOG, fault)?,
+        pages: again(alloc, four, PAGES, fault)?,
+        pagelog: again(alloc, four, PAGELOG, fault)?,
+        maplog: again(alloc, four, MAPLOG, fault)?,
     })
 }
 

@@ -6,6 +6,8 @@
 mod apart;
 mod asking;
 #[cfg(test)]
+mod commits;
+#[cfg(test)]
 mod devices;
 #[cfg(test)]
 mod faults;

@@ -20,8 +20,8 @@ use std::sync::Wait;
 use std::thread::Threads;
 use store_format::format;
 
-// Makes an empty store on four devices of zeros, and runs a plan over it. They come back. It is refused exactly where a call
-// of a device failed, and for want of memory.
+// Makes an empty store on four devices of zeros, and runs a plan over it. They come back. It is refused exactly where a
+// call of a device failed, and for want of memory.
 fn run_from_empty<R: Threads + Wait + Sync, D: Disk + Drop + Send, I: RunItems + Sync>(
     alloc: Global,
     rt: &R,

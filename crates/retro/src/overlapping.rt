@@ -11,8 +11,8 @@ use std::thread::Threads;
 // How often a transaction is tried.
 const TRIES: u32 = 64;
 
-// The second item of session a asks of the row that each item of session b changes. No other session of the script has a
-// second item, and no other is the second of its phase.
+// The second item of session a asks of the row that each item of session b changes. No other session of the script has
+// a second item, and no other is the second of its phase.
 const BEFORE: &[u8] = b"SESSION m\n\
       CREATE TABLE t(v INT)\nINSERT INTO t VALUES (0)\nCREATE TABLE u(v INT)\nINSERT INTO u VALUES (0)\nCOMMIT\n\
       PHASE\nSESSION a\nCOMMIT\nSELECT v FROM t\nUPDATE u SET v = 1\nCOMMIT\nSESSION b\n";

@@ -294,9 +294,9 @@ fn run_phase<H: Threads + Sync, S: Works + Send, R: RunItems + Sync>(
 
 /// Runs what a script asks for over one store, at which each session has the seat in the slot of its number, and behind
 /// them the copier and the flusher. The sessions of a phase run at once, in at most so many threads (with one they run
-/// in turn), and the workers beside them, in threads of their own; and these once more when the sessions have ended. All
-/// seats have met behind each phase, and at the end. AllocError where memory is wanting to keep a reply: the run ends
-/// behind that phase.
+/// in turn), and the workers beside them, in threads of their own; and these once more when the sessions have ended.
+/// All seats have met behind each phase, and at the end. AllocError where memory is wanting to keep a reply: the run
+/// ends behind that phase.
 pub fn run_phases<H: Threads + Sync, S: Works + Send, R: RunItems + Sync>(
     alloc: Global,
     rt: &H,

@@ -45,23 +45,24 @@ fn refuse<K: Sink>(sink: &mut K, mistake: Mistake) -> u8
 /// Runs the program, and answers the exit status. Status 2 is exactly where the words are none of the good ones, and 9
 /// where a number is out of its range. The other words are:
 ///
-/// - `run`: reads a script from the source, runs it over an empty store in memory, which holds no tables, and writes the
-///   transcript of every reply to the sink, or one line that says why there is none. The status is 4 where the source
-///   failed; else 3 where the script has a bad line; else 5 where the sink failed; 8 where memory ran out; else 0. The
-///   transcript is that of one journal, which a run of the script may leave.
+/// - `run`: reads a script from the source, runs it over an empty store in memory, which holds no tables, and writes
+///   the transcript of every reply to the sink, or one line that says why there is none. The status is 4 where the
+///   source failed; else 3 where the script has a bad line; else 5 where the sink failed; 8 where memory ran out;
+///   else 0. The transcript is that of one journal, which a run of the script may leave.
 /// - `format DIR PAGES CAPACITY`: makes a store in the cabinet, in the place of one that stood there.
 /// - `show DIR`: writes what the store in the cabinet shows of itself, and writes nothing on it.
-/// - `run DIR`: reads a script first, as `run` does, and runs it over the store in the cabinet, at which each session has
-///   a seat of its own. The transcript is written whole also where its journal tells a fault of a device; the status is
-///   then 6 in place of 0.
-/// - `load SEED N`: makes the script of a load of N rounds, runs it as `run` does, and writes a summary of it to the sink.
+/// - `run DIR`: reads a script first, as `run` does, and runs it over the store in the cabinet, at which each session
+///   has a seat of its own. The transcript is written whole also where its journal tells a fault of a device; the
+///   status is then 6 in place of 0.
+/// - `load SEED N`: makes the script of a load of N rounds, runs it as `run` does, and writes a summary of it to the
+///   sink.
 ///
 /// The sessions of a phase run at once, in at most so many threads: with one they run in turn. The copier and the
 /// flusher run beside them, in threads of their own. The gate is called at each point of an item.
 ///
-/// `format`, `show` and `run DIR` end with 6 where a call of the cabinet or of a device failed; `show` and `run` with 7 where the bytes
-/// are no store's; with 5 where the sink failed; with 8 where memory ran out; else with 0. The devices are back in the
-/// cabinet.
+/// `format`, `show` and `run DIR` end with 6 where a call of the cabinet or of a device failed; `show` and `run DIR`
+/// with 7 where the bytes are no store's; with 5 where the sink failed; with 8 where memory ran out; else with 0. The
+/// devices are back in the cabinet.
 pub fn retro<
     R: Threads + Wait + Sync,
     S: Source,

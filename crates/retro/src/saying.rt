@@ -2,7 +2,8 @@
 
 ghost use Rattle.std.specs.Prelude.{◌≡◌, ◌≢◌, ◌++◌, ◌∷◌, IfErr, IfOk, OnOk};
 ghost use Rattle.std.specs.Fmt.{decimal};
-ghost use Rattle.retro.specs.Says.{IsNoStore, IsOfKept, IsOfStores, IsStatus, LacksMemory, Refuses, Says, Writes, device_line, number_of};
+ghost use Rattle.retro.specs.Says.{IsNoStore, IsOfKept, IsOfStores, IsStatus, LacksMemory};
+ghost use Rattle.retro.specs.Says.{Refuses, Says, Writes, device_line, number_of};
 ghost use Rattle.retro.specs.Seen.{seen};
 
 use disk_model::Cabinet;

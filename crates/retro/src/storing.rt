@@ -9,7 +9,8 @@ ghost use Rattle.store.specs.Closing.{AreReady};
 ghost use Rattle.store.specs.Seats.{Sat};
 ghost use Rattle.turn.specs.Seats.{opening};
 ghost use Rattle.turn.specs.Tables.{table_of};
-ghost use Rattle.retro.specs.Storing.{AllRest, AreFresh, AreHeld, AreIn, AreOf, ComeFrom, IsAmong, IsPrinted, RunsOn, last_phase};
+ghost use Rattle.retro.specs.Storing.{AllRest, AreFresh, AreHeld, AreIn, AreOf, ComeFrom};
+ghost use Rattle.retro.specs.Storing.{IsAmong, IsPrinted, RunsOn, last_phase};
 
 use crate::phases::run_phases;
 use crate::seats::{Meets, Works};
@@ -25,9 +26,9 @@ use std::thread::Threads;
 use store::{Closed, Done, Held, Seat, Store, Worker, laws_of_crashes};
 use values::Seq;
 
-/// What a run over a store leaves beside its devices: the journal, what it replied to each item, unless memory was wanting
-/// to keep it, the newest snapshot before it, how many captures were made, over all runs, and whether the archive holds
-/// captures up to the last.
+/// What a run over a store leaves beside its devices: the journal, what it replied to each item, unless memory was
+/// wanting to keep it, the newest snapshot before it, how many captures were made, over all runs, and whether the
+/// archive holds captures up to the last.
 #[derive(Drop)]
 pub struct Ended {
     pub journal: Journal,
@@ -55,7 +56,8 @@ impl<'a, R: Wait, D: Disk + Drop> Works for Held<'a, R, D> {
     ghost use Rattle.store.specs.WorkerRounds.{HasRun};
     ghost use Rattle.turn.specs.Tables.{table_of};
 
-    ghost works = { λ phase worker h k. HasRun D.is_honest D.state D.faults (table_of h.store.now.turn) D.remembers D.clock
+    ghost works = { λ phase worker h k. HasRun D.is_honest D.state D.faults
+        (table_of h.store.now.turn) D.remembers D.clock
         phase worker h.seat k.seat };
 
     fn work(&mut self, worker: Worker, phase: u16, done: &Done) {

@@ -5,7 +5,8 @@ ghost use Rattle.std.specs.List.{flat_map};
 ghost use Rattle.session.specs.Replies.{kept_by_place, text_of};
 ghost use Rattle.session.specs.Wording.{word};
 ghost use Rattle.workload.specs.Load.{table_numbers};
-ghost use Rattle.retro.specs.Loads.{IsSummary, count_of, declares, is_commit, is_number, load_line, number_at, numbers_in, numbers_of, past_line, summary, sums_line};
+ghost use Rattle.retro.specs.Loads.{IsSummary, count_of, declares, is_commit, is_number, load_line};
+ghost use Rattle.retro.specs.Loads.{number_at, numbers_in, numbers_of, past_line, summary, sums_line};
 
 use crate::saying::push_number;
 use crate::showing::push_line;

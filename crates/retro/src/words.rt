@@ -3,7 +3,8 @@
 ghost use Rattle.std.specs.Prelude.{◌≡◌, ◌∷◌, [], Some, IfOk, string_bytes};
 ghost use Rattle.std.specs.Char.{is_ascii_digit};
 ghost use Rattle.std.specs.List.{list_all};
-ghost use Rattle.retro.specs.Words.{Answers, asked, asked_by, format, is_folder, is_number, is_plain, IsReady, load, number_of};
+ghost use Rattle.retro.specs.Words.{Answers, asked, asked_by, format, is_folder};
+ghost use Rattle.retro.specs.Words.{is_number, is_plain, IsReady, load, number_of};
 
 use disk_model::Sizes;
 use retro_base::{MAX_CAPACITY, MAX_PAGES, MIN_CAPACITY, MIN_PAGES};
