@@ -84,6 +84,7 @@ beside at_once.py python3 "$tests/at_once/at_once.py" "$program" 100
 beside threads.py python3 "$tests/at_once/threads.py" "$program"
 beside rest.py python3 "$tests/at_once/rest.py" "$program"
 beside turns.py python3 "$tests/at_once/turns.py" "$program"
+beside beside.py python3 "$tests/at_once/beside.py" "$program"
 if may_be_another; then
     beside no_threads.py python3 "$tests/at_once/no_threads.py" "$program"
 else
@@ -91,6 +92,6 @@ else
 fi
 beside files.py python3 "$tests/files/files.py" "$program"
 beside kill.py python3 "$tests/kill/kill.py" "$program" 50
-beside "kill/at_once.py" python3 "$tests/kill/at_once.py" "$program" 10
+beside "kill/at_once.py" python3 "$tests/kill/at_once.py" "$program" 50
 printf '%d of them other than they should be\n' "$lost"
 [ "$lost" -eq 0 ]

@@ -3,8 +3,8 @@
 
 The second phase has five sessions, each with a table of its own, so that it would have seven threads with its two
 workers. Where one can't be started its session runs in turn with another, and the workers one after the other, or behind
-the sessions; none waits for what has no thread. So the replies are those of the rules each time, and each run ends in time. It needs root, `setpriv` and
-`prlimit`, and ends with status 1 at the first difference.
+the sessions; none waits for what has no thread. So the replies are those of the rules each time, and each run ends in
+time. It needs root, `setpriv` and `prlimit`, and ends with status 1 at the first difference.
 """
 import subprocess
 import sys

@@ -2,12 +2,13 @@
 """rest.py PROGRAM: the copier and the flusher come again and again while a session is at work, and rest in between.
 
 One session asks all pairs of rows of two tables, time after time, and changes nothing. Beside its thread, which is the
-first of the process, there are those of the two workers. Each of them rests at least fifteen times, as it does in a sixth
-of a second. A worker rests for a millisecond or more between two rounds, so the two give their processors up less than
-twice in a millisecond, however slow or busy the machine is; and their rounds are short, so that they use a processor for
-less than an eighth of the time. A worker that rests for less gives it up far more often, and one that does not rest uses
-all that it gets. It runs over a store, in a folder of its own under the current one, and ends with status 1 where this
-is so in none of three runs.
+first of the process, there are those of the two workers. The copier rests for a millisecond between two rounds and the
+flusher for ten, so of the two the one gives its processor up less than twice in a millisecond and the other less than
+twice in ten, however slow or busy the machine is; and their rounds are short, so that they use a processor for less
+than an eighth of the time. A worker that rests for less gives it up more often, and one that does not rest uses all
+that it gets. Nor does one rest for long: the one gives it up a hundred and twenty times a second at least, and the
+other thirty times. It runs over a store, in a folder of its own under the current one, and ends with status 1 where
+this is so in none of three runs.
 """
 import os
 import re
@@ -16,12 +17,12 @@ import sys
 import tempfile
 import time
 
-ROWS, ASKS = 500, 60
+ROWS, ASKS = 500, 120
 
 WORKERS = 2
 
-# How often each of them rests at least; how often both do at most in a second, and how much of it they use a processor.
-FEW, RESTS, PART = 15, 2000, 1 / 8
+# How often in a second the flusher rests, and the copier, at least and at most; how much of it they use a processor.
+FLUSHES, COPIES, PART = (30, 200), (120, 2000), 1 / 8
 
 # In seconds.
 LONGEST, TICK = 110, 1 / os.sysconf("SC_CLK_TCK")
@@ -94,8 +95,9 @@ def main():
         subprocess.run([program, "run", "store"], input=making(), check=True, stdout=subprocess.DEVNULL)
         while not rest and len(told) < RUNS:
             workers, took = workers_of(program)
-            waits, used = [waits for waits, _ in workers], sum(used for _, used in workers)
-            rest = len(waits) == WORKERS and min(waits) >= FEW and sum(waits) < RESTS * took and used < PART * took
+            waits, used = sorted(waits for waits, _ in workers), sum(used for _, used in workers)
+            often = all(least <= count / took < most for count, (least, most) in zip(waits, (FLUSHES, COPIES)))
+            rest = often and len(waits) == WORKERS and used < PART * took
             told.append(f"the workers waited {waits} times and used a processor for {used:.2f} of {took:.2f} seconds")
         os.chdir("..")
     print("; ".join(told))

@@ -2,9 +2,10 @@
 """threads.py PROGRAM: a phase of sixteen sessions has a thread for each of them, and one for each of the two workers.
 
 Each session asks all pairs of rows of two tables some times over, which takes it far longer than it takes to start them
-all, and holds no lock meanwhile. The threads of the process are counted while it runs: at some moment there are eighteen.
-The replies are worked out here. It runs in memory and over a store, works in a folder of its own under the current one,
-and ends with status 1 at the first difference, or where none of six runs shows so many threads.
+all, and holds no lock meanwhile. The threads of the process are counted while it runs: at some moment there are
+eighteen. Three phases without a session stand before theirs, so that it is the fifth. The replies are worked out here.
+It runs in memory and over a store, works in a folder of its own under the current one, and ends with status 1 at the
+first difference, or where none of six runs shows so many threads.
 """
 import os
 import subprocess
@@ -12,10 +13,13 @@ import sys
 import tempfile
 import time
 
-NAMES, ROWS, ASKS = "abcdefghijklmnop", 500, 4
+NAMES, ROWS, ASKS = "abcdefghijklmnop", 500, 10
 
 # The copier and the flusher.
 WORKERS = 2
+
+# Phases without a session, between the tables and the sixteen.
+EMPTY = 3
 
 # A machine that is busy elsewhere may have a session end before another begins, so there are more runs than one.
 RUNS, LONGEST = 6, 110
@@ -26,7 +30,8 @@ def inserts(table):
 
 
 def script():
-    lines = ["SESSION m", "CREATE TABLE a(x INT)", *inserts("a"), "CREATE TABLE b(y INT)", *inserts("b"), "COMMIT", "PHASE"]
+    made = ["CREATE TABLE a(x INT)", *inserts("a"), "CREATE TABLE b(y INT)", *inserts("b")]
+    lines = ["SESSION m", *made, "COMMIT", *((EMPTY + 1) * ["PHASE"])]
     for name in NAMES:
         lines += [f"SESSION {name}", *(ASKS * ["SELECT COUNT(*), MIN(x), MAX(y) FROM a, b WHERE x < y"]), "COMMIT"]
     return "".join(line + "\n" for line in lines).encode()
@@ -34,7 +39,7 @@ def script():
 
 def replies():
     made = ["ok", *(ROWS // 50 * ["ok 50"])]
-    lines = ["phase 1", "session m", "item 1", *made, *made, "committed", "phase 2"]
+    lines = ["phase 1", "session m", "item 1", *made, *made, "committed", *(f"phase {n}" for n in range(2, EMPTY + 3))]
     for name in NAMES:
         lines += [f"session {name}", "item 1", *(ASKS * ["rows 1", f"{ROWS * (ROWS - 1) // 2},0,{ROWS - 1}"]), "committed"]
     return lines
@@ -64,7 +69,8 @@ def most_threads(program, words):
         got.seek(0)
         told, journal = got.read().decode().split("journal\n")
     assert ran.returncode == 0 and told.splitlines() == replies(), (words, ran.returncode, told[-300:])
-    assert sorted(journal.splitlines()) == sorted(["1 m 1 done", *(f"2 {name} 1 done" for name in NAMES)]), journal
+    wanted = ["1 m 1 done", *(f"{EMPTY + 2} {name} 1 done" for name in NAMES)]
+    assert sorted(journal.splitlines()) == sorted(wanted), journal
     return most
 
 

@@ -3,16 +3,17 @@
 each time.
 
 Every transaction moves a number from one row to another and declares a snapshot, whose label names the session and the
-move. So whatever was committed when a run ended, the sum over the table is what it was at first, now and as of each
-snapshot, and no snapshot that was seen, or told as committed by a run that was not killed, is lost. The labels stand in
-the order of the commits: each session's moves in theirs, and of a run that was not killed those that its journal tells,
-in its order. They show what a kill came upon: there are more runs, up to twenty, until one was killed while two sessions
-at least had made some of their moves and not their last. The first run, which tells how long one takes, and the last,
-which is short, have all the time that they need. It works in a folder of its own under the current one, prints its seed
-first, and ends with status 1 at the first difference.
+move. So whatever was committed when a run ended, the labels say what the table holds, now and as of each snapshot: the
+moves in their order, worked out here. No snapshot that was seen, or told as committed by a run that was not killed, is
+lost. The labels stand in the order of the commits: each session's moves in theirs, and of a run that was not killed
+those that its journal tells, in its order. They show what a kill came upon: there are more runs, up to twenty, until
+half of them were killed, and one while two sessions at least had made some of their moves and not their last. The first
+run, which tells how long one takes, and the last, which is short, have all the time that they need. It works in a
+folder of its own under the current one, prints its seed first, and ends with status 1 at the first difference.
 """
 import os
 import random
+import re
 import signal
 import subprocess
 import sys
@@ -24,21 +25,23 @@ ROWS, FIRST, SESSIONS, MOVES, FEW = 64, 1000, "abcdefgh", 40, 6
 # The longest that a run may take, in seconds, which is not killed.
 LONGEST = 110
 
-# So many runs more than asked for, where no kill came upon two sessions.
+# So many runs more than asked for, where too few were killed, or no kill came upon two sessions.
 MORE = 20
 
 
 def moving(moves):
-    lines = ["PHASE"]
+    """A script of so many moves of each session, and each of them by its label: from where, to where, and how much."""
+    lines, made = ["PHASE"], {}
     for session in SESSIONS:
         lines.append(f"SESSION {session}")
         for move in range(1, moves + 1):
             giver, taker = random.sample(range(ROWS), 2)
-            much = random.randrange(1, 50)
+            much, label = random.randrange(1, 50), f"{session} {move}"
             lines.append(f"UPDATE t SET v = v - {much} WHERE k = {giver}")
             lines.append(f"UPDATE t SET v = v + {much} WHERE k = {taker}")
-            lines.append(f"COMMIT WITH SNAPSHOT '{session} {move}'")
-    return lines
+            lines.append(f"COMMIT WITH SNAPSHOT '{label}'")
+            made[label] = giver, taker, much
+    return lines, made
 
 
 def run(program, lines, seconds):
@@ -66,24 +69,38 @@ def told_in(text):
     return told
 
 
-def check(program, seen):
-    """The snapshots above those that were seen, with their labels, behind a look at the table now and as of some."""
+def behind(rows, move):
+    """The rows behind a move."""
+    giver, taker, much = move
+    return [v - much * (k == giver) + much * (k == taker) for k, v in enumerate(rows)]
+
+
+def check(program, made, tables):
+    """Finds the snapshots above those in `tables`, with their labels, and adds what each holds; the table has to be that,
+    now and as of some."""
+    seen = len(tables)
     shown = subprocess.run([program, "show", "books"], capture_output=True, text=True, check=True, timeout=LONGEST).stdout
     newest = next(int(line.split()[1]) for line in shown.splitlines() if line.startswith("newest"))
     assert newest >= seen, (newest, seen)
     some = sorted({1, newest, *random.sample(range(1, newest + 1), min(6, newest))})
-    asked = [f"SELECT AS OF {n} SUM(v) FROM t" for n in some]
-    made = f"SELECT * FROM SnapIds WHERE snap_id > {seen}"
-    text = run(program, ["PHASE", "SESSION a", "SELECT SUM(v) FROM t", "COMMIT", *asked, made], LONGEST)
+    asked = [f"SELECT AS OF {n} * FROM t" for n in some]
+    listed = f"SELECT * FROM SnapIds WHERE snap_id > {seen}"
+    text = run(program, ["PHASE", "SESSION a", listed, "SELECT * FROM t", "COMMIT", *asked], LONGEST)
     assert text is not None, "a look did not end"
-    lines = text.split("journal\n")[0].splitlines()
-    ends = [at for at, line in enumerate(lines) if line.startswith("item ")][-1]
-    sums = [lines[at + 1] for at, line in enumerate(lines[:ends]) if line == "rows 1"]
-    assert sums == [str(ROWS * FIRST)] * (1 + len(some)), (some, sums)
-    rows = [line.split(",") for line in lines[ends + 2 :]]
-    found = [(int(number), label) for number, label in rows]
+    looked = text.split("journal\n")[0]
+    lists, now, *past = [part.splitlines() for part in re.split(r"^item \d+\n", looked, flags=re.M)[1:]]
+    found = [(int(number), label) for number, label in (line.split(",") for line in lists[1:])]
     assert [number for number, _ in found] == list(range(seen + 1, newest + 1)), (seen, newest, found)
+    for _, label in found:
+        tables.append(behind(tables[-1], made[label]))
+    assert now == [*told_rows(tables[-1]), "committed"], ("now", now)
+    for number, rows in zip(some, past, strict=True):
+        assert rows == told_rows(tables[number - 1]), (number, rows)
     return found
+
+
+def told_rows(rows):
+    return [f"rows {ROWS}", *(f"{k},{v}" for k, v in enumerate(rows))]
 
 
 def orders(found):
@@ -112,19 +129,20 @@ def main():
     seed = int(sys.argv[3]) if len(sys.argv) > 3 else random.randrange(1 << 32)
     random.seed(seed)
     print(f"seed {seed}", flush=True)
-    runs, killed, upon, inside, seen = 0, 0, 0, 0, 1
+    runs, killed, upon, inside, tables = 0, 0, 0, 0, [ROWS * [FIRST]]
     with tempfile.TemporaryDirectory(dir=".") as folder:
         os.chdir(folder)
         make(program)
         span, is_last = LONGEST, False
         while not is_last:
-            is_last = runs >= cycles - 1 and (upon > 0 or runs >= cycles + MORE)
+            is_last = runs >= cycles - 1 and (upon > 0 and 2 * killed > runs or runs >= cycles + MORE)
             # The first run tells how long one takes.
             seconds = LONGEST if runs == 0 or is_last else min(LONGEST, random.uniform(0.05, 0.9) * span)
             began = time.monotonic()
-            text = run(program, moving(FEW if is_last else MOVES), seconds)
+            lines, made = moving(FEW if is_last else MOVES)
+            text = run(program, lines, seconds)
             took = time.monotonic() - began
-            found = check(program, seen)
+            found = check(program, made, tables)
             moves = orders(found)
             if text is None:
                 killed += 1
@@ -137,12 +155,13 @@ def main():
                 # A machine that is less busy than it was takes less.
                 span = min(span, took)
             assert text is not None or not is_last, f"the last run did not end within {LONGEST} seconds"
-            runs, seen = runs + 1, seen + len(found)
+            runs += 1
         os.chdir("..")
-    assert upon > 0 and inside > 1 and seen > 1, (killed, upon, inside, seen)
+    assert upon > 0 and inside > 1 and 2 * killed >= runs, (runs, killed, upon, inside)
     print(
-        f"{runs} runs of eight sessions, {killed} of them killed before their end, {upon} of these while two or more had made "
-        f"some of their moves, with {inside} at most inside one another; {seen} snapshots, each sum that was asked the same"
+        f"{runs} runs of eight sessions, {killed} of them killed before their end, {upon} of these while two or more had "
+        f"made some of their moves, with {inside} at most inside one another; {len(tables)} snapshots, each that was asked "
+        "as worked out"
     )
 
 
