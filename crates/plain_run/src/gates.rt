@@ -58,7 +58,9 @@ fn points_of(alloc: Global, script: &[u8]) -> Result<[u32; 3], Refusal> {
 // A session of one commit, and behind it one of two commits, a rollback, and three looks: at a snapshot, at all of them
 // for their table, and at all of them for a call.
 const SCRIPT: &[u8] =
-    b"SESSION z\nCOMMIT\nSESSION a\nCREATE TABLE t(a INT)\nCOMMIT WITH SNAPSHOT\nINSERT INTO t VALUES (1)\nROLLBACK\nSELECT AS OF 1 * FROM t\nSELECT * FROM SnapIds\nCollateData('SELECT snap_id FROM SnapIds','SELECT a FROM t','rql_c')\nSELECT * FROM rql_c\nCOMMIT\n";
+    b"SESSION z\nCOMMIT\nSESSION a\nCREATE TABLE t(a INT)\nCOMMIT WITH SNAPSHOT\nINSERT INTO t VALUES (1)\nROLLBACK\n\
+      SELECT AS OF 1 * FROM t\nSELECT * FROM SnapIds\n\
+      CollateData('SELECT snap_id FROM SnapIds','SELECT a FROM t','rql_c')\nSELECT * FROM rql_c\nCOMMIT\n";
 
 #[test]
 fn each_look_and_each_commit_is_told(rt: HostRuntime) -> Result<(), Fail> {

@@ -41,7 +41,9 @@ fn show(text: &mut String, plan: &Plan) -> Result<(), AllocError> {
 }
 
 const SCRIPT: &[u8] =
-    b"SESSION a\nINSERT INTO t VALUES (1)\nCOMMIT\nSELECT AS OF 3 * FROM t\nSELECT * FROM SnapIds\nSESSION b\nCollateData('SELECT snap_id FROM SnapIds','SELECT v FROM t','rql_c')\nSELECT * FROM rql_c\nCollateData('SELECT snap_id FROM SnapIds','SELECT v FROM t','c')\nPHASE\nSESSION c\nDROP SNAPSHOTS BELOW 2\n";
+    b"SESSION a\nINSERT INTO t VALUES (1)\nCOMMIT\nSELECT AS OF 3 * FROM t\nSELECT * FROM SnapIds\nSESSION b\n\
+      CollateData('SELECT snap_id FROM SnapIds','SELECT v FROM t','rql_c')\nSELECT * FROM rql_c\n\
+      CollateData('SELECT snap_id FROM SnapIds','SELECT v FROM t','c')\nPHASE\nSESSION c\nDROP SNAPSHOTS BELOW 2\n";
 
 #[test]
 fn a_script_is_planned(rt: HostRuntime) -> Result<(), Fail> {
@@ -127,7 +129,9 @@ fn printed(alloc: Global) -> Result<Vec<u8>, Refusal> {
 }
 
 const TRANSCRIPT: &[u8] =
-    b"phase 1\nsession a\nitem 1\nok 1\ncommitted as 6\nitem 2\nrows 0\nitem 3\nrows 1\n6,\nsession b\nitem 1\nrefused 1 OutOfMemory\nitem 2\nnot run\nitem 3\nnot run\nphase 2\nsession c\nitem 1\ndropped below 2\njournal\n1 a 1 done as 6\n1 a 2 looked 3\n1 a 2 unlooked\n2 c 1 dropped below 2\n2 copier 0 fault maplog 7\n";
+    b"phase 1\nsession a\nitem 1\nok 1\ncommitted as 6\nitem 2\nrows 0\nitem 3\nrows 1\n6,\nsession b\nitem 1\n\
+      refused 1 OutOfMemory\nitem 2\nnot run\nitem 3\nnot run\nphase 2\nsession c\nitem 1\ndropped below 2\njournal\n\
+      1 a 1 done as 6\n1 a 2 looked 3\n1 a 2 unlooked\n2 c 1 dropped below 2\n2 copier 0 fault maplog 7\n";
 
 #[test]
 fn a_run_is_printed(rt: HostRuntime) -> Result<(), Fail> {
