@@ -11,7 +11,7 @@ import sys
 import tempfile
 import time
 
-ROWS, ASKS, WRITES, COMMITS, LONGER = 10_000, 10, 30, 100, 60
+ROWS, ASKS, WRITES, COMMITS, LONGER = 10_000, 10, 30, 500, 300
 
 
 def run(program, lines):
@@ -21,23 +21,28 @@ def run(program, lines):
     return time.perf_counter() - start
 
 
+def opening(program):
+    """Seconds that a run takes which asks for nothing more."""
+    return run(program, ["PHASE", "SESSION a", "SELECT * FROM SnapIds"])
+
+
 def both(program, sessions, part):
     """Seconds of the parts done at once, and done one after the other by one session."""
-    opening = run(program, ["PHASE", "SESSION a", "SELECT * FROM SnapIds"])
     at_once = ["PHASE"] + [line for k in range(sessions) for line in [f"SESSION s{k}", *part(k)]]
     alone = ["PHASE", "SESSION a"] + [line for k in range(sessions) for line in part(k)]
-    return run(program, at_once) - opening, run(program, alone) - opening
+    opened = opening(program)
+    return run(program, at_once) - opened, run(program, alone) - opened
 
 
 def writer_beside(program, readers):
     """How many commits a second one writer makes beside readers of the past, until its last write of the log."""
     writer = ["SESSION w", *["UPDATE t0 SET b = b + 1 WHERE a < 100", "COMMIT WITH SNAPSHOT"] * COMMITS]
     others = [line for k in range(readers) for line in [f"SESSION r{k}", *["SELECT AS OF 1 SUM(b) FROM t"] * LONGER]]
-    start = time.time()
+    opened, start = opening(program), time.time()
     run(program, ["PHASE", *writer, *others])
     written = os.stat(os.path.join("books", "log")).st_mtime
     assert not readers or written < time.time() - 0.05, "the readers ended first"
-    return COMMITS / (written - start)
+    return COMMITS / (written - start - opened)
 
 
 def main():

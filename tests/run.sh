@@ -85,6 +85,7 @@ beside threads.py python3 "$tests/at_once/threads.py" "$program"
 beside rest.py python3 "$tests/at_once/rest.py" "$program"
 beside turns.py python3 "$tests/at_once/turns.py" "$program"
 beside beside.py python3 "$tests/at_once/beside.py" "$program"
+beside full.py python3 "$tests/at_once/full.py" "$program"
 if may_be_another; then
     beside no_threads.py python3 "$tests/at_once/no_threads.py" "$program"
 else

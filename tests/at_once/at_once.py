@@ -1,5 +1,6 @@
 #!/usr/bin/env python3
-"""at_once.py PROGRAM [RUNS]: runs one script of eight sessions at once, many times, and judges each transcript.
+"""at_once.py PROGRAM [RUNS]: runs one script of eight sessions at once, many times, and judges each transcript: every
+fifth run is over a new store, in a folder of its own under the current one, the others in memory.
 
 The sessions of the second phase change the rows of one table and look at it, some with a snapshot at their commit and
 one as of the first snapshot. The judge takes the visible lines of the journal in their order and does what each item
@@ -10,10 +11,15 @@ and not ended at once; until one has, the script is run up to ten times as often
 """
 import os
 import re
+import shutil
 import subprocess
 import sys
+import tempfile
 
 ROWS, SESSIONS, ITEMS = 4, "abcdefgh", 8
+
+# Of so many runs one is over a store.
+KEPT = 5
 
 # Of the maker, and of three items of each session.
 SNAPSHOTS = 1 + 3 * len(SESSIONS)
@@ -44,88 +50,98 @@ def script():
     return "\n".join(lines) + "\n"
 
 
-def run(program):
-    done = subprocess.run([program, "run"], input=script(), text=True, capture_output=True, timeout=110)
+def run(program, words):
+    done = subprocess.run([program, *words], input=script(), text=True, capture_output=True, timeout=110)
     assert done.returncode == 0, done.stdout[-300:]
     text, journal = done.stdout.split("journal\n")
     return text.splitlines(), journal.splitlines()
-
-
-def replies_of(lines):
-    """The replies of each item, by phase, session and item."""
-    found, phase, session, item = {}, 0, "", 0
-    for line in lines:
-        word = line.split(" ")
-        if word[0] == "phase":
-            phase = int(word[1])
-        elif word[0] == "session":
-            session = word[1]
-        elif word[0] == "item":
-            item = int(word[1])
-            found[phase, session, item] = []
-        else:
-            found[phase, session, item].append(line)
-    return found
 
 
 def rows_of(state):
     return [f"rows {ROWS}", *(f"{k},{v}" for k, v in enumerate(state))]
 
 
-def judge_look(said, got):
-    """The look as of the first snapshot tells its two lines, and what that snapshot holds."""
-    assert said == ["looked 1", "unlooked"] and got == ["rows 1", "0"], ("a look", said, got)
+def text_of(replies, snapshots, numbers):
+    """The text, of the replies to each session's items, what each snapshot holds, and what the table holds at the end."""
+    text = ["phase 1", "session maker", "item 1", "ok", f"ok {ROWS}", "committed as 1", "phase 2"]
+    for session in SESSIONS:
+        text += [f"session {session}", *(line for k in range(1, ITEMS + 1) for line in (f"item {k}", *replies[session, k]))]
+    text += ["phase 3", "session reader", "item 1", *rows_of(numbers), "committed"]
+    for n in range(1, SNAPSHOTS + 1):
+        none = [f"refused 9 NoSuchSnapshot {n} {max(snapshots)}"]
+        text += [f"item {n + 1}", *(rows_of(snapshots[n]) if n in snapshots else none)]
+    return text
 
 
-def judge_refused(session, got):
-    """A refused item names an item of another session of the phase that changes rows."""
-    assert got[:-1] in ([], ["ok 1"]) or got[:2] == ["ok 1", "rows 1"], got
-    named = re.fullmatch(r"refused 8 Overlap ([a-h]) ([1-46-8])", got[-1])
-    assert named and named[1] != session, ("who overlapped", session, got)
+def read(snapshots):
+    """The lines of the reader, whose items look at each snapshot that there may be."""
+    lines = ["3 reader 1 done"]
+    for n in range(1, SNAPSHOTS + 1):
+        lines += [f"3 reader {n + 1} {said}" for said in ([f"looked {n}", "unlooked"] if n in snapshots else ["refused 9"])]
+    return lines
 
 
-def judge_items(replies, journal):
+def replied(text, session, item):
+    """The lines behind an item of the second phase."""
+    at = text.index(f"item {item}", text.index(f"session {session}", text.index("phase 2"))) + 1
+    return text[at:next(end for end in range(at, len(text)) if text[end].split(" ")[0] in ("item", "session", "phase"))]
+
+
+def room_of(lines, session, item):
+    """Between which lines the attempts of an item lie: that of the item before, and its own or that of an item behind."""
+    own = [(at, int(number)) for at, (name, number, _) in enumerate(lines) if name == session]
+    before, behind = [at for at, number in own if number < item], [at for at, number in own if number >= item]
+    return max(before, default=-1), min(behind, default=len(lines))
+
+
+def judge_refused(lines, session, item, got):
+    """A refused item answers alone, and names an item of another session that changes rows and may have been open with it."""
+    named = re.fullmatch(r"refused 8 Overlap ([a-h]) ([1-46-8])", got[0])
+    assert len(got) == 1 and named and named[1] != session, ("who overlapped", session, got)
+    (begun, ended), (opened, closed) = room_of(lines, session, item), room_of(lines, named[1], int(named[2]))
+    assert begun < closed and opened < ended, ("it was not open then", session, item, got)
+
+
+def judge_items(text, lines, replies):
     """Each session tells its items in their order: one line of each that was done, two of its look, and none of one that
-    overlapped others, of which it answers the count."""
+    overlapped others, whose reply is taken over and whose count is answered."""
     refused = 0
     for session in SESSIONS:
-        lines = [line.split(" ", 3)[2:] for line in journal if line.startswith(f"2 {session} ")]
-        items = [int(item) for item, _ in lines]
+        items = [int(item) for name, item, _ in lines if name == session]
         assert items == sorted(items), ("the items of a session go back", session, items)
         for item in range(1, ITEMS + 1):
-            said, got = [said for number, said in lines if int(number) == item], replies[2, session, item]
+            said = [said for name, number, said in lines if (name, int(number)) == (session, item)]
             if item == 5:
-                judge_look(said, got)
+                assert said == ["looked 1", "unlooked"], ("a look", session, said)
+                replies[session, item] = ["rows 1", "0"]
             elif not said:
-                judge_refused(session, got)
+                replies[session, item] = replied(text, session, item)
+                judge_refused(lines, session, item, replies[session, item])
                 refused += 1
             else:
-                assert len(said) == 1 and said[0].startswith("done"), (session, item, said)
+                assert len(said) == 1, (session, item, said)
     return refused
 
 
 def judge(text, journal):
     """Checks a transcript against its journal, and answers the order of the commits and the count of refused items."""
-    replies, numbers, order = replies_of(text), [0] * ROWS, []
-    snapshots = {1: tuple(numbers)}
-    for line in journal:
-        phase, session, item, said = line.split(" ", 3)
-        got = replies.get((int(phase), session, int(item)))
-        if phase == "2" and said.startswith("done"):
+    lines = [line.split(" ", 3)[1:] for line in journal if line.startswith("2 ")]
+    assert all(session in SESSIONS for session, _, _ in lines), "a line of nobody's item"
+    replies, numbers, order, snapshots = {}, [0] * ROWS, [], {1: (0,) * ROWS}
+    for session, item, said in lines:
+        if item != "5":
             row, value = change(session, int(item))
             numbers[row] += value
             end = "committed"
             if int(item) % 2:
                 snapshots[len(snapshots) + 1] = tuple(numbers)
                 end = f"committed as {len(snapshots)}"
-            assert said == end.replace("committed", "done"), (line, len(snapshots))
-            assert got == ["ok 1", "rows 1", str(sum(numbers)), end], (line, got)
+            assert said == end.replace("committed", "done"), (session, item, said, end)
+            replies[session, int(item)] = ["ok 1", "rows 1", str(sum(numbers)), end]
             order.append((session, int(item)))
-    refused = judge_items(replies, journal)
-    assert replies[3, "reader", 1][:-1] == rows_of(numbers), "what the table holds at the end"
-    for number, item in enumerate(sorted(i for p, s, i in replies if p == 3)[1:], 1):
-        got = replies[3, "reader", item]
-        assert got == rows_of(snapshots[number]) if number in snapshots else got[0].startswith("refused"), ("snapshot", number)
+    refused = judge_items(text, lines, replies)
+    assert journal == ["1 maker 1 done as 1", *(" ".join(["2", *line]) for line in lines), *read(snapshots)], "the journal"
+    assert text == text_of(replies, snapshots, numbers), "the replies"
     return tuple(order), refused
 
 
@@ -154,13 +170,7 @@ def made(items=range(1, ITEMS + 1), left_out=0, overlapped={}):
             end = f" as {newest}" if item % 2 else ""
             replies[session, item] = ["ok 1", "rows 1", str(sum(numbers)), f"committed{end}"]
             journal.append(f"2 {session} {item} done{end}")
-    text = ["phase 1", "session maker", "item 1", "ok", f"ok {ROWS}", "committed as 1", "phase 2"]
-    for session in SESSIONS:
-        text += [f"session {session}", *(line for k in range(1, ITEMS + 1) for line in (f"item {k}", *replies[session, k]))]
-    text += ["phase 3", "session reader", "item 1", *rows_of(numbers), "committed"]
-    for n in range(1, SNAPSHOTS + 1):
-        text += [f"item {n + 1}", *(rows_of(states[n]) if n in states else [f"refused 9 NoSuchSnapshot {n} {newest}"])]
-    return text, journal
+    return text_of(replies, states, numbers), journal + read(states)
 
 
 def with_looks(transcript, reply, lines):
@@ -181,7 +191,7 @@ def is_lawful(transcript):
 def judge_the_judge():
     """Made transcripts: the judge passes those that a run may give, and refuses each other."""
     looks = ["looked 1", "unlooked"]
-    lawful = {"sessions in turn": made(), "an overlap": made(overlapped={("h", 8): "g 1", ("b", 1): "h 8"})}
+    lawful = {"sessions in turn": made(), "an overlap": made(overlapped={("h", 1): "g 8", ("b", 1): "a 8"})}
     unlawful = {
         "a look of another value without a line": with_looks(made(), ["rows 1", "999"], []),
         "a look of another value": with_looks(made(), ["rows 1", "999"], looks),
@@ -191,11 +201,25 @@ def judge_the_judge():
         "looks without memory": with_looks(made(), ["refused 1 OutOfMemory"], []),
         "the items of a session backwards": made(range(ITEMS, 0, -1)),
         "a number left out": made(left_out=7),
-        **{f"an overlap with {name}": made(overlapped={("h", 8): name}) for name in ("h 1", "maker 1", "g 9", "g 5")},
+        **{f"an overlap with {name}": made(overlapped={("h", 1): name}) for name in ("h 2", "maker 1", "g 9", "g 5")},
+        "an overlap with one that was over": made(overlapped={("c", 3): "b 8"}),
+        "an overlap with one to come": made(overlapped={("b", 1): "h 8"}),
     }
     text, journal = made()
-    unlawful["a line twice"] = text, journal[:2] + journal[1:]
-    unlawful["a commit without its line"] = text, journal[:-1]
+    refused = made(overlapped={("h", 1): "g 8"})
+    at = refused[0].index("refused 8 Overlap g 8")
+    third = journal.index("3 reader 1 done")
+    unlawful |= {
+        "a line twice": (text, journal[:2] + journal[1:]),
+        "a commit without its line": (text, [line for line in journal if line != "2 h 8 done"]),
+        "a refusal behind other replies": (refused[0][:at] + ["ok 1", "rows 1", "7"] + refused[0][at:], refused[1]),
+        "no line of the maker": (text, journal[1:]),
+        "no line of the reader's commit": (text, journal[:third] + journal[third + 1:]),
+        "a line of the reader too early": (text, [*journal[:9], journal[third], *journal[9:third], *journal[third + 1:]]),
+        "a fault of the copier": (text, journal[:third] + ["2 copier 0 fault maplog 1"] + journal[third:]),
+        "another refusal of a look": ([line.replace("9 NoSuchSnapshot", "10 Dropped") for line in refused[0]], refused[1]),
+        "sessions out of order": ([{"session a": "session b", "session b": "session a"}.get(line, line) for line in text], journal),
+    }
     for judged, wanted in ((lawful, True), (unlawful, False)):
         wrong = [name for name, transcript in judged.items() if is_lawful(transcript) != wanted]
         assert not wrong, ("the judge is wrong at", wrong)
@@ -206,13 +230,19 @@ def main():
     program, runs = os.path.abspath(sys.argv[1]), int(sys.argv[2]) if len(sys.argv) > 2 else 100
     judge_the_judge()
     orders, made, refused, inside = set(), 0, 0, 0
-    while made < runs or (inside == 0 and made < 10 * runs):
-        text, journal = run(program)
-        order, count = judge(text, journal)
-        orders.add(order)
-        made += 1
-        refused += count
-        inside += most_inside(journal) > 2
+    with tempfile.TemporaryDirectory(prefix="at-once-", dir=".") as room:
+        store = os.path.join(room, "store")
+        while made < runs or (inside == 0 and made < 10 * runs):
+            stored = made % KEPT == 0
+            if stored:
+                subprocess.run([program, "format", store, "64", "4096"], check=True, stdout=subprocess.DEVNULL)
+            text, journal = run(program, ["run", store] if stored else ["run"])
+            shutil.rmtree(store, ignore_errors=True)
+            order, count = judge(text, journal)
+            orders.add(order)
+            made += 1
+            refused += count
+            inside += most_inside(journal) > 2
     print(f"{made} runs, {len(orders)} orders, {inside} runs with three sessions inside at once; {refused} items overlapped 64 times")
     sys.exit(len(orders) < 2 or inside == 0)
 

@@ -5,7 +5,7 @@ One session changes a row a thousand times or more, and declares a snapshot with
 captures the page, which is written back once that is copied. While it runs the times of the store's files are looked at:
 in a run of two seconds or more the archive's and the pages' are written ten times a second at least, told apart by
 their times, and not only at the run's end. It works in a folder of its own under the current one, and ends with status 1
-where this is so in none of three runs.
+where this is so in none of three such runs.
 """
 import os
 import subprocess
@@ -13,11 +13,15 @@ import sys
 import tempfile
 import time
 
-# How many commits each run has: more where those before were too few, on a fast machine.
-CHANGES, EACH = (1000, 4000, 16000), 10
+# How many commits the first run has, and after how many a snapshot is declared; each further run has four times as many
+# commits as the one before, until it is long enough, however fast the machine is.
+FIRST, EACH, MORE = 1000, 10, 4
 
 # How often a second each file is written at least, in a run of so many seconds or more.
 OFTEN, LEAST, LONGEST = 10, 2, 110
+
+# In how many runs that are long enough this may fail to be so.
+TRIES = 3
 
 FILES = ("pagelog", "maplog", "pages")
 
@@ -53,13 +57,16 @@ def main():
     program, told, often = os.path.abspath(sys.argv[1]), [], False
     with tempfile.TemporaryDirectory(prefix="beside-", dir=".") as room:
         os.chdir(room)
-        for count in CHANGES:
+        count, tries = FIRST, TRIES
+        while not often and tries > 0:
             moments, took = moments_of(program, count)
             often = took >= LEAST and min(moments.values()) >= OFTEN * took
             written = ", ".join(f"{name} {many} times" for name, many in moments.items())
             told.append(f"beside {count} commits in {took:.1f} seconds were written {written}")
-            if often:
-                break
+            if took < LEAST:
+                count *= MORE
+            else:
+                tries -= 1
         os.chdir("..")
     print("; ".join(told))
     sys.exit(not often)

@@ -2,13 +2,13 @@
 """rest.py PROGRAM: the copier and the flusher come again and again while a session is at work, and rest in between.
 
 One session asks all pairs of rows of two tables, time after time, and changes nothing. Beside its thread, which is the
-first of the process, there are those of the two workers. The copier rests for a millisecond between two rounds and the
-flusher for ten, so of the two the one gives its processor up less than twice in a millisecond and the other less than
-twice in ten, however slow or busy the machine is; and their rounds are short, so that they use a processor for less
-than an eighth of the time. A worker that rests for less gives it up more often, and one that does not rest uses all
-that it gets. Nor does one rest for long: the one gives it up a hundred and twenty times a second at least, and the
-other thirty times. It runs over a store, in a folder of its own under the current one, and ends with status 1 where
-this is so in none of three runs.
+first of the process, there are those of the two workers, of which the flusher's is started first. The copier rests for a
+millisecond between two rounds and the flusher for ten, so the one gives its processor up less than twice in a
+millisecond and the other less than twice in ten, however slow or busy the machine is; and their rounds are short, so
+that they use a processor for less than an eighth of the time. A worker that rests for less gives it up more often, and
+one that does not rest uses all that it gets. Nor does one rest for long: the copier gives it up a hundred and twenty
+times a second at least, and the flusher thirty times. It runs over a store, in a folder of its own under the current
+one, and ends with status 1 where this is so in none of three runs.
 """
 import os
 import re
@@ -84,7 +84,7 @@ def workers_of(program):
         got.seek(0)
         told = got.read().decode().splitlines()
     assert ran.returncode == 0 and told.count(f"{ROWS * (ROWS - 1) // 2},0,{ROWS - 1}") == ASKS, (ran.returncode, told[-9:])
-    return [those for thread, those in seen.items() if thread != ran.pid], took
+    return [those for thread, those in sorted(seen.items()) if thread != ran.pid], took
 
 
 def main():
@@ -95,7 +95,7 @@ def main():
         subprocess.run([program, "run", "store"], input=making(), check=True, stdout=subprocess.DEVNULL)
         while not rest and len(told) < RUNS:
             workers, took = workers_of(program)
-            waits, used = sorted(waits for waits, _ in workers), sum(used for _, used in workers)
+            waits, used = [waits for waits, _ in workers], sum(used for _, used in workers)
             often = all(least <= count / took < most for count, (least, most) in zip(waits, (FLUSHES, COPIES)))
             rest = often and len(waits) == WORKERS and used < PART * took
             told.append(f"the workers waited {waits} times and used a processor for {used:.2f} of {took:.2f} seconds")

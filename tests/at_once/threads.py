@@ -3,9 +3,10 @@
 
 Each session asks all pairs of rows of two tables some times over, which takes it far longer than it takes to start them
 all, and holds no lock meanwhile. The threads of the process are counted while it runs: at some moment there are
-eighteen. Three phases without a session stand before theirs, so that it is the fifth. The replies are worked out here.
-It runs in memory and over a store, works in a folder of its own under the current one, and ends with status 1 at the
-first difference, or where none of six runs shows so many threads.
+eighteen. Phases without a session stand before theirs, so that it is a late one. The replies are worked out here. It
+runs in memory and over a store. So does a load run its four sessions of each round beside one another: at some moment
+of many short rounds there are more threads than a session and the workers. It works in a folder of its own under the
+current one, and ends with status 1 at the first difference, or where none of six runs shows so many threads.
 """
 import os
 import subprocess
@@ -19,10 +20,16 @@ NAMES, ROWS, ASKS = "abcdefghijklmnop", 500, 10
 WORKERS = 2
 
 # Phases without a session, between the tables and the sixteen.
-EMPTY = 3
+EMPTY = 100
+
+# Sessions of a round of a load, and rounds.
+LOADED, ROUNDS = 4, 300
 
 # A machine that is busy elsewhere may have a session end before another begins, so there are more runs than one.
 RUNS, LONGEST = 6, 110
+
+# Between two looks at the threads, in seconds.
+TICK = 0.001
 
 
 def inserts(table):
@@ -53,22 +60,30 @@ def threads_of(ran):
         return 0
 
 
-def most_threads(program, words):
-    """The most threads that were seen at one time in a run, whose transcript is the one."""
+def most_threads(program, words, script=b""):
+    """The most threads that were seen at one time in a run, and what it told."""
     with tempfile.TemporaryFile() as given, tempfile.TemporaryFile() as got:
-        given.write(script())
+        given.write(script)
         given.seek(0)
         ran, most, until = subprocess.Popen([program, *words], stdin=given, stdout=got), 0, time.monotonic() + LONGEST
         while ran.poll() is None and time.monotonic() < until:
             most = max(most, threads_of(ran))
-            time.sleep(0.002)
+            time.sleep(TICK)
         if ran.poll() is None:
             ran.kill()
             ran.wait()
             sys.exit(f"{words}: it did not end within {LONGEST} seconds")
         got.seek(0)
-        told, journal = got.read().decode().split("journal\n")
-    assert ran.returncode == 0 and told.splitlines() == replies(), (words, ran.returncode, told[-300:])
+        told = got.read().decode()
+    assert ran.returncode == 0, (words, ran.returncode, told[-300:])
+    return most, told
+
+
+def most_of_sixteen(program, words):
+    """The most threads at one time of a run of the script, whose transcript is the one."""
+    most, told = most_threads(program, words, script())
+    text, journal = told.split("journal\n")
+    assert text.splitlines() == replies(), (words, text[-300:])
     wanted = ["1 m 1 done", *(f"{EMPTY + 2} {name} 1 done" for name in NAMES)]
     assert sorted(journal.splitlines()) == sorted(wanted), journal
     return most
@@ -82,11 +97,15 @@ def main():
             most, runs = 0, 0
             while most < wanted and runs < RUNS:
                 subprocess.run([program, "format", "store", "64", "4096"], check=True, stdout=subprocess.DEVNULL)
-                most, runs = max(most, most_threads(program, words)), runs + 1
+                most, runs = max(most, most_of_sixteen(program, words)), runs + 1
             assert most >= wanted, (words, "the most threads at one time, and those wanted", most, wanted)
             seen.append(f"{most} threads at once in {runs} runs of retro {' '.join(words)}")
         os.chdir("..")
-    print(f"{len(NAMES)} sessions: {', '.join(seen)}")
+    most, told = most_threads(program, ["load", "1", str(ROUNDS)])
+    done = LOADED * ROUNDS + ROUNDS + 2
+    assert told.startswith(f"load 1 {ROUNDS}\ncommitted {done}\nsnapshots {ROUNDS + 1}\n"), told
+    assert most > 1 + WORKERS, ("the most threads at one time of a load", most)
+    print(f"{len(NAMES)} sessions: {', '.join(seen)}; {most} in a load")
 
 
 main()

@@ -99,7 +99,8 @@ fn main(rt: HostRuntime) -> ExitCode {
             left,
         } = cost;
         let told = println!(rt;
-            "{inserts} rows: at most {insert} pages read by an insert, {scan} by the scan, {one} by a change of one row, {all} by one of all, {half} by a delete of half; {left} rows are left"
+            "{inserts} rows: at most {insert} pages read by an insert, {scan} by the scan, {one} by a change of one row, \
+             {all} by one of all, {half} by a delete of half; {left} rows are left"
         );
         if told.is_err() {
             return ExitCode::FAILURE;

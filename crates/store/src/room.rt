@@ -17,6 +17,7 @@ use disk_model::Disk;
 use race_model::Batch;
 use retro_base::{Refusal, Who};
 use std::sync::Wait;
+use std::thread;
 
 // Whether a line of its own tells what became of a drop.
 fn tells_drop(answer: &Result<(), Refusal>) -> bool
@@ -61,7 +62,8 @@ impl<D: Disk + Drop> Store<D> {
         self.cut_log(rt, seat, who, bytes)
     }
 
-    // Makes rounds until the log has room for so many bytes, or one is refused.
+    // Makes rounds until the log has room for so many bytes, or one is refused. Another session's round may have to end
+    // before there is, so it gives way behind each of its own.
     fn make_room<R: Wait>(
         &self,
         rt: &R,
@@ -83,7 +85,7 @@ impl<D: Disk + Drop> Store<D> {
         'rounds: for _ in rt.forever() {
             match self.room_round(rt, seat, who, bytes, &mut batch) {
                 Ok(true) => return Ok(()),
-                Ok(false) => {}
+                Ok(false) => thread::yield_now(),
                 Err(why) => return Err(why),
             }
         }
@@ -121,7 +123,7 @@ impl<D: Disk + Drop> Store<D> {
                     Refusal::NoRoom { needed, .. } => match self.make_room(rt, seat, who, needed) {
                         Ok(()) => {}
                         Err(why) => match why {
-                            Refusal::Stopped { .. } => {}
+                            Refusal::Stopped { .. } => thread::yield_now(),
                             _ => return Err(why),
                         },
                     },
@@ -180,7 +182,7 @@ impl<D: Disk + Drop> Store<D> {
                     Refusal::NoRoom { needed, .. } => match self.make_room(rt, seat, who, needed) {
                         Ok(()) => {}
                         Err(why) => match why {
-                            Refusal::Stopped { .. } => {}
+                            Refusal::Stopped { .. } => thread::yield_now(),
                             _ => return Err(why),
                         },
                     },
