@@ -7,5 +7,5 @@ mod value;
 mod writing;
 
 pub use laws::{one_row, row_size};
-pub use reading::decode;
+pub use reading::{decode, decode_into};
 pub use writing::{encode, encoded_length};

@@ -59,6 +59,16 @@ impl<T> Seq<T> {
         self.items.is_empty()
     }
 
+    /// Takes all items out, and makes room for so many, in the memory that there is where that is enough.
+    pub fn refill(&mut self, count: usize) -> Result<(), AllocError>
+    where
+        T: Drop,
+        ensures { OnOk result (self.new ≡ []) }
+    {
+        self.items.clear();
+        self.items.reserve_exact(count)
+    }
+
     /// Keeps the first `count` items.
     pub fn truncate(&mut self, count: usize)
     where

@@ -5,8 +5,8 @@ use Rattle.row_codec.proofs.reading.first_values.Given as goal
 
 abbrev pub invariant-values : goal.invariant-values
 invariant-values l = record {
-  count : length l.row.items ≡ l.counter;
-  lawful : AllByRecursion IsValue l.row.items;
+  count : length l.row ≡ l.counter;
+  lawful : AllByRecursion IsValue l.row;
   within : l.end ≤ length l.bytes;
-  read : l.bytes ≡ flat_map value_code l.row.items ++ drop l.end l.bytes;
+  read : l.bytes ≡ flat_map value_code l.row ++ drop l.end l.bytes;
 }
