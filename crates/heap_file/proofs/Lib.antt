@@ -6,4 +6,5 @@ pub mod Ways
 pub mod Routes
 pub mod Fronts
 pub mod Sieves
+pub mod Walks
 pub mod Sifts

@@ -33,12 +33,6 @@ pub goes_on : (links : List Link) (link : Link) (page : ℕ) → page ≢ 0 → 
 goes_on [] link page named = named
 goes_on (first ∷ links) link page named = named
 
--- the bytes of a page that is there
-pub page_in-bytes : (size : ℕ) (pages : Pages) (page : ℕ) (bytes : List ℕ) → page < size → page_in size pages page ≡ Ok bytes → pages.at page ≡ bytes
-page_in-bytes size pages page bytes there is =
-    let found : page_in size pages page ≡ Ok (pages.at page) = rw (lt-ltb page size there) refl in
-    cc
-
 -- an answer that is handed on is allowed where it was
 pub allowed_on : {X Y F : Type 0} (view : X → Y) (P Q : Result Y Refusal → Type 0) (r : Result X (Stop F)) → ((a : Result Y Refusal) → P a → Q a) → Allowed view P r → Allowed view Q r
 allowed_on view P Q (Ok x) go allowed = go (Ok (view x)) allowed

@@ -91,6 +91,10 @@ IsFirstEntry bytes None = (entry : Entry) (behind : List ℕ) → IsEntry entry 
 IsFirstEntry bytes (Some found) =
     IsEntry found.0 × (found.1 ≤ length bytes) × (bytes ≡ entry_code found.0 ++ drop found.1 bytes)
 
+-- an entry under a number, with a length, whose row is this
+abbrev pub entry_of : List Value → ℕ × ℕ → Entry × ℕ
+entry_of row found = (record { number = found.0; row = row }, found.1)
+
 -- bytes hold one thing alone
 abbrev pub HoldsOne : Type 0
 HoldsOne = (bytes : List ℕ) (p q : HeapPage) → HoldsRows bytes p → HoldsRows bytes q → p ≡ q

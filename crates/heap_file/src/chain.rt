@@ -6,11 +6,11 @@ ghost use Rattle.heap_file.specs.HeapPage.{IsHeapPage, IsNarrow, page_bytes};
 ghost use Rattle.pager.specs.Draft.{Reads, drafted};
 ghost use Rattle.pager.specs.Pages.{Pages, with_bytes};
 ghost use Rattle.pager.specs.Stop.{OnlyReads};
-ghost use Rattle.heap_file.specs.Chain.{heap_page};
+ghost use Rattle.heap_file.specs.Chain.{heap_page, page_there};
 
 use crate::page::{HeapPage, held, page_of};
 use pager::{Draft, Pager, Stop, broken};
-use retro_base::Refusal;
+use retro_base::{Page, Refusal};
 use std::alloc::Global;
 use values::Row;
 
@@ -44,14 +44,25 @@ pub fn load<P: Pager>(
     ensures lawful { IfOk result IsHeapPage }
     ensures narrow { IfOk result IsNarrow }
 {
-    if page == 0 {
-        return Err(Stop::Refused(broken(page)));
-    }
-    let bytes = draft.read(pager, page)?;
+    let bytes = page_there(pager, draft, page)?;
     match held(alloc, &bytes)? {
         Some(held) => Ok(held),
         None => Err(Stop::Refused(broken(page))),
     }
+}
+
+/// The page of that number, which may be no heap page.
+pub fn page_there<P: Pager>(pager: &mut P, draft: &Draft, page: u32) -> Result<Page, Stop<P::Fault>>
+    requires { draft.now.size ≡ P.size pager.old }
+    ensures read { Reads (λ bytes. bytes) (P.tells pager.new) draft.now.list
+        (λ pages. page_there draft.now.size pages page) result }
+    ensures only_reads { OnlyReads P.tells P.goes P.size P.faults pager.old pager.new result }
+    ensures there { OnOk result (page < draft.now.size) }
+{
+    if page == 0 {
+        return Err(Stop::Refused(broken(page)));
+    }
+    draft.read(pager, page)
 }
 
 /// Drafts that a page holds this.

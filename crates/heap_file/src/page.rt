@@ -16,7 +16,7 @@ use values::{Row, Seq};
 /// Where the entries of a page begin.
 pub const HEADER_BYTES: usize = 20;
 /// Byte 0 of a heap page.
-const HEAP_PAGE: u8 = 1;
+pub(crate) const HEAP_PAGE: u8 = 1;
 
 /// A row under its number.
 #[derive(Debug, Drop)]

@@ -1,11 +1,9 @@
 use Rattle.std.proofs.Common.{ℕ, List, inr, subst}
-use Rattle.pager.specs.Draft.{drafted}
 use Rattle.heap_file.specs.HeapPage.{HoldsRows}
-use Rattle.heap_file.proofs.Ways.{page_in-bytes}
 use Rattle.heap_file.proofs.chain.load.Goals as goal
 
 pub returns-in-None-clause-read : goal.returns-in-None-clause-read
 returns-in-None-clause-read g c = λ base shown told.
-    let bytes = page_in-bytes c.args.draft.now.size (drafted shown c.args.draft.now.list) c.args.page c.in_ok-bytes.bytes c.in_ok-bytes.ensures.inside (c.in_ok-bytes.ensures.read base shown told) in
+    let there = c.in_ok-bytes.ensures.read base shown told in
     let none = rw c.in-None.is at c.in_ok-held.ensures.held in
-    inr (c.broken-in-None.ensures, λ held at. none held (subst (λ (b : List ℕ). HoldsRows b held) bytes at.holds))
+    inr (c.broken.ensures, λ held at. none held (subst (λ (b : List ℕ). HoldsRows b held) there.2 at.holds))

@@ -1,4 +1,6 @@
+use Rattle.std.proofs.Common.{◌∙◌, List, ℕ, ap}
 use Rattle.std.proofs.lemmas.Result.{err_from_is_err_and}
+use Rattle.retro_base.specs.Fields.{number_at}
 use Rattle.pager.specs.Draft.{drafted}
 use Rattle.heap_file.proofs.Sifts.{with-next, with-next-not}
 use Rattle.heap_file.proofs.Ways.{allowed_stop}
@@ -7,11 +9,12 @@ use Rattle.heap_file.proofs.scanning.scan_with_next.Goals as goal
 pub returns-in_err-rows-clause-scanned : goal.returns-in_err-rows-clause-scanned
 returns-in_err-rows-clause-scanned g c = λ base shown told.
     let p = err_from_is_err_and c.from_residual-in_err-rows.result c.from_residual-in_err-rows.ensures.1 in
-    let at = c.in_ok-held.ensures.read base shown (c.in_err-rows.ensures.only_reads.narrows base shown told) in
+    let there = c.in_ok-head.ensures.read base shown (c.in_err-rows.ensures.only_reads.narrows base shown told) in
     rw (p.1, p.2)
-    (allowed_stop c.in_err-rows.field-0.0 (λ why h. with-next-not c.args.draft.now.size (drafted shown c.args.draft.now.list) c.args.first why (h at)) (c.in_err-rows.ensures.sifted base shown told))
+    (allowed_stop c.in_err-rows.field-0.0 (λ why h. with-next-not c.args.draft.now.size (drafted shown c.args.draft.now.list) c.args.first why (h there)) (c.in_err-rows.ensures.sifted base shown told))
 
 pub returns-clause-scanned : goal.returns-clause-scanned
 returns-clause-scanned g c = λ base shown told.
-    let at = c.in_ok-held.ensures.read base shown (c.in_ok-rows.ensures.only_reads.narrows base shown told) in
-    with-next c.args.draft.now.size (drafted shown c.args.draft.now.list) c.args.first c.in_ok-held.held c.in_ok-rows.rows.items at (c.in_ok-rows.ensures.sifted base shown told at)
+    let there = c.in_ok-head.ensures.read base shown (c.in_ok-rows.ensures.only_reads.narrows base shown told) in
+    with-next c.args.draft.now.size (drafted shown c.args.draft.now.list) c.args.first c.get_u64-next.result c.in_ok-head.head c.in_ok-rows.rows.items there
+    (c.get_u64-next.ensures ∙ ap (λ (b : List ℕ). number_at 8 b 8) c.bytes.ensures.same) (c.in_ok-rows.ensures.sifted base shown told there)

@@ -2,7 +2,7 @@ use Rattle.std.proofs.Common.{◌≡◌, ◌∙◌, ◌+◌, ◌-◌, ℕ, None,
 use Rattle.retro_base.specs.Fields.{number_at}
 use Rattle.row_codec.specs.RowCode.{IsDecoded}
 use Rattle.heap_file.proofs.Packing.{short_for_entry, past_the_end, no_row_there, entry_there}
-use Rattle.heap_file.proofs.entries.first_entry.Goals as goal
+use Rattle.heap_file.proofs.entries.first_entry_into.Goals as goal
 
 pub returns-then-bytes-lt2-clause-found : goal.returns-then-bytes-lt2-clause-found
 returns-then-bytes-lt2-clause-found c = short_for_entry c.args.bytes.now c.if-bytes-lt2.true
@@ -24,5 +24,5 @@ returns-clause-found c =
     let bytes = c.args.bytes.now in
     let n : c.from-end.result ≡ number_at 2 bytes 0 = c.from-end.ensures ∙ c.get_u16.ensures in
     let long : 2 + c.from-end.result - 2 ≡ number_at 2 bytes 0 = omega arith in
-    rw n (entry_there bytes c.in-Some.number c.in-Some.row (λ i. omega (arith, c.type_inv.bytes i)) (omega arith)
-    (subst (λ (k : ℕ). IsDecoded (take k (drop 2 bytes)) (Some (c.in-Some.number, c.in-Some.row))) long (rw c.in-Some.is at c.in_ok-number.ensures.decoded)))
+    rw n (entry_there bytes c.in-Some.number c.decode_into.new.row (λ i. omega (arith, c.type_inv.bytes i)) (omega arith)
+    (subst (λ (k : ℕ). IsDecoded (take k (drop 2 bytes)) (Some (c.in-Some.number, c.decode_into.new.row))) long (rw c.in-Some.is at c.in_ok-number.ensures.decoded)))
