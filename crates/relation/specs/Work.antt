@@ -11,7 +11,7 @@ use Rattle.sql_tree.specs.declared.statement.Column.{Column as TableColumn}
 use Rattle.pager.specs.Pages.{Pages, broken}
 use Rattle.heap_file.specs.declared.chain.Placed.{Placed}
 use Rattle.pager.specs.Allows.{◌>>=◌, in_turn, only}
-use Rattle.heap_file.specs.Sieving.{sifted}
+use Rattle.heap_file.specs.Sieving.{meets, sifted}
 use Rattle.heap_file.specs.Work.{added, changed, got, made, next_of, removed}
 use Rattle.pager.specs.declared.index.Found.{Found}
 use Rattle.relation.specs.declared.catalog.StoredIndex.{StoredIndex}
@@ -59,6 +59,16 @@ AllPlacedFit columns rows = AllByRecursion (λ (placed : Placed). fits columns p
 -- The rows of a table that pass a test, in rising number. Each is to fit the columns.
 abbrev pub rows_by : (Placed → Result Bool Refusal) → ℕ → Pages → StoredTable → Result (List Placed) Refusal → Type 0
 rows_by passes size pages table = sifted (fitting table.columns passes) size pages table.first
+
+-- a test was shown these rows, which fit the columns of a table
+abbrev pub shown_by : StoredTable → (List Placed → Type 0) → List Placed → Type 0
+shown_by table met rows = AllPlacedFit table.columns rows × met rows
+
+-- how a test stands that was shown each row of a table, page by page; refused as its rows are that pass
+abbrev pub shown : {S : Type 0} → (Placed → Result Bool Refusal) → (List Placed → S → Type 0) → ℕ → Pages → StoredTable
+    → Result S Refusal → Type 0
+shown passes met size pages table (Ok after) = meets (shown_by table (λ rows. met rows after)) size pages table.first []
+shown passes met size pages table (Err why) = rows_by passes size pages table (Err why)
 
 -- the rows of a table, in rising number
 abbrev pub rows_at : ℕ → Pages → StoredTable → Result (List Placed) Refusal → Type 0

@@ -1,6 +1,6 @@
 //! The calls: each that edits drafts what it does, and then makes the edits.
 
-ghost use Rattle.std.specs.Prelude.{◌≡◌, ◌<◌, ◌≤◌, All, IfOk, length};
+ghost use Rattle.std.specs.Prelude.{◌≡◌, ◌<◌, ◌≤◌, [], All, IfOk, length};
 ghost use Rattle.retro_base.specs.declared.limits.TheConstants.{COLUMNS};
 ghost use Rattle.pager.specs.Stop.{Accounts, Answers, Makes, OnlyReads};
 ghost use Rattle.heap_file.specs.HeapPage.{IsShort};
@@ -8,7 +8,7 @@ ghost use Rattle.heap_file.specs.Sieving.{AllPass};
 ghost use Rattle.heap_file.specs.Work.{next_of};
 ghost use Rattle.values.specs.Value.{kind_of};
 ghost use Rattle.relation.specs.Catalog.{HaveFewColumns, catalog};
-ghost use Rattle.relation.specs.Work.{AllPlacedFit, created, ranged_at, ranged_by, rows_at, rows_by};
+ghost use Rattle.relation.specs.Work.{AllPlacedFit, created, ranged_at, ranged_by, rows_at, rows_by, shown};
 ghost use Rattle.relation.specs.Work.{table_deleted, table_indexed, table_inserted, table_updated};
 ghost use Rattle.relation.specs.declared.drafting.RowChange.{RowChange};
 
@@ -61,7 +61,25 @@ pub fn rows_by<S: Sieve + Drop, P: Pager>(
     ensures only_reads { OnlyReads P.tells P.goes P.size P.faults pager.old pager.new result }
 {
     let draft = Draft::new(alloc, pager.size());
-    drafting::rows_by(alloc, pager, &draft, table, sieve)
+    let (rows, _) = drafting::rows_by(alloc, pager, &draft, table, sieve)?;
+    Ok(rows)
+}
+
+/// Shows each row of a table to a test, page by page, and gives the test back. No row is held for longer than its page
+/// but those that pass, which are let go at the end. Refused where a row does not fit the columns, passing or not.
+pub fn show_rows<S: Sieve + Drop, P: Pager>(
+    alloc: Global,
+    pager: &mut P,
+    table: &StoredTable,
+    sieve: S,
+) -> Result<S, Stop<P::Fault>>
+    ensures shown { (start : S) → S.met start [] sieve → Answers (λ after. after) (P.tells pager.new)
+        (λ pages. shown (S.passes sieve) (S.met start) (P.size pager.old) pages table.now) result }
+    ensures only_reads { OnlyReads P.tells P.goes P.size P.faults pager.old pager.new result }
+{
+    let draft = Draft::new(alloc, pager.size());
+    let (_, after) = drafting::rows_by(alloc, pager, &draft, table, sieve)?;
+    Ok(after)
 }
 
 /// The rows of a table whose value in the column of one of its indexes is at least `low` and at most `high`, in rising

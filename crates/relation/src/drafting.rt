@@ -1,20 +1,20 @@
 //! The calls on a draft: no page is edited before the draft is written.
 
 ghost use Rattle.std.specs.List.{zip};
-ghost use Rattle.std.specs.Prelude.{◌≡◌, ◌<◌, ◌≤◌, All, IfOk, IfSome, Option, length, map};
+ghost use Rattle.std.specs.Prelude.{◌≡◌, ◌<◌, ◌≤◌, [], All, IfOk, IfSome, Option, length, map};
 ghost use Rattle.retro_base.specs.declared.limits.TheConstants.{COLUMNS};
 ghost use Rattle.pager.specs.Draft.{Drafts, Reads, drafted};
 ghost use Rattle.pager.specs.Pages.{Pages};
 ghost use Rattle.pager.specs.Stop.{OnlyDrafts, OnlyReads};
 ghost use Rattle.heap_file.specs.Chain.{HoldsStill, IsWritable};
 ghost use Rattle.heap_file.specs.HeapPage.{IsShort};
-ghost use Rattle.heap_file.specs.Sieving.{AllPass};
+ghost use Rattle.heap_file.specs.Sieving.{AllPass, HasMet};
 ghost use Rattle.heap_file.specs.declared.chain.Link.{Link};
 ghost use Rattle.relation.specs.declared.catalog.TheConstants.{CATALOG};
 ghost use Rattle.relation.specs.declared.drafting.RowChange.{RowChange};
 ghost use Rattle.relation.specs.declared.listing.Moved.{Moved};
 ghost use Rattle.relation.specs.CatalogRow.{row_values};
-ghost use Rattle.relation.specs.Work.{AllPlacedFit, all_added, all_changed, all_placed, all_removed, created};
+ghost use Rattle.relation.specs.Work.{AllPlacedFit, all_added, all_changed, all_placed, all_removed, created, shown_by};
 ghost use Rattle.relation.specs.Work.{entries_at, row_changes, rows_at, rows_by, rows_of_table, standing};
 ghost use Rattle.relation.specs.Work.{table_deleted, table_indexed, table_inserted, table_updated};
 
@@ -49,27 +49,33 @@ pub fn rows<P: Pager>(
     ensures fitting { IfOk result (λ rows. AllPlacedFit table.now.columns rows.items) }
     ensures only_reads { OnlyReads P.tells P.goes P.size P.faults pager.old pager.new result }
 {
-    rows_by(alloc, pager, draft, table, Everything)
+    let (rows, _) = rows_by(alloc, pager, draft, table, Everything)?;
+    Ok(rows)
 }
 
-/// The rows of a table that pass, in rising number. Refused where a row does not fit the columns, passing or not.
+/// The rows of a table that pass, in rising number, and how the test stands behind all of them. Refused where a row
+/// does not fit the columns, passing or not.
 pub fn rows_by<S: Sieve + Drop, P: Pager>(
     alloc: Global,
     pager: &mut P,
     draft: &Draft,
     table: &StoredTable,
     sieve: S,
-) -> Result<Vec<Placed>, Stop<P::Fault>>
+) -> Result<(Vec<Placed>, S), Stop<P::Fault>>
     requires { draft.now.size ≡ P.size pager.old }
-    ensures rows { Reads (λ rows. rows.items) (P.tells pager.new) draft.now.list
+    ensures rows { Reads (λ found. found.0.items) (P.tells pager.new) draft.now.list
         (λ pages. rows_by (S.passes sieve) draft.now.size pages table.now) result }
-    ensures passed { IfOk result (λ rows. AllPass (S.passes sieve) rows.items) }
-    ensures fitting { IfOk result (λ rows. AllPlacedFit table.now.columns rows.items) }
+    ensures passed { IfOk result (λ found. AllPass (S.passes sieve) found.0.items) }
+    ensures fitting { IfOk result (λ found. AllPlacedFit table.now.columns found.0.items) }
+    ensures met { (start : S) → S.met start [] sieve
+        → IfOk result (λ found. HasMet (shown_by table.now (λ rows. S.met start rows found.1)) (P.tells pager.new)
+        draft.now table.now.first []) }
     ensures only_reads { OnlyReads P.tells P.goes P.size P.faults pager.old pager.new result }
 {
     let columns = table.columns.as_slice();
-    let mut sieve = Fitting { columns, sieve };
-    drafting::scan_by(alloc, pager, draft, table.first, &mut sieve)
+    let mut fitting = Fitting { columns, sieve };
+    let rows = drafting::scan_by(alloc, pager, draft, table.first, &mut fitting)?;
+    Ok((rows, fitting.sieve))
 }
 
 /// Drafts a table without rows.

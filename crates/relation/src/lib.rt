@@ -12,7 +12,7 @@ mod sieving;
 
 pub use calls::{
     create_index, create_table, delete, insert, next_number, open, ranged, ranged_by, rows,
-    rows_by, update,
+    rows_by, show_rows, update,
 };
 pub use catalog::{Catalog, StoredIndex, StoredTable};
 pub use drafting::RowChange;

@@ -13,9 +13,11 @@ pub struct Fitting<'a, S> {
 }
 
 impl<'a, S: Sieve> Sieve for Fitting<'a, S> {
-    ghost use Rattle.relation.specs.Sieving.{fitting};
+    ghost use Rattle.relation.specs.Sieving.{fitted, fitting};
 
     ghost passes = { λ s. fitting s.columns.now (S.passes s.sieve) };
+
+    ghost met = { λ start rows s. fitted start.columns.now rows s.columns.now × S.met start.sieve rows s.sieve };
 
     fn test(&mut self, placed: &Placed) -> Result<bool, Refusal> {
         if !fits(self.columns, placed.row.as_slice()) {
