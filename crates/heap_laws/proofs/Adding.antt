@@ -18,7 +18,7 @@ use Rattle.heap_file.specs.HeapPage.{IsEntry, page_bytes}
 use Rattle.heap_file.specs.Work.{added, appended, lengthened, page_with}
 use Rattle.heap_laws.specs.Laws.{AddLaw, DoesOrIsFull}
 use Rattle.heap_laws.specs.Store.{Chain, IsSized, WellFormed, end_of, pages_held, pages_of, times, times_numbered}
-use Rattle.heap_laws.specs.Table.{AddsRow, AddIsFull, AllStay, EditsExactly, EndsAt, has_room, IsAdded, IsTable, Table, TakesPage, TakesNone, with_row}
+use Rattle.heap_laws.specs.Table.{AddsRow, AddIsFull, AllStay, EditsExactly, EndsAt, has_room, IsAdded, IsStorable, IsTable, Table, TakesPage, TakesNone, with_row}
 use Rattle.heap_laws.proofs.Appending.{Appended, end_link, first-there, head-sized, next-sized, number-sized, put-last, put-new, rehead, storable-entry, update-head}
 use Rattle.heap_laws.proofs.Counts.{keyed-cons, one_if}
 use Rattle.heap_laws.proofs.Editing.{edits-as, edits-none, edits-write, finish, finish-on, Finished, free-same, twice}
@@ -278,8 +278,11 @@ counted_on size first number placed = do
   after ← heap_page size placed.1 first
   only (Ok ((number, placed.0), with_bytes placed.1 first (page_bytes (record after { next_number = number + 1 }))))
 
-pub add_law : AddLaw
-add_law size pages firsts indexes first table row answer well has shows storable small work = go answer work
+-- a row that is added to a table
+pub adds-row : (size : ℕ) (pages : Pages) (firsts indexes : List ℕ) (first : ℕ) (table : Table) (row : List Value) (answer : Result ((ℕ × ℕ) × Pages) Refusal)
+    → WellFormed size pages firsts indexes → Contains firsts first → IsTable size pages first table → IsStorable row → table.next_number < 2 ^ 64 - 1 → added size pages first row answer
+    → DoesOrIsFull size (λ placed after. AddsRow size pages firsts indexes first table row placed after) (AddIsFull size pages first (record { number = table.next_number; row = row })) answer
+adds-row size pages firsts indexes first table row answer well has shows storable small work = go answer work
   where
     is : IsEntry (record { number = table.next_number; row = row })
     is = storable-entry table.next_number row (omega (arith, small)) storable
@@ -325,3 +328,7 @@ add_law size pages firsts indexes first table row answer well has shows storable
             let done = put-answer size pages firsts indexes first (record { number = table.next_number; row = row }) (Ok placed) well has is put in
             absurd (not-broken size placed.1 first done.put.head_now why done.put.at_first refused)
         refuse why (inr (placed, put, inr (after, at, h))) = ok-err h
+
+pub add_law : AddLaw
+add_law size pages firsts indexes first table row answer is storable small work =
+    adds-row size pages firsts indexes first table row answer is.well is.there is.shows storable small work

@@ -11,7 +11,7 @@ use Rattle.heap_file.specs.Chain.{IsWay, met}
 use Rattle.heap_laws.specs.Store.{Chain, WellFormed, end_of, next_free, pages_of, pages_held, root_at, times}
 use Rattle.heap_laws.specs.Table.{EndsAt}
 use Rattle.heap_laws.proofs.Counts.{one_if}
-use Rattle.heap_laws.proofs.Reading.{read_law, reads}
+use Rattle.heap_laws.proofs.Reading.{named-last, reads}
 use Rattle.heap_laws.proofs.Routes.{last_link, leads-one, link_of, pages_on, times-append, times-here, times-links}
 use Rattle.heap_laws.proofs.Rows.{Met}
 use Rattle.heap_laws.proofs.Spotting.{met-one}
@@ -123,7 +123,7 @@ end-in first (link ∷ links) some =
 
 pub own-last : (size : ℕ) (pages : Pages) (firsts indexes : List ℕ) (first last : ℕ) (tail : HeapPage) (well : WellFormed size pages firsts indexes) (has : Contains firsts first) → EndsAt size pages first last tail → 0 < times last (own size pages firsts indexes first well has)
 own-last size pages firsts indexes first last tail well has ends =
-    let found = read_law.last size pages firsts indexes first last tail well has ends in
+    let found = named-last size pages firsts indexes first last tail well has ends in
     omega (arith, end-in first found.0 found.1.0, ap (λ (q : ℕ). times q (pages_on found.0)) found.2, own-links size pages firsts indexes first well has found.0 found.1.2 last)
 
 pub own-met : (size : ℕ) (pages : Pages) (firsts indexes : List ℕ) (first page previous : ℕ) (held : HeapPage) (well : WellFormed size pages firsts indexes) (has : Contains firsts first) → met size pages first page (Ok (previous, held)) → 0 < times page (own size pages firsts indexes first well has)

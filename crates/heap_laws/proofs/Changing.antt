@@ -17,10 +17,11 @@ use Rattle.heap_file.specs.declared.chain.Placed.{Placed}
 use Rattle.heap_file.specs.Chain.{InOrder, last_page, met, rows_of}
 use Rattle.heap_file.specs.HeapPage.{IsEntry, page_bytes}
 use Rattle.heap_file.specs.Work.{appended, place_of, without}
+use Rattle.heap_file.specs.Work as calls
 use Rattle.heap_file.proofs.Packing.{with_fits, without_fits}
 use Rattle.heap_laws.specs.Laws.{DoesOrIsFull, ChangeLaw}
 use Rattle.heap_laws.specs.Store.{IsSized, WellFormed, end_of, next_free, times, times_numbered}
-use Rattle.heap_laws.specs.Table.{ChangeIsFull, ChangesRow, EditsExactly, has_room, IsChanged, IsTable, Table, with_changed, without_row}
+use Rattle.heap_laws.specs.Table.{ChangeIsFull, ChangesRow, EditsExactly, has_room, IsChanged, IsStorable, IsTable, Table, with_changed, without_row}
 use Rattle.heap_laws.proofs.Adding.{IsPut, numbered-push, Put, put-answer, tail-there}
 use Rattle.heap_laws.proofs.Appending.{head-sized, storable-entry, update-head}
 use Rattle.heap_laws.proofs.Counts.{keyed, keyed-append, keyed-cons, keyed-gone, keyed-other, keyed-same, one_if, others, others-append, others-none, others-same, split_at}
@@ -235,8 +236,12 @@ moved-effect size pages out after first page last to false root edits (takes, pu
     next-same : next_free out ≡ next_free pages
     next-same = rw root refl
 
-pub change_law : ChangeLaw
-change_law size pages firsts indexes first table placed row answer well has shows among_rows storable work = go answer (changed-met size pages first placed.page (record { number = placed.number; row = row }) met_there answer work)
+-- a row of a table that is changed
+pub changes-row : (size : ℕ) (pages : Pages) (firsts indexes : List ℕ) (first : ℕ) (table : Table) (placed : Placed) (row : List Value) (answer : Result (ℕ × Pages) Refusal)
+    → WellFormed size pages firsts indexes → Contains firsts first → IsTable size pages first table → Contains table.rows placed → IsStorable row
+    → calls.changed size pages first placed.page (record { number = placed.number; row = row }) answer
+    → DoesOrIsFull size (λ to after. ChangesRow size pages firsts indexes first table placed.page (record { number = placed.number; row = row }) to after) (ChangeIsFull size pages first placed.page (record { number = placed.number; row = row })) answer
+changes-row size pages firsts indexes first table placed row answer well has shows among_rows storable work = go answer (changed-met size pages first placed.page (record { number = placed.number; row = row }) met_there answer work)
   where
     is : IsEntry (record { number = placed.number; row = row })
     is =
@@ -336,3 +341,7 @@ change_law size pages firsts indexes first table placed row answer well has show
                 none = sym (free-same size pages (with_bytes pages placed.page (page_bytes (without found.1 place))) (root_of_out found place at here)) ∙ full.1.none;
               },
             )
+
+pub change_law : ChangeLaw
+change_law size pages firsts indexes first table placed row answer is among_rows storable work =
+    changes-row size pages firsts indexes first table placed row answer is.well is.there is.shows among_rows storable work

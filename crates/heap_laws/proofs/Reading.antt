@@ -131,8 +131,8 @@ keyed-two (x ∷ xs) (suc i) (suc j) d lt inside same =
     omega (arith, keyed-two xs i j d (omega (arith, lt)) (omega (arith, inside)) same, keyed-cons number_of (get_or xs j d).number x xs)
 
 -- the row numbers rise, and lie below the next one
-numbered : (size : ℕ) (pages : Pages) (firsts indexes : List ℕ) (first : ℕ) (table : Table) → WellFormed size pages firsts indexes → Contains firsts first → IsTable size pages first table → IsNumbered table
-numbered size pages firsts indexes first table well has shows =
+pub table-numbered : (size : ℕ) (pages : Pages) (firsts indexes : List ℕ) (first : ℕ) (table : Table) → WellFormed size pages firsts indexes → Contains firsts first → IsTable size pages first table → IsNumbered table
+table-numbered size pages firsts indexes first table well has shows =
     let all = rows-numbered size pages firsts indexes first table well has shows in
     record {
       rise = λ i j d lt inside. elim (cases_lt (get_or table.rows i d).number (get_or table.rows j d).number) [
@@ -170,20 +170,20 @@ scan-never size pages firsts indexes first why well has refused =
     let read = reads size pages firsts indexes first well has in
     chain-never size pages first read.one.chain.links why read.route.leads read.few (λ e. absurd (omega (arith, e, read.head_at.named))) refused
 
-rows-one : (size : ℕ) (pages : Pages) (firsts indexes : List ℕ) (first : ℕ) → WellFormed size pages firsts indexes → Contains firsts first → IsOne (scanned size pages first)
-rows-one size pages firsts indexes first well has (Ok xs) (Ok ys) (links, whole, order) (others_, also, other) =
+pub scan-one : (size : ℕ) (pages : Pages) (firsts indexes : List ℕ) (first : ℕ) → WellFormed size pages firsts indexes → Contains firsts first → IsOne (scanned size pages first)
+scan-one size pages firsts indexes first well has (Ok xs) (Ok ys) (links, whole, order) (others_, also, other) =
     let read = reads size pages firsts indexes first well has in
     let mine : read.one.chain.links ≡ links = leads-one size size pages first read.one.chain.links links read.route.leads whole.2 in
     let same : links ≡ others_ = leads-one size size pages first links others_ whole.2 also.2 in
     let perm = IsPermutation-trans xs (rows_of links) ys (IsPermutation-sym (rows_of links) xs order.0) (subst (λ (l : List Link). IsPermutation (rows_of l) ys) (sym same) other.0) in
     let once : (n : ℕ) → times_numbered n xs ≤ 1 = λ n. omega (arith, read.one.lawful.differ n, ap (λ (l : List Link). times_numbered n (rows_of l)) mine, numbered-permutation n (rows_of links) xs order.0) in
     ap (λ (l : List Placed). Ok l) (sorted-one xs ys perm once order.1 other.1)
-rows-one size pages firsts indexes first well has (Ok xs) (Err why) a refused = absurd (scan-never size pages firsts indexes first why well has refused)
-rows-one size pages firsts indexes first well has (Err why) (Ok ys) refused b = absurd (scan-never size pages firsts indexes first why well has refused)
-rows-one size pages firsts indexes first well has (Err why) (Err reason) refused b = absurd (scan-never size pages firsts indexes first why well has refused)
+scan-one size pages firsts indexes first well has (Ok xs) (Err why) a refused = absurd (scan-never size pages firsts indexes first why well has refused)
+scan-one size pages firsts indexes first well has (Err why) (Ok ys) refused b = absurd (scan-never size pages firsts indexes first why well has refused)
+scan-one size pages firsts indexes first well has (Err why) (Err reason) refused b = absurd (scan-never size pages firsts indexes first why well has refused)
 
 -- the page that is named as the last one
-named-last : (size : ℕ) (pages : Pages) (firsts indexes : List ℕ) (first last : ℕ) (tail : HeapPage) → WellFormed size pages firsts indexes → Contains firsts first → EndsAt size pages first last tail
+pub named-last : (size : ℕ) (pages : Pages) (firsts indexes : List ℕ) (first last : ℕ) (tail : HeapPage) → WellFormed size pages firsts indexes → Contains firsts first → EndsAt size pages first last tail
     → (links : List Link) × chain size pages first (Ok links) × (end_of first links ≡ last) × (tail.next ≡ 0)
 named-last size pages firsts indexes first last tail well has ends =
     let read = reads size pages firsts indexes first well has in
@@ -196,14 +196,14 @@ named-last size pages firsts indexes first last tail well has ends =
     (links, (read.some, read.few, read.route.leads), end_is, here.rest)
 
 pub read_law : ReadLaw
-read_law = record {
-  scan = scan-never;
-  next_number = λ size pages firsts indexes first why well has refused.
+read_law size pages firsts indexes first well has = record {
+  scan = λ why refused. scan-never size pages firsts indexes first why well has refused;
+  next_number = λ why refused.
       let read = reads size pages firsts indexes first well has in
       next-never size pages first read.one.lawful.head why read.head_at refused;
-  numbers = rows-numbered;
-  numbered = numbered;
-  get = row-got;
-  rows_one = rows-one;
-  last = named-last;
+  numbers = λ table shows number. rows-numbered size pages firsts indexes first table well has shows number;
+  numbered = λ table shows. table-numbered size pages firsts indexes first table well has shows;
+  get = λ table placed shows among_rows. row-got size pages firsts indexes first table placed well has shows among_rows;
+  rows_one = scan-one size pages firsts indexes first well has;
+  last = λ last tail ends. named-last size pages firsts indexes first last tail well has ends;
 }

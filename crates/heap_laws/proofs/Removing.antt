@@ -576,8 +576,11 @@ removed-met size pages first links head page number meets route at_first a work 
           ],
         )
 
-pub remove_law : RemoveLaw
-remove_law size pages firsts indexes first table placed answer well has shows among_rows work =
+-- a row that is taken out of a table
+pub removes-row : (size : ℕ) (pages : Pages) (firsts indexes : List ℕ) (first : ℕ) (table : Table) (placed : Placed) (answer : Result (Unit {0} × Pages) Refusal)
+    → WellFormed size pages firsts indexes → Contains firsts first → IsTable size pages first table → Contains table.rows placed → removed size pages first placed.page placed.number answer
+    → DoesOrIsFull size (λ u after. RemovesRow size pages firsts indexes first table placed.page placed.number after) ⊥ answer
+removes-row size pages firsts indexes first table placed answer well has shows among_rows work =
     let read = reads size pages firsts indexes first well has in
     go answer (removed-met size pages first read.one.chain.links read.one.lawful.head placed.page placed.number (meets size pages first read.one.chain.links placed read.route read.few stands) read.route read.head_at answer work)
   where
@@ -612,3 +615,7 @@ remove_law size pages firsts indexes first table placed answer well has shows am
             let read = reads size pages firsts indexes first well has in
             unlinked-never size pages firsts indexes first table placed.page placed.number found.0 found.1 place why well has shows read (spot size pages first placed.page placed.number found.0 place found.1 read.one.chain.links read.route.leads at is) e h
         choose false e h = ok-err h
+
+pub remove_law : RemoveLaw
+remove_law size pages firsts indexes first table placed answer is among_rows work =
+    removes-row size pages firsts indexes first table placed answer is.well is.there is.shows among_rows work

@@ -27,6 +27,12 @@ abbrev pub DoesOrIsFull : {A : Type 0} → ℕ → (A → Pages → Type 0) → 
 DoesOrIsFull size done full (Ok answer) = done answer.0 answer.1
 DoesOrIsFull size done full (Err why) = (why ≡ PagesFull size) × full
 
+-- a table that stands on well-formed pages, from its first page on
+pub record IsTableOf (size : ℕ) (pages : Pages) (firsts indexes : List ℕ) (first : ℕ) (table : Table) : Type 0 where
+  pub well : WellFormed size pages firsts indexes
+  pub there : Contains firsts first
+  pub shows : IsTable size pages first table
+
 -- A table is made on the page that was next to be taken. It is refused exactly where no page is free.
 abbrev pub MakeLaw : Type 0
 MakeLaw = (size : ℕ) (pages : Pages) (firsts indexes : List ℕ) (answer : Result (ℕ × Pages) Refusal)
@@ -39,7 +45,7 @@ MakeLaw = (size : ℕ) (pages : Pages) (firsts indexes : List ℕ) (answer : Res
 abbrev pub AddLaw : Type 0
 AddLaw = (size : ℕ) (pages : Pages) (firsts indexes : List ℕ) (first : ℕ) (table : Table) (row : List Value)
     (answer : Result ((ℕ × ℕ) × Pages) Refusal)
-    → WellFormed size pages firsts indexes → Contains firsts first → IsTable size pages first table
+    → IsTableOf size pages firsts indexes first table
     → IsStorable row → table.next_number < 2 ^ 64 - 1 → added size pages first row answer
     → DoesOrIsFull size (λ placed after. AddsRow size pages firsts indexes first table row placed after)
     (AddIsFull size pages first (record { number = table.next_number; row = row })) answer
@@ -48,7 +54,7 @@ AddLaw = (size : ℕ) (pages : Pages) (firsts indexes : List ℕ) (first : ℕ) 
 abbrev pub RemoveLaw : Type 0
 RemoveLaw = (size : ℕ) (pages : Pages) (firsts indexes : List ℕ) (first : ℕ) (table : Table) (placed : Placed)
     (answer : Result (Unit {0} × Pages) Refusal)
-    → WellFormed size pages firsts indexes → Contains firsts first → IsTable size pages first table
+    → IsTableOf size pages firsts indexes first table
     → Contains table.rows placed → removed size pages first placed.page placed.number answer
     → DoesOrIsFull size
     (λ u after. RemovesRow size pages firsts indexes first table placed.page placed.number after) ⊥ answer
@@ -58,7 +64,7 @@ RemoveLaw = (size : ℕ) (pages : Pages) (firsts indexes : List ℕ) (first : �
 abbrev pub ChangeLaw : Type 0
 ChangeLaw = (size : ℕ) (pages : Pages) (firsts indexes : List ℕ) (first : ℕ) (table : Table) (placed : Placed)
     (row : List Value) (answer : Result (ℕ × Pages) Refusal)
-    → WellFormed size pages firsts indexes → Contains firsts first → IsTable size pages first table
+    → IsTableOf size pages firsts indexes first table
     → Contains table.rows placed → IsStorable row
     → changed size pages first placed.page (record { number = placed.number; row = row }) answer
     → DoesOrIsFull size
@@ -72,28 +78,25 @@ pub record ChainAnswersAreOne : Type 0 where
   pub remove : (size : ℕ) (pages : Pages) (first page number : ℕ) → IsOne (removed size pages first page number)
   pub change : (size : ℕ) (pages : Pages) (first page : ℕ) (entry : Entry) → IsOne (changed size pages first page entry)
 
--- What is read of a table of well-formed pages: it is never refused, the rows are one list in rising number, no number
--- twice and each below the next row number, and each is found on the page where it stands. The page that the first page
--- names as the last one is the last of its chain.
-pub record ReadLaw : Type 0 where
-  pub scan : (size : ℕ) (pages : Pages) (firsts indexes : List ℕ) (first : ℕ) (why : Refusal)
-      → WellFormed size pages firsts indexes → Contains firsts first → scanned size pages first (Err why) → ⊥
-  pub next_number : (size : ℕ) (pages : Pages) (firsts indexes : List ℕ) (first : ℕ) (why : Refusal)
-      → WellFormed size pages firsts indexes → Contains firsts first → next_of size pages first (Err why) → ⊥
-  pub numbers : (size : ℕ) (pages : Pages) (firsts indexes : List ℕ) (first : ℕ) (table : Table)
-      → WellFormed size pages firsts indexes → Contains firsts first → IsTable size pages first table
-      → (number : ℕ) → (times_numbered number table.rows ≤ 1)
-      × (0 < times_numbered number table.rows → number < table.next_number)
-  pub numbered : (size : ℕ) (pages : Pages) (firsts indexes : List ℕ) (first : ℕ) (table : Table)
-      → WellFormed size pages firsts indexes → Contains firsts first → IsTable size pages first table → IsNumbered table
-  pub get : (size : ℕ) (pages : Pages) (firsts indexes : List ℕ) (first : ℕ) (table : Table) (placed : Placed)
-      → WellFormed size pages firsts indexes → Contains firsts first → IsTable size pages first table
-      → Contains table.rows placed → got size pages placed.page placed.number (Ok (Some placed.row))
-  pub rows_one : (size : ℕ) (pages : Pages) (firsts indexes : List ℕ) (first : ℕ) → WellFormed size pages firsts indexes
-      → Contains firsts first → IsOne (scanned size pages first)
-  pub last : (size : ℕ) (pages : Pages) (firsts indexes : List ℕ) (first last : ℕ) (tail : HeapPage)
-      → WellFormed size pages firsts indexes → Contains firsts first → EndsAt size pages first last tail
+-- What is read of a table: it is never refused, the rows are one list in rising number, no number twice and each below
+-- the next row number, and each is found on the page where it stands. The page that the first page names as the last
+-- one is the last of its chain.
+pub record ReadsTable (size : ℕ) (pages : Pages) (first : ℕ) : Type 0 where
+  pub scan : (why : Refusal) → scanned size pages first (Err why) → ⊥
+  pub next_number : (why : Refusal) → next_of size pages first (Err why) → ⊥
+  pub numbers : (table : Table) → IsTable size pages first table → (number : ℕ)
+      → (times_numbered number table.rows ≤ 1) × (0 < times_numbered number table.rows → number < table.next_number)
+  pub numbered : (table : Table) → IsTable size pages first table → IsNumbered table
+  pub get : (table : Table) (placed : Placed) → IsTable size pages first table → Contains table.rows placed
+      → got size pages placed.page placed.number (Ok (Some placed.row))
+  pub rows_one : IsOne (scanned size pages first)
+  pub last : (last : ℕ) (tail : HeapPage) → EndsAt size pages first last tail
       → (links : List Link) × chain size pages first (Ok links) × (end_of first links ≡ last) × (tail.next ≡ 0)
+
+-- So is each table of well-formed pages read.
+abbrev pub ReadLaw : Type 0
+ReadLaw = (size : ℕ) (pages : Pages) (firsts indexes : List ℕ) (first : ℕ)
+    → WellFormed size pages firsts indexes → Contains firsts first → ReadsTable size pages first
 
 -- every page of the store is zero, as where it was never written
 abbrev pub AreZero : ℕ → Pages → Type 0

@@ -6,7 +6,7 @@ use Rattle.heap_file.proofs.Ones.{answers_are_one}
 use Rattle.heap_laws.specs.Laws.{AreZero}
 use Rattle.heap_laws.specs.Table.{IsTable}
 use Rattle.heap_laws.proofs.Fresh.{fresh_law}
-use Rattle.heap_laws.proofs.Reading.{ok-one, read_law}
+use Rattle.heap_laws.proofs.Reading.{ok-one, scan-one}
 use Rattle.relation.specs.declared.catalog.Catalog.{Catalog}
 use Rattle.relation.specs.declared.catalog.StoredTable.{StoredTable}
 use Rattle.relation.specs.Catalog.{catalog_rows}
@@ -31,7 +31,7 @@ zip-same R (x ∷ xs) (y ∷ ys) (z ∷ zs) go one two =
 -- what the pages show of a table is one
 shows-one : (size : ℕ) (pages : Pages) (all : PlainTables) (is : IsTableStoreOf size pages all) (stored : StoredTable) (a b : PlainTable) → Contains is.store.found.tables stored → ShowsTable size pages stored a → ShowsTable size pages stored b → a ≡ b
 shows-one size pages all is stored a b has p q =
-    let placed : p.placed ≡ q.placed = ok-one (read_law.rows_one size pages (firsts_of is.store.found) is.store.held stored.first is.store.heap (has-first is.store.found stored has) (Ok p.placed) (Ok q.placed) p.is_table.rows q.is_table.rows) in
+    let placed : p.placed ≡ q.placed = ok-one (scan-one size pages (firsts_of is.store.found) is.store.held stored.first is.store.heap (has-first is.store.found stored has) (Ok p.placed) (Ok q.placed) p.is_table.rows q.is_table.rows) in
     let name : a.name ≡ b.name = p.name ∙ sym q.name in
     let columns : a.columns ≡ b.columns = p.columns ∙ sym q.columns in
     let next : a.next_number ≡ b.next_number = ok-one (answers_are_one.next_number size pages stored.first (Ok a.next_number) (Ok b.next_number) p.is_table.next_number q.is_table.next_number) in

@@ -13,7 +13,7 @@ use Rattle.heap_file.specs.Laws.{IsOne}
 use Rattle.heap_file.proofs.Ones.{answers_are_one, differ, either-one, next-one, only-one}
 use Rattle.heap_laws.specs.Store.{WellFormed, times}
 use Rattle.heap_laws.proofs.Counts.{keyed, keyed-map}
-use Rattle.heap_laws.proofs.Reading.{Same, ok-one, read_law}
+use Rattle.heap_laws.proofs.Reading.{Same, ok-one, scan-one}
 use Rattle.heap_laws.proofs.Rows.{keyed-at}
 use Rattle.relation.specs.declared.catalog.StoredTable.{StoredTable}
 use Rattle.relation.specs.declared.catalog.TheConstants.{CATALOG}
@@ -124,7 +124,7 @@ table_told-one rows row (Err why) (Err other) p q = ap (λ (w : Refusal). Err w)
 
 pub rows-one : (size : ℕ) (pages : Pages) (firsts indexes : List ℕ) → WellFormed size pages firsts indexes → Contains firsts CATALOG → IsOne (catalog_rows size pages)
 rows-one size pages firsts indexes well has =
-    next-one _ _ (read_law.rows_one size pages firsts indexes CATALOG well has) (λ rows.
+    next-one _ _ (scan-one size pages firsts indexes CATALOG well has) (λ rows.
     next-one _ _ (answers_are_one.next_number size pages CATALOG) (λ next.
     either-one _ _ _ (each-one row_told told-one rows) (only-one _)))
 

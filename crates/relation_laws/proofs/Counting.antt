@@ -10,7 +10,7 @@ use Rattle.heap_file.specs.HeapPage.{IsEntry}
 use Rattle.heap_laws.specs.Store.{WellFormed, free_pages}
 use Rattle.heap_laws.specs.Table.{EndsAt, IsStorable, IsTable, Table, with_changed}
 use Rattle.heap_laws.proofs.Appending.{head-sized, storable-entry}
-use Rattle.heap_laws.proofs.Changing.{change_law}
+use Rattle.heap_laws.proofs.Changing.{changes-row}
 use Rattle.heap_laws.proofs.Orders.{number_of}
 use Rattle.heap_laws.proofs.Reading.{reads, rows-numbered, rows-read as table-read}
 use Rattle.heap_laws.proofs.Rows.{keyed-contains}
@@ -44,7 +44,7 @@ pub one-change : (size : ℕ) (pages : Pages) (firsts indexes : List ℕ) (first
 one-change size pages firsts indexes first rows table change last tail y well among is storable there ends h =
     let found = there.0 in
     let work = changed_at size first rows found change pages (Ok y) there.1 there.3 h in
-    let one = change_law size pages firsts indexes first table found change.1 (Ok y) well among is there.2 storable work in
+    let one = changes-row size pages firsts indexes first table found change.1 (Ok y) well among is there.2 storable work in
     let read = reads size pages firsts indexes first well among in
     let numbered = table-read size pages first table read.one.chain.links read.one.lawful.head is read.route.leads read.head_at in
     let sized = head-sized size pages first read.one.chain.links read.one.lawful.head read.route read.head_at in
@@ -112,7 +112,7 @@ needed size pages firsts indexes first rows table (change ∷ changes) last tail
     omega (arith, count, step.takes, rest)
 needed size pages firsts indexes first rows table (change ∷ changes) last tail (Err why) well among is storable there ends (inl h) =
     let found = there.0.0 in
-    let stop = change_law size pages firsts indexes first table found change.1 (Err why) well among is there.0.2 storable.0 (changed_at size first rows found change pages (Err why) there.0.1 there.0.3 h) in
+    let stop = changes-row size pages firsts indexes first table found change.1 (Err why) well among is there.0.2 storable.0 (changed_at size first rows found change pages (Err why) there.0.1 there.0.3 h) in
     let both = full-both size pages firsts indexes first table found change.1 last tail well among is ends stop.1 in
     let under = under-one change.0 table.rows found (rows-numbered size pages firsts indexes first table well among is change.0).0 there.0.2 there.0.1 in
     let here : has_room_for change (page_under change.0 table.rows) table.rows ≡ false = subst (λ (p : ℕ). has_room_for change p table.rows ≡ false) (sym under) (subst (λ (n : ℕ). has_room_for (n, change.1) found.page table.rows ≡ false) there.0.1 both.0) in

@@ -10,7 +10,7 @@ use Rattle.heap_file.specs.declared.chain.Placed.{Placed}
 use Rattle.heap_file.specs.Work.{removed}
 use Rattle.heap_laws.specs.Store.{WellFormed}
 use Rattle.heap_laws.specs.Table.{IsTable, OthersStay, Table, without_row}
-use Rattle.heap_laws.proofs.Removing.{remove_law}
+use Rattle.heap_laws.proofs.Removing.{removes-row}
 use Rattle.relation.specs.declared.catalog.StoredTable.{StoredTable}
 use Rattle.relation.proofs.Halves.{page_of, row_removed}
 use Rattle.sql_tree.specs.Rows.{fits}
@@ -92,7 +92,7 @@ shrunk size pages after firsts indexes first rows table [] well among is there h
     (record { is_table = is; others = λ other c apart t told. told; well = well; spares = spares-none true size pages firsts first; spared = λ page has. (refl, refl) })
 shrunk size pages after firsts indexes first rows table (number ∷ numbers) well among is there h =
     let found = there.0.0 in
-    let one = remove_law size pages firsts indexes first table found (Ok h.0) well among is there.0.2 (taken_out size first rows found number pages (Ok h.0) there.0.1 there.0.3 h.1) in
+    let one = removes-row size pages firsts indexes first table found (Ok h.0) well among is there.0.2 (taken_out size first rows found number pages (Ok h.0) there.0.1 there.0.3 h.1) in
     let without : IsTable size h.0.1 first (without_row table number) = subst (λ (n : ℕ). IsTable size h.0.1 first (without_row table n)) there.0.1 one.shows in
     let rest = shrunk size h.0.1 after firsts indexes first rows (without_row table number) numbers one.well among without (still-without first rows table number numbers there.1 there.2) h.2 in
     record {
@@ -107,10 +107,10 @@ pub never : (size : ℕ) (pages : Pages) (firsts indexes : List ℕ) (first : �
 never size pages firsts indexes first rows table [] why well among is there h = absurd cc
 never size pages firsts indexes first rows table (number ∷ numbers) why well among is there (inl h) =
     let found = there.0.0 in
-    (remove_law size pages firsts indexes first table found (Err why) well among is there.0.2 (taken_out size first rows found number pages (Err why) there.0.1 there.0.3 h)).1
+    (removes-row size pages firsts indexes first table found (Err why) well among is there.0.2 (taken_out size first rows found number pages (Err why) there.0.1 there.0.3 h)).1
 never size pages firsts indexes first rows table (number ∷ numbers) why well among is there (inr h) =
     let found = there.0.0 in
-    let one = remove_law size pages firsts indexes first table found (Ok h.0) well among is there.0.2 (taken_out size first rows found number pages (Ok h.0) there.0.1 there.0.3 h.1) in
+    let one = removes-row size pages firsts indexes first table found (Ok h.0) well among is there.0.2 (taken_out size first rows found number pages (Ok h.0) there.0.1 there.0.3 h.1) in
     let without : IsTable size h.0.1 first (without_row table number) = subst (λ (n : ℕ). IsTable size h.0.1 first (without_row table n)) there.0.1 one.shows in
     never size h.0.1 firsts indexes first rows (without_row table number) numbers why one.well among without (still-without first rows table number numbers there.1 there.2) h.2
 

@@ -18,7 +18,7 @@ use Rattle.heap_file.specs.HeapPage.{entry_bytes, entry_code}
 use Rattle.heap_file.specs.Work.{next_of}
 use Rattle.heap_laws.specs.Store.{IsSized, WellFormed}
 use Rattle.heap_laws.specs.Table.{IsTable, Table as HeapTable}
-use Rattle.heap_laws.proofs.Reading.{ok-one, read_law, reads, rows-read}
+use Rattle.heap_laws.proofs.Reading.{ok-one, reads, rows-read, scan-one}
 use Rattle.heap_laws.proofs.Routes.{rows-cons}
 use Rattle.heap_file.proofs.Ones.{differ}
 use Rattle.relation.specs.declared.catalog.TheConstants.{CATALOG}
@@ -56,7 +56,7 @@ pub record Entries (size : ℕ) (pages : Pages) (store : IsTableStore size pages
 pub entries : (size : ℕ) (pages : Pages) (store : IsTableStore size pages) → Entries size pages store
 entries size pages store =
     let rows = store.rows in
-    let same : rows.0 ≡ store.placed = ok-one (read_law.rows_one size pages (firsts_of store.found) store.held CATALOG store.heap (has-catalog store.found) (Ok rows.0) (Ok store.placed) rows.1 store.scan) in
+    let same : rows.0 ≡ store.placed = ok-one (scan-one size pages (firsts_of store.found) store.held CATALOG store.heap (has-catalog store.found) (Ok rows.0) (Ok store.placed) rows.1 store.scan) in
     let counted = count rows.0 rows.2.0 (rows.2.0 == length rows.0) refl rows.2.2 in
     record {
       is_table = record {

@@ -19,7 +19,7 @@ use Rattle.heap_laws.specs.Laws.{AreSpared}
 use Rattle.heap_laws.specs.Store.{WellFormed, free_pages, times}
 use Rattle.heap_laws.specs.Table.{IsTable, OthersStay, Table as HeapTable}
 use Rattle.heap_laws.proofs.Indexing.{index_pages_law}
-use Rattle.heap_laws.proofs.Reading.{ok-one, read_law}
+use Rattle.heap_laws.proofs.Reading.{ok-one, scan-one}
 use Rattle.relation.specs.declared.catalog.Catalog.{Catalog}
 use Rattle.relation.specs.declared.catalog.StoredIndex.{StoredIndex}
 use Rattle.relation.specs.declared.catalog.StoredTable.{StoredTable}
@@ -161,7 +161,7 @@ zip-right R xs ys x all has = let one = zip-around R xs ys x all has in (one.her
 pub keeps-stays : (size : ℕ) (pages after : Pages) (firsts indexes : List ℕ) (table : StoredTable) (each : List (List ℕ)) (is : HeapTable) → WellFormed size pages firsts indexes → Contains firsts table.first → IsTable size pages table.first is → IsTable size after table.first is → ((page : ℕ) → Contains (all_pages each) page → after.at page ≡ pages.at page)
     → KeepsIndexes size pages table each → KeepsIndexes size after table each
 keeps-stays size pages after firsts indexes table each is well has before behind same keeps =
-    let one : is.rows ≡ keeps.rows = ok-one (read_law.rows_one size pages firsts indexes table.first well has (Ok is.rows) (Ok keeps.rows) before.rows keeps.scan) in
+    let one : is.rows ≡ keeps.rows = ok-one (scan-one size pages firsts indexes table.first well has (Ok is.rows) (Ok keeps.rows) before.rows keeps.scan) in
     let shapes = shapes-of size pages keeps.rows table.indexes each keeps.each in
     record {
       rows = keeps.rows;
@@ -239,7 +239,7 @@ waiting size pages mid all behind store table one still others spared = record {
     shapes = shapes-of size pages zip.is.rows one.stored.indexes zip.here zip.is.each
 
     rows_same : zip.is.rows ≡ one.shows.placed
-    rows_same = ok-one (read_law.rows_one size pages (firsts_of store.store.base.found) store.store.base.held one.stored.first store.store.base.heap (has-first store.store.base.found one.stored one.has) (Ok zip.is.rows) (Ok one.shows.placed) zip.is.scan one.shows.is_table.rows)
+    rows_same = ok-one (scan-one size pages (firsts_of store.store.base.found) store.store.base.held one.stored.first store.store.base.heap (has-first store.store.base.found one.stored one.has) (Ok zip.is.rows) (Ok one.shows.placed) zip.is.scan one.shows.is_table.rows)
 
     held_are : store.store.base.held ≡ every zip.left ++ (all_pages zip.here ++ every zip.right)
     held_are = store.store.all ∙ ap every zip.ys_are ∙ every-middle zip.left zip.here zip.right
@@ -309,7 +309,7 @@ followed-store size mid after behind is table old rows shapes takes w has scan e
     mine : KeepsIndexes size after table edited.behind
     mine =
         let it = table_at table has in
-        let one : it.0.rows ≡ rows = ok-one (read_law.rows_one size mid firsts is.store.held table.first is.store.heap (has-first is.store.found table has) (Ok it.0.rows) (Ok rows) it.1.rows scan) in
+        let one : it.0.rows ≡ rows = ok-one (scan-one size mid firsts is.store.held table.first is.store.heap (has-first is.store.found table has) (Ok it.0.rows) (Ok rows) it.1.rows scan) in
         record {
           rows = rows;
           scan = subst (λ (r : List Placed). scanned size after table.first (Ok r)) one (edited.stay table.first (has-first is.store.found table has) it.0 it.1).rows;

@@ -27,7 +27,7 @@ use Rattle.heap_file.specs.Chain.{IsWay}
 use Rattle.heap_laws.specs.Store.{WellFormed, free_pages, times}
 use Rattle.heap_laws.specs.Table.{IsTable, Table as HeapTable}
 use Rattle.heap_laws.proofs.Indexing.{index_pages_law}
-use Rattle.heap_laws.proofs.Reading.{ok-one, read_law, rows-numbered}
+use Rattle.heap_laws.proofs.Reading.{ok-one, rows-numbered, scan-one}
 use Rattle.heap_laws.proofs.Routes.{leads-same, pages_on, times-cons}
 use Rattle.heap_laws.proofs.Stores.{times-some}
 use Rattle.relation.specs.declared.catalog.Catalog.{Catalog}
@@ -350,7 +350,7 @@ indexed-store size pages mid after all table store one name column ready root ne
         keeps-stays size pages after (firsts_of store.store.base.found) store.store.base.held t each h store.store.base.heap (has-first store.store.base.found t (among t has)) shows.1.is_table (stays t (among t has) h shows.1.is_table) (λ page there. (spared page (within page there)).0) keeps
 
     rows_same : zip.is.rows ≡ one.shows.placed
-    rows_same = ok-one (read_law.rows_one size pages (firsts_of store.store.base.found) store.store.base.held one.stored.first store.store.base.heap (has-first store.store.base.found one.stored one.has) (Ok zip.is.rows) (Ok one.shows.placed) zip.is.scan one.shows.is_table.rows)
+    rows_same = ok-one (scan-one size pages (firsts_of store.store.base.found) store.store.base.held one.stored.first store.store.base.heap (has-first store.store.base.found one.stored one.has) (Ok zip.is.rows) (Ok one.shows.placed) zip.is.scan one.shows.is_table.rows)
 
     mine : KeepsIndexes size after (table_indexing one.stored index) (zip.here ++ fin.behind ∷ [])
     mine =

@@ -8,7 +8,7 @@ use Rattle.pager.specs.Pages.{Pages}
 use Rattle.tree_index.specs.Work.{added, removed}
 use Rattle.heap_file.specs.declared.chain.Placed.{Placed}
 use Rattle.heap_laws.specs.Table.{Table}
-use Rattle.heap_laws.proofs.Reading.{read_law}
+use Rattle.heap_laws.proofs.Reading.{table-numbered}
 use Rattle.relation.specs.declared.catalog.Catalog.{Catalog}
 use Rattle.relation.specs.declared.catalog.StoredIndex.{StoredIndex}
 use Rattle.relation.specs.declared.catalog.StoredTable.{StoredTable}
@@ -73,7 +73,7 @@ rows-in size pages mid all table rows store one placed fit room h = record {
     low : (p : Placed) → Contains one.shows.placed p → p.number < table.next_number
     low p has =
         subst (λ (q : Placed). q.number < table.next_number) has.2
-        ((read_law.numbered size pages (firsts_of store.store.base.found) store.store.base.held one.stored.first before store.store.base.heap (has-first store.store.base.found one.stored one.has) one.shows.is_table).below has.0 p has.1)
+        ((table-numbered size pages (firsts_of store.store.base.found) store.store.base.held one.stored.first before store.store.base.heap (has-first store.store.base.found one.stored one.has) one.shows.is_table).below has.0 p has.1)
 
 -- the entries of rows that were inserted are added to each index
 pub listed-rows : (size : ℕ) (indexes : List StoredIndex) (placed : List Placed) (mid : Pages) (answer : Result (Unit {0} × Pages) Refusal) → rows_listed added size indexes placed mid answer → in_turn (λ (index : StoredIndex). in_turn (turn_work tree size index.root index.place) (map comes placed)) indexes mid answer

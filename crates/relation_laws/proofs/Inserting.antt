@@ -10,7 +10,7 @@ use Rattle.heap_file.specs.declared.chain.Placed.{Placed}
 use Rattle.heap_laws.specs.Laws.{AreSpared}
 use Rattle.heap_laws.specs.Store.{WellFormed}
 use Rattle.heap_laws.specs.Table.{IsStorable, IsTable, OthersStay, Table, with_row}
-use Rattle.heap_laws.proofs.Adding.{add_law}
+use Rattle.heap_laws.proofs.Adding.{adds-row}
 use Rattle.heap_laws.proofs.Reading.{ok-one}
 use Rattle.heap_laws.proofs.Staying.{indexes_stay_law}
 use Rattle.heap_laws.proofs.Stores.{all-join}
@@ -60,7 +60,7 @@ extended size pages after firsts indexes first table [] placed well among is sto
 extended size pages after firsts indexes first table (row ∷ rows) placed well among is storable room (next, (at, add, made), (rest, more, joined)) =
     let stands : Placed = record { number = at.0.0; page = at.0.1; row = row } in
     let here = ok-one made in
-    let one = add_law size pages firsts indexes first table row (Ok at) well among is storable.0 (omega (arith, room)) add in
+    let one = adds-row size pages firsts indexes first table row (Ok at) well among is storable.0 (omega (arith, room)) add in
     let whole = ok-one joined in
     let behind : all_placed size first rows at.1 (Ok rest) = subst (λ (q : Placed × Pages). all_placed size first rows q.1 (Ok rest)) (sym here) more in
     let follow = extended size at.1 rest.1 firsts indexes first (with_row table at.0.1 row) rows rest.0 one.well among one.shows storable.1 (omega (arith, room)) behind in
@@ -80,10 +80,10 @@ extended size pages after firsts indexes first table (row ∷ rows) placed well 
 pub full : (size : ℕ) (pages : Pages) (firsts indexes : List ℕ) (first : ℕ) (table : Table) (rows : List (List Value)) (why : Refusal) → WellFormed size pages firsts indexes → Contains firsts first → IsTable size pages first table → AllByRecursion IsStorable rows → table.next_number + length rows < 2 ^ 64 → all_added size first rows pages (Err why) → why ≡ PagesFull size
 full size pages firsts indexes first table [] why well among is storable room h = absurd cc
 full size pages firsts indexes first table (row ∷ rows) why well among is storable room (inl h) =
-    (add_law size pages firsts indexes first table row (Err why) well among is storable.0 (omega (arith, room)) h).0
+    (adds-row size pages firsts indexes first table row (Err why) well among is storable.0 (omega (arith, room)) h).0
 full size pages firsts indexes first table (row ∷ rows) why well among is storable room (inr h) =
     let placed = h.0.0 in
-    let one = add_law size pages firsts indexes first table row (Ok h.0) well among is storable.0 (omega (arith, room)) h.1 in
+    let one = adds-row size pages firsts indexes first table row (Ok h.0) well among is storable.0 (omega (arith, room)) h.1 in
     full size h.0.1 firsts indexes first (with_row table placed.1 row) rows why one.well among one.shows storable.1 (omega (arith, room)) h.2
 
 pub storable-rows : (table : PlainTable) (rows : List (List Value)) → AllByRecursion (IsRowFor table) rows → AllByRecursion IsStorable rows

@@ -18,7 +18,7 @@ use Rattle.heap_file.specs.HeapPage.{entry_bytes, entry_code}
 use Rattle.heap_file.specs.Work.{added}
 use Rattle.heap_laws.specs.Store.{WellFormed, free_pages, times}
 use Rattle.heap_laws.specs.Table.{AddsRow, EditsExactly, EndsAt, IsAdded, IsStorable, IsTable, MakesTable, Table, has_room, with_row}
-use Rattle.heap_laws.proofs.Adding.{add_law, tail-there}
+use Rattle.heap_laws.proofs.Adding.{adds-row, tail-there}
 use Rattle.heap_laws.proofs.Editing.{edits-as}
 use Rattle.heap_laws.proofs.Reading.{reads}
 use Rattle.heap_laws.proofs.Routes.{at-one, at-same, pages_on}
@@ -208,7 +208,7 @@ pub rows-take : (size : ℕ) (pages after : Pages) (firsts indexes : List ℕ) (
     → all_added size first rows pages (Ok (tt, after)) → pages_opened (length (entry_bytes tail.entries)) rows + free_pages size after ≡ free_pages size pages
 rows-take size pages after firsts indexes first table [] last tail well among is storable room ends h = omega (arith, ap (λ (p : Pages). free_pages size p) (left_pages pages after h))
 rows-take size pages after firsts indexes first table (row ∷ rows) last tail well among is storable room ends h =
-    let one = add_law size pages firsts indexes first table row (Ok h.0) well among is storable.0 (omega (arith, room)) h.1 in
+    let one = adds-row size pages firsts indexes first table row (Ok h.0) well among is storable.0 (omega (arith, room)) h.1 in
     let step = steps size pages firsts indexes first table row h.0 last tail well among is storable.0 (omega (arith, room)) h.1 one ends in
     let rest = rows-take size h.0.1 after firsts indexes first (with_row table h.0.0.1 row) rows (end_in step.room last step.page) step.next one.well among one.shows storable.1 (omega (arith, room)) step.ends h.2 in
     let opens = step.opens rows in
@@ -219,7 +219,7 @@ pub rows-draw : (size : ℕ) (pages after : Pages) (firsts indexes : List ℕ) (
     → all_added size first rows pages (Ok (tt, after)) → Draws pages after (pages_opened (length (entry_bytes tail.entries)) rows)
 rows-draw size pages after firsts indexes first table [] last tail well among is storable room ends h = subst (λ (p : Pages). Draws pages p 0) (left_pages pages after h) (draws-still pages)
 rows-draw size pages after firsts indexes first table (row ∷ rows) last tail well among is storable room ends h =
-    let one = add_law size pages firsts indexes first table row (Ok h.0) well among is storable.0 (omega (arith, room)) h.1 in
+    let one = adds-row size pages firsts indexes first table row (Ok h.0) well among is storable.0 (omega (arith, room)) h.1 in
     let step = steps size pages firsts indexes first table row h.0 last tail well among is storable.0 (omega (arith, room)) h.1 one ends in
     let rest = rows-draw size h.0.1 after firsts indexes first (with_row table h.0.0.1 row) rows (end_in step.room last step.page) step.next one.well among one.shows storable.1 (omega (arith, room)) step.ends h.2 in
     subst (Draws pages after) (sym (step.opens rows)) (draws-then pages h.0.1 after (length (opens_ step.room step.page)) (pages_opened (length (entry_bytes step.next.entries)) rows) step.draws rest)
@@ -229,13 +229,13 @@ pub rows-edit : (size : ℕ) (pages after : Pages) (firsts indexes : List ℕ) (
     → all_added size first rows pages (Ok (tt, after)) → EditsExactly pages after (first ∷ last ∷ with_root (next_pages pages (pages_opened (length (entry_bytes tail.entries)) rows)))
 rows-edit size pages after firsts indexes first table [] last tail well among is storable room ends some h = absurd (omega (arith, some))
 rows-edit size pages after firsts indexes first table (row ∷ []) last tail well among is storable room ends some h =
-    let one = add_law size pages firsts indexes first table row (Ok h.0) well among is storable.0 (omega (arith, room)) h.1 in
+    let one = adds-row size pages firsts indexes first table row (Ok h.0) well among is storable.0 (omega (arith, room)) h.1 in
     let step = steps size pages firsts indexes first table row h.0 last tail well among is storable.0 (omega (arith, room)) h.1 one ends in
     let count : length (opens_ step.room step.page) ≡ pages_opened (length (entry_bytes tail.entries)) (row ∷ []) = omega (arith, step.opens []) in
     subst (λ (n : ℕ). EditsExactly pages after (first ∷ last ∷ with_root (next_pages pages n))) count
     (subst (λ (l : List ℕ). EditsExactly pages after (first ∷ last ∷ with_root l)) step.are (subst (λ (p : Pages). EditsExactly pages p (first ∷ last ∷ with_root (opens_ step.room step.page))) (left_pages h.0.1 after h.2) step.edits))
 rows-edit size pages after firsts indexes first table (row ∷ next ∷ rows) last tail well among is storable room ends some h =
-    let one = add_law size pages firsts indexes first table row (Ok h.0) well among is storable.0 (omega (arith, room)) h.1 in
+    let one = adds-row size pages firsts indexes first table row (Ok h.0) well among is storable.0 (omega (arith, room)) h.1 in
     let step = steps size pages firsts indexes first table row h.0 last tail well among is storable.0 (omega (arith, room)) h.1 one ends in
     let count = pages_opened (length (entry_bytes step.next.entries)) (next ∷ rows) in
     let rest = rows-edit size h.0.1 after firsts indexes first (with_row table h.0.0.1 row) (next ∷ rows) (end_in step.room last step.page) step.next one.well among one.shows storable.1 (omega (arith, room)) step.ends (omega arith) h.2 in
@@ -248,7 +248,7 @@ pub rows-full : (size : ℕ) (pages : Pages) (firsts indexes : List ℕ) (first 
     → all_added size first rows pages (Err why) → free_pages size pages < pages_opened (length (entry_bytes tail.entries)) rows
 rows-full size pages firsts indexes first table [] why last tail well among is storable room ends h = absurd cc
 rows-full size pages firsts indexes first table (row ∷ rows) why last tail well among is storable room ends (inl h) =
-    let full = (add_law size pages firsts indexes first table row (Err why) well among is storable.0 (omega (arith, room)) h).1 in
+    let full = (adds-row size pages firsts indexes first table row (Err why) well among is storable.0 (omega (arith, room)) h).1 in
     let same : full.tail ≡ tail = ends-one size pages first full.last last full.tail tail full.ends ends in
     none (nat_le (length (entry_bytes tail.entries) + entry_size row) 1004) refl full.none (subst (λ (t : HeapPage). has_room t (record { number = table.next_number; row = row }) ≡ false) same full.room)
   where
@@ -260,7 +260,7 @@ rows-full size pages firsts indexes first table (row ∷ rows) why last tail wel
     none true e free room = absurd (clash (sym e ∙ sym (ap (λ (n : ℕ). nat_le n 1004) (bytes-push tail.entries (record { number = table.next_number; row = row }) ∙ ap (λ (k : ℕ). length (entry_bytes tail.entries) + k) (entry-length table.next_number row))) ∙ room))
     none false e free room = omega (arith, free)
 rows-full size pages firsts indexes first table (row ∷ rows) why last tail well among is storable room ends (inr h) =
-    let one = add_law size pages firsts indexes first table row (Ok h.0) well among is storable.0 (omega (arith, room)) h.1 in
+    let one = adds-row size pages firsts indexes first table row (Ok h.0) well among is storable.0 (omega (arith, room)) h.1 in
     let step = steps size pages firsts indexes first table row h.0 last tail well among is storable.0 (omega (arith, room)) h.1 one ends in
     let rest = rows-full size h.0.1 firsts indexes first (with_row table h.0.0.1 row) rows why (end_in step.room last step.page) step.next one.well among one.shows storable.1 (omega (arith, room)) step.ends h.2 in
     let opens = step.opens rows in

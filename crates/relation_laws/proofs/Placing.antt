@@ -7,7 +7,7 @@ use Rattle.pager.specs.Pages.{Pages}
 use Rattle.heap_file.specs.declared.chain.Placed.{Placed}
 use Rattle.pager.specs.Allows.{only}
 use Rattle.heap_laws.proofs.Orders.{number_of}
-use Rattle.heap_laws.proofs.Reading.{ok-one, read_law, rows-numbered}
+use Rattle.heap_laws.proofs.Reading.{ok-one, rows-numbered, table-numbered}
 use Rattle.relation.specs.declared.catalog.StoredTable.{StoredTable}
 use Rattle.relation.specs.declared.drafting.RowChange.{RowChange}
 use Rattle.relation.specs.Each.{each}
@@ -32,7 +32,7 @@ pub numbered : (size : ℕ) (pages : Pages) (all : PlainTables) (table : PlainTa
 numbered size pages all table is has =
     let one = single size pages all table is has in
     let rows = one.shows.placed in
-    let told = read_law.numbered size pages (firsts_of is.store.found) is.store.held one.stored.first (record { next_number = table.next_number; rows = rows }) is.store.heap (has-first is.store.found one.stored one.has) one.shows.is_table in
+    let told = table-numbered size pages (firsts_of is.store.found) is.store.held one.stored.first (record { next_number = table.next_number; rows = rows }) is.store.heap (has-first is.store.found one.stored one.has) one.shows.is_table in
     let some : Placed = record { number = 0; page = 0; row = [] } in
     let long : length table.rows ≡ length rows = ap length one.shows.rows ∙ map-long rows in
     let at : (i : ℕ) (d : ℕ × List Value) → i < length rows → (get_or table.rows i d).0 ≡ (get_or rows i some).number = λ i d lt. ap (λ (r : List (ℕ × List Value)). (get_or r i d).0) one.shows.rows ∙ map-at rows i d some lt in

@@ -25,7 +25,7 @@ use Rattle.heap_file.specs.Work.{got}
 use Rattle.heap_file.proofs.Ones.{answers_are_one}
 use Rattle.heap_laws.specs.Table.{Table}
 use Rattle.heap_laws.proofs.Counts.{keyed, keyed-cons, keyed-other, keyed-same, keyed-split}
-use Rattle.heap_laws.proofs.Reading.{ok-one, read_law, rows-numbered}
+use Rattle.heap_laws.proofs.Reading.{ok-one, row-got, rows-numbered, scan-one, table-numbered}
 use Rattle.relation.specs.Each.{each_some}
 use Rattle.relation.specs.Entries.{entry_of}
 use Rattle.relation.specs.Sieving.{fitting, passing_found}
@@ -212,7 +212,7 @@ ranged_law size pages all table stored index column low high rows answer store h
     kept = zip-right (KeepsIndex size pages keeps.1.rows) one.stored.indexes keeps.0 index keeps.1.each (subst (λ (t : StoredTable). Contains t.indexes index) same among)
 
     rows_same : keeps.1.rows ≡ rows
-    rows_same = ok-one (read_law.rows_one size pages first store.store.base.held one.stored.first store.store.base.heap table-has (Ok keeps.1.rows) (Ok one.shows.placed) keeps.1.scan one.shows.is_table.rows) ∙ sym shown
+    rows_same = ok-one (scan-one size pages first store.store.base.held one.stored.first store.store.base.heap table-has (Ok keeps.1.rows) (Ok one.shows.placed) keeps.1.scan one.shows.is_table.rows) ∙ sym shown
 
     entries : List Found
     entries = tree.entries kept.1.shape
@@ -229,7 +229,7 @@ ranged_law size pages all table stored index column low high rows answer store h
         subst (λ (t : StoredTable). fits t.columns p.row ≡ true) (sym same) (all-at (λ (row : ℕ × List Value). fits one.stored.columns row.1 ≡ true) (map numbered_row one.shows.placed) (numbered_row p) told (contains-map numbered_row one.shows.placed p in_rows))
 
     there : (p : Placed) → Contains rows p → got size pages p.page p.number (Ok (Some p.row))
-    there p here = read_law.get size pages first store.store.base.held one.stored.first before p store.store.base.heap table-has one.shows.is_table (subst (λ (r : List Placed). Contains r p) shown here)
+    there p here = row-got size pages first store.store.base.held one.stored.first before p store.store.base.heap table-has one.shows.is_table (subst (λ (r : List Placed). Contains r p) shown here)
 
     kinds : AreOfKind (kind_of low) entries
     kinds =
@@ -273,7 +273,7 @@ ranged_law size pages all table stored index column low high rows answer store h
         up = rising-beside index.place rows sorted found.found found.zipped (rising-once sorted is.1 once)
 
         rows_up : Rising row_number rows
-        rows_up = subst (Rising row_number) (sym shown) (rising-rows one.shows.placed (read_law.numbered size pages first store.store.base.held one.stored.first before store.store.base.heap table-has one.shows.is_table).rise)
+        rows_up = subst (Rising row_number) (sym shown) (rising-rows one.shows.placed (table-numbered size pages first store.store.base.held one.stored.first before store.store.base.heap table-has one.shows.is_table).rise)
 
         also : Rising row_number (filter (lies_between index.place low high) rows)
         also = rising-filter row_number (lies_between index.place low high) rows rows_up

@@ -12,7 +12,7 @@ use Rattle.heap_file.proofs.Sieves.{all-pass}
 use Rattle.heap_file.specs.Sieving.{passing}
 use Rattle.heap_laws.specs.Store.{WellFormed}
 use Rattle.heap_laws.specs.Table.{IsTable, OthersStay, Table as HeapTable}
-use Rattle.heap_laws.proofs.Reading.{ok-one, read_law}
+use Rattle.heap_laws.proofs.Reading.{ok-one, scan-one}
 use Rattle.relation.specs.declared.catalog.Catalog.{Catalog}
 use Rattle.relation.specs.declared.catalog.StoredTable.{StoredTable}
 use Rattle.relation.specs.declared.catalog.TheConstants.{CATALOG}
@@ -104,7 +104,7 @@ rows-here size pages all table is one = (one.shows.placed, one.shows.is_table.ro
 pub rows-read : (size : ℕ) (pages : Pages) (all : PlainTables) (table : PlainTable) (is : IsTableStoreOf size pages all) (one : Single size pages all table is) (a : Result (List Placed) Refusal) → rows_at size pages one.stored a → a ≡ Ok one.shows.placed
 rows-read size pages all table is one a told =
     sifted-is (fitting one.stored.columns (λ placed. Ok true)) size pages one.stored.first one.shows.placed one.shows.placed
-    (read_law.rows_one size pages (firsts_of is.store.found) is.store.held one.stored.first is.store.heap (has-first is.store.found one.stored one.has))
+    (scan-one size pages (firsts_of is.store.found) is.store.held one.stored.first is.store.heap (has-first is.store.found one.stored one.has))
     one.shows.is_table.rows (rows-fit size pages all table is one) a told
 
 -- what the catalog says goes by its rows alone

@@ -13,7 +13,7 @@ use Rattle.heap_laws.specs.Store.{WellFormed}
 use Rattle.heap_laws.specs.Table.{IsStorable, IsTable, OthersStay, Table, with_changed}
 use Rattle.heap_file.specs.HeapPage.{IsEntry}
 use Rattle.heap_laws.specs.Laws.{AreSpared}
-use Rattle.heap_laws.proofs.Changing.{change_law}
+use Rattle.heap_laws.proofs.Changing.{changes-row}
 use Rattle.heap_laws.proofs.Reading.{ok-one, rows-numbered}
 use Rattle.heap_laws.proofs.Rows.{entry_of as heap_entry}
 use Rattle.heap_laws.proofs.Staying.{indexes_stay_law}
@@ -157,7 +157,7 @@ altered size pages after firsts indexes first table columns [] moved well among 
     })
 altered size pages after firsts indexes first table columns (change ∷ told) moved well among is storable fit there apart (next, (page, work, made), (rest, more, joined)) =
     let w = change.was in
-    let one = change_law size pages firsts indexes first table w change.row (Ok page) well among is there.0 storable.0 work in
+    let one = changes-row size pages firsts indexes first table w change.row (Ok page) well among is there.0 storable.0 work in
     let to : Placed = record { number = w.number; page = page.0; row = change.row } in
     let m : Moved = record { was = w; becomes = to } in
     let here = ok-one made in
@@ -193,10 +193,10 @@ pub full : (size : ℕ) (pages : Pages) (firsts indexes : List ℕ) (first : ℕ
 full size pages firsts indexes first rows table [] why well among is storable there h = absurd cc
 full size pages firsts indexes first rows table (change ∷ changes) why well among is storable there (inl h) =
     let found = there.0.0 in
-    (change_law size pages firsts indexes first table found change.1 (Err why) well among is there.0.2 storable.0 (changed_at size first rows found change pages (Err why) there.0.1 there.0.3 h)).0
+    (changes-row size pages firsts indexes first table found change.1 (Err why) well among is there.0.2 storable.0 (changed_at size first rows found change pages (Err why) there.0.1 there.0.3 h)).0
 full size pages firsts indexes first rows table (change ∷ changes) why well among is storable there (inr h) =
     let found = there.0.0 in
-    let one = change_law size pages firsts indexes first table found change.1 (Ok h.0) well among is there.0.2 storable.0 (changed_at size first rows found change pages (Ok h.0) there.0.1 there.0.3 h.1) in
+    let one = changes-row size pages firsts indexes first table found change.1 (Ok h.0) well among is there.0.2 storable.0 (changed_at size first rows found change pages (Ok h.0) there.0.1 there.0.3 h.1) in
     let to : Placed = record { number = change.0; page = h.0.0; row = change.1 } in
     let now_shown : IsTable size h.0.1 first (with_changed table to) = subst (λ (n : ℕ). IsTable size h.0.1 first (with_changed table (record { number = n; page = h.0.0; row = change.1 }))) there.0.1 one.shows in
     full size h.0.1 firsts indexes first rows (with_changed table to) changes why one.well among now_shown storable.1 (still-changed first rows table to (numbers_of changes) there.1 there.2) h.2

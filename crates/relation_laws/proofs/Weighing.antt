@@ -17,7 +17,7 @@ use Rattle.heap_laws.specs.Table.{EndsAt, IsTable, Table}
 use Rattle.heap_laws.proofs.Appending.{end_link}
 use Rattle.heap_laws.proofs.Counts.{keyed-more, one_if}
 use Rattle.heap_laws.proofs.Orders.{number_of}
-use Rattle.heap_laws.proofs.Reading.{read_law, reads, rows-read}
+use Rattle.heap_laws.proofs.Reading.{named-last, reads, rows-read}
 use Rattle.heap_laws.proofs.Routes.{IsRoute, around, leads-one, link_of, pages_on, rows-cons, rows-middle, times-cons, times-links}
 use Rattle.heap_laws.proofs.Rows.{placed_on, standing}
 use Rattle.relation_laws.specs.Needs.{bytes_on, page_under, entry_size}
@@ -73,7 +73,7 @@ pub on-last : (size : ℕ) (pages : Pages) (firsts indexes : List ℕ) (first : 
 on-last size pages firsts indexes first table last tail well has shows ends =
     let read = reads size pages firsts indexes first well has in
     let links = read.one.chain.links in
-    let found = read_law.last size pages firsts indexes first last tail well has ends in
+    let found = named-last size pages firsts indexes first last tail well has ends in
     let same : found.0 ≡ links = leads-one size size pages first found.0 links found.1.2 read.route.leads in
     let end : end_of first links ≡ last = ap (end_of first) (sym same) ∙ found.2 in
     let split = end_link size pages first last links ends.head tail read.route ends.at_first ends.at_last end in

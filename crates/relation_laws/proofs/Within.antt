@@ -10,7 +10,7 @@ use Rattle.heap_laws.specs.Store.{WellFormed, times}
 use Rattle.heap_laws.specs.Table.{EditsExactly, EndsAt, IsRemoved, IsStorable, IsTable, RemovesRow, Table, leaves, with_changed, without_row}
 use Rattle.heap_laws.proofs.Counts.{one_if}
 use Rattle.heap_laws.proofs.Reading.{reads}
-use Rattle.heap_laws.proofs.Removing.{remove_law}
+use Rattle.heap_laws.proofs.Removing.{removes-row}
 use Rattle.heap_laws.proofs.Routes.{times-cons}
 use Rattle.relation.proofs.Halves.{row_changed, row_removed}
 use Rattle.relation_laws.specs.Needs.{changes_open, moved_to, next_pages, page_under, taken_after}
@@ -195,7 +195,7 @@ removes-within T size pages after firsts indexes first rows table [] small well 
 removes-within T size pages after firsts indexes first rows table (number ∷ numbers) small well has is there closed head_in on h =
     let found = there.0.0 in
     let work = taken_out size first rows found number pages (Ok h.0) there.0.1 there.0.3 h.1 in
-    let one = remove_law size pages firsts indexes first table found (Ok h.0) well has is there.0.2 work in
+    let one = removes-row size pages firsts indexes first table found (Ok h.0) well has is there.0.2 work in
     let here : T found.page = all-at (λ (placed : Placed). T placed.page) table.rows found on there.0.2 in
     let without : IsTable size h.0.1 first (without_row table number) = subst (λ (n : ℕ). IsTable size h.0.1 first (without_row table n)) there.0.1 one.shows in
     within-then (λ p. (p ≡ 0) ⊎ T p) (λ p. (p ≡ 0) ⊎ T p) (λ p. (p ≡ 0) ⊎ T p) pages h.0.1 after (λ p t. t) (λ p t. t)
