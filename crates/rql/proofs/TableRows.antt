@@ -13,7 +13,7 @@ use Rattle.values.specs.declared.value.Kind.TheVariants as kind
 use Rattle.values.specs.declared.value.Value.{Value}
 use Rattle.sql_check.specs.Names.{has_twins}
 use Rattle.sql_tree.specs.Rows.{same_kind, fits}
-use Rattle.sql_check.proofs.Truths.{and_both, or_none}
+use Rattle.sql_kinds.proofs.Truths.{and_both, or_none}
 use Rattle.sql_tree.specs.Evaluation.{in_range, narrow}
 use Rattle.sql_tree.specs.declared.statement.Column.{Column}
 use Rattle.sql_select.specs.Aggregates.{number_of, sum_of, total, whole}

@@ -21,7 +21,7 @@ pub fn asked_of(
 ) -> Result<Answer, Refusal>
     ensures { Gives (λ answer. answer) result (asked_of query.now table.now rows.now) }
 {
-    check_beside(alloc, query, table)?;
+    check_beside(query, table)?;
     let scope = Scope::of_one(table);
     let columns = answer_columns(alloc, &scope, &query.list)?;
     select(alloc, query, &scope, columns, None, rows, None)

@@ -1,4 +1,1 @@
-pub mod Checked
 pub mod Numbering
-pub mod Stepwise
-pub mod Truths

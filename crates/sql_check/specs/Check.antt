@@ -15,7 +15,7 @@ use Rattle.sql_tree.specs.declared.statement.Statement.{Statement}
 use Rattle.sql_tree.specs.declared.statement.Statement.TheVariants.{CreateTable, CreateIndex, Insert}
 use Rattle.sql_tree.specs.declared.statement.Statement.TheVariants.{Update, Delete, Select}
 use Rattle.sql_tree.specs.declared.statement.Update.{Update as UpdateRecord}
-use Rattle.sql_check.specs.Expressions.{agree, has_unknown, kind_of}
+use Rattle.sql_kinds.specs.Expressions.{agree, has_unknown, kind_of}
 use Rattle.sql_check.specs.Names.{column_named, has_name, has_twins, is_named, is_reserved, stored_table, table_named}
 use Rattle.values.specs.Name.{same_name}
 use Rattle.sql_tree.specs.Rows.{fits}

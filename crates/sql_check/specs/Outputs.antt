@@ -12,7 +12,7 @@ use Rattle.sql_tree.specs.declared.select.SelectList.TheVariants.{All, Outputs}
 use Rattle.sql_tree.specs.declared.statement.Column.{Column}
 use Rattle.sql_tree.specs.Expression.{column_of}
 use Rattle.sql_tree.specs.Scope.{columns_of}
-use Rattle.sql_check.specs.Expressions.{output_kind}
+use Rattle.sql_kinds.specs.Expressions.{output_kind}
 
 -- the name of an output that has none of its own: `col` and its place from 1
 abbrev pub numbered_name : ℕ → List ℕ

@@ -14,11 +14,10 @@ use Rattle.sql_tree.specs.declared.select.SelectList.TheVariants.{All, Outputs}
 use Rattle.sql_tree.specs.declared.statement.Column.{Column}
 use Rattle.sql_tree.specs.Condition.{ConditionTree}
 use Rattle.sql_tree.specs.Expression.{ExpressionTree, column_of, is_constant}
-use Rattle.sql_tree.specs.Scope.{place_of}
+use Rattle.sql_tree.specs.Scope.{has_column, place_of}
 use Rattle.sql_tree.specs.Select.{is_grouped, outputs_of}
-use Rattle.sql_check.specs.Expressions.{compares_apart, has_unknown_operand}
-use Rattle.sql_check.specs.Expressions.{is_unknown, output_has_unknown, output_kind}
-use Rattle.sql_check.specs.Names.{has_name}
+use Rattle.sql_kinds.specs.Expressions.{compares_apart, has_unknown_operand}
+use Rattle.sql_kinds.specs.Expressions.{is_unknown, output_has_unknown, output_kind}
 use Rattle.sql_check.specs.Outputs.{answer_columns}
 
 -- whether a WHERE has an unknown side
@@ -36,7 +35,7 @@ list_has_unknown scope snapshot list =
 
 -- whether a name without a table is that of a column of the answer
 abbrev pub names_output : List Column → ColumnName → Bool
-names_output columns name = is_none name.table && has_name (λ (column : Column). column.name) name.column columns
+names_output columns name = is_none name.table && has_column columns name.column
 
 -- whether rows can be ordered by what the name stands for: a column of the answer, or a column of the scope where each
 -- row of the answer comes from one row

@@ -1,6 +1,6 @@
 //! The names and types of statements.
 
-ghost use Rattle.std.specs.Prelude.{◌≡◌, IfOk};
+ghost use Rattle.std.specs.Prelude.{◌≡◌};
 ghost use Rattle.std.specs.List.{list_any};
 ghost use Rattle.std.specs.Option.{option_copied};
 ghost use Rattle.retro_base.specs.Gives.{Gives};
@@ -9,7 +9,6 @@ ghost use Rattle.sql_check.specs.Check.{assigns_other_kind, assigns_unknown, che
 ghost use Rattle.sql_check.specs.Check.{first_refusal, has_unknown_name, has_wrong_type, is_twice};
 ghost use Rattle.sql_check.specs.Check.{names_other, scope_beside, scope_of_two, select_scope, takes_taken_name};
 
-use crate::expressions::{agree, has_unknown, kind_of};
 use crate::names::{
     column_named, has_name, has_twins, is_named, is_reserved, stored_table, table_named,
 };
@@ -18,11 +17,11 @@ use crate::selects::{
     select_has_unknown, select_is_mistyped, where_compares_apart, where_has_unknown,
 };
 use retro_base::Refusal;
+use sql_kinds::{agree, has_unknown, kind_of};
 use sql_tree::{
     Assignment, Column, CreateIndex, Delete, Insert, Schema, Scope, Select, Statement, TableSchema,
     Update,
 };
-use std::alloc::{AllocError, Global};
 use values::{Kind, Name};
 
 fn scope_of_two<'a>(
@@ -98,35 +97,25 @@ fn delete_has_unknown(snapshot: Option<u32>, delete: &Delete, schema: &Schema) -
     }
 }
 
-fn known_select_has_unknown(
-    alloc: Global,
-    snapshot: Option<u32>,
-    select: &Select,
-    schema: &Schema,
-) -> Result<bool, AllocError>
-    ensures { IfOk result (λ found. found ≡ has_unknown_name (Statement.Select select.now) snapshot schema.now) }
+fn known_select_has_unknown(snapshot: Option<u32>, select: &Select, schema: &Schema) -> bool
+    ensures { result ≡ has_unknown_name (Statement.Select select.now) snapshot schema.now }
 {
     match select_scope(select, schema) {
-        Some(scope) => select_has_unknown(alloc, snapshot, select, &scope),
-        None => Ok(true),
+        Some(scope) => select_has_unknown(snapshot, select, &scope),
+        None => true,
     }
 }
 
-fn has_unknown_name(
-    alloc: Global,
-    statement: &Statement,
-    snapshot: Option<u32>,
-    schema: &Schema,
-) -> Result<bool, AllocError>
-    ensures { IfOk result (λ found. found ≡ has_unknown_name statement.now snapshot schema.now) }
+fn has_unknown_name(statement: &Statement, snapshot: Option<u32>, schema: &Schema) -> bool
+    ensures { result ≡ has_unknown_name statement.now snapshot schema.now }
 {
     match statement {
-        Statement::CreateTable(_) => Ok(false),
-        Statement::CreateIndex(create) => Ok(index_has_unknown(create, schema)),
-        Statement::Insert(insert) => Ok(stored_table(&insert.table, schema).is_none()),
-        Statement::Update(update) => Ok(update_has_unknown(snapshot, update, schema)),
-        Statement::Delete(delete) => Ok(delete_has_unknown(snapshot, delete, schema)),
-        Statement::Select(select) => known_select_has_unknown(alloc, snapshot, select, schema),
+        Statement::CreateTable(_) => false,
+        Statement::CreateIndex(create) => index_has_unknown(create, schema),
+        Statement::Insert(insert) => stored_table(&insert.table, schema).is_none(),
+        Statement::Update(update) => update_has_unknown(snapshot, update, schema),
+        Statement::Delete(delete) => delete_has_unknown(snapshot, delete, schema),
+        Statement::Select(select) => known_select_has_unknown(snapshot, select, schema),
     }
 }
 
@@ -244,36 +233,26 @@ fn first_refusal(unknown: bool, taken: bool, mistyped: bool) -> Result<(), Refus
     Ok(())
 }
 
-/// Checks the names and types of the statement; `snapshot` is the number of `current_snapshot()`. Refused for want of
-/// memory, or for the first of these that holds anywhere in the statement:
+/// Checks the names and types of the statement; `snapshot` is the number of `current_snapshot()`. Refused for the first of
+/// these that holds anywhere in the statement:
 /// - UnknownName: a table, a column or a key of ORDER BY that is not there, a plain column name that two tables have,
 ///   or `current_snapshot()` without a number.
 /// - NameTaken: a name of a table or an index that exists or is reserved, a column twice, or a table twice in FROM.
 /// - WrongType: a comparison of INT with TEXT, a text that is reckoned with, a value that does not fit its column, or
 ///   an output with more than one value for a group.
-pub fn check(
-    alloc: Global,
-    statement: &Statement,
-    snapshot: Option<u32>,
-    schema: &Schema,
-) -> Result<(), Refusal>
+pub fn check(statement: &Statement, snapshot: Option<u32>, schema: &Schema) -> Result<(), Refusal>
     ensures { Gives (λ _. tt) result (checked statement.now snapshot schema.now) }
 {
-    let unknown = has_unknown_name(alloc, statement, snapshot, schema)?;
+    let unknown = has_unknown_name(statement, snapshot, schema);
     let taken = takes_taken_name(statement, schema);
     first_refusal(unknown, taken, has_wrong_type(statement, schema))
 }
 
 /// Checks the names and types of the select, as `check` does those of the statement that it is.
-pub fn check_select(
-    alloc: Global,
-    select: &Select,
-    snapshot: Option<u32>,
-    schema: &Schema,
-) -> Result<(), Refusal>
+pub fn check_select(select: &Select, snapshot: Option<u32>, schema: &Schema) -> Result<(), Refusal>
     ensures { Gives (λ _. tt) result (checked (Statement.Select select.now) snapshot schema.now) }
 {
-    let unknown = known_select_has_unknown(alloc, snapshot, select, schema)?;
+    let unknown = known_select_has_unknown(snapshot, select, schema);
     let taken = is_twice(&select.table, &select.second);
     first_refusal(unknown, taken, known_select_is_mistyped(select, schema))
 }
@@ -300,11 +279,11 @@ fn scope_beside<'a>(table: &'a TableSchema, second: &Option<Name>) -> Scope<'a>
 /// Checks the names and types of a select over this table, which the store does not have, whatever name its FROM gives
 /// it. Refused as `check` refuses; beside this table none can stand, so that a second one is unknown, or the same
 /// twice.
-pub fn check_beside(alloc: Global, select: &Select, table: &TableSchema) -> Result<(), Refusal>
+pub fn check_beside(select: &Select, table: &TableSchema) -> Result<(), Refusal>
     ensures { Gives (λ _. tt) result (checked_beside select.now table.now) }
 {
     let scope = scope_beside(table, &select.second);
-    let has_unknown = select_has_unknown(alloc, None, select, &scope)?;
+    let has_unknown = select_has_unknown(None, select, &scope);
     let unknown = names_other(table, &select.second) || has_unknown;
     let taken = is_twice(&select.table, &select.second);
     first_refusal(unknown, taken, select_is_mistyped(select, &scope))

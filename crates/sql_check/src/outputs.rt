@@ -1,10 +1,14 @@
 //! The columns of a select's answer.
 
-ghost use Rattle.std.specs.Prelude.{◌≡◌, ◌<◌, ◌^◌, IfOk};
+ghost use Rattle.std.specs.Prelude.{◌≡◌, ◌<◌, ◌^◌, IfOk, List};
+ghost use Rattle.sql_tree.specs.declared.schema.TableSchema.{TableSchema};
+ghost use Rattle.sql_tree.specs.Scope.{has_column};
 ghost use Rattle.sql_check.specs.Outputs.{answer_columns, numbered_name, output_column};
 ghost use Rattle.sql_check.specs.Outputs.{output_columns, output_name, own_name};
+ghost use Rattle.values.specs.Name.{same_name};
 
-use crate::expressions::output_kind;
+use itoa::Buffer;
+use sql_kinds::output_kind;
 use sql_tree::{Column, Output, OutputValue, Scope, SelectList};
 use std::alloc::{AllocError, Global};
 use values::{Duplicate, Kind, Name, Seq};
@@ -80,5 +84,58 @@ pub fn answer_columns(
     match list {
         SelectList::All => scope.columns(alloc),
         SelectList::Outputs(outputs) => output_columns(alloc, scope, outputs.as_slice()),
+    }
+}
+
+// Whether it is the name that an output at that place has, where it has none of its own.
+fn is_numbered_name(name: &Name, place: usize) -> bool
+    ensures { result ≡ same_name (numbered_name place) name.now }
+{
+    let mut buffer = Buffer::new();
+    match name.bytes().strip_prefix(b"col") {
+        Some(digits) => buffer.format(place).as_bytes() == digits,
+        None => false,
+    }
+}
+
+fn is_own_name(name: &Name, place: usize, value: &OutputValue) -> bool
+    ensures { result ≡ same_name (own_name place value.now) name.now }
+{
+    match value {
+        OutputValue::Expression(of) => match of.column() {
+            Some(column) => column.column == *name,
+            None => is_numbered_name(name, place),
+        },
+        OutputValue::Aggregate(_) => is_numbered_name(name, place),
+    }
+}
+
+fn is_output_name(name: &Name, place: usize, output: &Output) -> bool
+    ensures { result ≡ same_name (output_name place output.now) name.now }
+{
+    match &output.name {
+        Some(own) => own == name,
+        None => is_own_name(name, place, &output.value),
+    }
+}
+
+fn is_any_name(name: &Name, outputs: &[Output]) -> bool
+    ensures { (scope : List TableSchema) → result ≡ has_column (output_columns scope 1 outputs.now) name.now }
+{
+    for (i, output) in outputs.iter().enumerate() {
+        if is_output_name(name, i + 1, output) {
+            return true;
+        }
+    }
+    false
+}
+
+/// Whether a column of the answer that has these outputs has the name.
+pub(crate) fn names_column(scope: &Scope<'_>, list: &SelectList, name: &Name) -> bool
+    ensures { result ≡ has_column (answer_columns scope.now list.now) name.now }
+{
+    match list {
+        SelectList::All => scope.has_column(name),
+        SelectList::Outputs(outputs) => is_any_name(name, outputs.as_slice()),
     }
 }

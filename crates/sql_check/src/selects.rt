@@ -1,26 +1,21 @@
 //! The names and types of selects.
 
-ghost use Rattle.std.specs.Prelude.{◌≡◌, ◌&&◌, ◌||◌, not, is_none, IfOk, List};
+ghost use Rattle.std.specs.Prelude.{◌≡◌, ◌&&◌, ◌||◌, not, is_none, List};
 ghost use Rattle.std.specs.List.{list_any};
 ghost use Rattle.sql_tree.specs.declared.select.OrderKey.{OrderKey};
 ghost use Rattle.sql_tree.specs.declared.select.Output.{Output};
-ghost use Rattle.sql_check.specs.Expressions.{is_unknown, output_has_unknown, output_kind};
+ghost use Rattle.sql_kinds.specs.Expressions.{is_unknown, output_has_unknown, output_kind};
 ghost use Rattle.sql_check.specs.Outputs.{answer_columns};
 ghost use Rattle.sql_check.specs.Selects.{breaks_groups, is_grouped_by, is_key, is_of_group};
-ghost use Rattle.sql_check.specs.Selects.{keys_have_unknown, lacks_kind, list_has_unknown, names_output};
+ghost use Rattle.sql_check.specs.Selects.{lacks_kind, list_has_unknown, names_output};
 ghost use Rattle.sql_check.specs.Selects.{output_is_of_group, same_place, select_has_unknown};
 ghost use Rattle.sql_check.specs.Selects.{select_is_mistyped, where_compares_apart, where_has_unknown};
 
-use crate::expressions::{
-    compares_apart, has_unknown_operand, is_unknown, output_has_unknown, output_kind,
-};
-use crate::names::has_name;
-use crate::outputs::answer_columns;
+use crate::outputs::names_column;
+use sql_kinds::{compares_apart, has_unknown_operand, is_unknown, output_has_unknown, output_kind};
 use sql_tree::{
-    Column, ColumnName, Condition, Expression, OrderKey, Output, OutputValue, Scope, Select,
-    SelectList,
+    ColumnName, Condition, Expression, OrderKey, Output, OutputValue, Scope, Select, SelectList,
 };
-use std::alloc::{AllocError, Global};
 
 /// Whether a WHERE has an unknown side.
 pub(crate) fn where_has_unknown(
@@ -52,39 +47,25 @@ fn list_has_unknown(scope: &Scope<'_>, snapshot: Option<u32>, list: &SelectList)
     list.outputs().iter().any(|output| output_has_unknown(scope, snapshot, &output.value))
 }
 
-fn names_output(columns: &[Column], name: &ColumnName) -> bool
-    ensures { result ≡ names_output columns.now name.now }
+fn names_output(scope: &Scope<'_>, list: &SelectList, name: &ColumnName) -> bool
+    ensures { result ≡ names_output (answer_columns scope.now list.now) name.now }
 {
-    name.table.is_none() && has_name(&name.column, columns)
+    name.table.is_none() && names_column(scope, list, &name.column)
 }
 
 // Whether rows can be ordered by what the name stands for.
-fn is_key(scope: &Scope<'_>, select: &Select, columns: &[Column], name: &ColumnName) -> bool
-    ensures { result ≡ is_key scope.now select.now columns.now name.now }
+fn is_key(scope: &Scope<'_>, select: &Select, name: &ColumnName) -> bool
+    ensures { result ≡ is_key scope.now select.now (answer_columns scope.now select.now.list) name.now }
 {
     let from_one_row = !(select.is_grouped() || select.distinct);
-    names_output(columns, name) || (from_one_row && !is_unknown(scope, name))
+    names_output(scope, &select.list, name) || (from_one_row && !is_unknown(scope, name))
 }
 
-fn keys_have_unknown(alloc: Global, scope: &Scope<'_>, select: &Select) -> Result<bool, AllocError>
-    ensures { IfOk result (λ found. found ≡ keys_have_unknown scope.now select.now
-        (answer_columns scope.now select.now.list)) }
+fn keys_have_unknown(scope: &Scope<'_>, select: &Select, keys: &[OrderKey]) -> bool
+    ensures { result ≡ list_any (λ (key : OrderKey). not (is_key scope.now select.now
+        (answer_columns scope.now select.now.list) key.column)) keys.now }
 {
-    match select.order_by.as_slice() {
-        [] => Ok(false),
-        keys => {
-            let columns = answer_columns(alloc, scope, &select.list)?;
-            Ok(any_is_no_key(scope, select, columns.as_slice(), keys))
-        }
-    }
-}
-
-fn any_is_no_key(scope: &Scope<'_>, select: &Select, columns: &[Column], keys: &[OrderKey]) -> bool
-    ensures { result ≡ list_any (λ (key : OrderKey). not (is_key scope.now select.now columns.now key.column))
-        keys.now }
-{
-    keys.iter()
-        .any(|key| !is_key(scope, select, columns, &key.column))
+    keys.iter().any(|key| !is_key(scope, select, &key.column))
 }
 
 fn any_is_unknown(scope: &Scope<'_>, names: &[ColumnName]) -> bool
@@ -94,19 +75,13 @@ fn any_is_unknown(scope: &Scope<'_>, names: &[ColumnName]) -> bool
 }
 
 /// Whether the select has an unknown name in its outputs, its WHERE, its GROUP BY or its ORDER BY.
-pub(crate) fn select_has_unknown(
-    alloc: Global,
-    snapshot: Option<u32>,
-    select: &Select,
-    scope: &Scope<'_>,
-) -> Result<bool, AllocError>
-    ensures { IfOk result (λ found. found ≡ select_has_unknown snapshot select.now scope.now) }
+pub(crate) fn select_has_unknown(snapshot: Option<u32>, select: &Select, scope: &Scope<'_>) -> bool
+    ensures { result ≡ select_has_unknown snapshot select.now scope.now }
 {
-    let in_list = list_has_unknown(scope, snapshot, &select.list);
-    let in_where = where_has_unknown(scope, snapshot, &select.condition);
-    let in_groups = any_is_unknown(scope, select.group_by.as_slice());
-    let in_keys = keys_have_unknown(alloc, scope, select)?;
-    Ok(in_list || in_where || in_groups || in_keys)
+    list_has_unknown(scope, snapshot, &select.list)
+        || where_has_unknown(scope, snapshot, &select.condition)
+        || any_is_unknown(scope, select.group_by.as_slice())
+        || keys_have_unknown(scope, select, select.order_by.as_slice())
 }
 
 fn same_place(a: Option<usize>, b: Option<usize>) -> bool

@@ -2,8 +2,9 @@
 use Rattle.std.specs.Prelude.{◌+◌, ◌++◌, ◌<◌, ◌==◌, ◌^◌, ℕ, Bool, true, Option, Some}
 use Rattle.std.specs.Prelude.{None, List, [], ◌∷◌, length, slice_get, if◌then◌else◌}
 use Rattle.std.specs.Cmp.Lexicographic.{pointwise}
-use Rattle.std.specs.List.{position}
+use Rattle.std.specs.List.{list_any, position}
 use Rattle.std.specs.Option.{option_map, option_to_list}
+use Rattle.values.specs.Name.{same_name}
 use Rattle.values.specs.declared.value.Kind.{Kind}
 use Rattle.sql_tree.specs.declared.name.ColumnName.{ColumnName}
 use Rattle.sql_tree.specs.declared.schema.TableSchema.{TableSchema}
@@ -43,6 +44,10 @@ place_of scope name = chosen name.table (places 0 scope name)
 abbrev pub columns_of : List TableSchema → List Column
 columns_of [] = []
 columns_of (source ∷ sources) = source.columns ++ columns_of sources
+
+-- whether a column has the name
+abbrev pub has_column : List Column → List ℕ → Bool
+has_column columns name = list_any (λ (column : Column). same_name column.name name) columns
 
 abbrev pub kind_in : List Column → Option ℕ → Option Kind
 kind_in columns None = None

@@ -2,7 +2,7 @@
 
 ghost use Rattle.std.specs.Option.{option_copied, option_map, option_to_list};
 ghost use Rattle.std.specs.Prelude.{◌≡◌, ◌++◌, ◌+◌, ◌<◌, ◌^◌, ◌∷◌, [], IfOk, IfSome, OnOk, length, slice_get};
-ghost use Rattle.sql_tree.specs.Scope.{chosen, column_place, columns_of, IsNarrow, kind_at};
+ghost use Rattle.sql_tree.specs.Scope.{chosen, column_place, columns_of, has_column, IsNarrow, kind_at};
 ghost use Rattle.sql_tree.specs.Scope.{may_be_of, place_of, place_within, places};
 
 use crate::name::ColumnName;
@@ -62,6 +62,17 @@ impl<'a> Scope<'a> {
         let first = place_within(self.first, name);
         let second = place_behind(self.first.columns.len(), self.second, name);
         choose(&name.table, first, second)
+    }
+
+    /// Whether a column of one of the tables has the name.
+    pub fn has_column(&self, name: &Name) -> bool
+        ensures { result ≡ has_column (columns_of self.now) name.now }
+    {
+        let in_first = has_column(self.first.columns.as_slice(), name);
+        match self.second {
+            Some(second) => in_first || has_column(second.columns.as_slice(), name),
+            None => in_first,
+        }
     }
 
     /// Copies of the columns of all tables.
@@ -138,6 +149,12 @@ fn may_be_of(named: &Option<Name>, table: &TableSchema) -> bool
         Some(named) => table.name == *named,
         None => true,
     }
+}
+
+fn has_column(columns: &[Column], name: &Name) -> bool
+    ensures { result ≡ has_column columns.now name.now }
+{
+    columns.iter().any(|column| column.name == *name)
 }
 
 /// The place of the first column of that name.

@@ -29,13 +29,13 @@ use Rattle.sql_tree.specs.declared.select.Select.{Select}
 use Rattle.sql_tree.specs.declared.select.SelectList.{SelectList}
 use Rattle.sql_tree.specs.declared.select.SelectList.TheVariants.{All, Outputs}
 use Rattle.sql_tree.specs.declared.statement.Column.{Column as ColumnRecord}
-use Rattle.sql_check.specs.Expressions.{aggregate_has_unknown, aggregate_kind, has_unknown, int_if, is_int, is_unknown, kind_of, output_has_unknown, output_kind}
-use Rattle.sql_check.specs.Laws.{IsOfKind}
+use Rattle.sql_kinds.specs.Expressions.{aggregate_has_unknown, aggregate_kind, has_unknown, int_if, is_int, is_unknown, kind_of, output_has_unknown, output_kind}
+use Rattle.sql_kinds.specs.Laws.{IsOfKind}
 use Rattle.sql_check.specs.Outputs.{answer_columns, output_columns}
 use Rattle.sql_tree.specs.Rows.{AllFit, same_kind, fits}
 use Rattle.sql_check.specs.Selects.{select_has_unknown, select_is_mistyped, breaks_groups, is_key, keys_have_unknown, lacks_kind, list_has_unknown, names_output, where_compares_apart, where_has_unknown}
-use Rattle.sql_check.proofs.Checked.{conditions_are_decided, expressions_keep_their_kind}
-use Rattle.sql_check.proofs.Truths.{and_both, or_none}
+use Rattle.sql_kinds.proofs.Checked.{conditions_are_decided, expressions_keep_their_kind}
+use Rattle.sql_kinds.proofs.Truths.{and_both, or_none}
 use Rattle.sql_select.specs.Aggregates.{best_of, count_of, greatest_of, least_of, number_of, sum_of, total, whole}
 use Rattle.tables.specs.Checked.{CheckedSelectsAnswer, IsAnswerOf, RowsFit}
 use Rattle.sql_select.specs.Each.{each}

@@ -21,7 +21,7 @@ use Rattle.sql_check.specs.Names.{has_name, has_twins, is_named, is_reserved}
 use Rattle.values.specs.Name.{same_name}
 use Rattle.sql_check.specs.Names as names
 use Rattle.sql_check.specs.Selects.{select_has_unknown, select_is_mistyped}
-use Rattle.sql_check.proofs.Truths.{or_none}
+use Rattle.sql_kinds.proofs.Truths.{or_none}
 use Rattle.sql_select.specs.declared.answer.Answer.{Answer}
 use Rattle.sql_select.proofs.Following.{star_gives_rows}
 use Rattle.tables.specs.declared.contents.Contents.{Contents}

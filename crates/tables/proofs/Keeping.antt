@@ -17,7 +17,7 @@ use Rattle.sql_tree.specs.declared.statement.Statement.{Statement}
 use Rattle.sql_tree.specs.declared.statement.Statement.TheVariants.{CreateTable, CreateIndex, Insert, Update, Delete, Select}
 use Rattle.sql_tree.specs.declared.statement.Update.{Update as UpdateRecord}
 use Rattle.sql_check.specs.Check.{checked}
-use Rattle.sql_check.proofs.Truths.{or_none}
+use Rattle.sql_kinds.proofs.Truths.{or_none}
 use Rattle.sql_select.specs.declared.answer.Answer.{Answer}
 use Rattle.tables.proofs.CheckedSelects.{answers_fit}
 use Rattle.tables.specs.declared.contents.Contents.{Contents}

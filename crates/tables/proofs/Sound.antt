@@ -21,14 +21,14 @@ use Rattle.sql_tree.specs.declared.statement.Update.{Update as UpdateRecord}
 use Rattle.sql_tree.specs.Evaluation.{value_of}
 use Rattle.sql_tree.specs.Scope.{column_place}
 use Rattle.sql_check.specs.Check.{assigns_other_kind, assigns_unknown, column_kind, has_column, update_has_unknown, update_is_mistyped}
-use Rattle.sql_check.specs.Expressions.{agree, has_unknown, kind_of}
-use Rattle.sql_check.specs.Laws.{IsOfKind}
+use Rattle.sql_kinds.specs.Expressions.{agree, has_unknown, kind_of}
+use Rattle.sql_kinds.specs.Laws.{IsOfKind}
 use Rattle.sql_check.specs.Names.{column_named}
 use Rattle.values.specs.Name.{same_name}
 use Rattle.sql_tree.specs.Rows.{same_kind, fits}
 use Rattle.sql_check.specs.Selects.{where_compares_apart, where_has_unknown}
-use Rattle.sql_check.proofs.Checked.{expressions_keep_their_kind}
-use Rattle.sql_check.proofs.Truths.{and_both, or_none}
+use Rattle.sql_kinds.proofs.Checked.{expressions_keep_their_kind}
+use Rattle.sql_kinds.proofs.Truths.{and_both, or_none}
 use Rattle.sql_select.specs.Rows.{holds_at}
 use Rattle.tables.specs.declared.contents.Contents.{Contents}
 use Rattle.tables.specs.declared.contents.NumberedRow.{NumberedRow}

@@ -25,7 +25,7 @@ pub fn does(
     ensures means { Gives (λ reply. (tables.new, reply)) result (does statement.now snapshot tables.old) }
     ensures refused { OnErr result (tables.new ≡ tables.old) }
 {
-    check(alloc, statement, snapshot, tables.schema())?;
+    check(statement, snapshot, tables.schema())?;
     match statement {
         Statement::CreateTable(create) => tables.create_table(alloc, create),
         Statement::CreateIndex(create) => tables.create_index(alloc, create),
@@ -45,6 +45,6 @@ pub fn ask(
 ) -> Result<Answer, Refusal>
     ensures { Gives (λ answer. answer) result (asked select.now snapshot tables.now) }
 {
-    check_select(alloc, select, snapshot, tables.schema())?;
+    check_select(select, snapshot, tables.schema())?;
     tables.answer(alloc, select, snapshot)
 }

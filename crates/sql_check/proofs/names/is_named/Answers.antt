@@ -1,5 +1,5 @@
 use Rattle.std.proofs.Common.{◌∙◌, sym}
-use Rattle.sql_check.proofs.Truths.{or_from_false}
+use Rattle.sql_kinds.proofs.Truths.{or_from_false}
 use Rattle.sql_check.proofs.names.is_named.Goals as goal
 
 pub returns-else-names_table : goal.returns-else-names_table

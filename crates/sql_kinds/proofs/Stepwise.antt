@@ -8,9 +8,9 @@ use Rattle.sql_tree.specs.declared.schema.TableSchema.{TableSchema}
 use Rattle.sql_tree.specs.Condition.{ConditionTree, Compare, Not, And, Or}
 use Rattle.sql_tree.specs.Condition as condition
 use Rattle.sql_tree.specs.Expression.{ExpressionTree, Literal, Column, CurrentSnapshot, Apply, postfix}
-use Rattle.sql_check.specs.Expressions.{compares_apart, has_unknown, has_unknown_operand, int_if, is_int, kind_of}
-use Rattle.sql_check.specs.Steps.{compares_apart_at, is_unknown_at, is_unknown_step, only, reckons_with_numbers, steps_kind}
-use Rattle.sql_check.proofs.Truths.{and_true, or_false, or_same}
+use Rattle.sql_kinds.specs.Expressions.{compares_apart, has_unknown, has_unknown_operand, int_if, is_int, kind_of}
+use Rattle.sql_kinds.specs.Steps.{compares_apart_at, is_unknown_at, is_unknown_step, only, reckons_with_numbers, steps_kind}
+use Rattle.sql_kinds.proofs.Truths.{and_true, or_false, or_same}
 
 -- a test of two lists and of a step that fails it
 any_two : {S : Type 0} (test : S → Bool) (xs ys : List S) (s : S) → test s ≡ false → list_any test (xs ++ (ys ++ s ∷ [])) ≡ list_any test xs || list_any test ys

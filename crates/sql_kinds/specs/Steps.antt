@@ -10,7 +10,7 @@ use Rattle.sql_tree.specs.declared.expression.ExpressionStep.{ExpressionStep}
 use Rattle.sql_tree.specs.declared.expression.ExpressionStep.TheVariants as step
 use Rattle.sql_tree.specs.declared.schema.TableSchema.{TableSchema}
 use Rattle.sql_tree.specs.Scope.{kind_at}
-use Rattle.sql_check.specs.Expressions.{agree, int_if, is_int, is_unknown, is_unknown_operand, operand_kind}
+use Rattle.sql_kinds.specs.Expressions.{agree, int_if, is_int, is_unknown, is_unknown_operand, operand_kind}
 
 -- whether a step is an unknown column, or the number of a snapshot where there is none
 abbrev pub is_unknown_step : List TableSchema → Option ℕ → ExpressionStep → Bool

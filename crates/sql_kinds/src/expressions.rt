@@ -3,12 +3,12 @@
 ghost use Rattle.std.specs.Prelude.{◌≡◌};
 ghost use Rattle.std.specs.List.{list_any};
 ghost use Rattle.std.specs.Option.{option_copied};
-ghost use Rattle.sql_check.specs.Expressions.{agree, aggregate_has_unknown, aggregate_kind};
-ghost use Rattle.sql_check.specs.Expressions.{compares_apart, has_unknown, has_unknown_operand, int_if};
-ghost use Rattle.sql_check.specs.Expressions.{is_int, is_unknown, is_unknown_operand, kind_of};
-ghost use Rattle.sql_check.specs.Expressions.{operand_kind, output_has_unknown, output_kind};
-ghost use Rattle.sql_check.specs.Steps.{compares_apart_at, is_unknown_at, is_unknown_step};
-ghost use Rattle.sql_check.specs.Steps.{only, reckons_with_numbers, step_kind, steps_kind};
+ghost use Rattle.sql_kinds.specs.Expressions.{agree, aggregate_has_unknown, aggregate_kind};
+ghost use Rattle.sql_kinds.specs.Expressions.{compares_apart, has_unknown, has_unknown_operand, int_if};
+ghost use Rattle.sql_kinds.specs.Expressions.{is_int, is_unknown, is_unknown_operand, kind_of};
+ghost use Rattle.sql_kinds.specs.Expressions.{operand_kind, output_has_unknown, output_kind};
+ghost use Rattle.sql_kinds.specs.Steps.{compares_apart_at, is_unknown_at, is_unknown_step};
+ghost use Rattle.sql_kinds.specs.Steps.{only, reckons_with_numbers, step_kind, steps_kind};
 
 use sql_tree::{
     Aggregate, ColumnName, Condition, ConditionStep, Expression, ExpressionStep, Operand,
@@ -17,7 +17,7 @@ use sql_tree::{
 use values::Kind;
 
 /// Whether the scope has no column, or more than one, of the name.
-pub(crate) fn is_unknown(scope: &Scope<'_>, name: &ColumnName) -> bool
+pub fn is_unknown(scope: &Scope<'_>, name: &ColumnName) -> bool
     ensures { result ≡ is_unknown scope.now name.now }
 {
     scope.kind(name).is_none()
@@ -44,7 +44,7 @@ fn any_unknown(scope: &Scope<'_>, snapshot: Option<u32>, steps: &[ExpressionStep
 
 /// Whether the expression has an unknown column, or the number of a snapshot where there is none.
 #[tactic(auto, using(crate::proofs::Stepwise::any_unknown_step))]
-pub(crate) fn has_unknown(scope: &Scope<'_>, snapshot: Option<u32>, expression: &Expression) -> bool
+pub fn has_unknown(scope: &Scope<'_>, snapshot: Option<u32>, expression: &Expression) -> bool
     ensures { result ≡ has_unknown scope.now snapshot expression.now }
 {
     any_unknown(scope, snapshot, expression.steps())
@@ -103,14 +103,14 @@ fn steps_kind(scope: &Scope<'_>, steps: &[ExpressionStep]) -> Option<Kind>
 
 /// The kind of the expression; none over an unknown column, nor where a text is reckoned with.
 #[tactic(auto, using(crate::proofs::Stepwise::steps_kind_is))]
-pub(crate) fn kind_of(scope: &Scope<'_>, expression: &Expression) -> Option<Kind>
+pub fn kind_of(scope: &Scope<'_>, expression: &Expression) -> Option<Kind>
     ensures { result ≡ kind_of scope.now expression.now }
 {
     steps_kind(scope, expression.steps())
 }
 
 /// Whether there are two kinds, and they are the same.
-pub(crate) fn agree(a: Option<Kind>, b: Option<Kind>) -> bool
+pub fn agree(a: Option<Kind>, b: Option<Kind>) -> bool
     ensures { result ≡ agree a b }
 {
     match (a, b) {
@@ -163,11 +163,7 @@ fn any_unknown_operand(scope: &Scope<'_>, snapshot: Option<u32>, steps: &[Condit
 
 /// Whether the condition has an unknown side.
 #[tactic(auto, using(crate::proofs::Stepwise::any_unknown_at))]
-pub(crate) fn has_unknown_operand(
-    scope: &Scope<'_>,
-    snapshot: Option<u32>,
-    condition: &Condition,
-) -> bool
+pub fn has_unknown_operand(scope: &Scope<'_>, snapshot: Option<u32>, condition: &Condition) -> bool
     ensures { result ≡ has_unknown_operand scope.now snapshot condition.now }
 {
     any_unknown_operand(scope, snapshot, condition.steps())
@@ -194,7 +190,7 @@ fn any_compares_apart(scope: &Scope<'_>, steps: &[ConditionStep]) -> bool
 
 /// Whether the condition compares INT with TEXT.
 #[tactic(auto, using(crate::proofs::Stepwise::any_compares_apart_at))]
-pub(crate) fn compares_apart(scope: &Scope<'_>, condition: &Condition) -> bool
+pub fn compares_apart(scope: &Scope<'_>, condition: &Condition) -> bool
     ensures { result ≡ compares_apart scope.now condition.now }
 {
     any_compares_apart(scope, condition.steps())
@@ -225,11 +221,7 @@ fn aggregate_kind(scope: &Scope<'_>, aggregate: &Aggregate) -> Option<Kind>
 }
 
 /// Whether the output has an unknown column, or the number of a snapshot where there is none.
-pub(crate) fn output_has_unknown(
-    scope: &Scope<'_>,
-    snapshot: Option<u32>,
-    value: &OutputValue,
-) -> bool
+pub fn output_has_unknown(scope: &Scope<'_>, snapshot: Option<u32>, value: &OutputValue) -> bool
     ensures { result ≡ output_has_unknown scope.now snapshot value.now }
 {
     match value {
@@ -239,7 +231,7 @@ pub(crate) fn output_has_unknown(
 }
 
 /// The kind of the output.
-pub(crate) fn output_kind(scope: &Scope<'_>, value: &OutputValue) -> Option<Kind>
+pub fn output_kind(scope: &Scope<'_>, value: &OutputValue) -> Option<Kind>
     ensures { result ≡ output_kind scope.now value.now }
 {
     match value {

@@ -20,10 +20,10 @@ use Rattle.sql_tree.specs.Evaluation.{applied, column_value, compared, in_range,
 use Rattle.sql_tree.specs.Evaluation as evaluation
 use Rattle.sql_tree.specs.Expression.{Literal, Column, CurrentSnapshot, Apply}
 use Rattle.sql_tree.specs.Scope.{columns_of, kind_in, place_of}
-use Rattle.sql_check.specs.Expressions.{agree, compares_apart, has_unknown, has_unknown_operand, int_if, is_int, is_unknown_operand, kind_of, operand_kind}
-use Rattle.sql_check.specs.Laws.{ConditionsAreDecided, ExpressionsKeepTheirKind, IsOfKind}
+use Rattle.sql_kinds.specs.Expressions.{agree, compares_apart, has_unknown, has_unknown_operand, int_if, is_int, is_unknown_operand, kind_of, operand_kind}
+use Rattle.sql_kinds.specs.Laws.{ConditionsAreDecided, ExpressionsKeepTheirKind, IsOfKind}
 use Rattle.sql_tree.specs.Rows.{same_kind, fits}
-use Rattle.sql_check.proofs.Truths.{and_both, or_none}
+use Rattle.sql_kinds.proofs.Truths.{and_both, or_none}
 
 -- the value that is there, of the kind
 abbrev HasKind : Kind → Result Value Refusal → Type 0

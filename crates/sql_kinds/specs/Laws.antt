@@ -10,7 +10,7 @@ use Rattle.sql_tree.specs.Condition.{ConditionTree}
 use Rattle.sql_tree.specs.Evaluation.{is_true, value_of}
 use Rattle.sql_tree.specs.Expression.{ExpressionTree}
 use Rattle.sql_tree.specs.Scope.{columns_of}
-use Rattle.sql_check.specs.Expressions.{compares_apart, has_unknown, has_unknown_operand, kind_of}
+use Rattle.sql_kinds.specs.Expressions.{compares_apart, has_unknown, has_unknown_operand, kind_of}
 use Rattle.sql_tree.specs.Rows.{fits}
 
 -- there is a value of the kind, or a step left i64

@@ -1,6 +1,6 @@
 //! What follows for expressions and conditions that were checked.
 
-ghost use Rattle.sql_check.specs.Laws.{ConditionsAreDecided, ExpressionsKeepTheirKind};
+ghost use Rattle.sql_kinds.specs.Laws.{ConditionsAreDecided, ExpressionsKeepTheirKind};
 
 /// At a row that fits the columns, an expression whose names are known has a value of its kind, unless a step leaves
 /// i64.

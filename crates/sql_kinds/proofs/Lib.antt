@@ -1,0 +1,3 @@
+pub mod Checked
+pub mod Stepwise
+pub mod Truths
