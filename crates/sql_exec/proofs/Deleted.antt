@@ -20,7 +20,7 @@ use Rattle.pager.specs.Allows.{◌>>=◌, only}
 use Rattle.pager.specs.Pages.{Pages}
 use Rattle.heap_file.specs.declared.chain.Placed.{Placed}
 use Rattle.heap_file.proofs.Ones.{differ}
-use Rattle.heap_laws.proofs.Reading.{read_law}
+use Rattle.heap_laws.proofs.Reading.{table-numbered}
 use Rattle.relation.specs.declared.catalog.Catalog.{Catalog}
 use Rattle.relation.specs.declared.catalog.StoredTable.{StoredTable}
 use Rattle.relation.specs.Catalog.{table_named}
@@ -59,7 +59,7 @@ use Rattle.sql_exec.proofs.Steps.{ends-there}
 -- the rows of a table of a store have different numbers
 pub numbers-differ : (size : ℕ) (pages : Pages) (all : PlainTables) (is : IsStoreOf size pages all) (name : List ℕ) (here : Here size pages name is.store.base.found.tables all.tables) → AreDifferent (map number_of here.shows.placed)
 numbers-differ size pages all is name here =
-    let told = read_law.numbered size pages (firsts_of is.store.base.found) is.store.base.held here.found.first (record { next_number = here.table.next_number; rows = here.shows.placed }) is.store.base.heap (has-first is.store.base.found here.found here.in_catalog) here.shows.is_table in
+    let told = table-numbered size pages (firsts_of is.store.base.found) is.store.base.held here.found.first (record { next_number = here.table.next_number; rows = here.shows.placed }) is.store.base.heap (has-first is.store.base.found here.found here.in_catalog) here.shows.is_table in
     rising-differ number_of here.shows.placed (λ i j d less lt. told.rise i j d less lt)
 
 -- each stands on its page, under its number

@@ -14,7 +14,7 @@ use Rattle.sql_tree.specs.declared.select.Select.{Select as SelectRecord}
 use Rattle.sql_tree.specs.Condition.{ConditionTree}
 use Rattle.sql_check.specs.Selects.{keys_have_unknown, lacks_kind, list_has_unknown, select_has_unknown, select_is_mistyped, where_compares_apart, where_has_unknown}
 use Rattle.sql_check.specs.Outputs.{answer_columns}
-use Rattle.sql_check.proofs.Truths.{or_none}
+use Rattle.sql_kinds.proofs.Truths.{or_none}
 use Rattle.sql_tree.specs.declared.statement.Update.{Update as UpdateRecord}
 use Rattle.sql_check.specs.Check.{assigns_other_kind, assigns_unknown, checked, scope_of_one, select_scope, tables_of, finds, first_refusal, has_unknown_name, has_wrong_type, lacks, takes_taken_name, update_has_unknown, update_is_mistyped}
 use Rattle.sql_check.specs.Names.{is_reserved, stored_table, table_named as named_in}

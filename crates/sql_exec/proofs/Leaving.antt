@@ -62,7 +62,7 @@ module _ (columns : List Column) (test : Placed → Bool) where
   passing-not rows why e = passing-left rows ∙ ap leave e
 
   -- the rows of a table
-  sifted-left : (size : ℕ) (pages : Pages) (first : ℕ) (a : Result (List Placed) Refusal) → sifted some size pages first a → left_of test (sifted every size pages first) a
+  pub sifted-left : (size : ℕ) (pages : Pages) (first : ℕ) (a : Result (List Placed) Refusal) → sifted some size pages first a → left_of test (sifted every size pages first) a
   sifted-left size pages first (Ok left) (rows, read, e) = go (passing every rows) refl
     where
       go : (r : Result (List Placed) Refusal) → passing every rows ≡ r → left_of test (sifted every size pages first) (Ok left)

@@ -20,5 +20,6 @@ pub mod Shortness
 mod Sifting
 mod Sources
 pub mod Steps
+mod Summing
 pub mod Updated
 mod Within

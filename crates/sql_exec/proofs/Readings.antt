@@ -11,7 +11,7 @@ use Rattle.sql_tree.specs.Rows.{fits}
 use Rattle.sql_tree.specs.declared.schema.TableSchema.{TableSchema}
 use Rattle.sql_tree.specs.declared.statement.Column.{Column}
 use Rattle.sql_check.specs.Selects.{where_compares_apart, where_has_unknown}
-use Rattle.sql_check.proofs.Checked.{conditions_are_decided}
+use Rattle.sql_kinds.proofs.Checked.{conditions_are_decided}
 use Rattle.sql_select.specs.Rows.{holds_at}
 use Rattle.pager.specs.Pages.{Pages}
 use Rattle.heap_file.specs.declared.chain.Placed.{Placed}

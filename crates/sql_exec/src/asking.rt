@@ -9,6 +9,7 @@ ghost use Rattle.relation.specs.Catalog.{HaveFewColumns};
 ghost use Rattle.sql_exec.specs.Asking.{answered, over_one, over_two, where_alone};
 ghost use Rattle.sql_exec.specs.Promises.{Asks, KeepsReading};
 
+use crate::adding::summed;
 use crate::source::{Source, read_table};
 use pager::{Pager, Stop};
 use relation::{Catalog, open};
@@ -31,12 +32,31 @@ pub fn ask<P: Pager>(
 {
     let catalog = open(alloc, pager)?;
     let schema = catalog.schema(alloc)?;
-    check_select(alloc, query, snapshot, &schema)?;
+    check_select(query, snapshot, &schema)?;
     answer(alloc, query, snapshot, pager, &catalog)
 }
 
 /// The answer of a select that was checked against that catalog.
 pub fn answer<P: Pager>(
+    alloc: Global,
+    query: &Select,
+    snapshot: Option<u32>,
+    pager: &mut P,
+    catalog: &Catalog,
+) -> Result<Answer, Stop<P::Fault>>
+    requires { HaveFewColumns catalog.now.tables }
+    ensures answered { Answers (λ answer. answer) (P.tells pager.new)
+        (answered (P.size pager.old) catalog.now query.now snapshot) result }
+    ensures reads { KeepsReading P.tells P.goes P.size P.faults pager.old pager.new result }
+{
+    if let Some(answer) = summed(alloc, query, snapshot, pager, catalog)? {
+        return Ok(answer);
+    }
+    answer_of_rows(alloc, query, snapshot, pager, catalog)
+}
+
+// The answer of a select that was checked against that catalog, over the rows that it keeps.
+fn answer_of_rows<P: Pager>(
     alloc: Global,
     query: &Select,
     snapshot: Option<u32>,

@@ -1,6 +1,7 @@
 //! Statements over the pages of a store: what they do to its tables is what they do to plain tables.
 #![tactic(auto)]
 
+mod adding;
 mod asking;
 mod bounds;
 mod changing;

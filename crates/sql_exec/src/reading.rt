@@ -50,6 +50,8 @@ impl Sieve for Where {
 
     ghost passes = { λ s. passes_by (truth_at s.condition) };
 
+    ghost met = { λ _ _ _. Unit {0} };
+
     fn test(&mut self, placed: &Placed) -> Result<bool, Refusal> {
         let row = JoinedRow::of_one(placed.row.as_slice());
         match self.condition.holds(&row, &mut self.stack) {

@@ -32,7 +32,7 @@ pub fn run<P: EditPager>(
 {
     let catalog = open(alloc, pager)?;
     let schema = catalog.schema(alloc)?;
-    check(alloc, statement, snapshot, &schema)?;
+    check(statement, snapshot, &schema)?;
     perform(alloc, statement, pager, snapshot, &catalog)
 }
 

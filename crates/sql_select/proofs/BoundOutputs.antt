@@ -91,7 +91,7 @@ more_means scope n bounds bound outputs i output lt is e so_far =
     ∙ ap (λ (l : List Output). map over bounds ++ map (means scope n) l) (sym (item_at outputs i output lt is))
     ∙ so_far
 
-if_true : {X : Type 0} (b : Bool) (x y : X) → b ≡ true → (if b then x else y) ≡ x
+pub if_true : {X : Type 0} (b : Bool) (x y : X) → b ≡ true → (if b then x else y) ≡ x
 if_true true x y e = refl
 if_true false x y e = cc
 

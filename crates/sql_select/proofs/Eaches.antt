@@ -72,7 +72,7 @@ module _ (holds : List Value → Result Bool Refusal) where
   kept_on x xs ys (Ok false) (Ok l) (Ok zs) h o r ih = rw (h, ih, o, r) refl
 
   -- what is kept of two lists of rows
-  kept-append : (xs ys : List (List Value)) → kept holds (xs ++ ys) ≡ kept holds xs >>= (λ l. onto l (kept holds ys))
+  pub kept-append : (xs ys : List (List Value)) → kept holds (xs ++ ys) ≡ kept holds xs >>= (λ l. onto l (kept holds ys))
   kept-append [] ys = sym (onto_nothing (kept holds ys))
   kept-append (x ∷ xs) ys = kept_on x xs ys (holds x) (kept holds xs) (kept holds ys) refl refl refl (kept-append xs ys)
 

@@ -108,11 +108,16 @@ abbrev pub finished : Select → List SortKey → List OutputRow → List (List 
 finished select keys rows =
     map outputs_of (limited select.limit (sorted_by keys (if select.distinct then distinct rows else rows)))
 
+-- the answer with these columns whose rows, before DISTINCT, ORDER BY and LIMIT, are these
+abbrev pub answer_of : Select → List TableSchema → List Column → List OutputRow → Result Answer Refusal
+answer_of select scope columns found = do
+  keys ← each (sort_key select scope columns) select.order_by
+  Ok (record { columns = columns; rows = finished select keys found })
+
 -- the answer with these columns, over the rows of the first table and, where there is one, of the second
 abbrev pub answer : Select → List TableSchema → List Column → Option ℕ → List (List Value) →
     Option (List (List Value)) → Result Answer Refusal
 answer select scope columns snapshot firsts seconds = do
   rows ← kept (holds_at scope snapshot select.condition) (joined_rows firsts seconds)
   found ← output_rows scope snapshot select rows
-  keys ← each (sort_key select scope columns) select.order_by
-  Ok (record { columns = columns; rows = finished select keys found })
+  answer_of select scope columns found

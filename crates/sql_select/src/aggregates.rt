@@ -13,7 +13,8 @@ use retro_base::Refusal;
 use std::alloc::Global;
 use values::Value;
 
-fn whole(number: i128) -> Result<Value, Refusal>
+/// A number as a value; Overflow where it is outside i64.
+pub fn whole(number: i128) -> Result<Value, Refusal>
     ensures { result ≡ whole number }
 {
     match i64::try_from(number) {
@@ -23,7 +24,7 @@ fn whole(number: i128) -> Result<Value, Refusal>
 }
 
 /// A number of rows as a value.
-pub(crate) fn count(rows: usize) -> Result<Value, Refusal>
+pub fn count(rows: usize) -> Result<Value, Refusal>
     ensures { result ≡ whole (pos rows) }
 {
     whole(rows as i128)
@@ -72,7 +73,7 @@ pub(crate) fn sum_over(
 
 /// Which of the values of a group.
 #[derive(Clone, Copy, Debug)]
-pub(crate) enum Best {
+pub enum Best {
     Least,
     Greatest,
 }
@@ -98,7 +99,8 @@ pub(crate) fn best_over<'a>(
     }
 }
 
-fn better<'a>(which: Best, best: Option<Worked<'a>>, value: Worked<'a>) -> Worked<'a>
+/// The better of a value and the best so far.
+pub fn better<'a>(which: Best, best: Option<Worked<'a>>, value: Worked<'a>) -> Worked<'a>
     ensures { seen result ≡ better (choice which) (option_map seen best.entry) (seen value.entry) }
 {
     match best {

@@ -14,6 +14,7 @@ mod outputs;
 mod row_key;
 mod selecting;
 
+pub use aggregates::{Best, better, count, whole};
 pub use answer::Answer;
 pub use filter::Filter;
 pub use grouping::{KeyedRow, groups};
@@ -22,5 +23,8 @@ pub use laws::{
     distinct_leaves_one, groups_are_not_empty, limit_gives_a_front, min_is_least, order_keeps_rows,
     star_gives_rows,
 };
+pub use output_row::OutputRow;
+pub use output_rows::all_there_over_none;
+pub use outputs::{BoundList, BoundOutput};
 pub use row_key::RowKey;
-pub use selecting::select;
+pub use selecting::{answer_of, select};

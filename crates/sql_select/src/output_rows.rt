@@ -121,7 +121,8 @@ fn single_group<'a>(
     Ok(groups)
 }
 
-fn all_there_over_none(outputs: &[Output]) -> bool
+/// Whether each output has a value over no rows.
+pub fn all_there_over_none(outputs: &[Output]) -> bool
     ensures { result ≡ list_all (λ (output : Output). is_there_over_none output.value) outputs.now }
 {
     outputs

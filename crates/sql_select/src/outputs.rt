@@ -17,7 +17,7 @@ use values::{Row, Seq, Value};
 
 /// An output whose names are bound.
 #[derive(Debug, Drop)]
-pub(crate) enum BoundOutput {
+pub enum BoundOutput {
     /// The value at the group's first row.
     Value(BoundExpression),
     CountRows,
@@ -76,14 +76,14 @@ fn bind_aggregate(
 
 /// What a select gives for each group of rows, with its names bound.
 #[derive(Debug, Drop)]
-pub(crate) enum BoundList {
+pub enum BoundList {
     All,
     Outputs(Seq<BoundOutput>),
 }
 
 impl BoundList {
     /// The list over the columns of a scope; `snapshot` is the number of `current_snapshot()`.
-    pub(crate) fn bind(
+    pub fn bind(
         alloc: Global,
         scope: &Scope<'_>,
         snapshot: Option<u32>,

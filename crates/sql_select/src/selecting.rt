@@ -6,7 +6,8 @@ ghost use Rattle.retro_base.specs.Gives.{Gives};
 ghost use Rattle.retro_base.specs.declared.refusal.Refusal.TheVariants.{OutOfMemory};
 ghost use Rattle.sql_select.specs.Each.{each};
 ghost use Rattle.sql_select.specs.Rows.{holds_at, joined_rows, kept};
-ghost use Rattle.sql_select.specs.Select.{answer, finished, key_place, limited, output_place, outputs_of, sort_key};
+ghost use Rattle.sql_select.specs.Select.{answer, answer_of, finished, key_place, limited, output_place};
+ghost use Rattle.sql_select.specs.Select.{outputs_of, sort_key};
 
 use crate::answer::Answer;
 use crate::filter::Filter;
@@ -39,6 +40,19 @@ pub fn select<R: HasRow>(
 {
     let rows = kept_rows(alloc, &select.condition, scope, snapshot, firsts, seconds)?;
     let found = output_rows(alloc, scope, snapshot, select, rows)?;
+    answer_of(alloc, select, scope, columns, found)
+}
+
+/// The answer whose rows, before DISTINCT, ORDER BY and LIMIT, are these.
+pub fn answer_of(
+    alloc: Global,
+    select: &Select,
+    scope: &Scope<'_>,
+    columns: Seq<Column>,
+    found: Vec<OutputRow<'_>>,
+) -> Result<Answer, Refusal>
+    ensures { Gives (λ answer. answer) result (answer_of select.now scope.now columns found.entry.items) }
+{
     let keys = sort_keys(alloc, select, scope, columns.as_slice())?;
     let rows = finish(alloc, select, &keys, found)?;
     Ok(Answer { columns, rows })

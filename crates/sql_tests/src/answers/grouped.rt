@@ -1,6 +1,6 @@
 //! Aggregates and groups.
 
-use super::rows::{Pair, answers};
+use super::rows::{Pair, answers, totals};
 
 const GREATEST: i64 = 9_223_372_036_854_775_807;
 
@@ -76,4 +76,34 @@ const GROUPS_BY_TWO: &str = "a, b, rows group b, a | a b n | 2,y,2;1,y,1;2,x,1;
 fn groups_by_two_columns_and_their_order(rt: HostRuntime) {
     let rows: &[Pair] = &[(2, "y"), (1, "y"), (2, "x"), (2, "y")];
     answers(&rt, rt.alloc(), rows, GROUPS_BY_TWO);
+}
+
+const TOTALS: &str = "rows, count b, sum a, min a, max b | 4,4,-6,-7,ab;
+    sum a, max 0 a - where a < 0 | -10,7;
+    rows, sum a where a > 9 | 0,0;
+    min b where a > 9 |
+    sum b | WrongType
+    rows limit 0 |
+    distinct rows where b = 'B' | 1;
+    * | none
+    a | none
+    7, rows | none
+    rows group a | none
+    rows from t, u | none";
+
+#[test]
+fn totals_of_four_rows(rt: HostRuntime) {
+    let rows: &[Pair] = &[(-3, "a"), (-7, "ab"), (4, "B"), (0, "Ba")];
+    totals(&rt, rt.alloc(), rows, TOTALS);
+}
+
+const TOTALS_PAST_64_BITS: &str = "sum a | -2;
+    sum a where b = 'x' | Overflow
+    count a 1 + where b = 'y' | 2;
+    count a 1 + limit 0 | Overflow";
+
+#[test]
+fn totals_past_64_bits_that_come_back(rt: HostRuntime) {
+    let rows: &[Pair] = &[(GREATEST, "x"), (GREATEST, "x"), (LEAST, "y"), (LEAST, "y")];
+    totals(&rt, rt.alloc(), rows, TOTALS_PAST_64_BITS);
 }

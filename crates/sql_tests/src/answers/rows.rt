@@ -3,7 +3,8 @@
 use crate::building::{beside, cut, name, pieces, push, select, text, write};
 use retro_base::Refusal;
 use sql_select::Answer;
-use sql_tree::{Column, Scope, TableSchema};
+use sql_totals::Totals;
+use sql_tree::{Column, Scope, Select, TableSchema};
 use std::alloc::Global;
 use std::process::Abort;
 use values::{Kind, Row, Seq, Value, field};
@@ -137,4 +138,41 @@ pub fn join_answers(
         Some(seconds.as_slice()),
         lines,
     );
+}
+
+// The select's answer where its aggregates are added up row by row at snapshot 7; none where it has others.
+fn added_up(
+    alloc: Global,
+    tree: &Select,
+    scope: &Scope<'_>,
+    rows: &[Row],
+) -> Result<Option<Answer>, Refusal> {
+    let Some(mut totals) = Totals::bind(alloc, tree, scope, Some(7))? else {
+        return Ok(None);
+    };
+    for row in rows {
+        totals.add(alloc, row.as_slice())?;
+    }
+    let answer = totals.answer(alloc, tree, scope, Seq::new(alloc))?;
+    Ok(Some(answer))
+}
+
+fn added_text(rt: &impl Abort, alloc: Global, added: Result<Option<Answer>, Refusal>) -> Vec<u8> {
+    match added.transpose() {
+        Some(answer) => answer_text(rt, alloc, answer),
+        None => Vec::from_slice(alloc, b"none").expect(rt, "memory"),
+    }
+}
+
+/// Adds up the aggregates of each line's select over the rows of t. A line is the select and the answer, or `none`.
+pub fn totals(rt: &impl Abort, alloc: Global, pairs: &[Pair], lines: &str) {
+    let t = table(rt, alloc, "t", "a b");
+    let rows = rows(rt, alloc, pairs);
+    for line in &pieces(rt, alloc, lines, "\n    ") {
+        let (query, want) = cut(line, " |");
+        let tree = select(rt, alloc, query);
+        let added = added_up(alloc, &tree, &Scope::of_one(&t), rows.as_slice());
+        let found = added_text(rt, alloc, added);
+        assert_eq!(rt; found.as_slice(), want.trim_start().as_bytes(), "{line}");
+    }
 }

@@ -154,7 +154,7 @@ fn refusal(
     schema: &Schema,
 ) -> i64 {
     let statement = statement(rt, alloc, of);
-    i64::from(number(check(alloc, &statement, snapshot, schema)))
+    i64::from(number(check(&statement, snapshot, schema)))
 }
 
 /// Checks the statement of each line; it is refused by the number behind the arrow, or by none where the number is 0.

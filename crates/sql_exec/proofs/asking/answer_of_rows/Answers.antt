@@ -2,7 +2,7 @@ use Rattle.std.proofs.Common.{◌∙◌}
 use Rattle.std.proofs.lemmas.Result.{err_from_is_err_and}
 use Rattle.heap_file.proofs.Ways.{allowed_stop}
 use Rattle.sql_exec.proofs.Answering.{answered-not, answered-one, answered-two, answered-unread, handed}
-use Rattle.sql_exec.proofs.asking.answer.Goals as goal
+use Rattle.sql_exec.proofs.asking.answer_of_rows.Goals as goal
 
 pub returns-in_err-first-clause-answered : goal.returns-in_err-first-clause-answered
 returns-in_err-first-clause-answered g c = λ base shown told.
