@@ -5,7 +5,7 @@ ghost use Rattle.sql_text.specs.Line.{HasLimits};
 
 use crate::texts::text_of;
 use pager::{EditPager, MemPager, Pager, Stop};
-use retro_base::{Failed, Page, Refusal};
+use retro_base::{Page, Refusal};
 use sql_text::{Parsed, parse};
 use sql_tree::Select;
 use std::alloc::{AllocError, Global};
@@ -41,13 +41,14 @@ pub fn nothing(alloc: Global, count: u16) -> Result<Both, AllocError> {
     Ok(Both { pages, plain })
 }
 
-/// The line with `~` spelled out as a hundred letters, `^` as a hundred of the greatest byte and `#` as thirty-one
-/// letters.
-pub fn spelled(alloc: Global, line: &str) -> Result<Vec<u8>, AllocError> {
+// The line with `~` spelled out as a hundred letters, `%` as eighty, `^` as a hundred of the greatest byte and `#` as
+// thirty-one letters.
+fn spelled(alloc: Global, line: &str) -> Result<Vec<u8>, AllocError> {
     let mut bytes = Vec::new(alloc);
     for byte in line.as_bytes() {
         let (letter, count) = match *byte {
             b'~' => (b'p', 100),
+            b'%' => (b'p', 80),
             b'^' => (b'~', 100),
             b'#' => (b'x', 31),
             other => (other, 1),
@@ -59,8 +60,8 @@ pub fn spelled(alloc: Global, line: &str) -> Result<Vec<u8>, AllocError> {
     Ok(bytes)
 }
 
-/// What a line says.
-pub fn parsed(alloc: Global, line: &str) -> Result<Parsed, Refusal>
+// What a line says.
+fn parsed(alloc: Global, line: &str) -> Result<Parsed, Refusal>
     ensures { IfOk result HasLimits }
 {
     let bytes = spelled(alloc, line)?;
@@ -103,29 +104,22 @@ pub fn over_plain(alloc: Global, parsed: &Parsed, plain: &mut Tables) -> Result<
 }
 
 /// The text of a line's reply over pages.
-pub fn pages_text(
-    alloc: Global,
-    parsed: &Parsed,
-    pages: &mut MemPager,
-) -> Result<String, AllocError>
-    requires { HasLimits parsed.now }
-{
-    text_of(alloc, &over_pages(alloc, parsed, pages))
+pub fn pages_text(alloc: Global, line: &str, pages: &mut MemPager) -> Result<String, Refusal> {
+    let parsed = parsed(alloc, line)?;
+    Ok(text_of(alloc, &over_pages(alloc, &parsed, pages))?)
 }
 
 /// The text of a line's reply over plain tables.
-pub fn plain_text(alloc: Global, parsed: &Parsed, plain: &mut Tables) -> Result<String, AllocError>
-    requires { HasLimits parsed.now }
-{
-    let reply = over_plain(alloc, parsed, plain).map_err(Stop::Refused);
-    text_of(alloc, &reply)
+pub fn plain_text(alloc: Global, line: &str, plain: &mut Tables) -> Result<String, Refusal> {
+    let parsed = parsed(alloc, line)?;
+    let reply = over_plain(alloc, &parsed, plain).map_err(Stop::Refused);
+    Ok(text_of(alloc, &reply)?)
 }
 
 /// The replies of a line over both.
 pub fn reply_twice(alloc: Global, line: &str, both: &mut Both) -> Result<Replies, Refusal> {
-    let parsed = parsed(alloc, line)?;
     Ok(Replies {
-        pages: pages_text(alloc, &parsed, &mut both.pages)?,
-        plain: plain_text(alloc, &parsed, &mut both.plain)?,
+        pages: pages_text(alloc, line, &mut both.pages)?,
+        plain: plain_text(alloc, line, &mut both.plain)?,
     })
 }

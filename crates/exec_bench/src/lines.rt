@@ -1,5 +1,5 @@
-//! The statements. In each `~` stands for a hundred letters, `^` for a hundred of the greatest byte, and `#` for
-//! thirty-one letters.
+//! The statements. In each `~` stands for a hundred letters, `%` for eighty, `^` for a hundred of the greatest byte,
+//! and `#` for thirty-one letters.
 
 /// In sixteen pages the catalog's first page tells thirteen tables, and one page is free. A fourteenth table needs two,
 /// and so does an index: one for its row, and its root page.
@@ -37,9 +37,9 @@ pub const LAST_NUMBERS: [&str; 8] = [
 /// A row takes 819 bytes and those of its fifth text: 900 are the most.
 pub const LONG: [&str; 5] = [
     "CREATE TABLE t(a TEXT, b TEXT, c TEXT, d TEXT, e TEXT)",
-    "INSERT INTO t VALUES ('~~','~~','~~','~~','ppppppppppppppppppppppppppppppppppppppppppppppppppppppppppppppppppppppppppppppppp')",
-    "INSERT INTO t VALUES ('~~','~~','~~','~~','pppppppppppppppppppppppppppppppppppppppppppppppppppppppppppppppppppppppppppppppppp')",
-    "UPDATE t SET e = 'pppppppppppppppppppppppppppppppppppppppppppppppppppppppppppppppppppppppppppppppppp'",
+    "INSERT INTO t VALUES ('~~','~~','~~','~~','%p')",
+    "INSERT INTO t VALUES ('~~','~~','~~','~~','%pp')",
+    "UPDATE t SET e = '%pp'",
     "SELECT COUNT(*) FROM t",
 ];
 

@@ -8,14 +8,13 @@ mod stories;
 mod texts;
 
 use lines::{FULL, LONG, REFUSED};
-use pager::Stop;
-use retro_base::Failed;
+use retro_base::Refusal;
 use std::alloc::Global;
 use std::env::{self, Env};
 use std::process::ExitCode;
 use stories::{compared, faults, large, last_numbers, many, replies_of, texts_indexed, wide};
 
-fn story(alloc: Global, out: &mut String) -> Result<(), Stop<Failed>> {
+fn story(alloc: Global, out: &mut String) -> Result<(), Refusal> {
     replies_of(alloc, &FULL, out)?;
     replies_of(alloc, &LONG, out)?;
     replies_of(alloc, &REFUSED, out)?;
@@ -27,7 +26,7 @@ fn story(alloc: Global, out: &mut String) -> Result<(), Stop<Failed>> {
     large(alloc, out)
 }
 
-fn told(alloc: Global, compares: bool) -> Result<String, Stop<Failed>> {
+fn told(alloc: Global, compares: bool) -> Result<String, Refusal> {
     let mut out = String::new(alloc);
     if !compares {
         story(alloc, &mut out)?;

@@ -1,17 +1,14 @@
 //! What the statements tell, as text.
 
-use crate::both::{
-    Both, Replies, nothing, over_pages, pages_text, parsed, plain_text, reply_twice, zero_pages,
-};
+use crate::both::{Both, Replies, nothing, pages_text, plain_text, reply_twice, zero_pages};
 use crate::lines::{
     BIG, COMPARED, INDEXES, KEY, KEYED, KINDS, LARGE, LAST_NUMBERS, LOOK_UPS, MANY, PAIRS, TEXTS,
     TWO_PAGES, WALKS, WIDE,
 };
-use crate::texts::text_of;
-use pager::{MemPager, Pager, Stop};
-use retro_base::{Failed, Page, Refusal};
+use pager::{MemPager, Pager};
+use retro_base::{Page, Refusal};
 use std::alloc::{AllocError, Global};
-use tables::{Reply, Tables};
+use tables::Tables;
 
 /// How many rows a large table has.
 const ROWS: u32 = 10_000;
@@ -28,14 +25,17 @@ enum Table {
     Pairs,
 }
 
-// The reply of a line over pages.
-fn reply(alloc: Global, line: &str, pager: &mut MemPager) -> Result<Reply, Stop<Failed>> {
-    let parsed = parsed(alloc, line)?;
-    over_pages(alloc, &parsed, pager)
+// Runs a line that is not refused.
+fn done(alloc: Global, line: &str, pager: &mut MemPager) -> Result<(), Refusal> {
+    let reply = pages_text(alloc, line, pager)?;
+    if reply.as_str().starts_with("refused") || reply.as_str() == "fault" {
+        return Err(Refusal::BadWords);
+    }
+    Ok(())
 }
 
 /// Each line with its reply over a store of sixteen pages; of a refused one also how many pages it edited.
-pub fn replies_of(alloc: Global, lines: &[&str], out: &mut String) -> Result<(), AllocError> {
+pub fn replies_of(alloc: Global, lines: &[&str], out: &mut String) -> Result<(), Refusal> {
     replies_over(alloc, zero_pages(alloc, 16)?, lines, out)
 }
 
@@ -45,31 +45,28 @@ fn replies_over(
     mut pager: MemPager,
     lines: &[&str],
     out: &mut String,
-) -> Result<(), AllocError> {
+) -> Result<(), Refusal> {
     for line in lines {
         let before = pager.edits().len();
-        let reply = reply(alloc, line, &mut pager);
-        out.push_str(line)?;
-        out.push_str(": ")?;
-        out.push_str(text_of(alloc, &reply)?.as_str())?;
-        if reply.is_err() {
+        let mut reply = pages_text(alloc, line, &mut pager)?;
+        if reply.as_str().starts_with("refused") {
             let edits = pager.edits().len().saturating_sub(before);
-            out.push_str(format!(in alloc; ", {edits} edits")?.as_str())?;
+            reply.push_str(format!(in alloc; ", {edits} edits")?.as_str())?;
         }
-        out.push_str("\n")?;
+        tell(out, line, reply.as_str())?;
     }
     Ok(())
 }
 
 /// The lines over a table whose next row number is the last but two.
-pub fn last_numbers(alloc: Global, out: &mut String) -> Result<(), Stop<Failed>> {
+pub fn last_numbers(alloc: Global, out: &mut String) -> Result<(), Refusal> {
     let mut pager = zero_pages(alloc, 16)?;
-    reply(alloc, "CREATE TABLE t(k INT)", &mut pager)?;
+    done(alloc, "CREATE TABLE t(k INT)", &mut pager)?;
     let mut pages = pager.pages().to_vec(alloc)?;
     if let Some(first_of_t) = pages.get_mut(2) {
         first_of_t.put_u64(NEXT_NUMBER_PLACE, u64::MAX - 2);
     }
-    Ok(replies_over(alloc, failing_at(alloc, &pages, 0)?, &LAST_NUMBERS, out)?)
+    replies_over(alloc, failing_at(alloc, &pages, 0)?, &LAST_NUMBERS, out)
 }
 
 /// How many of the statements of all kinds there are, were refused, and were answered otherwise by plain tables.
@@ -201,8 +198,7 @@ pub fn compared(alloc: Global, out: &mut String) -> Result<(), Refusal> {
 fn plain_replies(alloc: Global, tables: &mut Tables) -> Result<Vec<String>, Refusal> {
     let mut replies = Vec::new(alloc);
     for line in COMPARED {
-        let reply = plain_text(alloc, &parsed(alloc, line)?, tables)?;
-        replies.push(reply)?;
+        replies.push(plain_text(alloc, line, tables)?)?;
     }
     Ok(replies)
 }
@@ -215,7 +211,7 @@ fn beside_plain(
     out: &mut String,
 ) -> Result<(), Refusal> {
     for (line, plain) in COMPARED.iter().zip(replies) {
-        let pages = pages_text(alloc, &parsed(alloc, line)?, pager)?;
+        let pages = pages_text(alloc, line, pager)?;
         tell_alike(out, line, &Replies { pages, plain })?;
     }
     Ok(())
@@ -227,13 +223,13 @@ fn selects(
     lines: &[&str],
     both: &mut Both,
     out: &mut String,
-) -> Result<(), Stop<Failed>> {
+) -> Result<(), Refusal> {
     agreed(alloc, lines, both, out)?;
     reads(alloc, both.pages.pages(), lines, out)
 }
 
 /// The large table: how many statements inserted its rows alike, what its indexes find, and what then became of it.
-pub fn large(alloc: Global, out: &mut String) -> Result<(), Stop<Failed>> {
+pub fn large(alloc: Global, out: &mut String) -> Result<(), Refusal> {
     let mut both = filled(alloc, 4000, Table::Big, &BIG, out)?;
     agreed(alloc, &INDEXES, &mut both, out)?;
     selects(alloc, &LOOK_UPS, &mut both, out)?;
@@ -243,12 +239,7 @@ pub fn large(alloc: Global, out: &mut String) -> Result<(), Stop<Failed>> {
 }
 
 // Whether each select reads at most eight pages: whether there is a ninth read, whose fault comes out.
-fn reads(
-    alloc: Global,
-    pages: &[Page],
-    lines: &[&str],
-    out: &mut String,
-) -> Result<(), Stop<Failed>> {
+fn reads(alloc: Global, pages: &[Page], lines: &[&str], out: &mut String) -> Result<(), Refusal> {
     for line in lines {
         let more = fault_comes_out(alloc, pages, line, 9)?;
         let reply = if more {
@@ -262,53 +253,48 @@ fn reads(
 }
 
 // The pages of a table of two pages, behind these lines.
-fn two_pages(alloc: Global, lines: &[&str]) -> Result<Vec<Page>, Stop<Failed>> {
+fn two_pages(alloc: Global, lines: &[&str]) -> Result<Vec<Page>, Refusal> {
     let mut pager = zero_pages(alloc, 16)?;
     for line in TWO_PAGES {
-        reply(alloc, line, &mut pager)?;
+        done(alloc, line, &mut pager)?;
     }
     for line in lines {
-        reply(alloc, line, &mut pager)?;
+        done(alloc, line, &mut pager)?;
     }
     Ok(pager.pages().to_vec(alloc)?)
 }
 
 // A pager of these pages whose call of that number fails; call 0 never comes.
-fn failing_at(alloc: Global, pages: &[Page], call: u64) -> Result<MemPager, Stop<Failed>> {
+fn failing_at(alloc: Global, pages: &[Page], call: u64) -> Result<MemPager, Refusal> {
     if pages.len() > 4096 {
-        return Err(Stop::Refused(Refusal::BadSizes));
+        return Err(Refusal::BadSizes);
     }
     let failing = vec![in alloc; call; 1]?;
     Ok(MemPager::new(alloc, pages.to_vec(alloc)?, failing))
 }
 
 // How many edits a statement makes on a pager that never fails.
-fn edits_of(alloc: Global, pages: &[Page], line: &str) -> Result<usize, Stop<Failed>> {
+fn edits_of(alloc: Global, pages: &[Page], line: &str) -> Result<usize, Refusal> {
     let mut pager = failing_at(alloc, pages, 0)?;
-    reply(alloc, line, &mut pager)?;
+    done(alloc, line, &mut pager)?;
     Ok(pager.edits().len())
 }
 
 // Whether the call of that number comes, fails, and its fault is what the statement ends by; false where the statement
 // succeeds.
-fn fault_comes_out(
-    alloc: Global,
-    pages: &[Page],
-    line: &str,
-    call: u64,
-) -> Result<bool, Stop<Failed>> {
+fn fault_comes_out(alloc: Global, pages: &[Page], line: &str, call: u64) -> Result<bool, Refusal> {
     let mut pager = failing_at(alloc, pages, call)?;
-    let reply = reply(alloc, line, &mut pager);
-    match (reply, pager.faults()) {
-        (Err(Stop::Pager(_)), 1) => Ok(true),
-        (Ok(_), 0) => Ok(false),
-        _ => Err(Stop::Refused(Refusal::BadWords)),
+    let reply = pages_text(alloc, line, &mut pager)?;
+    let failed = reply.as_str() == "fault";
+    if reply.as_str().starts_with("refused") || failed != (pager.faults() == 1) {
+        return Err(Refusal::BadWords);
     }
+    Ok(failed)
 }
 
 // How many calls a statement makes, where the fault of each comes out, and the statement then succeeds on a fresh
 // pager.
-fn calls_of(alloc: Global, pages: &[Page], line: &str) -> Result<usize, Stop<Failed>> {
+fn calls_of(alloc: Global, pages: &[Page], line: &str) -> Result<usize, Refusal> {
     let mut calls = 0_usize;
     for call in 1..1000 {
         if !fault_comes_out(alloc, pages, line, call)? {
@@ -317,22 +303,17 @@ fn calls_of(alloc: Global, pages: &[Page], line: &str) -> Result<usize, Stop<Fai
         edits_of(alloc, pages, line)?;
         calls = calls.saturating_add(1);
     }
-    Err(Stop::Refused(Refusal::BadSizes))
+    Err(Refusal::BadSizes)
 }
 
 /// For each kind of statement: how many edits it makes, and whether the fault of each edit and of two reads or more
 /// came out.
-pub fn faults(alloc: Global, out: &mut String) -> Result<(), Stop<Failed>> {
+pub fn faults(alloc: Global, out: &mut String) -> Result<(), Refusal> {
     kinds(alloc, &two_pages(alloc, &[])?, &KINDS, out)?;
     kinds(alloc, &two_pages(alloc, &[KEY])?, &KEYED, out)
 }
 
-fn kinds(
-    alloc: Global,
-    pages: &[Page],
-    lines: &[&str],
-    out: &mut String,
-) -> Result<(), Stop<Failed>> {
+fn kinds(alloc: Global, pages: &[Page], lines: &[&str], out: &mut String) -> Result<(), Refusal> {
     for line in lines {
         let edits = edits_of(alloc, pages, line)?;
         let reads = calls_of(alloc, pages, line)?.saturating_sub(edits);
