@@ -8,7 +8,7 @@ a column as of every snapshot; all on files. SQLite does it in
 two ways: history by triggers (rows with the snapshots between which they held), and a copy of the table at each
 snapshot, in WAL mode with a sync at each commit. It declares the snapshot in the commit of the UPDATE, one sync a
 round, and in a commit of its own, two syncs, as many as the program has. Sums that differ end it with status 1. Seconds
-are of the wall.
+are of the wall; an opening, the least of five runs that only look, is taken off the program's.
 
 With the program of crates/store_bench it also tells how many of C small rounds are made a second: there a page is
 written and a snapshot declared by one commit of two syncs, and in SQLite a row is changed and another inserted, by two
@@ -57,7 +57,11 @@ def reedsickle(program, rows, rounds, touch):
     parts = [",".join(f"({a},0)" for a in range(at, min(at + 200, rows))) for at in range(0, rows, 200)]
     run("CREATE TABLE t(a INT, b INT)", "CREATE INDEX by_a ON t(a)", *(f"INSERT INTO t VALUES {part}" for part in parts), "COMMIT")
     update = "UPDATE t SET b = b + {1} WHERE a >= {0} AND a < {2}\nCOMMIT WITH SNAPSHOT"
-    opening, _ = timed(lambda: run("SELECT * FROM SnapIds"))
+
+    def opening():
+        return min(timed(lambda: run("SELECT COUNT(*) FROM SnapIds"))[0] for _ in range(5))
+
+    first = opening()
     written, _ = timed(lambda: run(*(update.format(at, value, at + touch) for at, value in changes(rows, rounds, touch))))
     call = "CollateData('SELECT snap_id FROM SnapIds','SELECT SUM(b) FROM t','rql_sums')"
     asked, told = timed(lambda: run(call, "SELECT * FROM rql_sums"))
@@ -65,7 +69,9 @@ def reedsickle(program, rows, rounds, touch):
     at = lines.index(f"rows {rounds}") + 1
     kept = subprocess.run([program, "show", "books"], text=True, capture_output=True, check=True).stdout
     captures = next(int(line.split()[1]) for line in kept.splitlines() if line.startswith("captures"))
-    return written - opening, asked - opening, [int(line) for line in lines[at : at + rounds]], captures * 1024
+    behind = opening()
+    print(f"opening the store, before the rounds and behind them: {first * 1e3:.0f} and {behind * 1e3:.0f} ms")
+    return written - first, asked - behind, [int(line) for line in lines[at : at + rounds]], captures * 1024
 
 
 def opened(path, table):

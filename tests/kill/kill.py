@@ -1,13 +1,15 @@
 #!/usr/bin/env python3
-"""kill.py PROGRAM [CYCLES]: kills the program while it commits with snapshots, and opens the store again each time.
+"""kill.py PROGRAM [KILLS]: kills the program so often while it commits with snapshots, and opens the store each time.
 
 Item k of all items inserts the row (k, k * k) and declares a snapshot. So however a run ended, a store that shows N as
 its newest snapshot has to hold the rows up to N - 1 now (snapshot 1 is of the empty table), and as of each snapshot S
-the rows up to S - 1: counts and sums are worked out here. What an earlier look has shown may not be lost. A killed program
-loses nothing that the system has taken from it, so this shows openings and what is written when, and not that it syncs. In a third of
-the cycles a run that only looks is killed too, while it opens or goes on to copy; and behind half of them nothing runs to
-its end before the next kill. At last every snapshot is asked by one call. It works in a folder of its own under the
-current one, and ends with status 1 at the first difference.
+the rows up to S - 1: counts and sums are worked out here. What an earlier look has shown may not be lost. A killed
+program loses nothing that the system has taken from it, so this shows openings and what is written when, and not that
+it syncs. In a third of the cycles a run that only looks is killed too, while it opens or goes on to copy; and behind
+half of them nothing runs to its end before the next kill. Behind the others, and at last, the table is asked now and as
+of every snapshot, by one call that goes through all and by a SELECT for some. A run that ends before its kill does not
+count; a slow device ends it early, which its line tells. It works in a folder of its own under the current one, and
+ends with status 1 at the first difference.
 """
 import os
 import random
@@ -20,7 +22,7 @@ import time
 
 FIRST, LONG = 100, 40
 
-# A slow device ends the cycles early, in seconds, though not below so many.
+# A slow device ends it early, in seconds, though not below so many kills.
 LATEST, FEWEST = 55, 10
 
 
@@ -86,16 +88,16 @@ def held(program, dir, newest):
 
 
 def all_held(program, dir, newest):
-    ask = "SELECT current_snapshot() AS n, COUNT(*) AS c, SUM(k) AS s FROM t"
+    ask = "SELECT current_snapshot() AS n, COUNT(*) AS c, SUM(k) AS s, SUM(v) AS q FROM t"
     call = f"CollateData('SELECT snap_id FROM SnapIds','{ask}','rql_all');"
     lines = run(program, ["run", dir], script([call, "SELECT * FROM rql_all;"]))
     at = lines.index(f"rows {newest}") + 1
-    if lines[at : at + newest] != [f"{n},{n - 1},{n * (n - 1) // 2}" for n in range(1, newest + 1)]:
+    if lines[at : at + newest] != [f"{n},{row(n - 1)}" for n in range(1, newest + 1)]:
         sys.exit(f"as of all {newest} snapshots: {lines[at : at + newest]}")
 
 
 def main():
-    program, cycles = os.path.abspath(sys.argv[1]), int(sys.argv[2]) if len(sys.argv) > 2 else 50
+    program, kills = os.path.abspath(sys.argv[1]), int(sys.argv[2]) if len(sys.argv) > 2 else 50
     random.seed(int(os.environ.get("SEED", "1")))
     room = tempfile.mkdtemp(prefix="kill-", dir=".")
     dir = f"{room}/store"
@@ -107,7 +109,7 @@ def main():
         known = newest_of(program, dir, FIRST + 1 + 2 * LONG)
         opening, killed, looked, parted = span_of(program, dir, looks(known)[1]), 0, 0, 0
         began, done = time.monotonic(), 0
-        while done < cycles and (done < FEWEST or time.monotonic() - began < LATEST):
+        while killed < kills and (killed < FEWEST or time.monotonic() - began < LATEST):
             done += 1
             was_cut, before = is_cut_off(program, dir, commits(known, LONG), span), known
             known = newest_of(program, dir, known)
@@ -118,6 +120,7 @@ def main():
                 known = newest_of(program, dir, known)
             if random.random() < 1 / 2:
                 held(program, dir, known)
+                all_held(program, dir, known)
         held(program, dir, known)
         all_held(program, dir, known)
         if parted == 0:
