@@ -16,6 +16,7 @@ use Rattle.row_codec.specs.RowCode.{row_code, encoded, IsEncoded, IsDecoded, IsR
 use Rattle.row_codec.proofs.Codes.{same_parts, one_row, row_size}
 use Rattle.heap_file.specs.declared.page.Entry.{Entry}
 use Rattle.heap_file.specs.declared.page.HeapPage.{HeapPage}
+use Rattle.heap_file.specs.declared.page.TheConstants.{ENTRY_BYTES}
 use Rattle.heap_file.specs.HeapPage.{HaveRoom, entry_code, entry_bytes, IsEntry, IsShort, IsFirstEntry, HoldsRows, HoldsOne, ZeroIsEmpty, WrittenHolds, IsHeapPage, page_bytes, header}
 use Rattle.heap_file.specs.Work.{page_with, without}
 
@@ -150,7 +151,7 @@ zero_is_empty = record {
   next = refl;
   next_number = refl;
   last = refl;
-  behind = replicate 1004 0;
+  behind = replicate ENTRY_BYTES 0;
   packed = refl;
   lawful = tt;
 }
@@ -172,7 +173,7 @@ written_holds page next number last is =
     let f8 = field_bytes 8 page.next_number in
     let g4 = field_bytes 4 page.last in
     let body : List ℕ = entry_bytes page.entries in
-    let zeros : List ℕ = replicate (1004 - length body) 0 in
+    let zeros : List ℕ = replicate (ENTRY_BYTES - length body) 0 in
     let rest : List ℕ = body ++ zeros in
     let few : length page.entries < 256 ^ 2 = omega (arith, entries-few page.entries, leb-true _ _ is.fits) in
     let a : page_bytes page ≡ (1 ∷ 0 ∷ []) ++ (f2 ++ (f4 ++ (f8 ++ (g4 ++ rest)))) = simp append_assoc in
@@ -204,14 +205,14 @@ length-header page =
     omega (arith, length-field_bytes 2 (length page.entries), length-field_bytes 4 page.next, length-field_bytes 8 page.next_number, length-field_bytes 4 page.last, length-append (((1 ∷ 0 ∷ f2) ++ f4) ++ f8) g4, length-append ((1 ∷ 0 ∷ f2) ++ f4) f8, length-append (1 ∷ 0 ∷ f2) f4)
 
 -- bytes that are put behind the first twenty of a page
-put_behind : (front body : List ℕ) → length front ≡ 20 → take 20 (front ++ replicate 1004 0) ++ (body ++ drop (20 + length body) (front ++ replicate 1004 0)) ≡ front ++ body ++ replicate (1004 - length body) 0
+put_behind : (front body : List ℕ) → length front ≡ 20 → take 20 (front ++ replicate ENTRY_BYTES 0) ++ (body ++ drop (20 + length body) (front ++ replicate ENTRY_BYTES 0)) ≡ front ++ body ++ replicate (ENTRY_BYTES - length body) 0
 put_behind front body long =
-    let rest : drop (20 + length body) (front ++ replicate 1004 0) ≡ replicate (1004 - length body) 0 =
-    sym (drop-drop (length body) 20 (front ++ replicate 1004 0)) ∙ ap (drop (length body)) (drop_at front (replicate 1004 0) 20 long) ∙ drop-replicate (length body) 1004 0 in
-    rw (take_at front (replicate 1004 0) 20 long, rest) (sym (append_assoc front body (replicate (1004 - length body) 0)))
+    let rest : drop (20 + length body) (front ++ replicate ENTRY_BYTES 0) ≡ replicate (ENTRY_BYTES - length body) 0 =
+    sym (drop-drop (length body) 20 (front ++ replicate ENTRY_BYTES 0)) ∙ ap (drop (length body)) (drop_at front (replicate ENTRY_BYTES 0) 20 long) ∙ drop-replicate (length body) ENTRY_BYTES 0 in
+    rw (take_at front (replicate ENTRY_BYTES 0) 20 long, rest) (sym (append_assoc front body (replicate (ENTRY_BYTES - length body) 0)))
 
 -- entries that are put behind a header
-pub behind_header : (page : HeapPage) → take 20 (header page ++ replicate 1004 0) ++ (entry_bytes page.entries ++ drop (20 + length (entry_bytes page.entries)) (header page ++ replicate 1004 0)) ≡ page_bytes page
+pub behind_header : (page : HeapPage) → take 20 (header page ++ replicate ENTRY_BYTES 0) ++ (entry_bytes page.entries ++ drop (20 + length (entry_bytes page.entries)) (header page ++ replicate ENTRY_BYTES 0)) ≡ page_bytes page
 unfolding page_bytes
 behind_header page = put_behind (header page) (entry_bytes page.entries) (length-header page)
 

@@ -8,12 +8,12 @@ use Rattle.pager.specs.Pages.{Pages, broken}
 use Rattle.heap_file.specs.declared.chain.Link.{Link}
 use Rattle.heap_file.specs.declared.chain.Placed.{Placed}
 use Rattle.heap_file.specs.declared.page.HeapPage.{HeapPage}
-use Rattle.heap_file.specs.Chain.{InOrder, IsAt, IsOpenWay, IsWay, page_there, rows_of, rows_on, scanned}
+use Rattle.heap_file.specs.Chain.{InOrder, IsAt, IsOpenWay, IsWay, chain, page_there, rows_of, rows_on, scanned}
 use Rattle.heap_file.specs.HeapPage.{HoldsRows}
 use Rattle.heap_file.specs.Sieving.{AllPass, meets, onto, passing, sifted, walked}
 use Rattle.heap_file.specs.Work.{scanned_with_next}
 use Rattle.heap_file.proofs.Sieves.{Test, everything, passing-append, whole}
-use Rattle.heap_file.proofs.Ways.{goes_on, leads-more}
+use Rattle.heap_file.proofs.Ways.{goes_on, leads-more, not-there}
 
 -- what is read so far: the pages before one that is there, and the rows of theirs that pass
 pub record SoFar (passes : Test) (seen : List Placed → Type 0) (size : ℕ) (pages : Pages) (first count number : ℕ) (bytes : List ℕ) (kept : List Placed) : Type 0 where
@@ -24,6 +24,10 @@ pub record SoFar (passes : Test) (seen : List Placed → Type 0) (size : ℕ) (p
   pub many : length links ≡ count
   pub passed : passing passes (rows_of links) ≡ Ok kept
   pub shown : seen (rows_of links)
+
+-- a table whose first page is not there has no chain
+pub no-chain : (size : ℕ) (pages : Pages) (first : ℕ) (why : Refusal) → page_there size pages first (Err why) → chain size pages first (Err why)
+no-chain size pages first why h = ([], first, h.0, refl, tt, inr (not-there size pages first h.1))
 
 -- the same test
 pub same-test : (other passes : Test) (bytes : List ℕ) (page : ℕ) (kept after : List Placed) (r : Result ℕ Refusal) → other ≡ passes → walked other bytes page kept after r → walked passes bytes page kept after r
@@ -83,7 +87,7 @@ module _ (passes : Test) (seen : List Placed → Type 0) (size : ℕ) (pages : P
     -- the page that it names is none
     pub sift-stopped : (why : Refusal) → next ≢ 0 → page_there size pages next (Err why) → sifted passes size pages first (Err why)
     sift-stopped why named h =
-        inl (links held walk.1, next, h.0, subst (λ (to : ℕ). IsWay size pages first (links held walk.1) to) walk.2 (way held walk.1), goes_on so_far.links (link held walk.1) next named, inr h.1)
+        inl (links held walk.1, next, h.0, subst (λ (to : ℕ). IsWay size pages first (links held walk.1) to) walk.2 (way held walk.1), goes_on so_far.links (link held walk.1) next named, inr (not-there size pages next h.1))
 
     module _ (after : List Placed → Type 0) (goes : (rows : List Placed) → seen rows → (held : HeapPage) → HoldsRows bytes held → after (rows ++ rows_on (record { page = number; held = held }))) where
       shown : after (rows_of (links held walk.1))

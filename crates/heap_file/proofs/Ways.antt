@@ -1,10 +1,10 @@
 -- Ways along chains, and refusals that are handed on.
 use Rattle.heap_file.proofs.Positions.{find-at, find-none}
 use Rattle.std.specs.Option.{option_map}
-use Rattle.std.proofs.Common.{◌≡◌, ◌≢◌, ◌&&◌, not, ◌<◌, ◌++◌, ℕ, true, false, List, [], ◌∷◌, length, get_or, Some, None, Result, Ok, Err, eqb, inl, inr, refl, sym, subst, ap}
-use Rattle.std.proofs.lemmas.Bool.{lt-ltb}
+use Rattle.std.proofs.Common.{◌≡◌, ◌≢◌, ◌⊎◌, ◌&&◌, not, ◌<◌, ◌≤◌, ◌++◌, ℕ, true, false, List, [], ◌∷◌, length, get_or, Some, None, Bool, cond, Result, Ok, Err, eqb, ltb, inl, inr, refl, sym, subst, ap, arith}
+use Rattle.std.proofs.lemmas.Bool.{lt-ltb, ltb-false, ltb-true}
 use Rattle.retro_base.specs.declared.refusal.Refusal.{Refusal}
-use Rattle.pager.specs.Pages.{Pages, with_bytes}
+use Rattle.pager.specs.Pages.{Pages, broken, with_bytes}
 use Rattle.pager.specs.Root.{page_in, freed}
 use Rattle.pager.specs.Stop.{Allowed, AllowedStop}
 use Rattle.pager.specs.declared.stop.Stop.{Stop}
@@ -12,7 +12,7 @@ use Rattle.pager.specs.declared.stop.Stop.TheVariants as stop
 use Rattle.heap_file.specs.declared.page.HeapPage.{HeapPage}
 use Rattle.heap_file.specs.declared.chain.Link.{Link}
 use Rattle.heap_file.specs.declared.page.Entry.{Entry}
-use Rattle.heap_file.specs.Chain.{IsAt, IsWay, IsOpenWay, last_page, met}
+use Rattle.heap_file.specs.Chain.{IsAt, IsWay, IsOpenWay, last_page, met, page_there}
 use Rattle.heap_file.specs.Work.{appended, lengthened, row_numbered, renamed, unlinked, removed, changed, without, place_of}
 use Rattle.heap_file.specs.HeapPage.{have_room, page_bytes}
 
@@ -21,6 +21,20 @@ pub allowed_stop : {F : Type 0} {P Q : Refusal → Type 0} (e : Stop F) → ((wh
 allowed_stop (stop.Refused why) go (inl memory) = inl memory
 allowed_stop (stop.Refused why) go (inr allowed) = inr (go why allowed)
 allowed_stop (stop.Pager fault) go allowed = tt
+
+-- page 0, and a page outside the store, holds nothing
+pub not-there : (size : ℕ) (pages : Pages) (page : ℕ) → (page ≡ 0) ⊎ (size ≤ page) → (held : HeapPage) → IsAt size pages page held → ⊥
+not-there size pages page (inl zero) held at = omega (arith, zero, at.named)
+not-there size pages page (inr past) held at = omega (arith, past, at.there)
+
+-- what is read of a page other than page 0
+pub page-read : (size : ℕ) (pages : Pages) (page : ℕ) → 0 < page → (r : Result (List ℕ) Refusal) → page_in size pages page ≡ r → page_there size pages page r
+page-read size pages page some r is =
+    subst (λ (x : Result (List ℕ) Refusal). page_there size pages page x) is (go (ltb page size) refl)
+  where
+    go : (b : Bool) → ltb page size ≡ b → page_there size pages page (cond b (Ok (pages.at page)) (Err (broken page)))
+    go true e = (some, ltb-true page size e, refl)
+    go false e = (refl, inr (ltb-false page size e))
 
 -- one page more on a way
 pub leads-more : (size : ℕ) (pages : Pages) (from page : ℕ) (held : HeapPage) (links : List Link) → IsWay size pages from links page → IsAt size pages page held → IsWay size pages from (links ++ record { page = page; held = held } ∷ []) held.next

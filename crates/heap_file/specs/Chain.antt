@@ -17,10 +17,10 @@ pub record IsAt (size : ℕ) (pages : Pages) (page : ℕ) (held : HeapPage) : Ty
   pub there : page < size
   pub holds : HoldsRows (pages.at page) held
 
--- the bytes of a page; one that is not there is broken
+-- the bytes of a page; page 0, and a page outside the store, is broken
 abbrev pub page_there : ℕ → Pages → ℕ → Result (List ℕ) Refusal → Type 0
 page_there size pages page (Ok bytes) = (0 < page) × (page < size) × (pages.at page ≡ bytes)
-page_there size pages page (Err why) = (why ≡ broken page) × ((held : HeapPage) → IsAt size pages page held → ⊥)
+page_there size pages page (Err why) = (why ≡ broken page) × ((page ≡ 0) ⊎ (size ≤ page))
 
 -- what a page holds; one that is not there, or whose bytes are no heap page's, is broken
 abbrev pub heap_page : ℕ → Pages → ℕ → Result HeapPage Refusal → Type 0

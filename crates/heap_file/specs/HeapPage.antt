@@ -9,6 +9,7 @@ use Rattle.values.specs.Row.{row_bytes}
 use Rattle.row_codec.specs.RowCode.{row_code, IsEncoded}
 use Rattle.heap_file.specs.declared.page.Entry.{Entry}
 use Rattle.heap_file.specs.declared.page.HeapPage.{HeapPage}
+use Rattle.heap_file.specs.declared.page.TheConstants.{ENTRY_BYTES}
 
 -- an entry: the length of the encoded row in two bytes, and the encoded row
 abbrev pub entry_code : Entry → List ℕ
@@ -52,11 +53,12 @@ header page =
 
 -- how a page is written; the rest is zero
 unfoldable pub page_bytes : HeapPage → List ℕ
-page_bytes page = header page ++ entry_bytes page.entries ++ replicate (1004 - length (entry_bytes page.entries)) 0
+page_bytes page =
+    header page ++ entry_bytes page.entries ++ replicate (ENTRY_BYTES - length (entry_bytes page.entries)) 0
 
 -- whether entries have room on one page
 abbrev pub have_room : List Entry → Bool
-have_room entries = nat_le (length (entry_bytes entries)) 1004
+have_room entries = nat_le (length (entry_bytes entries)) ENTRY_BYTES
 
 abbrev pub HaveRoom : List Entry → Type 0
 HaveRoom entries = IsTrue (have_room entries)

@@ -33,7 +33,8 @@ onto front (Err why) = Err why
 
 -- What is made of a page's bytes: the rows so far with those of it that pass, and the next page; or it is refused, as
 -- broken or as its first row is that the test refuses, or memory ran out.
-abbrev pub walked : (Placed → Result Bool Refusal) → List ℕ → ℕ → List Placed → List Placed → Result ℕ Refusal → Type 0
+abbrev pub walked : (Placed → Result Bool Refusal) → List ℕ → ℕ → List Placed → List Placed → Result ℕ Refusal
+    → Type 0
 walked passes bytes page front kept (Ok next) =
     (held : HeapPage) × HoldsRows bytes held × (held.next ≡ next)
     × (onto front (passing passes (rows_on (record { page = page; held = held }))) ≡ Ok kept)
@@ -43,8 +44,8 @@ walked passes bytes page front kept (Err why) =
     ⊎ ((held : HeapPage) × HoldsRows bytes held
     × (onto front (passing passes (rows_on (record { page = page; held = held }))) ≡ Err why))
 
--- why a page is refused of which a row is refused so, and these bytes stand behind it: it is broken where so many entries
--- do not stand there; or memory ran out
+-- why a page is refused of which a row is refused so, and these bytes stand behind it: it is broken where so many
+-- entries do not stand there; or memory ran out
 abbrev pub refused : List ℕ → ℕ → ℕ → Refusal → Refusal → Type 0
 refused behind count page why answer =
     (answer ≡ OutOfMemory)
@@ -62,7 +63,8 @@ sifted passes size pages first (Err why) =
 
 -- behind the rows before, a test has met those of the table that begins with a page, page by page
 abbrev pub meets : (List Placed → Type 0) → ℕ → Pages → ℕ → List Placed → Type 0
-meets met size pages first front = (links : List Link) × chain size pages first (Ok links) × met (front ++ rows_of links)
+meets met size pages first front =
+    (links : List Link) × chain size pages first (Ok links) × met (front ++ rows_of links)
 
 -- the same whatever pages a pager shows, with the edits of a draft
 abbrev pub HasMet : (List Placed → Type 0) → (Pages → Pages → Type 0) → Draft → ℕ → List Placed → Type 0

@@ -5,7 +5,7 @@ ghost use Rattle.std.specs.Prelude.{◌≡◌, IfErr, IfOk};
 ghost use Rattle.retro_base.specs.declared.refusal.Refusal.TheVariants.{OutOfMemory};
 ghost use Rattle.heap_file.specs.HeapPage.{AreFirstEntries, IsFirstEntry, entry_of};
 
-use crate::page::Entry;
+use crate::page::{Entry, LENGTH_BYTES};
 use retro_base::{Refusal, get_u16};
 use row_codec::decode_into;
 use std::alloc::Global;
@@ -56,14 +56,14 @@ pub(crate) fn first_entry_into(
     ensures found { IfOk result (λ found. IsFirstEntry bytes.now (option_map (entry_of row.new) found)) }
     ensures memory { IfErr result (λ why. why ≡ OutOfMemory) }
 {
-    if bytes.len() < 2 {
+    if bytes.len() < LENGTH_BYTES {
         return Ok(None);
     }
-    let end = 2 + usize::from(get_u16(bytes, 0));
+    let end = LENGTH_BYTES + usize::from(get_u16(bytes, 0));
     if end > bytes.len() {
         return Ok(None);
     }
-    let Some(number) = decode_into(alloc, &bytes[2..end], row)? else {
+    let Some(number) = decode_into(alloc, &bytes[LENGTH_BYTES..end], row)? else {
         return Ok(None);
     };
     Ok(Some((number, end)))

@@ -13,9 +13,9 @@ ghost use Rattle.heap_file.specs.Work.{all_placed};
 use crate::appending::last_page;
 use crate::chain::{Link, load, store};
 use crate::drafting::add;
-use crate::page::{Entry, HEADER_BYTES, HeapPage, entries_length, entry_length};
+use crate::page::{ENTRY_BYTES, Entry, HeapPage, entries_length, entry_length};
 use pager::{Draft, Pager, Stop, broken};
-use retro_base::{PAGE_BYTES, Refusal};
+use retro_base::Refusal;
 use std::alloc::{AllocError, Global};
 use values::{Duplicate, Row};
 
@@ -238,7 +238,7 @@ fn page_filled(
         let row = row.copy(alloc)?;
         let entry = Entry { number, row };
         length += entry_length(&entry);
-        if number == u64::MAX || length > PAGE_BYTES - HEADER_BYTES {
+        if number == u64::MAX || length > ENTRY_BYTES {
             return Ok((held, count));
         }
         held.entries.push(entry)?;

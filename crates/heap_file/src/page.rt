@@ -15,8 +15,20 @@ use values::{Row, Seq};
 
 /// Where the entries of a page begin.
 pub const HEADER_BYTES: usize = 20;
+/// The bytes of a page that its entries can take.
+pub const ENTRY_BYTES: usize = PAGE_BYTES - HEADER_BYTES;
 /// Byte 0 of a heap page.
 pub(crate) const HEAP_PAGE: u8 = 1;
+/// Where a page tells how many entries it has, in two bytes.
+pub(crate) const COUNT_AT: usize = 2;
+/// Where it names the next page of the chain, in four bytes.
+pub(crate) const NEXT_AT: usize = 4;
+/// Where it tells the next row number, in eight bytes.
+pub(crate) const NEXT_NUMBER_AT: usize = 8;
+/// Where it names the last page of the chain, in four bytes.
+pub(crate) const LAST_AT: usize = 16;
+/// The bytes of an entry before its encoded row: the row's length.
+pub(crate) const LENGTH_BYTES: usize = 2;
 
 /// A row under its number.
 #[derive(Debug, Drop)]
@@ -46,14 +58,14 @@ pub fn held(alloc: Global, page: &Page) -> Result<Option<HeapPage>, Refusal>
     if bytes[0] > HEAP_PAGE {
         return Ok(None);
     }
-    let count = usize::from(get_u16(bytes, 2));
+    let count = usize::from(get_u16(bytes, COUNT_AT));
     let Some(entries) = first_entries(alloc, &bytes[HEADER_BYTES..], count)? else {
         return Ok(None);
     };
     Ok(Some(HeapPage {
-        next: get_u32(bytes, 4),
-        next_number: get_u64(bytes, 8),
-        last: get_u32(bytes, 16),
+        next: get_u32(bytes, NEXT_AT),
+        next_number: get_u64(bytes, NEXT_NUMBER_AT),
+        last: get_u32(bytes, LAST_AT),
         entries,
     }))
 }
@@ -67,10 +79,10 @@ pub fn page_of(alloc: Global, held: &HeapPage) -> Result<Page, Refusal>
     let entries = entry_bytes(alloc, held.entries.as_slice())?;
     let mut page = Page::zero();
     page.put_bytes(0, &[HEAP_PAGE]);
-    page.put_u16(2, held.entries.len() as u16);
-    page.put_u32(4, held.next);
-    page.put_u64(8, held.next_number);
-    page.put_u32(16, held.last);
+    page.put_u16(COUNT_AT, held.entries.len() as u16);
+    page.put_u32(NEXT_AT, held.next);
+    page.put_u64(NEXT_NUMBER_AT, held.next_number);
+    page.put_u32(LAST_AT, held.last);
     page.put_bytes(HEADER_BYTES, &entries);
     Ok(page)
 }
@@ -83,7 +95,7 @@ pub fn has_room(entries: &[Entry], entry: &Entry) -> bool
     ensures room { result ≡ have_room (entries.now ++ entry.now ∷ []) }
     ensures row { IsRow entry.now.row }
 {
-    entries_length(entries) + entry_length(entry) <= PAGE_BYTES - HEADER_BYTES
+    entries_length(entries) + entry_length(entry) <= ENTRY_BYTES
 }
 
 /// How many bytes entries take.
@@ -106,7 +118,7 @@ pub(crate) fn entry_length(entry: &Entry) -> usize
     ensures short { result ≤ 902 }
     ensures row { IsRow entry.now.row }
 {
-    2 + encoded_length(&entry.row)
+    LENGTH_BYTES + encoded_length(&entry.row)
 }
 
 // The bytes that entries take.

@@ -14,7 +14,7 @@ ghost use Rattle.heap_file.specs.Work.{scanned_with_next};
 
 use crate::chain::{Placed, page_there};
 use crate::entries::{first_entries, first_entry_into};
-use crate::page::{HEADER_BYTES, HEAP_PAGE};
+use crate::page::{COUNT_AT, HEADER_BYTES, HEAP_PAGE, NEXT_AT, NEXT_NUMBER_AT};
 use pager::{Draft, Pager, Stop, broken};
 use retro_base::{Page, Refusal, get_u16, get_u32, get_u64};
 use std::alloc::{AllocError, Global};
@@ -87,6 +87,7 @@ pub fn scan_by<S: Sieve, P: Pager>(
     ensures passed { IfOk result (λ rows. AllPass (S.passes sieve.old) rows.items) }
     ensures met { (start : S) (front : List Placed) → S.met start front sieve.old
         → OnOk result (HasMet (λ rows. S.met start rows sieve.new) (P.tells pager.new) draft.now first front) }
+    ensures stays { S.passes sieve.new ≡ S.passes sieve.old }
     ensures only_reads { OnlyReads P.tells P.goes P.size P.faults pager.old pager.new result }
 {
     let head = page_there(pager, draft, first)?;
@@ -106,7 +107,7 @@ pub fn scan_with_next<P: Pager>(
     ensures only_reads { OnlyReads P.tells P.goes P.size P.faults pager.old pager.new result }
 {
     let head = page_there(pager, draft, first)?;
-    let next = get_u64(head.bytes(), 8);
+    let next = get_u64(head.bytes(), NEXT_NUMBER_AT);
     let rows = sift(alloc, pager, draft, first, head, &mut Everything)?;
     Ok((rows, next))
 }
@@ -130,6 +131,7 @@ fn sift<S: Sieve, P: Pager>(
         → OnOk result ((base shown : Pages) → P.tells pager.new base shown
         → page_there draft.now.size (drafted shown draft.now.list) first (Ok head)
         → meets (λ rows. S.met start rows sieve.new) draft.now.size (drafted shown draft.now.list) first front) }
+    ensures stays { S.passes sieve.new ≡ S.passes sieve.old }
     ensures only_reads { OnlyReads P.tells P.goes P.size P.faults pager.old pager.new result }
 {
     let mut kept = Vec::new(alloc);
@@ -169,7 +171,7 @@ fn push_passing<S: Sieve>(
     if bytes[0] > HEAP_PAGE {
         return Err(broken(number));
     }
-    let count = usize::from(get_u16(bytes, 2));
+    let count = usize::from(get_u16(bytes, COUNT_AT));
     let entries = &bytes[HEADER_BYTES..];
     let mut end = 0;
     'entries: for place in 0..count {
@@ -181,7 +183,7 @@ fn push_passing<S: Sieve>(
             return Err(refused(alloc, &entries[end..], count - place - 1, number, why));
         }
     }
-    Ok(get_u32(bytes, 4))
+    Ok(get_u32(bytes, NEXT_AT))
 }
 
 // Keeps a row that passes; of another the memory is left as `spare`, where the row was.

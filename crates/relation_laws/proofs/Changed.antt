@@ -7,6 +7,7 @@ use Rattle.pager.specs.Pages.{Pages, with_bytes}
 use Rattle.heap_file.specs.declared.chain.Placed.{Placed}
 use Rattle.heap_file.specs.declared.page.Entry.{Entry}
 use Rattle.heap_file.specs.declared.page.HeapPage.{HeapPage}
+use Rattle.heap_file.specs.declared.page.TheConstants.{ENTRY_BYTES}
 use Rattle.pager.specs.Allows.{either, only}
 use Rattle.heap_file.specs.Chain.{IsAt, last_page, met, rows_of}
 use Rattle.heap_file.specs.HeapPage.{IsEntry, entry_bytes, page_bytes}
@@ -59,9 +60,9 @@ ends-after size pages firsts indexes first last page tail held now at sized last
     (there.0, record { head = head.0; at_first = head.1; named = named; at_last = subst (λ (p : ℕ). IsAt size (with_bytes pages page (page_bytes now)) p there.0) named there.1 })
 
 -- whether there is room, by the bytes of the rows
-room-is : (page : ℕ) (held : HeapPage) (number : ℕ) (row : List Value) (rows : List Placed) → bytes_on page rows ≡ length (entry_bytes held.entries) → has_room held (record { number = number; row = row }) ≡ nat_le (bytes_on page rows + entry_size row) 1004
+room-is : (page : ℕ) (held : HeapPage) (number : ℕ) (row : List Value) (rows : List Placed) → bytes_on page rows ≡ length (entry_bytes held.entries) → has_room held (record { number = number; row = row }) ≡ nat_le (bytes_on page rows + entry_size row) ENTRY_BYTES
 room-is page held number row rows weighs =
-    ap (λ (n : ℕ). nat_le n 1004) (bytes-push held.entries (record { number = number; row = row }) ∙ ap (λ (k : ℕ). length (entry_bytes held.entries) + k) (entry-length number row) ∙ ap (λ (k : ℕ). k + entry_size row) (sym weighs))
+    ap (λ (n : ℕ). nat_le n ENTRY_BYTES) (bytes-push held.entries (record { number = number; row = row }) ∙ ap (λ (k : ℕ). length (entry_bytes held.entries) + k) (entry-length number row) ∙ ap (λ (k : ℕ). k + entry_size row) (sym weighs))
 
 -- a store with a row taken out: the rows that are left weigh what stands on their page and on the last one
 record Out (size : ℕ) (pages : Pages) (firsts indexes : List ℕ) (first : ℕ) (table : Table) (placed : Placed) (last : ℕ) (rest : HeapPage) : Type 0 where

@@ -12,6 +12,7 @@ use Rattle.pager.specs.Pages.{Pages, broken}
 use Rattle.heap_file.specs.declared.chain.Link.{Link}
 use Rattle.heap_file.specs.declared.chain.Placed.{Placed}
 use Rattle.heap_file.specs.declared.page.Entry.{Entry}
+use Rattle.heap_file.specs.declared.page.TheConstants.{ENTRY_BYTES}
 use Rattle.pager.specs.Allows.{either, only}
 use Rattle.heap_file.specs.Chain.{rows_of, rows_on}
 use Rattle.heap_file.specs.HeapPage.{entry_bytes, entry_code}
@@ -35,7 +36,7 @@ entries-few (entry ∷ entries) =
     some : (entry : Entry) → 1 ≤ length (entry_code entry)
     some entry = omega (arith, length-append (field_bytes 2 (length (row_code entry.number entry.row))) (row_code entry.number entry.row), length-field_bytes 2 (length (row_code entry.number entry.row)))
 
-rows-few : (links : List Link) → AllByRecursion (λ (link : Link). IsSized link.held) links → length (rows_of links) ≤ 1004 * length links
+rows-few : (links : List Link) → AllByRecursion (λ (link : Link). IsSized link.held) links → length (rows_of links) ≤ ENTRY_BYTES * length links
 rows-few [] all = omega arith
 rows-few (link ∷ links) all =
     omega (arith, ap length (rows-cons link links), length-append (rows_on link) (rows_of links), length-map {B = Placed} link.held.entries (λ (entry : Entry). record { number = entry.number; page = link.page; row = entry.row }), entries-few link.held.entries, leb-true _ _ all.0.page.fits, rows-few links all.1)

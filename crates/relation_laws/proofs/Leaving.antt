@@ -11,6 +11,7 @@ use Rattle.pager.specs.Root.{free_bytes, freed, in_front, is_root, root_bytes, r
 use Rattle.pager.specs.declared.root.Root.{Root}
 use Rattle.heap_file.specs.declared.chain.Link.{Link}
 use Rattle.heap_file.specs.declared.page.HeapPage.{HeapPage}
+use Rattle.heap_file.specs.declared.page.TheConstants.{ENTRY_BYTES}
 use Rattle.pager.specs.Allows.{either, only}
 use Rattle.pager.specs.Allows as allows
 use Rattle.heap_file.specs.Chain.{IsAt, IsWay, heap_page, met}
@@ -68,7 +69,7 @@ written-next now held small holds =
     let a = 1 ∷ 0 ∷ field_bytes 2 (length now.entries) in
     let b = field_bytes 4 now.next in
     let c = field_bytes 8 now.next_number ++ field_bytes 4 now.last in
-    let d = entry_bytes now.entries ++ replicate (1004 - length (entry_bytes now.entries)) 0 in
+    let d = entry_bytes now.entries ++ replicate (ENTRY_BYTES - length (entry_bytes now.entries)) 0 in
     let e : page_bytes now ≡ a ++ (b ++ (c ++ d)) = append_assoc a (b ++ c) d ∙ ap (λ (l : List ℕ). a ++ l) (append_assoc b c d) in
     sym holds.next ∙ ap (λ (l : List ℕ). number_at 4 l 4) e ∙ number_at-field 4 now.next 4 a (c ++ d) (omega (arith, length-field_bytes 2 (length now.entries))) small
 

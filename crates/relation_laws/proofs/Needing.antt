@@ -12,6 +12,7 @@ use Rattle.row_codec.proofs.Codes.{row_size}
 use Rattle.pager.specs.Pages.{Pages}
 use Rattle.heap_file.specs.declared.page.Entry.{Entry}
 use Rattle.heap_file.specs.declared.page.HeapPage.{HeapPage}
+use Rattle.heap_file.specs.declared.page.TheConstants.{ENTRY_BYTES}
 use Rattle.heap_file.specs.declared.chain.Link.{Link}
 use Rattle.heap_file.specs.Chain.{IsAt, IsWay, last_page}
 use Rattle.heap_file.specs.HeapPage.{entry_bytes, entry_code}
@@ -158,7 +159,7 @@ steps size pages firsts indexes first table row y last tail well has shows stora
     let lasts : put.last ≡ last = last-one size pages first put.last last put.tail tail put.ends ends in
     let others : adds.tail ≡ tail = ends-one size pages first adds.last last adds.tail tail adds.ends ends in
     go (has_room tail entry) put.to put.ended.tail put.ended.ends
-    (subst (λ (n : ℕ). has_room tail entry ≡ nat_le n 1004) (bytes-push tail.entries entry ∙ ap (λ (k : ℕ). length (entry_bytes tail.entries) + k) (entry-length table.next_number row)) refl)
+    (subst (λ (n : ℕ). has_room tail entry ≡ nat_le n ENTRY_BYTES) (bytes-push tail.entries entry ∙ ap (λ (k : ℕ). length (entry_bytes tail.entries) + k) (entry-length table.next_number row)) refl)
     (subst (λ (t : HeapPage). put.ended.tail.entries ≡ entries_after (has_room t entry) t entry) tails put.ended.are)
     (λ room. put.stays (subst (λ (t : HeapPage). has_room t entry ≡ true) (sym tails) room) ∙ lasts)
     (λ room. put.moves (subst (λ (t : HeapPage). has_room t entry ≡ false) (sym tails) room))
@@ -173,7 +174,7 @@ steps size pages firsts indexes first table row y last tail well has shows stora
     turn false false false true = refl
     turn false false false false = refl
 
-    go : (b : Bool) (to : ℕ) (next : HeapPage) → EndsAt size y.1 first to next → b ≡ nat_le (length (entry_bytes tail.entries) + entry_size row) 1004
+    go : (b : Bool) (to : ℕ) (next : HeapPage) → EndsAt size y.1 first to next → b ≡ nat_le (length (entry_bytes tail.entries) + entry_size row) ENTRY_BYTES
         → next.entries ≡ entries_after b tail (record { number = table.next_number; row = row }) → (b ≡ true → to ≡ last) → (b ≡ false → to ≡ y.0.1)
         → IsAdded b size pages y.1 first last y.0.1 → Draws pages y.1 (opens_of b) → Steps size pages y.1 first last tail row
     go true to next ended e are stays moves effect draws =
@@ -250,14 +251,14 @@ rows-full size pages firsts indexes first table [] why last tail well among is s
 rows-full size pages firsts indexes first table (row ∷ rows) why last tail well among is storable room ends (inl h) =
     let full = (adds-row size pages firsts indexes first table row (Err why) well among is storable.0 (omega (arith, room)) h).1 in
     let same : full.tail ≡ tail = ends-one size pages first full.last last full.tail tail full.ends ends in
-    none (nat_le (length (entry_bytes tail.entries) + entry_size row) 1004) refl full.none (subst (λ (t : HeapPage). has_room t (record { number = table.next_number; row = row }) ≡ false) same full.room)
+    none (nat_le (length (entry_bytes tail.entries) + entry_size row) ENTRY_BYTES) refl full.none (subst (λ (t : HeapPage). has_room t (record { number = table.next_number; row = row }) ≡ false) same full.room)
   where
     clash : true ≡ false → ⊥
     clash e = absurd cc
 
-    none : (b : Bool) → nat_le (length (entry_bytes tail.entries) + entry_size row) 1004 ≡ b → free_pages size pages ≡ 0 → has_room tail (record { number = table.next_number; row = row }) ≡ false
+    none : (b : Bool) → nat_le (length (entry_bytes tail.entries) + entry_size row) ENTRY_BYTES ≡ b → free_pages size pages ≡ 0 → has_room tail (record { number = table.next_number; row = row }) ≡ false
         → free_pages size pages < cond b (pages_opened (length (entry_bytes tail.entries) + entry_size row) rows) (1 + pages_opened (entry_size row) rows)
-    none true e free room = absurd (clash (sym e ∙ sym (ap (λ (n : ℕ). nat_le n 1004) (bytes-push tail.entries (record { number = table.next_number; row = row }) ∙ ap (λ (k : ℕ). length (entry_bytes tail.entries) + k) (entry-length table.next_number row))) ∙ room))
+    none true e free room = absurd (clash (sym e ∙ sym (ap (λ (n : ℕ). nat_le n ENTRY_BYTES) (bytes-push tail.entries (record { number = table.next_number; row = row }) ∙ ap (λ (k : ℕ). length (entry_bytes tail.entries) + k) (entry-length table.next_number row))) ∙ room))
     none false e free room = omega (arith, free)
 rows-full size pages firsts indexes first table (row ∷ rows) why last tail well among is storable room ends (inr h) =
     let one = adds-row size pages firsts indexes first table row (Ok h.0) well among is storable.0 (omega (arith, room)) h.1 in
@@ -276,7 +277,7 @@ ends-there size pages firsts indexes first well has =
 -- rows of one length before others open as many pages
 opened-as : (taken : ℕ) (row other : List Value) (rows : List (List Value)) → entry_size row ≡ entry_size other → pages_opened taken (row ∷ rows) ≡ pages_opened taken (other ∷ rows)
 opened-as taken row other rows long =
-    ap (λ (n : ℕ). cond (nat_le (taken + n) 1004) (pages_opened (taken + n) rows) (1 + pages_opened n rows)) long
+    ap (λ (n : ℕ). cond (nat_le (taken + n) ENTRY_BYTES) (pages_opened (taken + n) rows) (1 + pages_opened n rows)) long
 
 -- a table's row in the catalog is as long whatever its first page is
 pub opened-same : (taken : ℕ) (name : List ℕ) (first other : ℕ) (columns : List TableColumn) → pages_opened taken (map row_values (rows_of_table name first columns)) ≡ pages_opened taken (map row_values (rows_of_table name other columns))

@@ -10,6 +10,7 @@ use Rattle.sql_tree.specs.declared.statement.Column.{Column as TableColumn}
 use Rattle.pager.specs.Pages.{Pages}
 use Rattle.pager.specs.declared.index.Found.{Found}
 use Rattle.heap_file.specs.declared.page.HeapPage.{HeapPage}
+use Rattle.heap_file.specs.declared.page.TheConstants.{ENTRY_BYTES}
 use Rattle.heap_file.specs.declared.chain.Placed.{Placed}
 use Rattle.heap_file.specs.HeapPage.{entry_bytes}
 use Rattle.heap_laws.specs.Store.{free_pages, root_at}
@@ -36,7 +37,7 @@ entry_size row = 2 + row_bytes row
 abbrev pub pages_opened : ℕ → List (List Value) → ℕ
 pages_opened taken [] = 0
 pages_opened taken (row ∷ rows) =
-    if nat_le (taken + entry_size row) 1004 then pages_opened (taken + entry_size row) rows
+    if nat_le (taken + entry_size row) ENTRY_BYTES then pages_opened (taken + entry_size row) rows
     else 1 + pages_opened (entry_size row) rows
 
 -- the page so many places behind a page of the free list
@@ -117,7 +118,7 @@ bytes_on page rows = sum_by (λ (placed : Placed). if placed.page == page then e
 abbrev pub has_room_for : ℕ × List Value → ℕ → List Placed → Bool
 has_room_for change page rows =
     nat_le (bytes_on page (filter (λ (placed : Placed). not (placed.number == change.0)) rows) + entry_size change.1)
-    1004
+    ENTRY_BYTES
 
 -- the page of the row of that number
 abbrev pub page_under : ℕ → List Placed → ℕ

@@ -74,10 +74,9 @@ SpeaksOfTable names (Table row) = Unit {0}
 SpeaksOfTable names (Column row) = Contains names row.table
 SpeaksOfTable names (Index row) = Contains names row.table
 
--- Pages on which tables stand, with other pages that they leave alone: the catalog and each table can be read, no page
--- is used twice, the catalog's rows are numbered from 0 on without gaps, the names of tables and indexes differ, the
--- names of a table's columns differ, and each row of the catalog speaks of a table that is there.
+-- Pages on which tables stand, with other pages that they leave alone.
 pub record IsTableStore (size : ℕ) (pages : Pages) : Type 0 where
+  -- the catalog can be read, and its rows are numbered from 0 on without gaps
   pub placed : List Placed
   pub scan : scanned size pages CATALOG (Ok placed)
   pub gapless : map (λ (row : Placed). row.number) placed ≡ range_with_len 0 (length placed)
@@ -85,12 +84,14 @@ pub record IsTableStore (size : ℕ) (pages : Pages) : Type 0 where
   pub rows : catalog_rows size pages (Ok told)
   pub found : Catalog
   pub read : catalog_told told (Ok found)
+  -- each row of it speaks of a table that is there; names of tables and indexes differ, and those of a table's columns
   pub kept : AllByRecursion (λ (row : CatalogEntry). SpeaksOfTable (names_of found.tables) row.row) told
-  pub held : List ℕ
-  pub heap : WellFormed size pages (CATALOG ∷ map (λ (table : StoredTable). table.first) found.tables) held
   pub names : AreDifferent (names_of found.tables ++ map (λ (index : IndexSchema). index.name) found.indexes)
   pub columns : AllByRecursion
       (λ (table : StoredTable). AreDifferent (map (λ (column : TableColumn). column.name) table.columns)) found.tables
+  -- no page is used twice, by the catalog, by a table or by what else is held; and each table can be read
+  pub held : List ℕ
+  pub heap : WellFormed size pages (CATALOG ∷ map (λ (table : StoredTable). table.first) found.tables) held
   pub tables : List PlainTable
   pub shown : AllZip (ShowsTable size pages) found.tables tables
 

@@ -4,8 +4,8 @@ use Rattle.row_codec.specs.RowCode.{IsDecoded}
 use Rattle.heap_file.proofs.Packing.{short_for_entry, past_the_end, no_row_there, entry_there}
 use Rattle.heap_file.proofs.entries.first_entry_into.Goals as goal
 
-pub returns-then-bytes-lt2-clause-found : goal.returns-then-bytes-lt2-clause-found
-returns-then-bytes-lt2-clause-found c = short_for_entry c.args.bytes.now c.if-bytes-lt2.true
+pub returns-then-bytes-lt-LENGTH_BYTES-clause-found : goal.returns-then-bytes-lt-LENGTH_BYTES-clause-found
+returns-then-bytes-lt-LENGTH_BYTES-clause-found c = short_for_entry c.args.bytes.now c.if-bytes-lt-LENGTH_BYTES.true
 
 pub returns-then-end-bytes-clause-found : goal.returns-then-end-bytes-clause-found
 returns-then-end-bytes-clause-found c =

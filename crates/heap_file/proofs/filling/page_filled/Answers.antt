@@ -23,7 +23,7 @@ loop-count-preserved c =
     let invariant = c.loop-count.invariant in
     let pushed : c.push.new.self ≡ held.entries ++ entry ∷ [] = rw c.in_ok-row.ensures at c.in_ok-push.ensures.ok in
     let short : IsShort row = subst IsShort (sym c.index-rows-count.is) (c.requires.rows count row c.loop-count-test.true) in
-    let is : IsHeapPage (record held { entries = held.entries ++ entry ∷ [] }) = pushed_fits held entry invariant.lawful (entry_is entry (omega arith) (rw c.in_ok-row.ensures at c.entry_length-length.ensures.row) short) (le-leb _ _ (omega (arith, size, invariant.length, c.if-length.false))) in
+    let is : IsHeapPage (record held { entries = held.entries ++ entry ∷ [] }) = pushed_fits held entry invariant.lawful (entry_is entry (omega arith) (rw c.in_ok-row.ensures at c.entry_length-length.ensures.row) short) (le-leb _ _ (omega (arith, size, invariant.length, c.if-length-gt-ENTRY_BYTES.false))) in
     let number = c.args.number in
     let length_taken : length (take count rows) ≡ count = length-take-le count rows (omega arith) in
     let from : entries_from number (take (count + 1) rows) ≡ entries_from number (take count rows) ++ entry ∷ [] =

@@ -1,10 +1,16 @@
-use Rattle.std.proofs.Common.{◌∙◌, List, ℕ, ap}
+use Rattle.std.proofs.Common.{◌∙◌, List, ℕ, ap, inl}
 use Rattle.std.proofs.lemmas.Result.{err_from_is_err_and}
 use Rattle.retro_base.specs.Fields.{number_at}
 use Rattle.pager.specs.Draft.{drafted}
-use Rattle.heap_file.proofs.Sifts.{with-next, with-next-not}
+use Rattle.heap_file.proofs.Sifts.{no-chain, with-next, with-next-not}
 use Rattle.heap_file.proofs.Ways.{allowed_stop}
 use Rattle.heap_file.proofs.scanning.scan_with_next.Goals as goal
+
+pub returns-in_err-head-clause-scanned : goal.returns-in_err-head-clause-scanned
+returns-in_err-head-clause-scanned g c = λ base shown told.
+    let p = err_from_is_err_and c.from_residual.result c.from_residual.ensures.1 in
+    rw (p.1, p.2)
+    (allowed_stop c.in_err-head.field-0.0 (λ why h. inl (no-chain c.args.draft.now.size (drafted shown c.args.draft.now.list) c.args.first why h)) (c.in_err-head.ensures.read base shown told))
 
 pub returns-in_err-rows-clause-scanned : goal.returns-in_err-rows-clause-scanned
 returns-in_err-rows-clause-scanned g c = λ base shown told.
