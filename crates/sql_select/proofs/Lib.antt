@@ -1,4 +1,5 @@
 pub mod BoundOutputs
+mod Cutting
 pub mod Eaches
 pub mod Firsts
 pub mod Following

@@ -140,7 +140,7 @@ module _ {X : Type 0} (lt : X → X → Bool) (o : IsStrictWeakOrder lt) where
       let Q : X → Type 0 = λ v. lt v x ≡ false in
       subst P (sym (placed_no x y ys e)) ((λ z m. elim m [ inl q ↦ subst Q (sym q) e | inr n ↦ o.chain z y x (r.0 z n) e ]), r)
 
-  placed_rises : (x : X) (ys : List X) → Rises lt ys → Rises lt (placed lt x ys)
+  pub placed_rises : (x : X) (ys : List X) → Rises lt ys → Rises lt (placed lt x ys)
   placed_rises x [] r = ((λ y h. absurd h), tt)
   placed_rises x (y ∷ ys) r = rises_step x y ys (lt y x) refl r (placed_rises x ys r.1)
 

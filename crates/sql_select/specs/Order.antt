@@ -1,5 +1,6 @@
 -- Rows in the order of keys.
-use Rattle.std.specs.Prelude.{Bool, List, [], ◌∷◌, Option, slice_get, if◌then◌else◌}
+use Rattle.std.specs.Prelude.{ℕ, Bool, List, [], ◌∷◌, Option, slice_get, if◌then◌else◌}
+use Rattle.std.specs.List.{prefix_len}
 use Rattle.std.specs.Option.{option_cmp}
 use Rattle.std.specs.Ordering.{is_lt, ordering_then}
 use Rattle.std.specs.declared.cmp.Ordering.{Ordering}
@@ -43,6 +44,14 @@ abbrev pub keys_cmp : List SortKey → OutputRow → OutputRow → Ordering
 keys_cmp [] a b = Equal
 keys_cmp (key ∷ keys) a b = ordering_then (key_cmp key a b) (keys_cmp keys a b)
 
+-- how many items at the front are before x
+abbrev pub first_place : {X : Type 0} → (X → X → Bool) → X → List X → ℕ
+first_place before x list = prefix_len (λ y. before y x) list
+
+-- whether a row is before another by the keys
+abbrev pub comes_before : List SortKey → OutputRow → OutputRow → Bool
+comes_before keys a b = is_lt (keys_cmp keys a b)
+
 -- ORDER BY
 abbrev pub sorted_by : List SortKey → List OutputRow → List OutputRow
-sorted_by keys rows = ordered (λ a b. is_lt (keys_cmp keys a b)) rows
+sorted_by keys rows = ordered (comes_before keys) rows

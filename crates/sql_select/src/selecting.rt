@@ -5,6 +5,7 @@ ghost use Rattle.std.specs.Option.{option_copied, option_map};
 ghost use Rattle.retro_base.specs.Gives.{Gives};
 ghost use Rattle.retro_base.specs.declared.refusal.Refusal.TheVariants.{OutOfMemory};
 ghost use Rattle.sql_select.specs.Each.{each};
+ghost use Rattle.sql_select.specs.Order.{sorted_by};
 ghost use Rattle.sql_select.specs.Rows.{holds_at, joined_rows, kept};
 ghost use Rattle.sql_select.specs.Select.{answer, answer_of, finished, key_place, limited, output_place};
 ghost use Rattle.sql_select.specs.Select.{outputs_of, sort_key};
@@ -13,7 +14,7 @@ use crate::answer::Answer;
 use crate::filter::Filter;
 use crate::grouping::distinct;
 use crate::joining::{HasRow, keep_of_one, keep_of_two};
-use crate::ordering::{KeyPlace, SortKey, sort};
+use crate::ordering::{KeyPlace, SortKey, first_few, sort};
 use crate::output_row::OutputRow;
 use crate::output_rows::output_rows;
 use evaluation::JoinedRow;
@@ -21,6 +22,9 @@ use retro_base::Refusal;
 use sql_tree::{Column, ColumnName, Condition, OrderKey, Scope, Select, column_place};
 use std::alloc::Global;
 use values::{Row, Seq};
+
+// The most rows of a LIMIT that are put in order one by one.
+const FEW: u64 = 16;
 
 /// The answer of a select, with these columns, over the rows of its first table and, where it has one, of its second.
 /// `scope` tells the tables' columns, `columns` the answer's, and `snapshot` is the number of `current_snapshot()`.
@@ -140,16 +144,46 @@ fn finish(
     ensures rows { IfOk result (λ found. found ≡ finished select.now keys.now rows.entry.items) }
     ensures memory { IfErr result (λ why. why ≡ OutOfMemory) }
 {
-    let mut rows = if select.distinct {
+    let rows = if select.distinct {
         distinct(alloc, rows)?
     } else {
         rows
     };
+    outputs_of(alloc, ordered_front(alloc, keys, rows, select.limit)?)
+}
+
+// ORDER BY, then LIMIT: the first few rows are put in order one by one; for more, all rows are sorted.
+fn ordered_front<'a>(
+    alloc: Global,
+    keys: &[SortKey],
+    rows: Vec<OutputRow<'a>>,
+    limit: Option<u64>,
+) -> Result<Vec<OutputRow<'a>>, Refusal>
+    ensures rows { IfOk result (λ found. found.items ≡ limited limit (sorted_by keys.now rows.entry.items)) }
+    ensures memory { IfErr result (λ why. why ≡ OutOfMemory) }
+{
+    match limit {
+        Some(limit) if limit <= FEW && !keys.is_empty() => {
+            first_few(alloc, rows, keys, limit as usize)
+        }
+        _ => sorted_front(keys, rows, limit),
+    }
+}
+
+fn sorted_front<'a>(
+    keys: &[SortKey],
+    rows: Vec<OutputRow<'a>>,
+    limit: Option<u64>,
+) -> Result<Vec<OutputRow<'a>>, Refusal>
+    ensures rows { IfOk result (λ found. found.items ≡ limited limit (sorted_by keys.now rows.entry.items)) }
+    ensures memory { IfErr result (λ why. why ≡ OutOfMemory) }
+{
+    let mut rows = rows;
     sort(&mut rows, keys)?;
-    if let Some(limit) = select.limit {
+    if let Some(limit) = limit {
         rows.truncate(limit as usize);
     }
-    outputs_of(alloc, rows)
+    Ok(rows)
 }
 
 fn outputs_of(alloc: Global, rows: Vec<OutputRow<'_>>) -> Result<Seq<Row>, Refusal>

@@ -34,6 +34,43 @@ fn order_by_outputs_and_columns_keeps_ties(rt: HostRuntime) {
     answers(&rt, rt.alloc(), rows, ORDERS);
 }
 
+const FIRST_FEW: &str = "b order a limit 16 | b | a;d;g;j;m;p;b;e;h;k;n;q;c;f;i;l;
+    b order a limit 17 | b | a;d;g;j;m;p;b;e;h;k;n;q;c;f;i;l;o;
+    b order a desc limit 16 | b | c;f;i;l;o;r;b;e;h;k;n;q;a;d;g;j;
+    b order a desc limit 17 | b | c;f;i;l;o;r;b;e;h;k;n;q;a;d;g;j;m;
+    * order a, b desc limit 3 | a b | 0,p;0,m;0,j;
+    distinct a order a desc limit 16 | a | 2;1;0;
+    b order a limit 1 | b | a;
+    b order a limit 0 | b |
+    b order a limit 19 | b | a;d;g;j;m;p;b;e;h;k;n;q;c;f;i;l;o;r;";
+
+// The letter at place i has i mod 3 beside it: 0 beside adgjmp, 1 beside behknq, 2 beside cfilor.
+const LETTERS: &[Pair] = &[
+    (0, "a"),
+    (1, "b"),
+    (2, "c"),
+    (0, "d"),
+    (1, "e"),
+    (2, "f"),
+    (0, "g"),
+    (1, "h"),
+    (2, "i"),
+    (0, "j"),
+    (1, "k"),
+    (2, "l"),
+    (0, "m"),
+    (1, "n"),
+    (2, "o"),
+    (0, "p"),
+    (1, "q"),
+    (2, "r"),
+];
+
+#[test]
+fn limit_keeps_the_first_in_order_however_many(rt: HostRuntime) {
+    answers(&rt, rt.alloc(), LETTERS, FIRST_FEW);
+}
+
 const DIFFERENT: &str = "distinct * | a b | 2,x;1,y;2,y;
     distinct a | a | 2;1;
     distinct b order b desc | b | y;x;
