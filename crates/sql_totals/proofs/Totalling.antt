@@ -1,46 +1,57 @@
 -- Totals with a row more, and what they give in the end.
-use Rattle.std.proofs.Common.{◌≡◌, ◌∙◌, ◌==◌, ◌||◌, ◌+◌, ◌+ℤ◌, ℕ, ℤ, suc, pos, Bool, true, false, not, ◌&&◌, ◌||◌, Option, Some, None, List, [], ◌∷◌, ◌++◌, Result, Ok, Err, map, fold, length, refl, sym, ap, subst, arith, append-nil, length-append, if◌then◌else◌}
+use Rattle.std.proofs.Common.{◌≡◌, ◌∙◌, ◌==◌, ◌<◌, ◌||◌, ◌+◌, ◌+ℤ◌, ℕ, ℤ, suc, pos, Bool, true, false, not, ◌&&◌, ◌||◌, Option, Some, None, List, [], ◌∷◌, ◌++◌, Result, Ok, Err, map, fold, length, refl, sym, ap, subst, arith, append-nil, drop, get_or, length-append, if◌then◌else◌}
+use Rattle.std.specs.Option.{ok_or}
 use Rattle.std.specs.Prelude.{IsOk, is_none}
 use Rattle.std.specs.List.{AllByRecursion, list_all}
 use Rattle.std.proofs.lemmas.Bool.{eqb-true}
 use Rattle.std.proofs.lemmas.Bool.Decides.{nat_tests}
 use Rattle.std.proofs.lemmas.Int.{ints}
+use Rattle.std.proofs.lemmas.List.{map-append}
 use Rattle.std.proofs.lemmas.List.Sums.{fold-append}
 use Rattle.std.proofs.Math.IntN.{+ℤ_assoc}
 use Rattle.retro_base.specs.Gives.{◌>>=◌}
 use Rattle.retro_base.specs.declared.refusal.Refusal.{Refusal}
+use Rattle.retro_base.specs.declared.refusal.Refusal.TheVariants.{Overflow}
 use Rattle.values.specs.declared.value.Value.{Value}
 use Rattle.sql_tree.specs.declared.name.ColumnName.{ColumnName}
 use Rattle.sql_tree.specs.declared.schema.TableSchema.{TableSchema}
+use Rattle.sql_tree.specs.declared.select.Aggregate.{Aggregate}
 use Rattle.sql_tree.specs.declared.select.Output.{Output}
+use Rattle.sql_tree.specs.declared.select.OutputValue.{OutputValue}
+use Rattle.sql_tree.specs.declared.select.OutputValue.TheVariants as value
 use Rattle.sql_tree.specs.declared.select.Select.{Select}
 use Rattle.sql_tree.specs.declared.select.SelectList.{SelectList}
 use Rattle.sql_tree.specs.declared.select.SelectList.TheVariants as list
 use Rattle.sql_tree.specs.declared.statement.Column.{Column}
-use Rattle.sql_tree.specs.Select.{has_aggregate, is_grouped, outputs_of}
+use Rattle.sql_tree.specs.Select.{has_aggregate, is_aggregate, is_grouped, outputs_of}
 use Rattle.evaluation.specs.Bound.{value_at}
 use Rattle.sql_select.specs.Aggregates.{best_of, number_of, sum_of, total, whole}
 use Rattle.sql_select.specs.Bound.{better, choice, counted_over, keeps, list_over, over}
 use Rattle.sql_select.specs.Each.{each}
-use Rattle.sql_select.specs.Outputs.{is_there_over_none, outputs_over}
+use Rattle.sql_select.specs.Outputs.{aggregate_over, is_there_over_none, output_over, outputs_over}
 use Rattle.sql_select.specs.Rows.{holds_at, kept}
 use Rattle.sql_select.specs.Select.{answer, answer_of, output_rows, row_of_group, row_of_row, rows_of_groups}
-use Rattle.sql_totals.specs.Totals.{AreOf, IsOver, added, best_at, best_so_far, best_with, output_of, rows_after, rows_if, summed, value_after, with_row}
+use Rattle.sql_totals.specs.Totals.{AreOf, IsOver, added, best_at, best_so_far, best_with, counted, is_i128, is_of_one_group, output_of, rows_after, rows_if, summed, tally, tally_with, tally_with_kept, value_after, wide, with_row}
 use Rattle.sql_select.specs.declared.outputs.BoundList.TheVariants.{Outputs}
 use Rattle.sql_select.specs.declared.outputs.BoundOutput.{BoundOutput}
 use Rattle.sql_totals.specs.declared.totals.Total.{Total}
 use Rattle.sql_totals.specs.declared.totals.Total.TheVariants.{CountRows, Count, Sum, Extreme}
 use Rattle.sql_totals.specs.declared.totals.Totals.{Totals}
-use Rattle.sql_select.proofs.BoundOutputs.{if_true}
-use Rattle.sql_select.proofs.Eaches.{kept-append}
+use Rattle.sql_select.proofs.BoundOutputs.{if_true, list-means, means, more_means}
+use Rattle.sql_select.proofs.Eaches.{item_at, kept-append}
+
+ok_same : {A : Type 0} {a b : A} → ◌≡◌ {A = Result A Refusal} (Ok a) (Ok b) → a ≡ b
+ok_same e = cc
 
 -- an answer that went on had a value to go on with
 bind_ok : {A B : Type 0} (r : Result A Refusal) (f : A → Result B Refusal) (z : B) → r >>= f ≡ Ok z → (a : A) × (r ≡ Ok a) × (f a ≡ Ok z)
 bind_ok (Ok a) f z e = (a, refl, e)
 bind_ok {A} {B} (Err why) f z e = let bad : ◌≡◌ {A = Result B Refusal} (Err why) (Ok z) = e in absurd cc
 
-ok_same : {A : Type 0} {a b : A} → ◌≡◌ {A = Result A Refusal} (Ok a) (Ok b) → a ≡ b
-ok_same e = cc
+-- a number that fits is what it was
+fits : {X : Type 0} (b : Bool) (x y : X) → ok_or (if b then Some x else None) Overflow ≡ Ok y → x ≡ y
+fits true x y e = ok_same e
+fits {X} false x y e = let bad : ◌≡◌ {A = Result X Refusal} (Err Overflow) (Ok y) = e in absurd cc
 
 module _ {X Y : Type 0} (f : X → Result Y Refusal) where
   again : (r : Result (List Y) Refusal) → r ≡ r >>= (λ l. Ok ([] ++ l))
@@ -91,12 +102,12 @@ module _ (at : List Value → Result Value Refusal) (rows : List (List Value)) (
   summed_more sum after so_far more =
       let old = bind_ok (each at rows) (λ values. each number_of values >>= (λ numbers. Ok (total numbers))) sum so_far in
       let was = bind_ok (each number_of old.0) (λ numbers. Ok (total numbers)) sum old.2 in
-      let new = bind_ok (at row) (λ value. number_of value >>= (λ number. Ok (sum +ℤ number))) after more in
-      let is = bind_ok (number_of new.0) (λ number. Ok (sum +ℤ number)) after new.2 in
+      let new = bind_ok (at row) (λ value. number_of value >>= (λ number. ok_or (wide (sum +ℤ number)) Overflow)) after more in
+      let is = bind_ok (number_of new.0) (λ number. ok_or (wide (sum +ℤ number)) Overflow) after new.2 in
       ap (λ r. r >>= (λ values. each number_of values >>= (λ numbers. Ok (total numbers)))) (each_last at rows row old.0 new.0 old.1 new.1)
       ∙ ap (λ r. r >>= (λ numbers. Ok (total numbers))) (each_last number_of old.0 new.0 was.0 is.0 was.1 is.1)
       ∙ ap (λ z. Ok z) (total_last was.0 is.0 ∙ ap (λ z. z +ℤ is.0) (ok_same was.2))
-      ∙ is.2
+      ∙ ap (λ z. Ok z) (fits (is_i128 (sum +ℤ is.0)) (sum +ℤ is.0) after is.2)
 
   best_more : (choose : Value → Value → Value) (best : Option Value) (after : Value) → best_at choose at rows ≡ Ok best → best_with choose at best row ≡ Ok after → best_at choose at (rows ++ row ∷ []) ≡ Ok (Some after)
   best_more choose best after so_far more =
@@ -195,6 +206,54 @@ empty_is : {X : Type 0} (xs : List X) → (length xs == 0) ≡ true → xs ≡ [
 empty_is [] e = refl
 empty_is (x ∷ xs) e = let none : suc (length xs) ≡ 0 = eqb-true (suc (length xs)) 0 e in absurd (omega arith)
 
+-- a total more
+pub over_more : (rows : List (List Value)) (totals : List Total) (total : Total) → AllByRecursion (IsOver rows) totals → IsOver rows total → AllByRecursion (IsOver rows) (totals ++ total ∷ [])
+over_more rows [] total are is = (is, tt)
+over_more rows (first ∷ totals) total are is = (are.0, over_more rows totals total are.1 is)
+
+-- an output more, which is an aggregate
+module _ (outputs : List Output) (i : ℕ) (output : Output) (lt : i < length outputs) (here : output ≡ get_or outputs i output) (aggregate : Aggregate) (is : output.value ≡ value.Aggregate aggregate) where
+  pub aggregate-more : list_all (λ (output : Output). is_aggregate output.value) (drop i outputs) ≡ list_all (λ (output : Output). is_aggregate output.value) outputs
+      → list_all (λ (output : Output). is_aggregate output.value) (drop (i + 1) outputs) ≡ list_all (λ (output : Output). is_aggregate output.value) outputs
+  aggregate-more so_far =
+      let rest = list_all (λ (output : Output). is_aggregate output.value) (drop (i + 1) outputs) in
+      sym (ap (list_all (λ (output : Output). is_aggregate output.value)) (item_at outputs i output lt here) ∙ ap (λ (of : OutputValue). is_aggregate of && rest) is) ∙ so_far
+
+  pub bound-more : (scope : List TableSchema) (n : Option ℕ) (totals : List Total) (total : Total) → over (output_of total) ≡ (λ rows. aggregate_over scope n rows aggregate)
+      → map over (map output_of totals) ++ map (means scope n) (drop i outputs) ≡ map (means scope n) outputs → map over (map output_of (totals ++ total ∷ [])) ++ map (means scope n) (drop (i + 1) outputs) ≡ map (means scope n) outputs
+  bound-more scope n totals total gives so_far =
+      let at : OutputValue → List (List Value) → Result Value Refusal = λ of rows. output_over scope n rows of in
+      ap (λ (l : List BoundOutput). map over l ++ map (means scope n) (drop (i + 1) outputs)) (map-append output_of totals (total ∷ []))
+      ∙ more_means scope n (map output_of totals) (output_of total) outputs i output lt here (gives ∙ ap at (sym is)) so_far
+
+-- a select of one group has an aggregate, and no columns of GROUP BY
+aggregate_of : (select : Select) → is_of_one_group select ≡ true → (select.group_by ≡ []) × (has_aggregate select.list ≡ true)
+aggregate_of select one_group =
+    let shape = both_of (is_none select.second && (length select.group_by == 0)) (is_grouped select) one_group in
+    let columns = both_of (is_none select.second) (length select.group_by == 0) shape.0 in
+    (empty_is select.group_by columns.1, or_nothing (has_aggregate select.list) (length select.group_by == 0) shape.1 columns.1)
+
+-- its outputs are bound
+pub outputs_are : (scope : List TableSchema) (n : Option ℕ) (select : Select) (bounds : List BoundOutput) → is_of_one_group select ≡ true → map over bounds ≡ map (means scope n) (outputs_of select.list)
+    → list_over (Outputs bounds) ≡ (λ rows. outputs_over scope n select.list rows)
+outputs_are scope n select bounds one_group e = go select.list (aggregate_of select one_group).1 e
+  where
+    go : (of : SelectList) → has_aggregate of ≡ true → map over bounds ≡ map (means scope n) (outputs_of of) → list_over (Outputs bounds) ≡ (λ rows. outputs_over scope n of rows)
+    go list.All a e = absurd cc
+    go (list.Outputs outputs) a e = list-means scope n bounds outputs e
+
+-- a count that fits is what it was
+pub counted_as : (b : Bool) {n m : ℕ} → (if b then Some n else None) ≡ Some m → m ≡ n
+counted_as true {n} {m} e = let same : Some n ≡ Some m = e in cc
+counted_as false e = absurd cc
+
+-- what the totals are with a row more that WHERE keeps
+pub tally_kept : (row : List Value) (was : Totals) (rows : ℕ) (items : List Total) → keeps was.filter row ≡ Ok true → counted (was.rows + 1) ≡ Some rows → each (with_row row) was.totals.items ≡ Ok items → tally_with row was ≡ Ok (rows, items)
+tally_kept row was rows items holds count more =
+    ap (λ (r : Result Bool Refusal). r >>= (λ is_kept. if is_kept then tally_with_kept row was else Ok (tally was))) holds
+    ∙ ap (λ (r : Option ℕ). ok_or r Overflow >>= (λ count. each (with_row row) was.totals.items >>= (λ totals. Ok (count, totals)))) count
+    ∙ ap (λ (r : Result (List Total) Refusal). r >>= (λ totals. Ok (rows, totals))) more
+
 module _ (holds : List Value → Result Bool Refusal) (rows kept_rows : List (List Value)) (row : List Value) (so_far : kept holds rows ≡ Ok kept_rows) where
   kept_by : (b : Bool) → holds row ≡ Ok b → kept holds (rows ++ row ∷ []) ≡ Ok (kept_rows ++ (if b then row ∷ [] else []))
   kept_by b e = kept-append holds rows (row ∷ []) ∙ rw (so_far, e) refl
@@ -202,10 +261,9 @@ module _ (holds : List Value → Result Bool Refusal) (rows kept_rows : List (Li
 module _ (select : Select) (scope : List TableSchema) (n : Option ℕ) (rows : List (List Value)) (totals : Totals) (are : AreOf select scope n rows totals) where
   one_row_is : output_rows scope n select are.kept_rows ≡ rows_after (outputs_of select.list) totals.rows totals.totals.items
   one_row_is =
-      let shape = both_of (is_none select.second && (length select.group_by == 0)) (is_grouped select) are.one_group in
-      let columns = both_of (is_none select.second) (length select.group_by == 0) shape.0 in
-      if_true (is_grouped select) (rows_of_groups scope n select.group_by select.list are.kept_rows) (each (row_of_row scope n select.list) are.kept_rows) shape.1
-      ∙ groups_are scope n totals.totals.items select.group_by select.list are.kept_rows (empty_is select.group_by columns.1) (or_nothing (has_aggregate select.list) (length select.group_by == 0) shape.1 columns.1)
+      let of_one = aggregate_of select are.one_group in
+      if_true (is_grouped select) (rows_of_groups scope n select.group_by select.list are.kept_rows) (each (row_of_row scope n select.list) are.kept_rows) (both_of (is_none select.second && (length select.group_by == 0)) (is_grouped select) are.one_group).1
+      ∙ groups_are scope n totals.totals.items select.group_by select.list are.kept_rows of_one.0 of_one.1
       (sym (ap (λ (g : List (List Value) → Result (List Value) Refusal). g are.kept_rows) are.outputs) ∙ totals_are are.kept_rows totals.totals.items are.over)
       ∙ ap (λ count. rows_after (outputs_of select.list) count totals.totals.items) (sym are.count)
 

@@ -1,15 +1,17 @@
 -- The aggregates of a select over one table without GROUP BY, worked out while its rows are read.
-use Rattle.std.specs.Prelude.{◌≡◌, ◌==◌, ◌+ℤ◌, ◌&&◌, ◌||◌, ℕ, ℤ, pos, Bool, true, false, not, is_none, List, [], ◌∷◌}
-use Rattle.std.specs.Prelude.{⊤, fold, length, map, IsOk, Option, Some, None, Result, Ok, Err}
+use Rattle.std.specs.Prelude.{◌≡◌, ◌==◌, ◌+◌, ◌+ℤ◌, ◌^◌, ◌&&◌, ◌||◌, ℕ, ℤ, pos, negsuc, nat_lt, Bool, true, false}
+use Rattle.std.specs.Prelude.{⊤, not, is_none, List, [], ◌∷◌, fold, length, map, IsOk, Option, Some, None, Result, Ok}
+use Rattle.std.specs.Prelude.{Err, if◌then◌else◌}
 use Rattle.std.specs.List.{AllByRecursion, list_all}
+use Rattle.std.specs.Option.{ok_or}
 use Rattle.retro_base.specs.Gives.{◌>>=◌}
 use Rattle.retro_base.specs.declared.refusal.Refusal.{Refusal}
-use Rattle.retro_base.specs.declared.refusal.Refusal.TheVariants.{WrongType}
+use Rattle.retro_base.specs.declared.refusal.Refusal.TheVariants.{Overflow, WrongType}
 use Rattle.values.specs.declared.value.Value.{Value}
 use Rattle.sql_tree.specs.declared.schema.TableSchema.{TableSchema}
 use Rattle.sql_tree.specs.declared.select.Output.{Output}
 use Rattle.sql_tree.specs.declared.select.Select.{Select}
-use Rattle.sql_tree.specs.Select.{is_grouped}
+use Rattle.sql_tree.specs.Select.{is_aggregate, is_grouped, outputs_of}
 use Rattle.evaluation.specs.Bound.{value_at}
 use Rattle.sql_select.specs.Aggregates.{number_of, total, whole}
 use Rattle.sql_select.specs.Bound.{better, choice, keeps, list_over}
@@ -56,12 +58,23 @@ IsOver rows (Count expression) = IsOk (each (value_at expression) rows)
 IsOver rows (Sum so_far) = summed (value_at so_far.of) rows ≡ Ok so_far.sum
 IsOver rows (Extreme which expression best) = best_at (choice which) (value_at expression) rows ≡ Ok best
 
+-- a number that an i128 holds, and a count that a usize holds
+abbrev pub is_i128 : ℤ → Bool
+is_i128 (pos n) = nat_lt n (2 ^ 127)
+is_i128 (negsuc n) = nat_lt n (2 ^ 127)
+
+abbrev pub wide : ℤ → Option ℤ
+wide z = if is_i128 z then Some z else None
+
+abbrev pub counted : ℕ → Option ℕ
+counted n = if nat_lt n (2 ^ 64) then Some n else None
+
 -- a sum, and the best so far, with a row more
 abbrev pub added : (List Value → Result Value Refusal) → ℤ → List Value → Result ℤ Refusal
 added at sum row = do
   value ← at row
   number ← number_of value
-  Ok (sum +ℤ number)
+  ok_or (wide (sum +ℤ number)) Overflow
 
 abbrev pub best_with : (Value → Value → Value) → (List Value → Result Value Refusal) → Option Value → List Value →
     Result Value Refusal
@@ -81,6 +94,22 @@ with_row row (Sum so_far) = do
 with_row row (Extreme which expression best) = do
   after ← best_with (choice which) (value_at expression) best row
   Ok (Extreme which expression (Some after))
+
+-- the totals of a select, and how many rows they are over
+abbrev pub tally : Totals → ℕ × List Total
+tally totals = (totals.rows, totals.totals.items)
+
+-- the same with a row more that WHERE keeps, and with one that it may keep
+abbrev pub tally_with_kept : List Value → Totals → Result (ℕ × List Total) Refusal
+tally_with_kept row totals = do
+  rows ← ok_or (counted (totals.rows + 1)) Overflow
+  after ← each (with_row row) totals.totals.items
+  Ok (rows, after)
+
+abbrev pub tally_with : List Value → Totals → Result (ℕ × List Total) Refusal
+tally_with row totals = do
+  is_kept ← keeps totals.filter row
+  if is_kept then tally_with_kept row totals else Ok (tally totals)
 
 -- what a total gives after so many rows
 abbrev pub value_after : ℕ → Total → Result Value Refusal
@@ -106,6 +135,11 @@ rows_after outputs rows totals =
 -- whether a select is over one table, and gives one row for all of its rows
 abbrev pub is_of_one_group : Select → Bool
 is_of_one_group select = is_none select.second && (length select.group_by == 0) && is_grouped select
+
+-- whether such a select can be added up while its rows are read: each of its outputs is an aggregate
+abbrev pub is_summable : Select → Bool
+is_summable select =
+    is_of_one_group select && list_all (λ (output : Output). is_aggregate output.value) (outputs_of select.list)
 
 -- these are the totals of the outputs of a select over its rows so far, none of which is refused
 pub record AreOf (select : Select) (scope : List TableSchema) (snapshot : Option ℕ) (rows : List (List Value))

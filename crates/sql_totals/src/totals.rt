@@ -1,27 +1,29 @@
 //! The aggregates of a select over one table without GROUP BY, worked out while its rows are read.
 
-ghost use Rattle.std.specs.List.{AllByRecursion};
-ghost use Rattle.std.specs.Prelude.{◌≡◌, ◌++◌, ◌∷◌, [], ℕ, ℤ, List, Option, None, Ok, IfOk, IfSome, IsOk, OnOk, map};
+ghost use Rattle.std.specs.List.{AllByRecursion, list_all};
+ghost use Rattle.std.specs.Prelude.{◌≡◌, ◌+◌, ◌+ℤ◌, ◌++◌, ◌∷◌, [], ℕ, ℤ, List, Option, None, IfOk, IfSome, OnOk};
+ghost use Rattle.std.specs.Prelude.{is_some, map};
 ghost use Rattle.retro_base.specs.Gives.{Gives};
 ghost use Rattle.sql_tree.specs.declared.schema.TableSchema.{TableSchema as TableRecord};
+ghost use Rattle.sql_tree.specs.declared.select.Output.{Output as OutputRecord};
 ghost use Rattle.sql_tree.specs.declared.select.Select.{Select as SelectRecord};
+ghost use Rattle.sql_tree.specs.Select.{is_aggregate};
 ghost use Rattle.values.specs.declared.value.Value.{Value as ValueRecord};
 ghost use Rattle.evaluation.specs.Bound.{value_at};
-ghost use Rattle.sql_select.specs.Bound.{choice, list_over};
+ghost use Rattle.sql_select.specs.Bound.{choice, over};
 ghost use Rattle.sql_select.specs.Each.{each};
-ghost use Rattle.sql_select.specs.Outputs.{outputs_over};
+ghost use Rattle.sql_select.specs.Outputs.{aggregate_over, output_over};
 ghost use Rattle.sql_select.specs.Select.{answer};
-ghost use Rattle.sql_totals.specs.Totals.{AreOf, IsOver, added, best_with, is_of_one_group, output_of, rows_after};
-ghost use Rattle.sql_totals.specs.Totals.{value_after, with_row};
-ghost use Rattle.sql_select.specs.declared.outputs.BoundList.TheVariants.{Outputs};
+ghost use Rattle.sql_totals.specs.Totals.{AreOf, IsOver, added, best_with, counted, is_of_one_group, is_summable};
+ghost use Rattle.sql_totals.specs.Totals.{output_of, rows_after, tally, tally_with, value_after, wide, with_row};
+ghost use Rattle.sql_totals.specs.declared.totals.Total.TheVariants.{Count as CountTotal};
 
 use evaluation::{BoundExpression, JoinedRow, Stack, Worked};
 use retro_base::Refusal;
 use sql_select::{
-    Answer, Best, BoundList, BoundOutput, Filter, OutputRow, all_there_over_none, answer_of,
-    better, count, whole,
+    Answer, Best, Filter, OutputRow, all_there_over_none, answer_of, better, count, whole,
 };
-use sql_tree::{Column, Output, Scope, Select, SelectList};
+use sql_tree::{Aggregate, Column, Output, OutputValue, Scope, Select};
 use std::alloc::{AllocError, Global};
 use values::{Duplicate, Row, Seq, Value};
 
@@ -43,27 +45,45 @@ pub(crate) enum Total {
 }
 
 impl Total {
-    // The total of no rows; none where the output is no aggregate.
-    fn of_none(output: BoundOutput) -> Option<Total>
-        ensures { IfSome result (λ total. (output_of total ≡ output) × IsOver [] total) }
+    // The total of no rows.
+    fn bind(
+        alloc: Global,
+        scope: &Scope<'_>,
+        snapshot: Option<u32>,
+        aggregate: &Aggregate,
+    ) -> Result<Total, AllocError>
+        ensures { IfOk result (λ total. (over (output_of total)
+            ≡ (λ rows. aggregate_over scope.now snapshot rows aggregate.now)) × IsOver [] total) }
     {
-        match output {
-            BoundOutput::Value(_) => None,
-            BoundOutput::CountRows => Some(Total::CountRows),
-            BoundOutput::Count(of) => Some(Total::Count(of)),
-            BoundOutput::Sum(of) => Some(Total::Sum(SumSoFar { of, sum: 0 })),
-            BoundOutput::Extreme(which, of) => Some(Total::Extreme(which, of, None)),
+        match aggregate {
+            Aggregate::CountRows => Ok(Total::CountRows),
+            Aggregate::Count(of) => {
+                let of = BoundExpression::bind(alloc, scope, snapshot, of)?;
+                Ok(Total::Count(of))
+            }
+            Aggregate::Sum(of) => {
+                let of = BoundExpression::bind(alloc, scope, snapshot, of)?;
+                Ok(Total::Sum(SumSoFar { of, sum: 0 }))
+            }
+            Aggregate::Min(of) => {
+                let of = BoundExpression::bind(alloc, scope, snapshot, of)?;
+                Ok(Total::Extreme(Best::Least, of, None))
+            }
+            Aggregate::Max(of) => {
+                let of = BoundExpression::bind(alloc, scope, snapshot, of)?;
+                Ok(Total::Extreme(Best::Greatest, of, None))
+            }
         }
     }
 
-    // Adds a row. Where that is refused nothing more is said of the total.
+    // Adds a row. Where that is refused nothing is said of the total.
     fn add(
         &mut self,
         alloc: Global,
         row: &JoinedRow<'_>,
         stack: &mut Stack<Value>,
     ) -> Result<(), Refusal>
-        ensures { OnOk result (with_row row.now self.old ≡ Ok self.new) }
+        ensures { Gives (λ _. self.new) result (with_row row.now self.old) }
     {
         match self {
             Total::CountRows => {}
@@ -92,13 +112,14 @@ impl Total {
     }
 }
 
+// Works an expression out at a row, whatever it gives.
 fn work_out(
     alloc: Global,
     expression: &BoundExpression,
     row: &JoinedRow<'_>,
     stack: &mut Stack<Value>,
 ) -> Result<(), Refusal>
-    ensures { OnOk result (IsOk (value_at expression.now row.now)) }
+    ensures { Gives (λ _. CountTotal expression.now) result (with_row row.now (CountTotal expression.now)) }
 {
     let _value = expression.worked(alloc, row, stack)?;
     Ok(())
@@ -113,15 +134,21 @@ fn added(
     row: &JoinedRow<'_>,
     stack: &mut Stack<Value>,
 ) -> Result<i128, Refusal>
-    ensures { IfOk result (λ after. added (value_at expression.now) sum row.now ≡ Ok after) }
+    ensures { Gives (λ after. after) result (added (value_at expression.now) sum row.now) }
 {
     let value = expression.worked(alloc, row, stack)?;
     match value.get() {
-        Value::Int(number) => sum
-            .checked_add(i128::from(*number))
-            .ok_or(Refusal::Overflow),
+        Value::Int(number) => wide_sum(sum, *number).ok_or(Refusal::Overflow),
         Value::Text(_) => Err(Refusal::WrongType),
     }
+}
+
+// A sum with a number more, where an i128 holds it.
+#[tactic(auto, using(crate::proofs::Machine::wide_is))]
+fn wide_sum(sum: i128, number: i64) -> Option<i128>
+    ensures { result ≡ wide (sum +ℤ number) }
+{
+    sum.checked_add(i128::from(number))
 }
 
 // The better of the expression's value at a row and the best so far.
@@ -133,7 +160,7 @@ fn best_with(
     row: &JoinedRow<'_>,
     stack: &mut Stack<Value>,
 ) -> Result<Value, Refusal>
-    ensures { IfOk result (λ after. best_with (choice which) (value_at expression.now) best row.now ≡ Ok after) }
+    ensures { Gives (λ after. after) result (best_with (choice which) (value_at expression.now) best row.now) }
 {
     let value = expression.worked(alloc, row, stack)?;
     let best = match best {
@@ -156,20 +183,22 @@ pub struct Totals {
 
 impl Totals {
     /// The aggregates of no rows; None where the select has GROUP BY, a second table, or an output that is no
-    /// aggregate. `snapshot` is the number of `current_snapshot()`.
+    /// aggregate, and only there. `snapshot` is the number of `current_snapshot()`.
     pub fn bind(
         alloc: Global,
         select: &Select,
         scope: &Scope<'_>,
         snapshot: Option<u32>,
     ) -> Result<Option<Totals>, AllocError>
-        ensures { IfOk result (λ found. IfSome found (λ totals. AreOf select.now scope.now snapshot [] totals)) }
+        ensures found { IfOk result (λ found. is_some found ≡ is_summable select.now) }
+        ensures totals { IfOk result (λ found. IfSome found (λ totals. AreOf select.now scope.now snapshot []
+            totals)) }
     {
         if !is_of_one_group(select) {
             return Ok(None);
         }
         let filter = Filter::bind(alloc, scope, snapshot, &select.condition)?;
-        match bind_totals(alloc, scope, snapshot, &select.list)? {
+        match bind_totals(alloc, scope, snapshot, select.list.outputs())? {
             Some(totals) => Ok(Some(Totals {
                 filter,
                 totals,
@@ -181,16 +210,18 @@ impl Totals {
         }
     }
 
-    /// Adds a row. Where that is refused nothing more is said of the totals.
+    /// Adds a row. Refused for want of memory; as WHERE is at the row; where WHERE keeps it, by Overflow if a usize
+    /// counts no row more, or else as the first output is: as its expression is at the row, by WrongType for the sum of
+    /// a text, or by Overflow for a sum that 128 bits do not hold. Then nothing is said of the totals.
     pub fn add(&mut self, alloc: Global, row: &[Value]) -> Result<(), Refusal>
-        ensures { (select : SelectRecord) (scope : List TableRecord) (snapshot : Option ℕ)
+        ensures tally { Gives (λ _. tally self.new) result (tally_with row.now self.old) }
+        ensures totals { (select : SelectRecord) (scope : List TableRecord) (snapshot : Option ℕ)
             (rows : List (List ValueRecord)) → AreOf select scope snapshot rows self.old
             → OnOk result (AreOf select scope snapshot (rows ++ row.now ∷ []) self.new) }
     {
         let row = JoinedRow::of_one(row);
         if self.filter.keeps(&row, &mut self.conditions)? {
-            // More rows than a usize counts are refused by Overflow.
-            let rows = self.rows.checked_add(1).ok_or(Refusal::Overflow)?;
+            let rows = one_more(self.rows).ok_or(Refusal::Overflow)?;
             add_to_each(alloc, &mut self.totals, &row, &mut self.values)?;
             self.rows = rows;
         }
@@ -222,37 +253,35 @@ pub fn is_of_one_group(select: &Select) -> bool
     select.second.is_none() && select.group_by.is_empty() && select.is_grouped()
 }
 
-// The totals of no rows of a list's outputs; none where one is no aggregate.
+// The totals of no rows of these outputs; none where one is no aggregate.
 fn bind_totals(
     alloc: Global,
     scope: &Scope<'_>,
     snapshot: Option<u32>,
-    list: &SelectList,
+    outputs: &[Output],
 ) -> Result<Option<Vec<Total>>, AllocError>
-    ensures { IfOk result (λ found. IfSome found (λ totals. (list_over (Outputs (map output_of totals.items))
-        ≡ (λ rows. outputs_over scope.now snapshot list.now rows)) × AllByRecursion (IsOver []) totals.items)) }
-{
-    match BoundList::bind(alloc, scope, snapshot, list)? {
-        BoundList::All => Ok(None),
-        BoundList::Outputs(outputs) => totals_of_none(alloc, outputs),
-    }
-}
-
-fn totals_of_none(
-    alloc: Global,
-    outputs: Seq<BoundOutput>,
-) -> Result<Option<Vec<Total>>, AllocError>
-    ensures { IfOk result (λ found. IfSome found (λ totals. (map output_of totals.items ≡ outputs)
+    ensures found { IfOk result (λ found. is_some found ≡ list_all (λ (output : OutputRecord). is_aggregate
+        output.value) outputs.now) }
+    ensures totals { IfOk result (λ found. IfSome found (λ totals. (map over (map output_of totals.items)
+        ≡ map (λ (output : OutputRecord) rows. output_over scope.now snapshot rows output.value) outputs.now)
         × AllByRecursion (IsOver []) totals.items)) }
 {
     let mut totals = Vec::with_capacity(alloc, outputs.len())?;
-    for output in Vec::from(outputs) {
-        match Total::of_none(output) {
-            Some(total) => totals.push(total)?,
-            None => return Ok(None),
-        }
+    for output in outputs {
+        let OutputValue::Aggregate(aggregate) = &output.value else {
+            return Ok(None);
+        };
+        totals.push(Total::bind(alloc, scope, snapshot, aggregate)?)?;
     }
     Ok(Some(totals))
+}
+
+// A count with a row more, where a usize holds it.
+#[tactic(auto, using(crate::proofs::Machine::counted_is))]
+fn one_more(rows: usize) -> Option<usize>
+    ensures { result ≡ counted (rows + 1) }
+{
+    rows.checked_add(1)
 }
 
 fn add_to_each(
@@ -261,7 +290,7 @@ fn add_to_each(
     row: &JoinedRow<'_>,
     stack: &mut Stack<Value>,
 ) -> Result<(), Refusal>
-    ensures { OnOk result (each (with_row row.now) totals.old ≡ Ok totals.new) }
+    ensures { Gives (λ _. totals.new) result (each (with_row row.now) totals.old) }
 {
     for total in totals.iter_mut() {
         total.add(alloc, row, stack)?;

@@ -12,7 +12,7 @@ returns-in_err-added-clause-answered g c = λ base shown told.
     let p = err_from_is_err_and c.from_residual-in_err-added.result c.from_residual-in_err-added.ensures.1 in
     let start : Adding = record { alloc = c.args.alloc; totals = c.in-Some-2.totals; last = None; useful = true } in
     let named = c.in-Some.ensures in
-    let are = rw c.in-Some-2.is at c.in_ok-totals.ensures in
+    let are = rw c.in-Some-2.is at c.in_ok-totals.ensures.totals in
     let unplanned = none-of (plan_of c.in_ok-schema.schema c.in-Some.table.now.indexes c.args.query.now.condition) (sym c.in_ok-has_plan.ensures ∙ c.if-branch.false) in
     rw (p.1, p.2)
     (allowed_stop c.in_err-added.field-0.0
@@ -24,7 +24,7 @@ returns-in_err-answer-clause-answered g c = λ base shown told.
     let p = err_from_is_err_and c.from_residual-in_err-answer.result c.from_residual-in_err-answer.ensures.1 in
     let start : Adding = record { alloc = c.args.alloc; totals = c.in-Some-2.totals; last = None; useful = true } in
     let named = c.in-Some.ensures in
-    let are = rw c.in-Some-2.is at c.in_ok-totals.ensures in
+    let are = rw c.in-Some-2.is at c.in_ok-totals.ensures.totals in
     let unplanned = none-of (plan_of c.in_ok-schema.schema c.in-Some.table.now.indexes c.args.query.now.condition) (sym c.in_ok-has_plan.ensures ∙ c.if-branch.false) in
     let h = c.in_ok-added.ensures.shown start (λ useful. none-yet start refl) base shown told in
     let on = h.2.1 c.if-not-added.false in
@@ -37,7 +37,7 @@ pub returns-clause-answered : goal.returns-clause-answered
 returns-clause-answered g c = λ base shown told.
     let start : Adding = record { alloc = c.args.alloc; totals = c.in-Some-2.totals; last = None; useful = true } in
     let named = c.in-Some.ensures in
-    let are = rw c.in-Some-2.is at c.in_ok-totals.ensures in
+    let are = rw c.in-Some-2.is at c.in_ok-totals.ensures.totals in
     let unplanned = none-of (plan_of c.in_ok-schema.schema c.in-Some.table.now.indexes c.args.query.now.condition) (sym c.in_ok-has_plan.ensures ∙ c.if-branch.false) in
     let h = c.in_ok-added.ensures.shown start (λ useful. none-yet start refl) base shown told in
     let on = h.2.1 c.if-not-added.false in

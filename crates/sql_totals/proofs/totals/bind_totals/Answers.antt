@@ -1,12 +1,14 @@
-use Rattle.std.proofs.Common.{◌∙◌, List, ap}
-use Rattle.std.proofs.lemmas.Option.{IfSome_then}
-use Rattle.std.proofs.lemmas.Result.{IfOk-weaker}
-use Rattle.sql_select.specs.Bound.{list_over}
-use Rattle.sql_select.specs.declared.outputs.BoundList.TheVariants.{Outputs}
-use Rattle.sql_select.specs.declared.outputs.BoundOutput.{BoundOutput}
+use Rattle.std.proofs.Common.{[]}
+use Rattle.sql_totals.proofs.Totalling.{aggregate-more, bound-more, over_more}
 use Rattle.sql_totals.proofs.totals.bind_totals.Goals as goal
 
-pub returns-in-Outputs : goal.returns-in-Outputs
-returns-in-Outputs c =
-    let bound = rw c.in-Outputs.is at c.in_ok-bind.ensures in
-    IfOk-weaker c.totals_of_none.result _ _ (λ found h. IfSome_then found h (λ totals is. (ap (λ (l : List BoundOutput). list_over (Outputs l)) is.0 ∙ bound, is.1))) c.totals_of_none.ensures
+pub loop-output-preserved : goal.loop-output-preserved
+loop-output-preserved c =
+    let so_far = c.loop-output.invariant in
+    let total = c.in_ok-bind.ensures in
+    rw c.in_ok-push.ensures.items
+    (record {
+      found = aggregate-more c.args.outputs.now c.loop-output.output-index c.output-item.result c.loop-output-test.true c.output-item.is c.in-Aggregate.aggregate c.in-Aggregate.is so_far.found;
+      outputs = bound-more c.args.outputs.now c.loop-output.output-index c.output-item.result c.loop-output-test.true c.output-item.is c.in-Aggregate.aggregate c.in-Aggregate.is c.args.scope.now c.args.snapshot c.loop-output.totals.items c.in_ok-bind.field-0 total.0 so_far.outputs;
+      over = over_more [] c.loop-output.totals.items c.in_ok-bind.field-0 so_far.over total.1;
+    })
