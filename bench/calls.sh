@@ -3,7 +3,7 @@
 # hundred rows, of which one changes between two snapshots; and of the calls' queries asked as of each snapshot in turn, an
 # item each. Those of the script without them are taken off. Of each call it tells, too, what is spent within it, in the
 # queries as of the snapshots, in the session's own steps (the look, the list of snapshots, each answer handed on, the
-# reply) and, as what is left, in rql. It needs valgrind.
+# reply) and, as what is left, in rql and rql_intervals. It needs valgrind.
 cd "$(dirname "$0")/../crates/retro" && rt run -- run < stdin > /dev/null 2>&1 || exit 1
 script=$(mktemp)
 count=$(mktemp)

@@ -2,10 +2,6 @@ pub mod Gatherings
 pub mod GroupFolds
 pub mod GroupRows
 pub mod Parts
-pub mod RowSets
-pub mod RunFolds
-pub mod RunLaws
 pub mod SameColumns
 pub mod TableRows
 pub mod Tallies
-pub mod Twins

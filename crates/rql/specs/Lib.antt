@@ -5,9 +5,7 @@ pub mod Columns
 pub mod Folding
 pub mod Gathering
 pub mod Groups
-pub mod Intervals
 pub mod Pairs
-pub mod RunsSoFar
 pub mod Table
 pub mod TableLaws
 pub mod Tallies

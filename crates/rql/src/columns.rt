@@ -29,14 +29,14 @@ pub(crate) fn same_columns(a: &[Column], b: &[Column]) -> bool
 }
 
 /// Whether one of the columns has the name.
-pub(crate) fn has_name(name: &[u8], columns: &[Column]) -> bool
+pub fn has_name(name: &[u8], columns: &[Column]) -> bool
     ensures { result ≡ has_name name_of name.now columns.now }
 {
     columns.iter().any(|column| column.name.bytes() == name)
 }
 
 /// Whether two of the columns have one name.
-pub(crate) fn has_twins(columns: &[Column]) -> bool
+pub fn has_twins(columns: &[Column]) -> bool
     ensures { result ≡ has_twins name_of columns.now }
 {
     let mut rest = columns;

@@ -22,7 +22,7 @@ use std::alloc::{AllocError, Global};
 use values::{Row, Seq};
 
 /// What is taken of the answer at each snapshot, and the state that it is folded into.
-pub(crate) trait Takes {
+pub trait Takes {
     type Part: Drop;
 
     type State: Drop;
@@ -111,7 +111,7 @@ fn take_later<A: AsOf, T: Takes>(
 
 /// The columns of the answers, and the state that holds what is taken of each, in the order of the snapshots. The first
 /// refusal refuses the whole. Over no snapshots there are no columns.
-pub(crate) fn gather<A: AsOf, T: Takes>(
+pub fn gather<A: AsOf, T: Takes>(
     alloc: Global,
     asof: &mut A,
     snapshots: &[u32],

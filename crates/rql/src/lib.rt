@@ -1,5 +1,5 @@
-//! A query over many snapshots: its answers one after the other, their one values in one, their groups in one table,
-//! and the intervals in which their rows stand.
+//! A query over many snapshots: its answers one after the other, their one values in one, and their groups in one
+//! table.
 #![tactic(auto)]
 
 mod as_of;
@@ -11,17 +11,15 @@ mod function;
 mod gathering;
 mod groups;
 mod pair;
-mod row_set;
-mod runs;
-mod runs_so_far;
 mod table;
 mod tally;
 mod variable;
 
 pub use as_of::AsOf;
 pub use collating::collate;
+pub use columns::{has_name, has_twins};
 pub use function::Function;
+pub use gathering::{Takes, gather};
 pub use pair::Pair;
-pub use runs::{intervals, runs_are_intervals};
 pub use table::{in_table, tables_fit};
 pub use variable::in_variable;

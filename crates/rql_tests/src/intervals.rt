@@ -6,7 +6,7 @@ use crate::support::{Answers, Shown, Told, Want, is, query, told};
 use Answers::{Mixed, Sevens};
 use pager::Stop;
 use retro_base::{Failed, Refusal};
-use rql::intervals;
+use rql_intervals::intervals;
 use sql_tree::Select;
 use std::alloc::Global;
 use std::test::Fail;

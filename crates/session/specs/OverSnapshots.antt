@@ -17,12 +17,12 @@ use Rattle.sql_select.specs.declared.answer.Answer.{Answer}
 use Rattle.tables.specs.Meaning.{asked}
 use Rattle.tables.specs.Tables.{Tables}
 use Rattle.rql.specs.Collate.{collate}
-use Rattle.rql.specs.Intervals.{intervals}
 use Rattle.rql.specs.Table.{in_table}
 use Rattle.rql.specs.Variable.{in_variable}
 use Rattle.rql_arguments.specs.declared.call.Call.{Call}
 use Rattle.rql_arguments.specs.declared.call.Combination.{Combination}
 use Rattle.rql_arguments.specs.declared.call.Combination.TheVariants as combination
+use Rattle.rql_intervals.specs.Intervals.{intervals}
 use Rattle.journal_law.specs.World.{Mark, World, as_of}
 use Rattle.session.specs.declared.result_table.ResultTable.{ResultTable}
 

@@ -8,8 +8,9 @@ ghost use Rattle.session.specs.OverSnapshots.{combined};
 
 use fold_kit::Folds;
 use pager::Stop;
-use rql::{AsOf, collate, in_table, in_variable, intervals};
+use rql::{AsOf, collate, in_table, in_variable};
 use rql_arguments::Combination;
+use rql_intervals::intervals;
 use sql_select::Answer;
 use sql_tree::Select;
 use std::alloc::Global;

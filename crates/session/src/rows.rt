@@ -7,53 +7,55 @@ ghost use Rattle.session.specs.Rows.{IsShown, row_lines};
 ghost use Rattle.values.specs.Value.{text_of};
 
 use csv::{ByteRecord, WriterBuilder};
+use itoa::Buffer;
 use std::alloc::{AllocError, Global};
 use values::{Row, Value};
 
 // Appends an integer in decimal as a field, all of it printable.
-fn push_digits(alloc: Global, out: &mut ByteRecord, number: i64) -> Result<(), AllocError>
+fn push_digits(out: &mut ByteRecord, number: i64) -> Result<(), AllocError>
     ensures fields { OnOk result (fields_of out.new
         ≡ fields_of out.old ++ ((partial_of out.old ++ text_of (Value.Int number)) ∷ [])) }
     ensures whole { OnOk result (partial_of out.new ≡ []) }
     ensures shown { OnOk result (IsShown (Value.Int number)) }
 {
-    let digits = number.to_string(alloc)?;
-    out.push_field(digits.as_bytes())
+    let mut digits = Buffer::new();
+    out.push_field(digits.format(number).as_bytes())
 }
 
 // Appends the text of a value as a field, all of it printable.
-fn push_text(alloc: Global, out: &mut ByteRecord, value: &Value) -> Result<(), AllocError>
+fn push_text(out: &mut ByteRecord, value: &Value) -> Result<(), AllocError>
     ensures fields { OnOk result (fields_of out.new
         ≡ fields_of out.old ++ ((partial_of out.old ++ text_of value.now) ∷ [])) }
     ensures whole { OnOk result (partial_of out.new ≡ []) }
     ensures shown { OnOk result (IsShown value.now) }
 {
     match value {
-        Value::Int(number) => push_digits(alloc, out, *number),
+        Value::Int(number) => push_digits(out, *number),
         Value::Text(text) => out.push_field(text.bytes()),
     }
 }
 
-// The texts of a row's values, as the fields of one record.
-fn record(alloc: Global, row: &Row) -> Result<ByteRecord, AllocError>
-    ensures fields { IfOk result (λ r. fields_of r ≡ map text_of row.now) }
+// Makes the texts of a row's values the fields of a record.
+fn fill(record: &mut ByteRecord, row: &Row) -> Result<(), AllocError>
+    ensures fields { OnOk result (fields_of record.new ≡ map text_of row.now) }
     ensures shown { OnOk result (AllByRecursion IsShown row.now) }
 {
-    let mut record = ByteRecord::new(alloc);
+    record.clear();
     for value in row.as_slice() {
-        push_text(alloc, &mut record, value)?;
+        push_text(record, value)?;
     }
-    Ok(record)
+    Ok(())
 }
 
-// The rows, a line each, by one writer. Over memory it is refused for want of memory alone.
+// The rows, a line each, by one writer and one record. Over memory it is refused for want of memory alone.
 #[tactic(auto, using(crate::proofs::Quoting::row_same))]
 fn rows_bytes(alloc: Global, rows: &[Row]) -> Result<Vec<u8>, AllocError>
     ensures { IfOk result (λ bytes. bytes.items ≡ row_lines rows.now) }
 {
     let mut writer = WriterBuilder::new().from_writer(Vec::new(alloc));
+    let mut record = ByteRecord::new(alloc);
     for row in rows {
-        let record = record(alloc, row)?;
+        fill(&mut record, row)?;
         if writer.write_byte_record(&record).is_err() {
             return Err(AllocError);
         }

@@ -1,0 +1,4 @@
+mod RowSets
+mod RunFolds
+mod RunLaws
+mod Twins
