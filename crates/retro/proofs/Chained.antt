@@ -1,15 +1,17 @@
 -- The pages that a run left, as the next run finds them.
-use Rattle.std.proofs.Common.{◌≡◌, ◌∙◌, List, [], ◌∷◌, None, Option, refl, sym, subst}
+use Rattle.std.proofs.Common.{◌≡◌, ◌⊎◌, ◌∙◌, List, [], ◌∷◌, None, Some, Option, ap, inl, inr, refl, sym}
 use Rattle.std.proofs.Math.Path.{fun_ext}
+use Rattle.history.specs.declared.entry.Base.{Base}
 use Rattle.history.specs.declared.entry.Change.{Change}
 use Rattle.history.specs.declared.entry.Mark.{Mark as MarkOf}
-use Rattle.history.specs.History.{History}
+use Rattle.history.specs.History.{History, State, now}
+use Rattle.history.proofs.Captures.{now-with}
+use Rattle.race_model.proofs.Histories.{page_count_after}
 use Rattle.journal_law.specs.Pages.{Pages}
 use Rattle.journal_law.specs.World.{Mark, World}
-use Rattle.race_model.specs.Images.{IsSameWorld}
 use Rattle.replay.specs.Opened.{Contents, opened}
 use Rattle.store.specs.Crashes.{OpensTo}
-use Rattle.store.specs.Recovery.{ShowsOneOf}
+use Rattle.store.specs.Recovery.{ShowsOneOf, changed_world}
 use Rattle.store.specs.Worlds.{AreMarksOf, IsWorldOf}
 
 marks_one : (history : History) (marks : List MarkOf) (one other : List (Mark Pages)) → AreMarksOf history marks one → AreMarksOf history marks other → one ≡ other
@@ -32,9 +34,16 @@ worlds_one history one other a b =
     let marks = marks_one history _ one.marks other.marks a.marks b.marks in
     λ i. record { current = current i; marks = marks i }
 
--- where no change is in doubt
-pub no_doubt_opens : (contents : Contents) (history : History) (doubt : Option Change) → doubt ≡ None → OpensTo contents history doubt → IsSameWorld (opened contents) history
-no_doubt_opens contents history doubt none opens = subst (OpensTo contents history) none opens
+-- Contents that open to a history, or to it with a change in doubt, are of as many pages.
+pub opens_count : (contents : Contents) (history : History) (doubt : Option Change) → OpensTo contents history doubt → (now (opened contents)).base.page_count ≡ (now history).base.page_count
+opens_count contents history None same = ap (λ (b : Base). b.page_count) same.base
+opens_count contents history (Some change) (inl same) = ap (λ (b : Base). b.page_count) same.base
+opens_count contents history (Some change) (inr (follows, same)) =
+    ap (λ (b : Base). b.page_count) (same.base ∙ ap (λ (s : State). s.base) (now-with history change)) ∙ page_count_after (now history).base change
 
-pub no_doubt_shows : (contents : Contents) (world : World Pages) (doubt : Option Change) → doubt ≡ None → ShowsOneOf contents world doubt → IsWorldOf (opened contents) world
-no_doubt_shows contents world doubt none shows = subst (ShowsOneOf contents world) none shows
+-- Readers see one of two worlds: that behind a journal, or that behind the change in doubt.
+pub shows_one : (contents : Contents) (world : World Pages) (doubt : Option Change) → ShowsOneOf contents world doubt
+    → IsWorldOf (opened contents) world ⊎ ((change : Change) × (doubt ≡ Some change) × IsWorldOf (opened contents) (changed_world change world))
+shows_one contents world None shows = inl shows
+shows_one contents world (Some change) (inl shows) = inl shows
+shows_one contents world (Some change) (inr shows) = inr (change, refl, shows)

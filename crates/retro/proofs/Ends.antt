@@ -1,17 +1,24 @@
 -- What the status of a run tells.
-use Rattle.std.proofs.Common.{◌≡◌, ◌<◌, ◌-◌, ◌^◌, ℕ, List, Option, Some, IfSome, Result, Ok, Err, inl, inr, refl, subst, sym, arith}
-use Rattle.std.specs.Prelude.{MatchResult}
+use Rattle.std.proofs.Common.{◌≡◌, ◌∙◌, ◌⊎◌, ◌<◌, ◌-◌, ◌^◌, ap, ℕ, Bool, true, false, List, Option, Some, IfSome, Result, Ok, Err, inl, inr, refl, subst, sym, arith}
+use Rattle.std.specs.Prelude.{◌==◌, ◌∷◌, [], IsTrue, MatchResult, if◌then◌else◌}
+use Rattle.std.specs.List.{list_any}
+use Rattle.disk_model.specs.Disk.{State}
+use Rattle.disk_model.specs.Moments.{Clock}
+use Rattle.disk_model.specs.declared.four.Four.{Four}
 use Rattle.retro_base.specs.declared.refusal.Refusal.{Refusal}
+use Rattle.retro_base.specs.declared.refusal.Refusal.TheVariants as refusals
 use Rattle.script.specs.Script.{ReadsAs}
 use Rattle.script.specs.declared.structure.Script.{Script}
 use Rattle.journal_law.specs.Lawful.{Opening}
 use Rattle.session.specs.Plan.{Plan}
 use Rattle.session.specs.Sql.{sql}
 use Rattle.retro.specs.Asked.{AsksFor, IsAsked, IsTheBadLine, IsTheScript, RefusesScript}
+use Rattle.retro.specs.Keeping.{CameTo, EndsRun, HasCausesIn, IsStatusOf, RunsIn, RunsOnStore, StatusesInTellCauses, ending_status, has_fault, in_place}
 use Rattle.retro.specs.Memory.{RunsFrom}
-use Rattle.retro.specs.Program.{EndsFrom, HasCauses, RunsPlainly, StatusesTellCauses}
-use Rattle.retro.specs.Says.{LacksMemory, Refuses, Writes}
+use Rattle.retro.specs.Program.{EndsFrom, FeedsTold, HasCauses, RunsPlainly, StatusesTellCauses}
+use Rattle.retro.specs.Says.{LacksMemory, Refuses, Tells, Writes, WritesOne}
 use Rattle.retro.specs.Seen.{HasFailed, IsSteady, Seen}
+use Rattle.retro.specs.Storing.{IsPrinted}
 use Rattle.retro.specs.declared.asking.NoPlan.{NoPlan}
 use Rattle.retro.specs.declared.asking.NoPlan.TheVariants.{BadScript, OutOfMemory, SourceFault}
 use Rattle.retro.specs.declared.storing.Ended.{Ended}
@@ -35,89 +42,99 @@ bad_or_plan left bytes plan n e asks is =
     let same : Err n ≡ Ok asks.script = here.1 (Err n) is in
     cc
 
--- ---- each status
+-- want of memory is no other status
+neither_bad : (s : ℕ) → s ≡ 8 → (s ≡ 3) ⊎ (s ≡ 4) → ⊥
+neither_bad s e (inl bad) = omega (arith, e, bad)
+neither_bad s e (inr failed) = omega (arith, e, failed)
+
+-- ---- what each status tells of source and sink
 
 module _ (source sink : Seen) where
-  at_fault : HasFailed source → HasCauses source sink 4
+  at_fault : HasFailed source → FeedsTold source sink 4
   at_fault failed = record {
-    statuses = refl;
     source_fault = λ e. failed;
     source_steady = λ other. absurd (other refl);
-    bad_script = λ e. absurd (omega (arith, e));
+    no_source_fault = λ steady few e. not_failed source failed steady few;
     sink_fault = λ e. absurd (omega (arith, e));
     sink_steady = λ e. absurd (omega (arith, e));
-    bad_line = λ bytes n e is steady few. absurd (not_failed source failed steady few);
-    complete = λ bytes script e is steady few still still_few. absurd (not_failed source failed steady few);
+    no_sink_fault = λ still few e. omega (arith, e);
+    bad_script = λ e. absurd (omega (arith, e));
+    good_script = λ bytes script e is s. omega (arith, s);
+    bad_line = λ bytes n e is. inr (inl refl);
   }
 
-  at_bad_line : IsSteady source → (n : ℕ) → IfSome source.bytes_old (IsTheBadLine n) → HasCauses source sink 3
+  at_bad_line : IsSteady source → (n : ℕ) → IfSome source.bytes_old (IsTheBadLine n) → FeedsTold source sink 3
   at_bad_line steady n bad = record {
-    statuses = refl;
     source_fault = λ e. absurd (omega (arith, e));
     source_steady = λ other. steady;
+    no_source_fault = λ steady few e. omega (arith, e);
+    sink_fault = λ e. absurd (omega (arith, e));
+    sink_steady = λ e. absurd (omega (arith, e));
+    no_sink_fault = λ still few e. omega (arith, e);
     bad_script = λ e. (n, bad);
-    sink_fault = λ e. absurd (omega (arith, e));
-    sink_steady = λ e. absurd (omega (arith, e));
-    bad_line = λ bytes m e is steady few. inl refl;
-    complete = λ bytes script e is steady few still still_few. absurd (script_or_bad source.bytes_old bytes script n e bad is);
+    good_script = λ bytes script e is s. script_or_bad source.bytes_old bytes script n e bad is;
+    bad_line = λ bytes m e is. inl refl;
   }
 
-  at_memory : IsSteady source → HasCauses source sink 8
+  at_memory : IsSteady source → FeedsTold source sink 8
   at_memory steady = record {
-    statuses = refl;
     source_fault = λ e. absurd (omega (arith, e));
     source_steady = λ other. steady;
-    bad_script = λ e. absurd (omega (arith, e));
+    no_source_fault = λ steady few e. omega (arith, e);
     sink_fault = λ e. absurd (omega (arith, e));
     sink_steady = λ e. absurd (omega (arith, e));
-    bad_line = λ bytes n e is steady few. inr refl;
-    complete = λ bytes script e is steady few still still_few. inr refl;
+    no_sink_fault = λ still few e. omega (arith, e);
+    bad_script = λ e. absurd (omega (arith, e));
+    good_script = λ bytes script e is s. omega (arith, s);
+    bad_line = λ bytes n e is. inr (inr refl);
   }
 
+  -- behind a plan that was asked for
   module _ (steady : IsSteady source) (plan : Plan) (asks : AsksFor source.bytes_old plan) where
-    at_end : IsSteady sink → HasCauses source sink 0
-    at_end still = record {
-      statuses = refl;
-      source_fault = λ e. absurd (omega (arith, e));
+    at_end : (s : ℕ) → (s ≡ 3 → ⊥) → (s ≡ 4 → ⊥) → (s ≡ 5 → HasFailed sink) → (s ≡ 0 → IsSteady sink) → FeedsTold source sink s
+    at_end s not_bad not_source failed still = record {
+      source_fault = λ e. absurd (not_source e);
       source_steady = λ other. steady;
-      bad_script = λ e. absurd (omega (arith, e));
-      sink_fault = λ e. absurd (omega (arith, e));
-      sink_steady = λ e. still;
-      bad_line = λ bytes n e is steady few. absurd (bad_or_plan source.bytes_old bytes plan n e asks is);
-      complete = λ bytes script e is steady few still still_few. inl refl;
+      no_source_fault = λ steady few. not_source;
+      sink_fault = failed;
+      sink_steady = still;
+      no_sink_fault = λ stays few e. not_failed sink (failed e) stays few;
+      bad_script = λ e. absurd (not_bad e);
+      good_script = λ bytes script e is. not_bad;
+      bad_line = λ bytes n e is. absurd (bad_or_plan source.bytes_old bytes plan n e asks is);
     }
 
-    at_cut : HasFailed sink → HasCauses source sink 5
-    at_cut failed = record {
-      statuses = refl;
-      source_fault = λ e. absurd (omega (arith, e));
-      source_steady = λ other. steady;
-      bad_script = λ e. absurd (omega (arith, e));
-      sink_fault = λ e. failed;
-      sink_steady = λ e. absurd (omega (arith, e));
-      bad_line = λ bytes n e is steady few. absurd (bad_or_plan source.bytes_old bytes plan n e asks is);
-      complete = λ bytes script e is steady few still still_few. absurd (not_failed sink failed still still_few);
-    }
+    whole : IsSteady sink → FeedsTold source sink 0
+    whole still = at_end 0 (λ e. omega (arith, e)) (λ e. omega (arith, e)) (λ e. absurd (omega (arith, e))) (λ e. still)
 
--- ---- the law
+    cut : HasFailed sink → FeedsTold source sink 5
+    cut failed = at_end 5 (λ e. omega (arith, e)) (λ e. omega (arith, e)) (λ e. failed) (λ e. absurd (omega (arith, e)))
+
+    faulty : FeedsTold source sink 6
+    faulty = at_end 6 (λ e. omega (arith, e)) (λ e. omega (arith, e)) (λ e. absurd (omega (arith, e))) (λ e. absurd (omega (arith, e)))
+
+    no_store : FeedsTold source sink 7
+    no_store = at_end 7 (λ e. omega (arith, e)) (λ e. omega (arith, e)) (λ e. absurd (omega (arith, e))) (λ e. absurd (omega (arith, e)))
+
+-- ---- the law of `run`
 
 module _ (source sink : Seen) (status : ℕ) where
   so : (number : ℕ) → status ≡ number → HasCauses source sink number → HasCauses source sink status
   so number is causes = subst (λ (n : ℕ). HasCauses source sink n) (sym is) causes
 
   lacks : IsSteady source → LacksMemory sink status → HasCauses source sink status
-  lacks steady wanting = so 8 wanting.0 (at_memory source sink steady)
+  lacks steady wanting = so 8 wanting.0 (record { statuses = refl; feeds = at_memory source sink steady })
 
   refused : (why : NoPlan) → IsAsked source (Err why) → RefusesScript sink why status → HasCauses source sink status
-  refused SourceFault asked ends = so 4 ends.0 (at_fault source sink asked)
-  refused (BadScript n) asked (inl said) = so 3 said.0 (at_bad_line source sink asked.1 n asked.0)
+  refused SourceFault asked ends = so 4 ends.0 (record { statuses = refl; feeds = at_fault source sink asked })
+  refused (BadScript n) asked (inl said) = so 3 said.0 (record { statuses = refl; feeds = at_bad_line source sink asked.1 n asked.0 })
   refused (BadScript n) asked (inr wanting) = lacks asked.1 wanting
   refused OutOfMemory asked ends = lacks asked ends
 
   module _ (plan : Plan) (asked : IsAsked source (Ok plan)) where
     written : (text : List ℕ) → Writes sink text status → HasCauses source sink status
-    written text (inl whole) = so 0 whole.0 (at_end source sink asked.2 plan asked.0 whole.2)
-    written text (inr (inl cut)) = so 5 cut.0 (at_cut source sink asked.2 plan asked.0 cut.2)
+    written text (inl all) = so 0 all.0 (record { statuses = refl; feeds = whole source sink asked.2 plan asked.0 all.2 })
+    written text (inr (inl part)) = so 5 part.0 (record { statuses = refl; feeds = cut source sink asked.2 plan asked.0 part.2 })
     written text (inr (inr wanting)) = lacks asked.2 wanting
 
     ended : (size : ℕ) (o : Opening (sql size)) (result : Result Ended Refusal) → RunsFrom size o plan result → EndsFrom size o sink plan result status → HasCauses source sink status
@@ -135,3 +152,112 @@ module _ (source sink : Seen) (status : ℕ) where
 
 pub statuses_tell_causes : StatusesTellCauses
 statuses_tell_causes size o source sink status runs = told source sink status size o runs
+
+-- ---- the law of `run DIR`
+
+-- the status of a run whose transcript was written whole, in part, or not
+all_written : (ended : Ended) (fault copied : Bool) → has_fault ended.journal ≡ fault → ended.copied ≡ copied → (ending_status ended 0 ≡ 8) ⊎ ((s : ℕ) × (ending_status ended 0 ≡ s) × IsStatusOf (Ok ended) s × ((s ≡ 0) ⊎ (s ≡ 6)))
+all_written ended true copied e all = inr (6, rw e refl, rw e (inl refl), inr refl)
+all_written ended false true e all = inr (0, rw (e, all) refl, rw (e, all) (inl (refl, refl)), inl refl)
+all_written ended false false e all = inl (rw (e, all) refl)
+
+part_written : (ended : Ended) (fault copied : Bool) → has_fault ended.journal ≡ fault → ended.copied ≡ copied → (ending_status ended 5 ≡ 5) × IsStatusOf (Ok ended) 5
+part_written ended true copied e all = (rw e refl, rw e (inr refl))
+part_written ended false true e all = (rw (e, all) refl, rw (e, all) (inr refl))
+part_written ended false false e all = (rw (e, all) refl, rw (e, all) (inr refl))
+
+none_written : (ended : Ended) (fault copied : Bool) → has_fault ended.journal ≡ fault → ended.copied ≡ copied → ending_status ended 8 ≡ 8
+none_written ended true copied e all = rw e refl
+none_written ended false true e all = rw (e, all) refl
+none_written ended false false e all = rw (e, all) refl
+
+module _ {C D : Type 0} (faults : C → ℕ) (is_out : C → List ℕ → Type 0) (tells : C → Type 0) (store : C → List ℕ → Option (Four D)) (extent device_faults : D → ℕ) (is_honest : D → Type 0) (remembers : Type 0) (state : D → State) (clock : D → Clock)
+    (dir : List ℕ) (source sink : Seen) (old new : C) (status : ℕ) where
+  abbrev Causes : ℕ → Type 0
+  Causes s = HasCausesIn faults is_out tells store extent device_faults is_honest remembers state clock dir source sink old new s
+
+  abbrev Came : ℕ → Type 0
+  Came s = CameTo faults is_out tells store extent device_faults is_honest remembers state clock dir source sink old new s
+
+  abbrev Ran : Plan → Result Ended Refusal → Type 0
+  Ran plan result = RunsOnStore faults is_out tells store extent device_faults is_honest remembers state clock dir plan old new result
+
+  is_so : (number : ℕ) → status ≡ number → Causes number → Causes status
+  is_so number is causes = subst Causes (sym is) causes
+
+  lacking : IsSteady source → LacksMemory sink status → Causes status
+  lacking steady wanting = is_so 8 wanting.0 (record {
+    statuses = refl;
+    feeds = at_memory source sink steady;
+    untouched = λ e. absurd (neither_bad 8 refl e);
+    came = λ a b c. absurd (c refl);
+  })
+
+  no_plan : (why : NoPlan) → IsAsked source (Err why) → new ≡ old → RefusesScript sink why status → Causes status
+  no_plan SourceFault asked same ends = is_so 4 ends.0 (record { statuses = refl; feeds = at_fault source sink asked; untouched = λ e. same; came = λ a b c. absurd (b refl) })
+  no_plan (BadScript n) asked same (inl said) = is_so 3 said.0 (record { statuses = refl; feeds = at_bad_line source sink asked.1 n asked.0; untouched = λ e. same; came = λ a b c. absurd (a refl) })
+  no_plan (BadScript n) asked same (inr wanting) = lacking asked.1 wanting
+  no_plan OutOfMemory asked same ends = lacking asked ends
+
+  module _ (plan : Plan) (asked : IsAsked source (Ok plan)) where
+    reached : (s : ℕ) → IsTrue (list_any (λ one. one == s) (0 ∷ 3 ∷ 4 ∷ 5 ∷ 6 ∷ 7 ∷ 8 ∷ [])) → FeedsTold source sink s → (s ≡ 3 → ⊥) → (s ≡ 4 → ⊥) → (result : Result Ended Refusal) → Ran plan result → IsStatusOf result s → Causes s
+    reached s one feeds not_bad not_source result ran is = record {
+      statuses = one;
+      feeds = feeds;
+      untouched = λ e. absurd (neither e);
+      came = λ a b c. record { plan = plan; asks = asked.0; result = result; ran = ran; is = is };
+    }
+      where
+        neither : (s ≡ 3) ⊎ (s ≡ 4) → ⊥
+        neither (inl e) = not_bad e
+        neither (inr e) = not_source e
+
+    module _ (ended : Ended) (ran : Ran plan (Ok ended)) (written : ℕ) (is : status ≡ ending_status ended written) where
+      at_whole : written ≡ 0 → IsSteady sink → Causes status
+      at_whole none still = by_case (all_written ended (has_fault ended.journal) ended.copied refl refl)
+        where
+          here : (s : ℕ) → ending_status ended 0 ≡ s → status ≡ s
+          here s e = is ∙ ap (λ (w : ℕ). ending_status ended w) none ∙ e
+
+          by_case : (ending_status ended 0 ≡ 8) ⊎ ((s : ℕ) × (ending_status ended 0 ≡ s) × IsStatusOf (Ok ended) s × ((s ≡ 0) ⊎ (s ≡ 6))) → Causes status
+          by_case (inl e) = is_so 8 (here 8 e) (record { statuses = refl; feeds = at_memory source sink asked.2; untouched = λ e. absurd (neither_bad 8 refl e); came = λ a b c. absurd (c refl) })
+          by_case (inr (s, e, of, inl zero)) =
+              is_so 0 (here s e ∙ zero) (reached 0 refl (whole source sink asked.2 plan asked.0 still) (λ x. omega (arith, x)) (λ x. omega (arith, x)) (Ok ended) ran (subst (λ (n : ℕ). IsStatusOf (Ok ended) n) zero of))
+          by_case (inr (s, e, of, inr six)) =
+              is_so 6 (here s e ∙ six) (reached 6 refl (faulty source sink asked.2 plan asked.0) (λ x. omega (arith, x)) (λ x. omega (arith, x)) (Ok ended) ran (subst (λ (n : ℕ). IsStatusOf (Ok ended) n) six of))
+
+      at_part : written ≡ 5 → HasFailed sink → Causes status
+      at_part five failed =
+          let one = part_written ended (has_fault ended.journal) ended.copied refl refl in
+          is_so 5 (is ∙ ap (λ (w : ℕ). ending_status ended w) five ∙ one.0) (reached 5 refl (cut source sink asked.2 plan asked.0 failed) (λ x. omega (arith, x)) (λ x. omega (arith, x)) (Ok ended) ran one.1)
+
+      at_none : LacksMemory sink written → Causes status
+      at_none wanting = lacking asked.2 (is ∙ ap (λ (w : ℕ). ending_status ended w) wanting.0 ∙ none_written ended (has_fault ended.journal) ended.copied refl refl, wanting.1)
+
+      by_text : WritesOne sink (IsPrinted plan ended) written → Causes status
+      by_text (inl (text, printed, inl all)) = at_whole all.0 all.2
+      by_text (inl (text, printed, inr (inl part))) = at_part part.0 part.2
+      by_text (inl (text, printed, inr (inr wanting))) = at_none wanting
+      by_text (inr wanting) = at_none wanting
+
+    by_refusal : (why : Refusal) → Ran plan (Err why) → Refuses sink why status → Causes status
+    by_refusal (refusals.DiskFault device count) ran (inl said) =
+        is_so 6 said.0 (reached 6 refl (faulty source sink asked.2 plan asked.0) (λ x. omega (arith, x)) (λ x. omega (arith, x)) (Err (refusals.DiskFault device count)) ran refl)
+    by_refusal (refusals.DiskFault device count) ran (inr wanting) = lacking asked.2 wanting
+    by_refusal (refusals.NotAStore device place) ran (inl said) =
+        is_so 7 said.0 (reached 7 refl (no_store source sink asked.2 plan asked.0) (λ x. omega (arith, x)) (λ x. omega (arith, x)) (Err (refusals.NotAStore device place)) ran refl)
+    by_refusal (refusals.NotAStore device place) ran (inr wanting) = lacking asked.2 wanting
+    by_refusal refusals.OutOfMemory ran wanting = lacking asked.2 wanting
+    by_refusal why ran ends = absurd ends
+
+    by_result : (result : Result Ended Refusal) → Ran plan result → EndsRun sink plan result status → Causes status
+    by_result (Ok ended) ran (written, writes, is) = by_text ended ran written is writes
+    by_result (Err why) ran ends = by_refusal why ran ends
+
+  pub statuses_in_tell_causes : StatusesInTellCauses faults is_out tells store extent device_faults is_honest remembers state clock dir source sink old new status
+  statuses_in_tell_causes runs = by_asked runs.asked runs.is_asked runs.runs
+    where
+      by_asked : (asked : Result Plan NoPlan) → IsAsked source asked
+          → MatchResult asked (λ plan. (result : Result Ended Refusal) × Ran plan result × EndsRun sink plan result status) (λ why. (new ≡ old) × RefusesScript sink why status) → Causes status
+      by_asked (Ok plan) asked ran = by_result plan asked ran.0 ran.1 ran.2
+      by_asked (Err why) asked ends = no_plan why asked ends.0 ends.1

@@ -88,10 +88,12 @@ shows_none law sizes faults range =
 
 -- so a store that is opened from a crash of it shows none
 pub empty_shows : {D : Type 0} (state : D → State) (sizes : Sizes) (disks : Four D) → AreInRange sizes → ((devices : Four (List ℕ)) → AreImages state disks devices → IsEmptyStore One sizes devices)
-    → OpensShowing state sizes.pages (record { current = no_tables; marks = [] }) disks
+    → OpensShowing state sizes.pages (λ tables. tables ≡ record { current = no_tables; marks = [] }) disks
 empty_shows state sizes disks range empty devices ground images opens =
     let is = ground_is are_read_one_way sizes devices ground ground.faults (empty devices images) opens (λ device. refl) in (
       ap (λ (g : Ground). g.base.page_count) is,
+      (empty_opening sizes ground.faults).tables,
+      refl,
       subst (λ (g : Ground). Shows (sql sizes.pages) g.pages (empty_opening sizes ground.faults).tables) (sym is) (shows_none store_law sizes ground.faults range),
     )
 

@@ -1,6 +1,7 @@
 pub mod Chained
 pub mod Copied
 pub mod Crossing
+pub mod Doubted
 pub mod Ends
 pub mod Faulted
 pub mod FromEmpty

@@ -10,6 +10,7 @@ use Rattle.disk_model.specs.declared.four.Four.{Four}
 use Rattle.retro_base.specs.declared.device.Device.{Device}
 use Rattle.retro_base.specs.declared.device.Device.TheVariants.{Log, Pages, Pagelog, Maplog, Cabinet}
 use Rattle.retro_base.specs.declared.limits.TheConstants.{SESSIONS}
+use Rattle.history.specs.declared.entry.Change.{Change}
 use Rattle.history.specs.declared.entry.Mark.{Mark as MarkOf}
 use Rattle.history.specs.declared.journal.Line.{Line}
 use Rattle.history.specs.declared.log.Version.{Version}
@@ -27,12 +28,13 @@ use Rattle.opening.proofs.OneWay.{are_read_one_way}
 use Rattle.replay.specs.Opened.{Contents, opened}
 use Rattle.archive.specs.Archive.{Running}
 use Rattle.journal_law.specs.Facts.{HasSeen}
+use Rattle.journal_law.specs.Language.{after_of}
 use Rattle.journal_law.specs.Lawful.{Ground, IsCounted}
 use Rattle.journal_law.specs.Pages.{Pages as PagesOf, page_world}
 use Rattle.journal_law.specs.Seats.{Idle, View, Waits}
 use Rattle.journal_law.specs.Shows.{Shows as ShowsTables, world as tables_behind}
 use Rattle.journal_law.proofs.Journal.{along_end}
-use Rattle.journal_law.specs.World.{Mark, World, newest_behind}
+use Rattle.journal_law.specs.World.{Mark, World, behind, newest_behind}
 use Rattle.journal_law.specs.World as world
 use Rattle.tables.specs.Tables.{Tables}
 use Rattle.session.specs.Plan.{Plan, PlanFits, SessionsFit, item_of, tasks_at}
@@ -50,7 +52,7 @@ use Rattle.store.specs.Crashes.{CrashesMap}
 use Rattle.store.specs.Opening.{BeginsWith, disks_of}
 use Rattle.store.specs.Seats.{IsReady, IsWhole, Sat, journal}
 use Rattle.store.specs.Start.{AreAsHonest, AreJustOpened, AreOpenedTo, IsAsHonest, IsStartOf, Origin, desk_counts, opened_base, vault_counts}
-use Rattle.store.specs.Recovery.{ClosedShows, CrashesShow, OpeningShows}
+use Rattle.store.specs.Recovery.{ClosedShows, CrashesShow, HoldShown, OpeningShows, changed_world, what_of}
 use Rattle.store.specs.Frames.{GoesOn}
 use Rattle.store.specs.Ground.{ground_of, past_of, world_of}
 use Rattle.store.specs.Seen.{IsHonest, ground_in, work_in}
@@ -64,10 +66,11 @@ use Rattle.store.proofs.WorkerEnds.{waits_none}
 use Rattle.retro.specs.Working.{MayWorkOn}
 use Rattle.retro.specs.declared.working.TheConstants.{SEATS}
 use Rattle.retro.specs.Steps.{RunsPhases}
-use Rattle.retro.specs.Storing.{AllRest, AreFresh, AreHeld, AreIn, AreOf, ComeFrom, HasStood, IsAmong, IsHeld, IsUncopied, Leaves, MayRest, OpenAs, OpensShowing, last_phase, opening_with, store_of, view_held}
+use Rattle.retro.specs.Storing.{AllRest, AreFresh, AreHeld, AreIn, AreOf, ComeFrom, HasStood, IsAmong, IsHeld, IsUncopied, Leaves, MayRest, OpenAs, OpensShowing, AreLeft, last_phase, opening_with, store_of, view_held}
 use Rattle.retro.specs.declared.slots.Slot.{Slot}
 use Rattle.retro.specs.declared.storing.Ended.{Ended}
-use Rattle.retro.proofs.Chained.{no_doubt_opens, no_doubt_shows, worlds_one}
+use Rattle.retro.proofs.Chained.{opens_count, shows_one, worlds_one}
+use Rattle.retro.proofs.Doubted.{doubted}
 use Rattle.retro.proofs.Copied.{HaveWorked, come_copied, stand_copied}
 use Rattle.retro.proofs.Phased.{come_later, ends_at, later, less_or_not, no_session, phases_make_runs}
 use Rattle.retro.proofs.Seated.{one_seat, seat_within, sees}
@@ -473,32 +476,61 @@ module _ {D : Type 0} (extent faults : D → ℕ) (is_honest : D → Type 0) (re
 
     -- ---- the next run
 
-    module _ (closed_shows : ClosedShows is_honest state faults) (honest : AreHonest is_honest disks) (none : doubt_in left.journal ≡ None) (devices : Four (List ℕ)) (ground : Ground) (images : AreImages state left.disks devices) (opens : OpenAs devices ground) where
+    module _ (closed_shows : ClosedShows is_honest state faults) (honest : AreHonest is_honest disks) (devices : Four (List ℕ)) (ground : Ground) (images : AreImages state left.disks devices) (opens : OpenAs devices ground) where
       count_so : ground.base.page_count ≡ Opened.base.page_count
       count_so =
           let origin = begun.opened.opened.origin in
           let holds = Last.crashes origin (begun.honestly honest) devices images in
           let one : holds.contents ≡ opens.contents = are_read_one_way.one_store One devices holds.contents opens.contents (subst (λ (v : Version). Hold v devices holds.contents) (version_is honest) holds.hold) opens.hold in
-          let same = no_doubt_opens holds.contents (after_journal origin.history (journal Last.side)) (doubt_in (journal Last.side)) (ap doubt_in (sym Last.lines) ∙ none) holds.opens in
           let started : (now origin.history).base ≡ Opened.base = begun.opened.opened.opened.base ∙ ap (λ (c : Core D). c.desk.base) (sym begun.begins.0) in
-          ap (λ (b : Base). b.page_count)
-          (sym opens.base ∙ ap (λ (c : Contents). (now (opened c)).base) (sym one) ∙ same.base ∙ base_after_journal origin.history (journal Last.side) ∙ ap (λ (b : Base). base_of b (journal Last.side)) started)
+          ap (λ (b : Base). b.page_count) (sym opens.base ∙ ap (λ (c : Contents). (now (opened c)).base) (sym one))
+          ∙ opens_count holds.contents (after_journal origin.history (journal Last.side)) (doubt_in (journal Last.side)) holds.opens
+          ∙ ap (λ (b : Base). b.page_count) (base_after_journal origin.history (journal Last.side) ∙ ap (λ (b : Base). base_of b (journal Last.side)) started)
           ∙ count_stays (changes_of Opened.base (journal Last.side)) Opened.base
 
-      pages_so : ground.pages ≡ page_world Opened.pages left.journal
-      pages_so =
-          let holds = crashes_so closed_shows honest devices images in
-          let one : holds.contents ≡ opens.contents = are_read_one_way.one_store One devices holds.contents opens.contents holds.hold opens.hold in
-          worlds_one (opened opens.contents) ground.pages (page_world Opened.pages left.journal) opens.shown
-          (subst (λ (c : Contents). IsWorldOf (opened c) (page_world Opened.pages left.journal)) one
-          (no_doubt_shows holds.contents (page_world Opened.pages left.journal) (doubt_in left.journal) none holds.shows))
+      -- the pages behind the journal, or behind the change in doubt
+      pages_so : (ground.pages ≡ page_world Opened.pages left.journal)
+          ⊎ ((change : Change) × (doubt_in left.journal ≡ Some change) × (ground.pages ≡ changed_world change (page_world Opened.pages left.journal)))
+      pages_so = by_case (shows_one holds.contents (page_world Opened.pages left.journal) (doubt_in left.journal) holds.shows)
+        where
+          holds : HoldShown One devices (page_world Opened.pages left.journal) (doubt_in left.journal)
+          holds = crashes_so closed_shows honest devices images
 
-    pub next_so : ClosedShows is_honest state faults → AreHonest is_honest disks → doubt_in left.journal ≡ None → (tables : World Tables) → ShowsTables (sql Opened.base.page_count) (page_world Opened.pages left.journal) tables
-        → OpensShowing state Opened.base.page_count tables left.disks
-    next_so closed_shows honest none tables shows devices ground images opens = (
-      count_so closed_shows honest none devices ground images opens,
-      subst (λ (w : World PagesOf). ShowsTables (sql Opened.base.page_count) w tables) (sym (pages_so closed_shows honest none devices ground images opens)) shows,
-    )
+          one : holds.contents ≡ opens.contents
+          one = are_read_one_way.one_store One devices holds.contents opens.contents holds.hold opens.hold
+
+          is : (found : World PagesOf) → IsWorldOf (opened holds.contents) found → ground.pages ≡ found
+          is found shows = worlds_one (opened opens.contents) ground.pages found opens.shown (subst (λ (c : Contents). IsWorldOf (opened c) found) one shows)
+
+          by_case : IsWorldOf (opened holds.contents) (page_world Opened.pages left.journal)
+              ⊎ ((change : Change) × (doubt_in left.journal ≡ Some change) × IsWorldOf (opened holds.contents) (changed_world change (page_world Opened.pages left.journal)))
+              → (ground.pages ≡ page_world Opened.pages left.journal)
+              ⊎ ((change : Change) × (doubt_in left.journal ≡ Some change) × (ground.pages ≡ changed_world change (page_world Opened.pages left.journal)))
+          by_case (inl shows) = inl (is (page_world Opened.pages left.journal) shows)
+          by_case (inr (change, in_doubt, shows)) = inr (change, in_doubt, is (changed_world change (page_world Opened.pages left.journal)) shows)
+
+    pub next_so : ClosedShows is_honest state faults → AreHonest is_honest disks → (tables : World Tables) → LeftLawful Opened.base.page_count plan (opening_with Opened tables) (of_each faults left.disks) left.journal
+        → OpensShowing state Opened.base.page_count (AreLeft Opened.base.page_count (item_of plan) tables left.journal) left.disks
+    next_so closed_shows honest tables lawful devices ground images opens =
+        let found = by_case (pages_so closed_shows honest devices ground images opens) in
+        (count_so closed_shows honest devices ground images opens, found.0, found.1, found.2)
+      where
+        by_case : (ground.pages ≡ page_world Opened.pages left.journal)
+            ⊎ ((change : Change) × (doubt_in left.journal ≡ Some change) × (ground.pages ≡ changed_world change (page_world Opened.pages left.journal)))
+            → (next : World Tables) × AreLeft Opened.base.page_count (item_of plan) tables left.journal next × ShowsTables (sql Opened.base.page_count) ground.pages next
+        by_case (inl is) = (
+          tables_behind (sql Opened.base.page_count) (item_of plan) tables left.journal,
+          inl refl,
+          subst (λ (w : World PagesOf). ShowsTables (sql Opened.base.page_count) w (tables_behind (sql Opened.base.page_count) (item_of plan) tables left.journal)) (sym is)
+              (along_end (sql Opened.base.page_count) (item_of plan) Opened.pages tables left.journal lawful.shows),
+        )
+        by_case (inr (change, in_doubt, is)) =
+            let one = doubted (sql Opened.base.page_count) (item_of plan) (opening_with Opened tables) (of_each faults left.disks) left.journal change lawful.lawful lawful.shows in_doubt in
+            let next = behind (after_of (sql Opened.base.page_count) (item_of plan one.2.who) (tables_behind (sql Opened.base.page_count) (item_of plan) tables one.0).current) (what_of change) (tables_behind (sql Opened.base.page_count) (item_of plan) tables left.journal) in (
+              next,
+              inr (record { before = one.0; after = one.1; line = one.2; place = one.3; change = change; doubt = one.4; is = refl }),
+              subst (λ (w : World PagesOf). ShowsTables (sql Opened.base.page_count) w next) (sym is) one.5,
+            )
 
     -- ---- the lines of the last copying
 
@@ -696,11 +728,9 @@ module _ {D : Type 0} (extent faults : D → ℕ) (is_honest : D → Type 0) (re
       newest_is = newest_is ∙ newest_same state start.core.value start.archive.value;
       captures_are = captures_is ∙ captures_so ∙ ap (λ (j : List Line). (base_of Opened.base j).captures) (sym journal_is);
       crashes = λ honest. subst (λ (j : List Line). CrashesShow state One (page_world Opened.pages j) j left.disks) (sym journal_is) (crashes_so closed_shows honest);
-      next = λ honest tables shows none.
+      next = λ honest tables shows.
           let come = subst (λ (n : ℕ). ComeFrom state faults plan Opened n risen ended.kept) long (ran Opened (each_opened honest)) in
-          let lawful = lawful_so ended.kept come (have_seats plan fits.1) tables shows in
-          subst (λ (j : List Line). OpensShowing state Opened.base.page_count (tables_behind (sql Opened.base.page_count) (item_of plan) tables j) left.disks) (sym journal_is)
-          (next_so closed_shows honest (ap doubt_in (sym journal_is) ∙ none) (tables_behind (sql Opened.base.page_count) (item_of plan) tables left.journal)
-          (along_end (sql Opened.base.page_count) (item_of plan) Opened.pages tables left.journal lawful.shows));
+          subst (λ (j : List Line). OpensShowing state Opened.base.page_count (AreLeft Opened.base.page_count (item_of plan) tables j) left.disks) (sym journal_is)
+          (next_so closed_shows honest tables (lawful_so ended.kept come (have_seats plan fits.1) tables shows));
       maps = λ honest all. subst (λ (j : List Line). CrashesMap state One (base_of Opened.base j).captures left.disks) (sym journal_is) (maps_so honest (sym copied_is ∙ all));
     }

@@ -1,5 +1,5 @@
 -- The making of a store.
-use Rattle.std.specs.Prelude.{◌⊎◌, ◌++◌, ◌∷◌, [], ℕ, List, Option, Result, MatchResult, OnOk, codes}
+use Rattle.std.specs.Prelude.{◌≡◌, ◌⊎◌, ◌++◌, ◌∷◌, [], ℕ, List, Option, Result, MatchResult, OnOk, codes}
 use Rattle.std.specs.Fmt.{decimal}
 use Rattle.std.specs.Result.{IsErrAnd}
 use Rattle.disk_model.specs.Cabinet.{AreSized}
@@ -31,7 +31,8 @@ pub record Makes {D : Type 0} (extent faults : D → ℕ) (state : D → State) 
       (IsUnopened (λ _ _. ⊥) (of_each faults first) (of_each faults last))
   pub empty : told → OnOk result ((devices : Four (List ℕ)) → AreImages state last devices
       → IsEmptyStore One sizes devices)
-  pub shows : told → OnOk result (OpensShowing state sizes.pages (record { current = no_tables; marks = [] }) last)
+  pub shows : told → OnOk result
+      (OpensShowing state sizes.pages (λ tables. tables ≡ record { current = no_tables; marks = [] }) last)
 
 -- the cabinet handed out no devices, or a store was made on those that it handed out, or was not
 abbrev pub MakesIn : {C D : Type 0} → (C → ℕ) → (C → List ℕ → Type 0) → (C → Type 0) → (C → List ℕ → Option (Four D))

@@ -1,5 +1,5 @@
 -- The run of a script over a store that a cabinet keeps.
-use Rattle.std.specs.Prelude.{◌≡◌, ◌⊎◌, ℕ, zero, suc, Bool, true, false, List, Option}
+use Rattle.std.specs.Prelude.{◌≡◌, ◌≢◌, ◌⊎◌, ◌==◌, ℕ, zero, suc, Bool, true, false, IsTrue, List, [], ◌∷◌, Option}
 use Rattle.std.specs.Prelude.{Some, Result, Ok, Err, MatchResult, if◌then◌else◌}
 use Rattle.std.specs.List.{list_any}
 use Rattle.std.specs.Result.{IsErrAnd}
@@ -7,11 +7,13 @@ use Rattle.disk_model.specs.Disk.{State}
 use Rattle.disk_model.specs.Moments.{Clock}
 use Rattle.disk_model.specs.declared.four.Four.{Four}
 use Rattle.retro_base.specs.declared.refusal.Refusal.{Refusal}
+use Rattle.retro_base.specs.declared.refusal.Refusal.TheVariants.{DiskFault, NotAStore}
 use Rattle.history.specs.declared.journal.Line.{Line}
 use Rattle.history.specs.declared.journal.What.{What}
 use Rattle.history.specs.declared.journal.What.TheVariants.{Fault}
 use Rattle.session.specs.Plan.{Plan}
-use Rattle.retro.specs.Asked.{IsAsked, RefusesScript}
+use Rattle.retro.specs.Asked.{AsksFor, IsAsked, RefusesScript}
+use Rattle.retro.specs.Program.{FeedsTold}
 use Rattle.retro.specs.Says.{Refuses, WritesOne}
 use Rattle.retro.specs.Seen.{Seen}
 use Rattle.retro.specs.Stores.{HandsOutNone, TakesBack}
@@ -71,3 +73,46 @@ pub record RunsIn {C D : Type 0} (faults : C → ℕ) (is_out : C → List ℕ �
       ended
       × EndsRun sink plan ended status)
       (λ why. (new ≡ old) × RefusesScript sink why status)
+
+-- ---- what the status tells
+
+-- The status of a run whose journal tells a fault of a device: 6, or 5 where the sink failed. Of one that tells none: 0,
+-- and then all is copied, or 5.
+abbrev pub IsStatusBy : Bool → Ended → ℕ → Type 0
+IsStatusBy true ended status = (status ≡ 6) ⊎ (status ≡ 5)
+IsStatusBy false ended status = ((status ≡ 0) × (ended.copied ≡ true)) ⊎ (status ≡ 5)
+
+-- The status of a run over a store that came to this, where memory did not run out: also 6 where a call of the cabinet,
+-- or of a device as the store was opened, failed; and 7 where the bytes are no store's.
+abbrev pub IsStatusOf : Result Ended Refusal → ℕ → Type 0
+IsStatusOf (Ok ended) status = IsStatusBy (has_fault ended.journal) ended status
+IsStatusOf (Err (DiskFault device count)) status = status ≡ 6
+IsStatusOf (Err (NotAStore device place)) status = status ≡ 7
+IsStatusOf (Err why) status = ⊥
+
+module _ {C D : Type 0} (faults : C → ℕ) (is_out : C → List ℕ → Type 0) (tells : C → Type 0)
+    (store : C → List ℕ → Option (Four D)) (extent device_faults : D → ℕ) (is_honest : D → Type 0) (remembers : Type 0)
+    (state : D → State) (clock : D → Clock) (dir : List ℕ) (source sink : Seen) (old new : C) (status : ℕ) where
+  -- the script asks for a plan, which was run over the store or not, and the status is that of what this came to
+  pub record CameTo : Type 0 where
+    pub plan : Plan
+    pub asks : AsksFor source.bytes_old plan
+    pub result : Result Ended Refusal
+    pub ran : RunsOnStore faults is_out tells store extent device_faults is_honest remembers state clock dir plan old
+        new result
+    pub is : IsStatusOf result status
+
+  -- What the status of `run DIR` tells. No other comes. Where the source failed or the script is bad the cabinet is as
+  -- it was.
+  pub record HasCausesIn : Type 0 where
+    pub statuses : IsTrue (list_any (λ one. one == status) (0 ∷ 3 ∷ 4 ∷ 5 ∷ 6 ∷ 7 ∷ 8 ∷ []))
+    pub feeds : FeedsTold source sink status
+    pub untouched : (status ≡ 3) ⊎ (status ≡ 4) → new ≡ old
+    pub came : status ≢ 3 → status ≢ 4 → status ≢ 8 → CameTo
+
+  -- the law of `run DIR`
+  abbrev pub StatusesInTellCauses : Type 0
+  StatusesInTellCauses =
+      RunsIn faults is_out tells store extent device_faults is_honest remembers state clock dir source sink old new
+      status
+      → HasCausesIn

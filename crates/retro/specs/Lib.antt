@@ -1,5 +1,6 @@
 pub mod Asked
 pub mod Formats
+pub mod Headline
 pub mod Keeping
 pub mod Loads
 pub mod Meeting

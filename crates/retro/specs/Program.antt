@@ -21,7 +21,7 @@ EndsFrom size o sink plan (Ok ended) status =
     WritesOne sink (RanOver size plan o o.opened.faults ended.journal) status
 EndsFrom size o sink plan (Err why) status = Refuses sink why status
 
--- The headline: `run`, with this opening. What its script asks for, or why for nothing; the run of that plan, which
+-- `run`, with this opening. What its script asks for, or why for nothing; the run of that plan, which
 -- left one journal; and how it ended.
 abbrev pub RunsPlainly : (size : ℕ) → Opening (sql size) → Seen → Seen → ℕ → Type 0
 RunsPlainly size o source sink status =
@@ -29,20 +29,25 @@ RunsPlainly size o source sink status =
     (λ plan. (ended : Result Ended Refusal) × RunsFrom size o plan ended × EndsFrom size o sink plan ended status)
     (λ why. RefusesScript sink why status)
 
--- What the status of `run` tells. No other comes, and each has its cause. Bytes that are bad at a line are refused, and
--- a good script and no fault end well, unless memory runs out.
-pub record HasCauses (source sink : Seen) (status : ℕ) : Type 0 where
-  pub statuses : IsTrue (list_any (λ one. one == status) (0 ∷ 3 ∷ 4 ∷ 5 ∷ 8 ∷ []))
+-- What a status tells of the source and the sink of a run: each has its cause, and each cause its status, unless
+-- memory runs out.
+pub record FeedsTold (source sink : Seen) (status : ℕ) : Type 0 where
   pub source_fault : status ≡ 4 → HasFailed source
   pub source_steady : status ≢ 4 → IsSteady source
-  pub bad_script : status ≡ 3 → (n : ℕ) × IfSome source.bytes_old (IsTheBadLine n)
+  pub no_source_fault : IsSteady source → source.faults_old < 2 ^ 64 - 1 → status ≢ 4
   pub sink_fault : status ≡ 5 → HasFailed sink
   pub sink_steady : status ≡ 0 → IsSteady sink
+  pub no_sink_fault : IsSteady sink → sink.faults_old < 2 ^ 64 - 1 → status ≢ 5
+  pub bad_script : status ≡ 3 → (n : ℕ) × IfSome source.bytes_old (IsTheBadLine n)
+  pub good_script : (bytes : List ℕ) (script : Script) → source.bytes_old ≡ Some bytes → ReadsAs bytes (Ok script)
+      → status ≢ 3
   pub bad_line : (bytes : List ℕ) (n : ℕ) → source.bytes_old ≡ Some bytes → ReadsAs bytes (Err n)
-      → IsSteady source → source.faults_old < 2 ^ 64 - 1 → (status ≡ 3) ⊎ (status ≡ 8)
-  pub complete : (bytes : List ℕ) (script : Script) → source.bytes_old ≡ Some bytes → ReadsAs bytes (Ok script)
-      → IsSteady source → source.faults_old < 2 ^ 64 - 1 → IsSteady sink → sink.faults_old < 2 ^ 64 - 1
-      → (status ≡ 0) ⊎ (status ≡ 8)
+      → (status ≡ 3) ⊎ (status ≡ 4) ⊎ (status ≡ 8)
+
+-- What the status of `run` tells. No other comes.
+pub record HasCauses (source sink : Seen) (status : ℕ) : Type 0 where
+  pub statuses : IsTrue (list_any (λ one. one == status) (0 ∷ 3 ∷ 4 ∷ 5 ∷ 8 ∷ []))
+  pub feeds : FeedsTold source sink status
 
 -- the law of `run`
 abbrev pub StatusesTellCauses : Type 0

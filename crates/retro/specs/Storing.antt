@@ -1,6 +1,6 @@
 -- The run of a plan over the four devices of a store, at which each session has a seat of its own.
-use Rattle.std.specs.Prelude.{◌≡◌, ◌<◌, ◌≤◌, ℕ, true, false, List, [], ◌∷◌, length}
-use Rattle.std.specs.Prelude.{max, slice_get, Some, None, Result, Ok, IfErr, IfOk}
+use Rattle.std.specs.Prelude.{◌≡◌, ◌⊎◌, ◌<◌, ◌≤◌, ◌++◌, ℕ, true, false, List, [], ◌∷◌, length}
+use Rattle.std.specs.Prelude.{max, slice_get, Option, Some, None, Result, Ok, IfErr, IfOk}
 use Rattle.std.specs.List.{AllByRecursion}
 use Rattle.atomic_table.specs.Seated.{TableId}
 use Rattle.disk_model.specs.Disk.{State}
@@ -9,21 +9,24 @@ use Rattle.disk_model.specs.declared.four.Four.{Four}
 use Rattle.retro_base.specs.declared.device.Device.{Device}
 use Rattle.retro_base.specs.declared.limits.TheConstants.{SESSIONS}
 use Rattle.retro_base.specs.declared.refusal.Refusal.{Refusal}
+use Rattle.retro_base.specs.declared.who.Who.{Who}
+use Rattle.history.specs.declared.entry.Change.{Change}
 use Rattle.history.specs.declared.journal.Line.{Line}
 use Rattle.history.specs.declared.log.Version.TheVariants.{One}
 use Rattle.history.specs.History.{now}
-use Rattle.history.specs.Lines.{base_of, doubt_in}
+use Rattle.history.specs.Lines.{base_of, doubt_of}
 use Rattle.opening.specs.Devices.{AreHonest, AreImages, AreUnwritten, IsUnopened, of_each, SameCounts, seen_of}
 use Rattle.opening.specs.Opening.{Hold}
 use Rattle.replay.specs.Joined.{AreJoined}
 use Rattle.replay.specs.Opened.{Contents, opened}
+use Rattle.journal_law.specs.Language.{after_of}
 use Rattle.journal_law.specs.Lawful.{Ground, Opening}
 use Rattle.journal_law.specs.Pages.{page_world}
 use Rattle.journal_law.specs.Seats.{Idle, View}
 use Rattle.journal_law.specs.Shows.{Shows, world}
-use Rattle.journal_law.specs.World.{World, newest}
+use Rattle.journal_law.specs.World.{World, behind, newest}
 use Rattle.tables.specs.Tables.{Tables}
-use Rattle.session.specs.Plan.{Plan, item_of}
+use Rattle.session.specs.Plan.{Item, Plan, item_of}
 use Rattle.session.specs.Replies.{kept_by_place, printed}
 use Rattle.session.specs.Sql.{sql}
 use Rattle.session.specs.declared.kept.Kept.{Kept}
@@ -33,7 +36,7 @@ use Rattle.store.specs.Closing.{HasNoCopier, IsPending, resting}
 use Rattle.store.specs.Crashes.{CrashesMap}
 use Rattle.store.specs.Opening.{AreRefused}
 use Rattle.store.specs.Seats.{IsSized, Sat}
-use Rattle.store.specs.Recovery.{CrashesShow}
+use Rattle.store.specs.Recovery.{CrashesShow, what_of}
 use Rattle.store.specs.Seen.{view_of}
 use Rattle.store.specs.WorkerRounds.{IsFreshOrStopped}
 use Rattle.store.specs.Worlds.{IsWorldOf}
@@ -54,11 +57,30 @@ pub record OpenAs (devices : Four (List ℕ)) (ground : Ground) : Type 0 where
   pub base : (now (opened contents)).base ≡ ground.base
   pub shown : IsWorldOf (opened contents) ground.pages
 
--- A store that is opened from whatever a crash leaves of the devices has so many pages, which show these tables.
-abbrev pub OpensShowing : {D : Type 0} → (D → State) → ℕ → World Tables → Four D → Type 0
-OpensShowing state size tables disks =
+-- A store that is opened from whatever a crash leaves of the devices has so many pages, which show tables of this kind.
+abbrev pub OpensShowing : {D : Type 0} → (D → State) → ℕ → (World Tables → Type 0) → Four D → Type 0
+OpensShowing state size AreIt disks =
     (devices : Four (List ℕ)) (ground : Ground) → AreImages state disks devices → OpenAs devices ground →
-    (ground.base.page_count ≡ size) × Shows (sql size) ground.pages tables
+    (ground.base.page_count ≡ size) × (tables : World Tables) × AreIt tables × Shows (sql size) ground.pages tables
+
+-- The tables behind a journal and a change that one of its lines tells to be in doubt: a commit leaves those behind the
+-- statements of that line's item, and a drop the snapshots from its number on.
+pub record AreBehindDoubt (size : ℕ) (items : Who → Option Item) (opening : World Tables) (journal : List Line)
+    (tables : World Tables) : Type 0 where
+  pub before : List Line
+  pub after : List Line
+  pub line : Line
+  pub place : journal ≡ before ++ line ∷ after
+  pub change : Change
+  pub doubt : doubt_of line.what ≡ Some change
+  pub is : tables ≡ behind
+      (after_of (sql size) (items line.who) (world (sql size) items opening before).current) (what_of change)
+      (world (sql size) items opening journal)
+
+-- the tables that a run leaves to the next: those behind its journal, or also behind the change in doubt
+abbrev pub AreLeft : ℕ → (Who → Option Item) → World Tables → List Line → World Tables → Type 0
+AreLeft size items opening journal tables =
+    (tables ≡ world (sql size) items opening journal) ⊎ AreBehindDoubt size items opening journal tables
 
 -- with these tables on the pages
 abbrev pub opening_with : (ground : Ground) → World Tables → Opening (sql ground.base.page_count)
@@ -82,8 +104,8 @@ pub record HasRunOver (plan : Plan) (ground : Ground) (ending : Device → ℕ) 
 
 -- What a run over a store leaves, from the devices so as they were to those that came back. Where they tell what they
 -- hold, the store was opened with what they held, and whatever a crash leaves of them shows the pages behind the
--- journal, or behind the one change in doubt; where all is copied, its Maplog ends with the last capture; and where no
--- change is in doubt, the next run begins with the tables behind this one.
+-- journal, or behind the one change in doubt, and so the next run begins; and where all is copied, its Maplog ends with
+-- the last capture.
 pub record Leaves {D : Type 0} (faults : D → ℕ) (is_honest : D → Type 0) (state : D → State) (plan : Plan)
     (first last : Four D) (ended : Ended) : Type 0 where
   pub ground : Ground
@@ -96,9 +118,8 @@ pub record Leaves {D : Type 0} (faults : D → ℕ) (is_honest : D → Type 0) (
   pub crashes : AreHonest is_honest first →
       CrashesShow state One (page_world ground.pages ended.journal) ended.journal last
   pub next : AreHonest is_honest first → (tables : World Tables) →
-      Shows (sql ground.base.page_count) ground.pages tables → doubt_in ended.journal ≡ None →
-      OpensShowing state ground.base.page_count
-      (world (sql ground.base.page_count) (item_of plan) tables ended.journal) last
+      Shows (sql ground.base.page_count) ground.pages tables → OpensShowing state ground.base.page_count
+      (AreLeft ground.base.page_count (item_of plan) tables ended.journal) last
   pub maps : AreHonest is_honest first → ended.copied ≡ true →
       CrashesMap state One (base_of ground.base ended.journal).captures last
 

@@ -91,7 +91,3 @@ command_of words = if list_all is_plain words then asked words else Err BadWords
 -- the same of words as the program has them
 abbrev pub asked_by : {A : Type 0} → List (String A) → Result (Command (List ℕ)) Mistake
 asked_by words = command_of (map (λ word. string_bytes word) words)
-
--- they ask to run a script over an empty store in memory
-abbrev pub AskToRun : {A : Type 0} → List (String A) → Type 0
-AskToRun words = asked_by words ≡ Ok (Run None)

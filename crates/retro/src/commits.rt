@@ -1,14 +1,18 @@
 //! A session that commits while each call of each device fails in turn, and while each device stops behind each of its
 //! calls.
 
-use crate::devices::{Fault, LOG, MAPLOG, PAGELOG, PAGES, Ran};
-use crate::faults::{ALL, CALLS, STOPS, Script, acknowledged, has_at_least, sweep, tells_fault};
+use crate::devices::{Fault, Ran};
+use crate::faults::{
+    ALL, CALLS, OTHER_FILLS, STOPS, Script, Sweep, acknowledged, has_at_least, swept_whole,
+    tells_fault,
+};
 use crate::trial::Outcome;
 use disk_mem::Call;
+use retro_base::Device;
 use std::test::Fail;
 
-/// A table, three commits with snapshots, a look, and a call. At snapshot n the sum is the nth power of 2, less 1.
-pub const COMMITS: &[u8] =
+// A table, three commits with snapshots, a look, and a call. At snapshot n the sum is the nth power of 2, less 1.
+const COMMITS: &[u8] =
     b"SESSION a\nCREATE TABLE t(v INT)\nINSERT INTO t VALUES (1)\nCOMMIT WITH SNAPSHOT\nINSERT INTO t VALUES (2)\n\
       COMMIT WITH SNAPSHOT\nINSERT INTO t VALUES (4)\nCOMMIT WITH SNAPSHOT\nSELECT AS OF 2 SUM(v) FROM t\n\
       CollateData('SELECT snap_id FROM SnapIds','SELECT SUM(v) FROM t','rql_c')\nSELECT * FROM rql_c\n";
@@ -18,8 +22,8 @@ const ALL_TOLD: &[u8] =
       committed as 3\nitem 4\nrows 1\n3\nitem 5\nok 3\nitem 6\nrows 3\n1\n3\n7\njournal\n1 a 1 done as 1\n\
       1 a 2 done as 2\n1 a 3 done as 3\n1 a 4 looked 2\n1 a 4 unlooked\n1 a 5 looked all\n1 a 5 unlooked\n";
 
-/// Looks at what is there behind a run: as of each snapshot, and now.
-pub const LOOKS: &[u8] = b"SESSION b\n\
+// Looks at what is there behind a run: as of each snapshot, and now.
+const LOOKS: &[u8] = b"SESSION b\n\
       CollateData('SELECT snap_id FROM SnapIds','SELECT current_snapshot() AS n, SUM(v) AS s FROM t','rql_c')\n\
       SELECT * FROM rql_c\nSELECT AS OF 1 SUM(v) FROM t\nSELECT AS OF 2 SUM(v) FROM t\nSELECT AS OF 3 SUM(v) FROM t\n\
       SELECT SUM(v) FROM t\nCOMMIT\n";
@@ -59,13 +63,10 @@ const FOUND_NO_TABLE: &[u8] =
       journal\n1 b 1 looked all\n1 b 1 refused 20\n1 b 3 looked 1\n1 b 3 refused 20\n1 b 4 looked 2\n\
       1 b 4 refused 20\n1 b 5 refused 9\n1 b 6 done\n";
 
-/// Whether a run found as many commits as one before it told as done, or, where one may be in doubt, one more.
-pub fn has_found(outcome: &Outcome, told: &[u8], is_in_doubt: bool) -> bool {
-    if told == READ_FAILED {
-        return outcome.is(0, FOUND_NO_TABLE);
-    }
+// Whether a look finds what is there behind so many commits, or, where one may be in doubt, behind one more.
+fn finds(outcome: &Outcome, count: usize, is_in_doubt: bool) -> bool {
     let most = if is_in_doubt { 2 } else { 1 };
-    for found in FOUND.iter().skip(acknowledged(told)).take(most) {
+    for found in FOUND.iter().skip(count).take(most) {
         if outcome.is(0, found) {
             return true;
         }
@@ -74,31 +75,55 @@ pub fn has_found(outcome: &Outcome, told: &[u8], is_in_doubt: bool) -> bool {
 }
 
 fn is_read_of_pages(fault: Fault) -> bool {
-    fault.device == PAGES && matches!(fault.kind, Some(Call::Read))
+    fault.device == Device::Pages && matches!(fault.kind, Some(Call::Read))
 }
 
-/// Whether a run that met a fault, or none, ends as it should.
-pub fn is_told(ran: &Ran, fault: Fault, is_met: bool) -> bool {
-    if !is_met {
-        ran.outcome.is(0, ALL_TOLD)
-    } else if is_read_of_pages(fault) {
-        ran.outcome.is(6, READ_FAILED)
-    } else {
-        tells_fault(&ran.outcome, fault.device)
+/// One session makes a table, commits, and looks.
+pub struct Commits;
+
+impl Script for Commits {
+    fn made_by(&self) -> Option<&'static [u8]> {
+        None
+    }
+
+    fn text(&self) -> &'static [u8] {
+        COMMITS
+    }
+
+    fn looks(&self) -> &'static [u8] {
+        LOOKS
+    }
+
+    fn is_told(&self, ran: &Ran, fault: Fault, is_met: bool) -> bool {
+        if !is_met {
+            ran.outcome.is(0, ALL_TOLD)
+        } else if is_read_of_pages(fault) {
+            ran.outcome.is(6, READ_FAILED)
+        } else {
+            tells_fault(&ran.outcome, fault.device)
+        }
+    }
+
+    fn has_found(&self, outcome: &Outcome, told: &[u8], is_in_doubt: bool) -> bool {
+        if told == READ_FAILED {
+            outcome.is(0, FOUND_NO_TABLE)
+        } else {
+            finds(outcome, acknowledged(told), is_in_doubt)
+        }
     }
 }
 
 // An opening reads the log twice, each time by three reads behind a sync; a commit writes twice and syncs twice.
 #[test]
 fn calls_of_a_log_that_fail_lose_nothing_acknowledged(rt: HostRuntime) -> Result<(), Fail> {
-    let counts = sweep(&rt, rt.alloc(), Script::Commits, LOG, &CALLS);
+    let counts = swept_whole(&rt, rt.alloc(), &Commits, Sweep::of(Device::Log, &CALLS));
     assert!(rt; has_at_least(counts, &[6, 6, 8]), "{counts:?}");
     Ok(())
 }
 
 #[test]
 fn a_log_that_stops_loses_nothing_acknowledged(rt: HostRuntime) -> Result<(), Fail> {
-    let counts = sweep(&rt, rt.alloc(), Script::Commits, LOG, &STOPS);
+    let counts = swept_whole(&rt, rt.alloc(), &Commits, Sweep::of(Device::Log, &STOPS));
     assert!(rt; has_at_least(counts, &[20]), "{counts:?}");
     Ok(())
 }
@@ -107,7 +132,7 @@ fn a_log_that_stops_loses_nothing_acknowledged(rt: HostRuntime) -> Result<(), Fa
 // synced.
 #[test]
 fn failing_pages_lose_nothing_acknowledged(rt: HostRuntime) -> Result<(), Fail> {
-    let counts = sweep(&rt, rt.alloc(), Script::Commits, PAGES, &ALL);
+    let counts = swept_whole(&rt, rt.alloc(), &Commits, Sweep::of(Device::Pages, &ALL));
     assert!(rt; has_at_least(counts, &[3, 3, 2, 8]), "{counts:?}");
     Ok(())
 }
@@ -115,7 +140,7 @@ fn failing_pages_lose_nothing_acknowledged(rt: HostRuntime) -> Result<(), Fail> 
 // An opening syncs the Pagelog. The second and the third commit each capture a page at least.
 #[test]
 fn a_failing_pagelog_loses_nothing_acknowledged(rt: HostRuntime) -> Result<(), Fail> {
-    let counts = sweep(&rt, rt.alloc(), Script::Commits, PAGELOG, &ALL);
+    let counts = swept_whole(&rt, rt.alloc(), &Commits, Sweep::of(Device::Pagelog, &ALL));
     assert!(rt; has_at_least(counts, &[0, 2, 2, 4]), "{counts:?}");
     Ok(())
 }
@@ -124,7 +149,39 @@ fn a_failing_pagelog_loses_nothing_acknowledged(rt: HostRuntime) -> Result<(), F
 // each with a sync.
 #[test]
 fn a_failing_maplog_loses_nothing_acknowledged(rt: HostRuntime) -> Result<(), Fail> {
-    let counts = sweep(&rt, rt.alloc(), Script::Commits, MAPLOG, &ALL);
+    let counts = swept_whole(&rt, rt.alloc(), &Commits, Sweep::of(Device::Maplog, &ALL));
     assert!(rt; has_at_least(counts, &[3, 2, 3, 8]), "{counts:?}");
+    Ok(())
+}
+
+const OTHER_DEVICES: [(Device, u64); 3] = [
+    (Device::Pages, 8),
+    (Device::Pagelog, 4),
+    (Device::Maplog, 8),
+];
+
+fn stops(device: Device) -> Sweep {
+    Sweep {
+        device,
+        kinds: &STOPS,
+        images: &OTHER_FILLS,
+    }
+}
+
+#[test]
+fn a_log_that_stops_loses_nothing_under_other_fills(rt: HostRuntime) -> Result<(), Fail> {
+    let counts = swept_whole(&rt, rt.alloc(), &Commits, stops(Device::Log));
+    assert!(rt; has_at_least(counts, &[20]), "{counts:?}");
+    Ok(())
+}
+
+#[test]
+fn other_devices_that_stop_lose_nothing_under_other_fills(rt: HostRuntime) -> Result<(), Fail> {
+    let mut is_well = true;
+    for (device, least) in OTHER_DEVICES {
+        let counts = swept_whole(&rt, rt.alloc(), &Commits, stops(device));
+        is_well = is_well && has_at_least(counts, &[least]);
+    }
+    assert!(rt; is_well);
     Ok(())
 }

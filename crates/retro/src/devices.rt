@@ -6,44 +6,36 @@ use crate::trial::{Outcome, told, told_at};
 use disk_mem::{Call, MemDisk};
 use disk_model::{Cabinet, Four, Sizes};
 use mem_cabinet::MemCabinet;
-use retro_base::Refusal;
+use retro_base::{Device, Refusal};
 use session::{Gate, NoGate};
 use std::alloc::Global;
 use std::sync::Wait;
 use std::thread::Threads;
 
-/// The numbers of the devices.
-pub const LOG: usize = 0;
-
-pub const PAGES: usize = 1;
-
-pub const PAGELOG: usize = 2;
-
-pub const MAPLOG: usize = 3;
-
 /// Behind so many calls of a kind the next call of that kind of a device fails; with no kind, behind so many calls of
 /// any kind each further one.
 #[derive(Clone, Copy)]
 pub struct Fault {
-    pub device: usize,
+    pub device: Device,
     pub kind: Option<Call>,
     pub behind: u64,
 }
 
 /// No device fails.
 pub const NO_FAULT: Fault = Fault {
-    device: 4,
+    device: Device::Cabinet,
     kind: None,
     behind: 0,
 };
 
-/// The device of a number.
-pub fn device_of(four: &Four<MemDisk>, number: usize) -> &MemDisk {
-    match number {
-        LOG => &four.log,
-        PAGES => &four.pages,
-        PAGELOG => &four.pagelog,
-        _ => &four.maplog,
+/// A device of a store; None where that is its cabinet.
+pub fn device_of(four: &Four<MemDisk>, device: Device) -> Option<&MemDisk> {
+    match device {
+        Device::Log => Some(&four.log),
+        Device::Pages => Some(&four.pages),
+        Device::Pagelog => Some(&four.pagelog),
+        Device::Maplog => Some(&four.maplog),
+        Device::Cabinet => None,
     }
 }
 
@@ -69,15 +61,9 @@ fn faulty(alloc: Global, disk: &MemDisk, fault: Fault) -> Result<MemDisk, Refusa
     disk.again(alloc, failing, None)
 }
 
-// The bytes of the device of a number, on one that fails so where it is that device.
-fn again(
-    alloc: Global,
-    four: &Four<MemDisk>,
-    number: usize,
-    fault: Fault,
-) -> Result<MemDisk, Refusal> {
-    let disk = device_of(four, number);
-    if fault.device == number {
+// The bytes of a device, on one that fails so where it is that device.
+fn again(alloc: Global, disk: &MemDisk, device: Device, fault: Fault) -> Result<MemDisk, Refusal> {
+    if fault.device == device {
         faulty(alloc, disk, fault)
     } else {
         disk.again(alloc, Vec::new(alloc), None)
@@ -91,10 +77,10 @@ pub fn all_again(
     fault: Fault,
 ) -> Result<Four<MemDisk>, Refusal> {
     Ok(Four {
-        log: again(alloc, four, LOG, fault)?,
-        pages: again(alloc, four, PAGES, fault)?,
-        pagelog: again(alloc, four, PAGELOG, fault)?,
-        maplog: again(alloc, four, MAPLOG, fault)?,
+        log: again(alloc, &four.log, Device::Log, fault)?,
+        pages: again(alloc, &four.pages, Device::Pages, fault)?,
+        pagelog: again(alloc, &four.pagelog, Device::Pagelog, fault)?,
+        maplog: again(alloc, &four.maplog, Device::Maplog, fault)?,
     })
 }
 

@@ -2,65 +2,44 @@
 //! what they acknowledged is found behind it.
 
 use crate::devices::{
-    Fault, LOG, NO_FAULT, Ran, all_again, calls_of, crashed, device_of, formatted, run_at, run_over,
+    Fault, NO_FAULT, Ran, all_again, calls_of, crashed, device_of, formatted, run_at, run_over,
 };
 use crate::trial::Outcome;
-use crate::{commits, moving};
 use disk_mem::{Call, MemDisk};
 use disk_model::Four;
-use retro_base::SESSIONS;
+use retro_base::{Device, SESSIONS};
 use session::NoGate;
 use std::alloc::Global;
 use std::sync::Wait;
 use std::thread::Threads;
 
-/// A script that runs while a device fails.
-#[derive(Clone, Copy)]
-pub enum Script {
-    /// One session makes a table, commits, and looks.
-    Commits,
-    /// Two sessions at once change the rows of one table, beside one that reads the past.
-    Moves,
-}
+/// A script that runs while a device fails, and what is right of it.
+pub trait Script {
+    /// The script that makes what it begins with, if there is one.
+    fn made_by(&self) -> Option<&'static [u8]>;
 
-impl Script {
-    fn text(self) -> &'static [u8] {
-        match self {
-            Script::Commits => commits::COMMITS,
-            Script::Moves => moving::MOVES,
-        }
-    }
+    fn text(&self) -> &'static [u8];
 
-    // The script that looks at what is there behind it.
-    fn looks(self) -> &'static [u8] {
-        match self {
-            Script::Commits => commits::LOOKS,
-            Script::Moves => moving::LOOKS,
-        }
-    }
+    /// The script that looks at what is there behind it.
+    fn looks(&self) -> &'static [u8];
 
-    fn is_told(self, ran: &Ran, fault: Fault, is_met: bool) -> bool {
-        match self {
-            Script::Commits => commits::is_told(ran, fault, is_met),
-            Script::Moves => moving::is_told(ran, fault, is_met),
-        }
-    }
+    /// Whether a run that met a fault, or none, ends as it should.
+    fn is_told(&self, ran: &Ran, fault: Fault, is_met: bool) -> bool;
 
-    fn has_found(self, outcome: &Outcome, told: &[u8], is_in_doubt: bool) -> bool {
-        match self {
-            Script::Commits => commits::has_found(outcome, told, is_in_doubt),
-            Script::Moves => moving::has_found(outcome, told, is_in_doubt),
-        }
-    }
+    /// Whether a look finds what a run told, or, where a commit may be in doubt, that and one commit more.
+    fn has_found(&self, outcome: &Outcome, told: &[u8], is_in_doubt: bool) -> bool;
 }
 
 // What a run says of a device whose first fault ended the opening, and how a line of its journal ends that tells one.
-const TOLD: [(&[u8], &[u8]); 4] = [
-    (b"retro: disk fault on log 1\n", b" fault log 1"),
-    (b"retro: disk fault on pages 1\n", b" fault pages 1"),
-    (b"retro: disk fault on pagelog 1\n", b" fault pagelog 1"),
-    (b"retro: disk fault on maplog 1\n", b" fault maplog 1"),
-];
+fn told_of(device: Device) -> (&'static [u8], &'static [u8]) {
+    match device {
+        Device::Log => (b"retro: disk fault on log 1\n", b" fault log 1"),
+        Device::Pages => (b"retro: disk fault on pages 1\n", b" fault pages 1"),
+        Device::Pagelog => (b"retro: disk fault on pagelog 1\n", b" fault pagelog 1"),
+        Device::Maplog => (b"retro: disk fault on maplog 1\n", b" fault maplog 1"),
+        Device::Cabinet => (b"retro: disk fault on cabinet 1\n", b" fault cabinet 1"),
+    }
+}
 
 /// How many lines of the text begin so.
 pub fn lines_from(text: &[u8], front: &[u8]) -> usize {
@@ -89,27 +68,44 @@ pub fn has_line_with(text: &[u8], end: &[u8]) -> bool {
 }
 
 /// Whether a run tells that the first fault of a device ended the opening of its store.
-pub fn ends_opening(outcome: &Outcome, device: usize) -> bool {
-    match TOLD.get(device) {
-        Some((refused, _)) => outcome.is(6, refused),
-        None => false,
-    }
+pub fn ends_opening(outcome: &Outcome, device: Device) -> bool {
+    outcome.is(6, told_of(device).0)
 }
 
-fn has_fault_line(outcome: &Outcome, device: usize) -> bool {
-    match TOLD.get(device) {
-        Some((_, end)) => has_line_with(outcome.text.as_slice(), end),
-        None => false,
-    }
+fn has_fault_line(outcome: &Outcome, device: Device) -> bool {
+    has_line_with(outcome.text.as_slice(), told_of(device).1)
 }
 
 /// Whether a run tells the first fault of a device.
-pub fn tells_fault(outcome: &Outcome, device: usize) -> bool {
+pub fn tells_fault(outcome: &Outcome, device: Device) -> bool {
     ends_opening(outcome, device) || (outcome.status == 6 && has_fault_line(outcome, device))
 }
 
 // What becomes of the loose bytes: nothing, where the program alone is begun again, or what a crash makes of them.
-const IMAGES: [Option<u8>; 2] = [None, Some(0xa5)];
+const AS_LEFT_AND_FILLED: [Option<u8>; 2] = [None, Some(0xa5)];
+
+/// What else a crash may make of them.
+pub const OTHER_FILLS: [Option<u8>; 2] = [Some(0), Some(0xff)];
+
+/// Calls of a device fail in turn, and each time a store is opened from each of the images that are left.
+#[derive(Clone, Copy)]
+pub struct Sweep {
+    pub device: Device,
+    /// The kinds of calls of which one fails; None where the device stops.
+    pub kinds: &'static [Option<Call>],
+    pub images: &'static [Option<u8>],
+}
+
+impl Sweep {
+    /// A store is opened from what is left as it is, and with one fill.
+    pub fn of(device: Device, kinds: &'static [Option<Call>]) -> Sweep {
+        Sweep {
+            device,
+            kinds,
+            images: &AS_LEFT_AND_FILLED,
+        }
+    }
+}
 
 // The devices that a run begins with behind it.
 fn image(alloc: Global, four: &Four<MemDisk>, fill: Option<u8>) -> Option<Four<MemDisk>> {
@@ -120,10 +116,10 @@ fn image(alloc: Global, four: &Four<MemDisk>, fill: Option<u8>) -> Option<Four<M
 }
 
 // The looks at an image of what a run left.
-fn looked_on<R: Threads + Wait + Sync>(
+fn looked_on<R: Threads + Wait + Sync, P: Script>(
     rt: &R,
     alloc: Global,
-    script: Script,
+    script: &P,
     ran: &Ran,
     fill: Option<u8>,
 ) -> Option<Ran> {
@@ -132,16 +128,17 @@ fn looked_on<R: Threads + Wait + Sync>(
 }
 
 // Whether what a run acknowledged is found on each image of what it left.
-fn is_found_behind<R: Threads + Wait + Sync>(
+fn is_found_behind<R: Threads + Wait + Sync, P: Script>(
     rt: &R,
     alloc: Global,
-    script: Script,
+    script: &P,
     ran: &Ran,
+    images: &[Option<u8>],
     is_in_doubt: bool,
 ) -> bool {
     let told = ran.outcome.text.as_slice();
-    for fill in IMAGES {
-        let Some(looked) = looked_on(rt, alloc, script, ran, fill) else {
+    for fill in images {
+        let Some(looked) = looked_on(rt, alloc, script, ran, *fill) else {
             return false;
         };
         if !script.has_found(&looked.outcome, told, is_in_doubt) {
@@ -151,20 +148,30 @@ fn is_found_behind<R: Threads + Wait + Sync>(
     true
 }
 
+// Whether the run made the call that was to fail.
+fn has_met(ran: &Ran, fault: Fault) -> bool {
+    match device_of(&ran.four, fault.device) {
+        Some(disk) => fault.behind < calls_of(disk, fault.kind),
+        None => false,
+    }
+}
+
 // Whether a run met the fault; None where it or what it left is other than it should be. A commit is in doubt only
 // where a call of the log failed behind the opening.
-fn meets<R: Threads + Wait + Sync>(
+fn meets<R: Threads + Wait + Sync, P: Script>(
     rt: &R,
     alloc: Global,
-    script: Script,
+    script: &P,
     made: &Four<MemDisk>,
     fault: Fault,
+    images: &[Option<u8>],
 ) -> Option<bool> {
     let four = all_again(alloc, made, fault).ok()?;
     let ran = run_at(rt, alloc, SESSIONS, four, script.text(), &NoGate)?;
-    let is_met = fault.behind < calls_of(device_of(&ran.four, fault.device), fault.kind);
+    let is_met = has_met(&ran, fault);
+    let is_in_doubt = has_fault_line(&ran.outcome, Device::Log);
     if script.is_told(&ran, fault, is_met)
-        && is_found_behind(rt, alloc, script, &ran, has_fault_line(&ran.outcome, LOG))
+        && is_found_behind(rt, alloc, script, &ran, images, is_in_doubt)
     {
         Some(is_met)
     } else {
@@ -176,21 +183,21 @@ fn meets<R: Threads + Wait + Sync>(
 const MOST: u64 = 500;
 
 // How many calls of a kind fail well in turn, until a run makes no more of them; None where one does not.
-fn swept<R: Threads + Wait + Sync>(
+fn swept<R: Threads + Wait + Sync, P: Script>(
     rt: &R,
     alloc: Global,
-    script: Script,
+    script: &P,
     made: &Four<MemDisk>,
-    device: usize,
+    sweep: Sweep,
     kind: Option<Call>,
 ) -> Option<u64> {
     for behind in 0..MOST {
         let fault = Fault {
-            device,
+            device: sweep.device,
             kind,
             behind,
         };
-        if !meets(rt, alloc, script, made, fault)? {
+        if !meets(rt, alloc, script, made, fault, sweep.images)? {
             return Some(behind);
         }
     }
@@ -206,40 +213,32 @@ pub const STOPS: [Option<Call>; 1] = [None];
 /// Each kind of call fails, and the device stops.
 pub const ALL: [Option<Call>; 4] = [Some(Call::Read), Some(Call::Write), Some(Call::Sync), None];
 
-fn all_swept<R: Threads + Wait + Sync>(
-    rt: &R,
-    alloc: Global,
-    script: Script,
-    made: &Four<MemDisk>,
-    device: usize,
-    kinds: &[Option<Call>],
-) -> Option<[u64; 4]> {
-    let mut counts = [0; 4];
-    for (count, kind) in counts.iter_mut().zip(kinds) {
-        *count = swept(rt, alloc, script, made, device, *kind)?;
-    }
-    Some(counts)
-}
-
 // The store that the script begins with.
-fn made<R: Threads + Wait + Sync>(rt: &R, alloc: Global, script: Script) -> Option<Four<MemDisk>> {
+fn made<R: Threads + Wait + Sync, P: Script>(
+    rt: &R,
+    alloc: Global,
+    script: &P,
+) -> Option<Four<MemDisk>> {
     let new = formatted(rt, alloc, "16")?;
-    match script {
-        Script::Commits => Some(new),
-        Script::Moves => Some(run_over(rt, alloc, new, moving::MADE)?.four),
+    match script.made_by() {
+        Some(text) => Some(run_over(rt, alloc, new, text)?.four),
+        None => Some(new),
     }
 }
 
-/// How many calls of each of these kinds of a device failed well; None where one did not.
-pub fn sweep<R: Threads + Wait + Sync>(
+/// How many calls of each of the kinds failed well; None where one did not.
+pub fn swept_whole<R: Threads + Wait + Sync, P: Script>(
     rt: &R,
     alloc: Global,
-    script: Script,
-    device: usize,
-    kinds: &[Option<Call>],
+    script: &P,
+    sweep: Sweep,
 ) -> Option<[u64; 4]> {
     let made = made(rt, alloc, script)?;
-    all_swept(rt, alloc, script, &made, device, kinds)
+    let mut counts = [0; 4];
+    for (count, kind) in counts.iter_mut().zip(sweep.kinds) {
+        *count = swept(rt, alloc, script, &made, sweep, *kind)?;
+    }
+    Some(counts)
 }
 
 /// Whether at least so many of each failed well.

@@ -1,11 +1,11 @@
 //! Sessions that are inside their items at once: a gate holds each until another is where it should be.
 
-use crate::devices::{Fault, MAPLOG, NO_FAULT, PAGES, Ran, all_again, formatted, run_at, run_over};
+use crate::devices::{Fault, NO_FAULT, Ran, all_again, formatted, run_at, run_over};
 use crate::trial::{Outcome, told_at};
 use disk_mem::{Call, MemDisk};
 use disk_model::Four;
 use mem_cabinet::MemCabinet;
-use retro_base::SESSIONS;
+use retro_base::{Device, SESSIONS};
 use session::{Gate, Point};
 use std::alloc::{AllocError, Global};
 use std::sync::Wait;
@@ -257,7 +257,7 @@ fn insert_both<R: Threads + Wait + Sync>(
     rt: &R,
     alloc: Global,
     made: &Four<MemDisk>,
-    device: usize,
+    device: Device,
     behind: u64,
     script: &[u8],
     told: &[u8],
@@ -286,7 +286,7 @@ fn is_copied_behind<R: Threads + Wait + Sync>(
     alloc: Global,
     made: &Four<MemDisk>,
 ) -> Option<[bool; 2]> {
-    let failed = insert_both(rt, alloc, made, MAPLOG, 0, TWO_INSERTS, COPY_FAILS)?;
+    let failed = insert_both(rt, alloc, made, Device::Maplog, 0, TWO_INSERTS, COPY_FAILS)?;
     let is_early = has_copied(&failed.four, made);
     let last = run_over(rt, alloc, failed.four, b"")?;
     Some([
@@ -329,7 +329,7 @@ fn unflushed<R: Threads + Wait + Sync>(rt: &R, alloc: Global) -> Option<Ran> {
         rt,
         alloc,
         &made.four,
-        PAGES,
+        Device::Pages,
         first,
         TWO_INSERTS_BEHIND,
         FLUSH_FAILS,

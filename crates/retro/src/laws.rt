@@ -1,8 +1,12 @@
 //! The laws of runs, proved.
 
-ghost use Rattle.std.specs.Prelude.{ℕ};
+ghost use Rattle.std.specs.Prelude.{ℕ, List};
+ghost use Rattle.retro.specs.Keeping.{StatusesInTellCauses};
 ghost use Rattle.retro.specs.Phases.{PhasesMakeRuns};
 ghost use Rattle.retro.specs.Program.{StatusesTellCauses};
+ghost use Rattle.retro.specs.Seen.{Seen};
+
+use disk_model::Cabinet;
 
 /// Phases of sessions at seats of their own, behind each of which all seats meet, make a run.
 pub fn phases_make_runs()
@@ -12,4 +16,11 @@ pub fn phases_make_runs()
 /// The status of a run tells its cause.
 pub fn statuses_tell_causes()
     ensures { StatusesTellCauses }
+{}
+
+/// So does that of a run over a store that a cabinet keeps.
+pub fn statuses_in_tell_causes<C: Cabinet>()
+    ensures { (dir : List ℕ) (source sink : Seen) (old new : C) (status : ℕ)
+        → StatusesInTellCauses C.faults C.is_out C.tells C.store C.Device.extent C.Device.faults C.Device.is_honest
+        C.Device.remembers C.Device.state C.Device.clock dir source sink old new status }
 {}

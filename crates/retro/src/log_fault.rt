@@ -1,9 +1,10 @@
 //! A run whose log fails at one write, and what a crash leaves of it.
 
-use crate::devices::{Fault, LOG, Ran, all_again, crashed, formatted, run_over, shown_of};
+use crate::devices::{Fault, Ran, all_again, crashed, formatted, run_over, shown_of};
 use crate::trial::Outcome;
 use disk_mem::{Call, MemDisk};
 use disk_model::Four;
+use retro_base::Device;
 use std::alloc::Global;
 use std::sync::Wait;
 use std::test::Fail;
@@ -15,30 +16,29 @@ const MADE: &[u8] =
 const MADE_TOLD: &[u8] =
     b"phase 1\nsession a\nitem 1\nok\nok 1\ncommitted as 1\njournal\n1 a 1 done as 1\n";
 
-// An append to the log writes twice, so its third write is the first of the second commit. Behind the fault nothing is
+// An append to the log writes twice, so its fifth write is the first of the third commit. Behind the fault nothing is
 // committed.
-const THIRD_WRITE_FAILS: Fault = Fault {
-    device: LOG,
+const FIFTH_WRITE_FAILS: Fault = Fault {
+    device: Device::Log,
     kind: Some(Call::Write),
-    behind: 2,
+    behind: 4,
 };
 
-const FAULTY: &[u8] = b"SESSION a\nINSERT INTO t VALUES (2)\nCOMMIT WITH SNAPSHOT 'two'\n\
-      INSERT INTO t VALUES (3)\nCOMMIT WITH SNAPSHOT 'three'\nINSERT INTO t VALUES (4)\nCOMMIT\n\
-      SELECT AS OF 2 * FROM t\n";
+const FAULTY: &[u8] =
+    b"SESSION a\nINSERT INTO t VALUES (2)\nCOMMIT\nINSERT INTO t VALUES (3)\nCOMMIT\n\
+      INSERT INTO t VALUES (4)\nCOMMIT\nINSERT INTO t VALUES (5)\nCOMMIT\nSELECT AS OF 1 * FROM t\n";
 
-const FAULTY_TOLD: &[u8] =
-    b"phase 1\nsession a\nitem 1\nok 1\ncommitted as 2\nitem 2\nrefused 2 DiskFault log 1\n\
-      item 3\nrefused 16 Stopped log 1\nitem 4\nrows 2\n1\n2\n\
-      journal\n1 a 1 done as 2\n1 a 2 fault log 1\n1 a 3 refused 16\n1 a 4 looked 2\n1 a 4 unlooked\n";
+const FAULTY_TOLD: &[u8] = b"phase 1\nsession a\nitem 1\nok 1\ncommitted\nitem 2\nok 1\ncommitted\n\
+      item 3\nrefused 2 DiskFault log 1\nitem 4\nrefused 16 Stopped log 1\nitem 5\nrows 1\n1\n\
+      journal\n1 a 1 done\n1 a 2 done\n1 a 3 fault log 1\n1 a 4 refused 16\n1 a 5 looked 1\n1 a 5 unlooked\n";
 
 // What a crash leaves of it, where each loose byte becomes that of an open gate: the commits before the fault.
-const SHOWN: &[u8] = b"version 1\npages 64\ncapacity 64\noldest 1\nnewest 2\ncaptures 1\n";
+const SHOWN: &[u8] = b"version 1\npages 64\ncapacity 64\noldest 1\nnewest 1\ncaptures 1\n";
 
 const BEGUN: &[u8] = b"SESSION a\nSELECT AS OF 1 * FROM t\nSELECT * FROM t\nROLLBACK\n";
 
 const BEGUN_TOLD: &[u8] =
-    b"phase 1\nsession a\nitem 1\nrows 1\n1\nitem 2\nrows 2\n1\n2\nrolled back\n\
+    b"phase 1\nsession a\nitem 1\nrows 1\n1\nitem 2\nrows 3\n1\n2\n3\nrolled back\n\
       journal\n1 a 1 looked 1\n1 a 1 unlooked\n1 a 2 rolled back\n";
 
 // What the program shows behind a crash.
@@ -63,7 +63,7 @@ fn begun_behind<R: Threads + Wait + Sync>(
 
 // The run whose log fails.
 fn faulty<R: Threads + Wait + Sync>(rt: &R, alloc: Global, four: &Four<MemDisk>) -> Option<Ran> {
-    let failing = all_again(alloc, four, THIRD_WRITE_FAILS).ok()?;
+    let failing = all_again(alloc, four, FIFTH_WRITE_FAILS).ok()?;
     run_over(rt, alloc, failing, FAULTY)
 }
 

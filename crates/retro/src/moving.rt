@@ -1,23 +1,24 @@
 //! Two sessions at once that move a number between two rows, beside one that reads the past, while each call of each
 //! device fails in turn, and while each device stops behind each of its calls.
 
-use crate::devices::{Fault, LOG, MAPLOG, PAGELOG, PAGES, Ran};
+use crate::devices::{Fault, Ran};
 use crate::faults::{
-    ALL, CALLS, STOPS, Script, acknowledged, ends_opening, has_at_least, has_line_with, lines_from,
-    sweep, tells_fault,
+    ALL, CALLS, STOPS, Script, Sweep, acknowledged, ends_opening, has_at_least, has_line_with,
+    lines_from, swept_whole, tells_fault,
 };
 use crate::trial::Outcome;
+use retro_base::Device;
 use std::test::Fail;
 
-/// The store in front of them, with two snapshots. At snapshot n the rows are (0, 11 - n) and (1, 19 + n); and so they
-/// are at each that a move declares, whoever makes it.
-pub const MADE: &[u8] =
+// The store in front of them, with two snapshots. At snapshot n the rows are (0, 11 - n) and (1, 19 + n); and so they
+// are at each that a move declares, whoever makes it.
+const MADE: &[u8] =
     b"SESSION m\nCREATE TABLE t(k INT, v INT)\nINSERT INTO t VALUES (0,10),(1,20)\nCOMMIT WITH SNAPSHOT\n\
       UPDATE t SET v=v-1 WHERE k=0\nUPDATE t SET v=v+1 WHERE k=1\nCOMMIT WITH SNAPSHOT\n";
 
-/// Two moves of each of two sessions, one of which makes another table before; and a look at what the first snapshot
-/// held, of which a page is in the archive.
-pub const MOVES: &[u8] = b"SESSION a\nCREATE TABLE u(a INT)\nCOMMIT\n\
+// Two moves of each of two sessions, one of which makes another table before; and a look at what the first snapshot
+// held, of which a page is in the archive.
+const MOVES: &[u8] = b"SESSION a\nCREATE TABLE u(a INT)\nCOMMIT\n\
       UPDATE t SET v=v-1 WHERE k=0\nUPDATE t SET v=v+1 WHERE k=1\nCOMMIT WITH SNAPSHOT\n\
       UPDATE t SET v=v-1 WHERE k=0\nUPDATE t SET v=v+1 WHERE k=1\nCOMMIT WITH SNAPSHOT\n\
       SESSION b\n\
@@ -33,9 +34,9 @@ const OVERLAPPED: &[u8] = b"refused 8 Overlap ";
 // How an item may be refused: another session was at its rows at each attempt, or a device failed, or has stopped.
 const REFUSED: [&[u8]; 3] = [OVERLAPPED, b"refused 2 DiskFault ", b"refused 16 Stopped "];
 
-/// Looks at what is there behind a run: of the snapshots the count, the newest, the least and the greatest of number
-/// and first row together, and of the sum; and the rows now.
-pub const LOOKS: &[u8] = b"SESSION c\n\
+// Looks at what is there behind a run: of the snapshots the count, the newest, the least and the greatest of number
+// and first row together, and of the sum; and the rows now.
+const LOOKS: &[u8] = b"SESSION c\n\
       CollateData('SELECT snap_id FROM SnapIds',\
       'SELECT current_snapshot() AS n, MIN(v) AS m, SUM(v) AS s FROM t','rql_c')\n\
       SELECT COUNT(*), MAX(n), MIN(n+m), MAX(n+m), MIN(s), MAX(s) FROM rql_c\nSELECT * FROM t\nCOMMIT\n";
@@ -88,18 +89,6 @@ fn are_next(told: &[u8], count: usize) -> bool {
     true
 }
 
-/// Whether what a run told is found, or one commit more where one is in doubt.
-pub fn has_found(outcome: &Outcome, told: &[u8], is_in_doubt: bool) -> bool {
-    let count = acknowledged(told);
-    let most = if is_in_doubt { 2 } else { 1 };
-    for (_, found) in FOUND.iter().skip(count).take(most) {
-        if finds(outcome, found) {
-            return are_next(told, count);
-        }
-    }
-    false
-}
-
 // How many items are told as refused in a way that they may be.
 fn refused(text: &[u8]) -> usize {
     let mut count = 0_usize;
@@ -124,15 +113,42 @@ fn is_whole(outcome: &Outcome) -> bool {
     outcome.status == 0 && is_each_told(text) && overlapped == lines_from(text, b"refused ")
 }
 
-/// Whether a run that met a fault, or none, ends as it should.
-pub fn is_told(ran: &Ran, fault: Fault, is_met: bool) -> bool {
-    let outcome = &ran.outcome;
-    if !is_met {
-        is_whole(outcome)
-    } else if ends_opening(outcome, fault.device) {
-        true
-    } else {
-        tells_fault(outcome, fault.device) && is_each_told(outcome.text.as_slice())
+/// Two sessions at once change the rows of one table, beside one that reads the past.
+pub struct Moves;
+
+impl Script for Moves {
+    fn made_by(&self) -> Option<&'static [u8]> {
+        Some(MADE)
+    }
+
+    fn text(&self) -> &'static [u8] {
+        MOVES
+    }
+
+    fn looks(&self) -> &'static [u8] {
+        LOOKS
+    }
+
+    fn is_told(&self, ran: &Ran, fault: Fault, is_met: bool) -> bool {
+        let outcome = &ran.outcome;
+        if !is_met {
+            is_whole(outcome)
+        } else if ends_opening(outcome, fault.device) {
+            true
+        } else {
+            tells_fault(outcome, fault.device) && is_each_told(outcome.text.as_slice())
+        }
+    }
+
+    fn has_found(&self, outcome: &Outcome, told: &[u8], is_in_doubt: bool) -> bool {
+        let count = acknowledged(told);
+        let most = if is_in_doubt { 2 } else { 1 };
+        for (_, found) in FOUND.iter().skip(count).take(most) {
+            if finds(outcome, found) {
+                return are_next(told, count);
+            }
+        }
+        false
     }
 }
 
@@ -140,14 +156,14 @@ pub fn is_told(ran: &Ran, fault: Fault, is_met: bool) -> bool {
 // two are made at least: of the new table, and of a move, since one that is refused met another at each attempt.
 #[test]
 fn calls_of_a_log_that_fail_keep_what_sessions_were_told(rt: HostRuntime) -> Result<(), Fail> {
-    let counts = sweep(&rt, rt.alloc(), Script::Moves, LOG, &CALLS);
+    let counts = swept_whole(&rt, rt.alloc(), &Moves, Sweep::of(Device::Log, &CALLS));
     assert!(rt; has_at_least(counts, &[6, 4, 6]), "{counts:?}");
     Ok(())
 }
 
 #[test]
 fn a_log_that_stops_keeps_what_sessions_were_told(rt: HostRuntime) -> Result<(), Fail> {
-    let counts = sweep(&rt, rt.alloc(), Script::Moves, LOG, &STOPS);
+    let counts = swept_whole(&rt, rt.alloc(), &Moves, Sweep::of(Device::Log, &STOPS));
     assert!(rt; has_at_least(counts, &[16]), "{counts:?}");
     Ok(())
 }
@@ -156,7 +172,7 @@ fn a_log_that_stops_keeps_what_sessions_were_told(rt: HostRuntime) -> Result<(),
 // them at least written back, and synced.
 #[test]
 fn failing_pages_keep_what_sessions_were_told(rt: HostRuntime) -> Result<(), Fail> {
-    let counts = sweep(&rt, rt.alloc(), Script::Moves, PAGES, &ALL);
+    let counts = swept_whole(&rt, rt.alloc(), &Moves, Sweep::of(Device::Pages, &ALL));
     assert!(rt; has_at_least(counts, &[4, 3, 2, 9]), "{counts:?}");
     Ok(())
 }
@@ -165,7 +181,7 @@ fn failing_pages_keep_what_sessions_were_told(rt: HostRuntime) -> Result<(), Fai
 // capture two pages at least; what is captured is written, and synced.
 #[test]
 fn a_failing_pagelog_keeps_what_sessions_were_told(rt: HostRuntime) -> Result<(), Fail> {
-    let counts = sweep(&rt, rt.alloc(), Script::Moves, PAGELOG, &ALL);
+    let counts = swept_whole(&rt, rt.alloc(), &Moves, Sweep::of(Device::Pagelog, &ALL));
     assert!(rt; has_at_least(counts, &[1, 2, 2, 5]), "{counts:?}");
     Ok(())
 }
@@ -174,7 +190,7 @@ fn a_failing_pagelog_keeps_what_sessions_were_told(rt: HostRuntime) -> Result<()
 // each with a sync.
 #[test]
 fn a_failing_maplog_keeps_what_sessions_were_told(rt: HostRuntime) -> Result<(), Fail> {
-    let counts = sweep(&rt, rt.alloc(), Script::Moves, MAPLOG, &ALL);
+    let counts = swept_whole(&rt, rt.alloc(), &Moves, Sweep::of(Device::Maplog, &ALL));
     assert!(rt; has_at_least(counts, &[3, 2, 3, 8]), "{counts:?}");
     Ok(())
 }

@@ -1,17 +1,10 @@
 //! The top call.
 
-ghost use Rattle.std.specs.Prelude.{◌≡◌, ◌≢◌, ◌⊎◌, ◌↔◌, ◌<◌, ℕ, List, Option, IsErr, Ok, Err, Some};
-ghost use Rattle.disk_model.specs.declared.four.Sizes.{Sizes as SizesOf};
-ghost use Rattle.retro_base.specs.declared.limits.TheConstants.{MEMORY_PAGES};
-ghost use Rattle.retro.specs.Formats.{Formats};
-ghost use Rattle.retro.specs.Keeping.{RunsIn};
-ghost use Rattle.retro.specs.Loads.{Loads};
-ghost use Rattle.retro.specs.Memory.{memory_opening};
-ghost use Rattle.retro.specs.Program.{RunsPlainly};
+ghost use Rattle.std.specs.Prelude.{◌≡◌, ◌↔◌, ◌<◌, Err};
+ghost use Rattle.retro.specs.Headline.{DoesAsAsked};
 ghost use Rattle.retro.specs.Says.{IsStatus, Says, bad_sizes_line, bad_words_line};
 ghost use Rattle.retro.specs.Seen.{seen};
-ghost use Rattle.retro.specs.Shows.{Shows};
-ghost use Rattle.retro.specs.Words.{asked_by, AskToRun};
+ghost use Rattle.retro.specs.Words.{asked_by};
 
 use crate::formatting::format;
 use crate::keeping::keep;
@@ -83,31 +76,12 @@ pub fn retro<
 ) -> u8
     requires threads { 0 < threads }
     ensures status { IsStatus result }
-
-    // The words that are refused, and what each command leaves alone.
     ensures bad_words { (result ≡ 2) ↔ (asked_by words.now ≡ Err Mistake.BadWords) }
     ensures bad_sizes { (result ≡ 9) ↔ (asked_by words.now ≡ Err Mistake.BadSizes) }
-    ensures bad_words_said { result ≡ 2 → Says (seen K.held K.faults sink.old sink.new) bad_words_line }
-    ensures bad_sizes_said { result ≡ 9 → Says (seen K.held K.faults sink.old sink.new) bad_sizes_line }
-    ensures unread { ((dir : Option (List ℕ)) → asked_by words.now ≢ Ok (Command.Run dir)) → source.new ≡ source.old }
-    ensures kept { AskToRun words.now ⊎ IsErr (asked_by words.now) → cabinet.new ≡ cabinet.old }
-
-    // What each command does.
-    ensures formats { (dir : List ℕ) (sizes : SizesOf) → asked_by words.now ≡ Ok (Command.Format dir sizes)
-        → Formats C.faults C.is_out C.tells C.store C.Device.extent C.Device.faults C.Device.state dir sizes
-        (seen K.held K.faults sink.old sink.new) cabinet.old cabinet.new result }
-    ensures shows { (dir : List ℕ) → asked_by words.now ≡ Ok (Command.Show dir)
-        → Shows C.faults C.is_out C.tells C.store C.Device.extent C.Device.faults C.Device.is_honest
-        C.Device.remembers C.Device.state C.Device.clock dir (seen K.held K.faults sink.old sink.new)
-        cabinet.old cabinet.new result }
-    ensures runs_in { (dir : List ℕ) → asked_by words.now ≡ Ok (Command.Run (Some dir))
-        → RunsIn C.faults C.is_out C.tells C.store C.Device.extent C.Device.faults C.Device.is_honest
-        C.Device.remembers C.Device.state C.Device.clock dir (seen S.left S.faults source.old source.new)
-        (seen K.held K.faults sink.old sink.new) cabinet.old cabinet.new result }
-    ensures loads { (seed rounds : ℕ) → asked_by words.now ≡ Ok (Command.Load seed rounds)
-        → (cabinet.new ≡ cabinet.old) × Loads seed rounds (seen K.held K.faults sink.old sink.new) result }
-    ensures runs { AskToRun words.now → RunsPlainly MEMORY_PAGES memory_opening
-        (seen S.left S.faults source.old source.new) (seen K.held K.faults sink.old sink.new) result }
+    ensures does { DoesAsAsked C.faults C.is_out C.tells C.store C.Device.extent C.Device.faults C.Device.is_honest
+        C.Device.remembers C.Device.state C.Device.clock (source.new ≡ source.old)
+        (seen S.left S.faults source.old source.new) (seen K.held K.faults sink.old sink.new) cabinet.old cabinet.new
+        (asked_by words.now) result }
 {
     match command_of(words) {
         Ok(Command::Run { dir: None }) => run(alloc, rt, threads, source, sink, folds, gate),
