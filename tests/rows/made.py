@@ -301,6 +301,38 @@ def many_intervals():
     return script, transcript(items, journal), {"args": "run\n", "store": "256 4096\n"}
 
 
+def longest_names():
+    """A table of sixteen columns, and an index, whose names have 32 bytes, as many as a name may have, and differ in the last
+    one alone. Five rows have the numbers from 0 to 4 in each even column and the letters from a to e in each odd one, each
+    column in an order of its own. The table is asked whole, backwards, in the order of each column and by the index; then each
+    column takes what the next but one had, and the table is asked as of before and behind that."""
+    table, index, *names = (f"a_name_as_long_as_one_may_ever_{it}" for it in "ti0123456789abcdef")
+    assert {len(name) for name in (table, index, *names)} == {32}
+    of_column = lambda row, at: "abcde"[(2 * row + at // 2) % 5] if at % 2 else (3 * row + at // 2) % 5
+    rows = [[of_column(row, at) for at in range(16)] for row in range(5)]
+    moved = [[*row[2:], row[0] + 100, "z"] for row in rows]
+    made = ",".join(f"{name} {('INT', 'TEXT')[at % 2]}" for at, name in enumerate(names))
+    moves = ",".join(f"{name}={there}" for name, there in zip(names, [*names[2:], f"{names[0]}+100", "'z'"]))
+    backwards, turned = lambda front: ",".join(front + name for name in names[::-1]), rows_of(row[::-1] for row in rows)
+    in_order = lambda at: rows_of(sorted(rows, key=lambda row: row[at]))
+    asked = {
+        f"SELECT * FROM {table}": rows_of(rows),
+        f"SELECT {backwards('')} FROM {table}": turned,
+        f"SELECT {backwards(f'{table}.')} FROM {table}": turned,
+        **{f"SELECT * FROM {table} ORDER BY {name}": in_order(at) for at, name in enumerate(names)},
+        f"CREATE INDEX {index} ON {table}({names[15]})": "ok",
+        f"SELECT {names[0]} FROM {table} WHERE {names[15]}='d'": rows_of(row[:1] for row in rows if row[15] == "d"),
+    }
+    changed = {f"UPDATE {table} SET {moves}": "ok 5", f"SELECT * FROM {table}": rows_of(moved)}
+    added, added_replies = inserted(table, rows, 5)
+    snapshot, ends = "COMMIT WITH SNAPSHOT", [f"SELECT AS OF {n} * FROM {table}" for n in (1, 2)]
+    statements = [f"CREATE TABLE {table}({made})", *added, *asked, snapshot, *changed, snapshot, *ends]
+    items = ["\n".join(["ok", *added_replies, *asked.values(), "committed as 1"])]
+    items += ["\n".join([*changed.values(), "committed as 2"]), rows_of(rows), rows_of(moved)]
+    journal = ["1 done as 1", "2 done as 2", *looked(3, 1), *looked(4, 2)]
+    return "SESSION a\n" + lines_of(statements), transcript(items, journal), {"args": "run\n"}
+
+
 def wide_rows():
     """1,100 rows of 852 bytes, each on a page of its own, so that their chain passes a thousand pages: added by two
     transactions, 900 of them changed and ten taken out by a third; all of them at once are too many pages for a fourth."""
@@ -334,7 +366,7 @@ def wide_rows():
 def main():
     full = (full_archive, full_journal, most_calls, most_phases, most_items, most_statements)
     many = (large, thousand, long_journal, many_rows, many_keys, many_intervals, wide_rows)
-    for made in (*full, *many, longest_line, wide_calls, deep):
+    for made in (*full, *many, longest_line, longest_names, wide_calls, deep):
         script, text, more = made()
         for ending, held in {"": script, ".stdout": text, **{f".{it}": more[it] for it in more}}.items():
             with open(os.path.join(sys.argv[1], made.__name__ + ending), "w") as file:

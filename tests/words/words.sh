@@ -22,18 +22,21 @@ ends() {
     fi
 }
 
-# ends_unheard STATUS WORD..: the same, where nobody takes what the program writes.
-ends_unheard() {
-    local status=$1 ended
-    shift
+# ends_silent OUTPUT STATUS WORD..: the same, where this output, a file or `&-` for none, takes nothing.
+ends_silent() {
+    local output=$1 status=$2 ended
+    shift 2
     rows=$((rows + 1))
-    "$program" "$@" >/dev/full
+    if [ "$output" = '&-' ]; then "$program" "$@" >&-; else "$program" "$@" >"$output"; fi
     ended=$?
     if [ "$ended" -ne "$status" ]; then
         lost=1
-        printf 'retro %s into a full device: status %d and not %d\n' "$*" "$ended" "$status"
+        printf 'retro %s into %s: status %d and not %d\n' "$*" "$output" "$ended" "$status"
     fi
 }
+
+ends_unheard() { ends_silent /dev/full "$@"; }
+ends_unopened() { ends_silent '&-' "$@"; }
 
 new='version 1\npages 16\ncapacity 64\noldest 1\nnewest 0\ncaptures 0\n'
 exec </dev/null
@@ -61,6 +64,7 @@ ends 2 "$words" format d 00000000016 64
 ends 2 "$words" format d 0000000000016 64
 ends 2 "$words" format d 16 64 64
 ends 2 "$words" format 1 1
+ends 2 "$words" format d 15 +64
 sizes='retro: bad sizes\n'
 ends 9 "$sizes" format d 15 64
 ends 9 "$sizes" format d 65537 64
@@ -154,13 +158,87 @@ ends 3 'retro: bad script at line 1\n' run nosuch <<<'INSERT INTO t VALUES (1)'
 ends 3 'retro: bad script at line 4\n' run d <<<$'SESSION a\nDROP SNAPSHOTS BELOW 1\nDELETE FROM t'
 ends 0 "$shown" show d
 
-# a script that cannot be read; texts that nobody takes, of which one was committed; and a store made anew
-ends 4 'retro: source fault\n' run <.
-ends 4 'retro: source fault\n' run d <.
+# a script that cannot be read, or is not there, before all that comes of a store; what asks for no run reads none
+unreadable='retro: source fault\n'
+ends 4 "$unreadable" run <.
+ends 4 "$unreadable" run d <.
+ends 4 "$unreadable" run <&-
+ends 4 "$unreadable" run d <&-
+ends 4 "$unreadable" run nosuch <.
+ends 2 "$words" run d d <.
+ends 9 "$sizes" format d 15 64 <&-
+ends 0 'formatted 16 64\n' format g 16 64 <&-
+ends 0 "$new" show g <&-
+ends 0 "$shown" show d <.
+
+# what is no folder of a store: a file, and one in which a file is missing or is a folder; a folder within a folder
+cabinet='retro: disk fault on cabinet 1\n'
+echo text >file
+for word in show run; do ends 6 "$cabinet" "$word" file; done
+ends 6 "$cabinet" format file 16 64
+ends 6 "$cabinet" format file/d 16 64
+if [ "$(cat file)" != text ]; then echo 'a file in place of a folder was changed'; lost=1; fi
+for name in log pages pagelog maplog; do
+    cp -r g "no_$name" && rm "no_$name/$name"
+    for word in show run; do ends 6 "$cabinet" "$word" "no_$name"; done
+    mkdir "no_$name/$name"
+    for word in show run; do ends 6 "$cabinet" "$word" "no_$name"; done
+    ends 6 "$cabinet" format "no_$name" 16 64
+done
+rm -r no_maplog/maplog
+ends 0 'formatted 16 64\n' format no_maplog 16 64
+ends 0 "$new" show no_maplog
+ends 0 'formatted 16 64\n' format within/another/h 16 64
+ends 0 "$new" show within/another/h
+
+# files that another user may not write, and those that he may
+if [ "$(id -u)" -eq 0 ] && type setpriv >/dev/null 2>&1 &&
+    setpriv --reuid=65534 --regid=65534 --clear-groups test -x "$program"; then
+    printf '#!/bin/sh\nexec setpriv --reuid=65534 --regid=65534 --clear-groups "%s" "$@"\n' "$program" >another
+    chmod 755 . another && ours=$program program=./another
+    ends 6 "$cabinet" run d <"$example"
+    ends 6 "$cabinet" format d 16 64
+    ends 6 "$cabinet" format j 16 64
+    chmod 666 g/*
+    ends 0 "$(cat "$example.stdout")\n" run g <"$example"
+    program=$ours
+    ends 0 "$shown" show d
+    ends 0 "$shown" show g
+else
+    echo 'files of another user are left out: they need root, setpriv, and a program that others may run'
+fi
+
+# a store that is none: behind what the words and the script are refused by, and before an output that takes nothing
+cp -r g hurt && printf '\0' | dd of=hurt/log conv=notrunc status=none
+hurt='retro: not a store, log at 0\n'
+ends 7 "$hurt" show hurt
+ends 7 "$hurt" run hurt <"$example"
+ends 3 'retro: bad script at line 1\n' run hurt <<<SELECT
+ends 4 "$unreadable" run hurt <.
+ends_unheard 7 show hurt
+ends_unopened 7 run hurt
+ends 0 'formatted 16 64\n' format hurt 16 64
+ends 0 "$new" show hurt
+
+# an output that takes nothing hides no other status, and what stands in front of the text was done
+for silent in ends_unheard ends_unopened; do
+    "$silent" 2 walk
+    "$silent" 9 format d 15 64
+    "$silent" 4 run <.
+    "$silent" 3 run <<<SELECT
+    "$silent" 6 show nosuch
+    "$silent" 5 show d
+    rm -r g
+    "$silent" 5 format g 16 64
+    ends 0 "$new" show g
+    "$silent" 5 run g <"$example"
+    ends 0 "$shown" show g
+    ends 0 "$again" run g <<<$'SESSION a\nSELECT AS OF 1 * FROM t'
+done
+
+# texts that nobody takes, of which one was committed; and a store made anew
 ends_unheard 5 run
-ends_unheard 5 show d
-ends_unheard 2 walk
-ends 0 "$shown" show d
+ends_unopened 5 run
 ends_unheard 5 run d <<<$'SESSION a\nDELETE FROM t\nCOMMIT WITH SNAPSHOT'
 unheard='phase 1\nsession a\nitem 1\nrows 0\njournal\n1 a 1 looked 2\n1 a 1 unlooked\n'
 ends 0 "$unheard" run d <<<$'SESSION a\nSELECT AS OF 2 * FROM t'
