@@ -15,5 +15,6 @@ pub mod Seated
 pub mod Stepped
 pub mod Stored
 pub mod Table
+pub mod Taken
 pub mod TakenBack
 pub mod Worked

@@ -1,5 +1,5 @@
 -- The headline: what the program does.
-use Rattle.std.specs.Prelude.{◌≡◌, ℕ, List, Option, Some, None, Result, Ok, Err}
+use Rattle.std.specs.Prelude.{◌≡◌, ◌⊎◌, ℕ, List, Option, Some, None, Result, Ok, Err}
 use Rattle.disk_model.specs.Disk.{State}
 use Rattle.disk_model.specs.Moments.{Clock}
 use Rattle.disk_model.specs.declared.four.Four.{Four}
@@ -9,13 +9,13 @@ use Rattle.retro.specs.Keeping.{RunsIn}
 use Rattle.retro.specs.Loads.{Loads}
 use Rattle.retro.specs.Memory.{memory_opening}
 use Rattle.retro.specs.Program.{RunsPlainly}
-use Rattle.retro.specs.Says.{Says, bad_sizes_line, bad_words_line}
+use Rattle.retro.specs.Says.{LacksMemory, Says, bad_sizes_line, bad_words_line}
 use Rattle.retro.specs.Seen.{Seen}
 use Rattle.retro.specs.Shows.{Shows}
 use Rattle.retro.specs.declared.words.Command.{Command}
 use Rattle.retro.specs.declared.words.Command.TheVariants.{Format, Load, Run, Show}
 use Rattle.retro.specs.declared.words.Mistake.{Mistake}
-use Rattle.retro.specs.declared.words.Mistake.TheVariants.{BadSizes, BadWords}
+use Rattle.retro.specs.declared.words.Mistake.TheVariants.{BadSizes, BadWords, OutOfMemory}
 
 module _ {C D : Type 0} (faults : C → ℕ) (is_out : C → List ℕ → Type 0) (tells : C → Type 0)
     (store : C → List ℕ → Option (Four D)) (extent device_faults : D → ℕ) (is_honest : D → Type 0) (remembers : Type 0)
@@ -36,3 +36,8 @@ module _ {C D : Type 0} (faults : C → ℕ) (is_out : C → List ℕ → Type 0
   DoesAsAsked (Ok (Load seed rounds)) status = unread × (new ≡ old) × Loads seed rounds sink status
   DoesAsAsked (Err BadWords) status = unread × (new ≡ old) × (status ≡ 2) × Says sink bad_words_line
   DoesAsAsked (Err BadSizes) status = unread × (new ≡ old) × (status ≡ 9) × Says sink bad_sizes_line
+  DoesAsAsked (Err OutOfMemory) status = ⊥
+
+  -- that; or memory ran out before it was known what the words ask for
+  abbrev pub Does : Result (Command (List ℕ)) Mistake → ℕ → Type 0
+  Does asked status = DoesAsAsked asked status ⊎ (unread × (new ≡ old) × LacksMemory sink status)

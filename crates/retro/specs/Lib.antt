@@ -2,6 +2,7 @@ pub mod Asked
 pub mod Formats
 pub mod Headline
 pub mod Keeping
+pub mod CommandLine
 pub mod Loads
 pub mod Meeting
 pub mod Memory

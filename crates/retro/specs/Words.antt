@@ -12,7 +12,7 @@ use Rattle.retro.specs.declared.words.Command.{Command}
 use Rattle.retro.specs.declared.words.Command.TheVariants.{Format, Load, Run, Show}
 use Rattle.retro.specs.declared.words.Mistake.{Mistake}
 use Rattle.retro.specs.declared.words.TheConstants.{LAST_SEED, MOST_ROUNDS}
-use Rattle.retro.specs.declared.words.Mistake.TheVariants.{BadSizes, BadWords}
+use Rattle.retro.specs.declared.words.Mistake.TheVariants.{BadSizes, BadWords, OutOfMemory}
 
 -- a command, with its folder seen by `f`
 abbrev pub on_folder : {A B : Type 0} → (A → B) → Command A → Command B
@@ -21,10 +21,11 @@ on_folder f (Format dir sizes) = Format (f dir) sizes
 on_folder f (Show dir) = Show (f dir)
 on_folder f (Load seed rounds) = Load seed rounds
 
--- an answer, with its folder seen by `view`, is what the table says
+-- an answer, with its folder seen by `view`, is what the table says, unless memory ran out
 abbrev pub Answers : {A : Type 0} → (A → List ℕ) → Result (Command A) Mistake → Result (Command (List ℕ)) Mistake
     → Type 0
 Answers view (Ok command) asked = asked ≡ Ok (on_folder view command)
+Answers view (Err OutOfMemory) asked = Unit {0}
 Answers view (Err mistake) asked = asked ≡ Err mistake
 
 -- the word does not begin with a hyphen

@@ -5,6 +5,7 @@
 #[cfg(test)]
 mod apart;
 mod asking;
+mod command_line;
 #[cfg(test)]
 mod commits;
 #[cfg(test)]

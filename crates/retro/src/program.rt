@@ -1,8 +1,8 @@
 //! The top call.
 
-ghost use Rattle.std.specs.Prelude.{◌≡◌, ◌↔◌, ◌<◌, Err};
-ghost use Rattle.retro.specs.Headline.{DoesAsAsked};
-ghost use Rattle.retro.specs.Says.{IsStatus, Says, bad_sizes_line, bad_words_line};
+ghost use Rattle.std.specs.Prelude.{◌≡◌, ◌<◌, Err};
+ghost use Rattle.retro.specs.Headline.{Does};
+ghost use Rattle.retro.specs.Says.{IsStatus};
 ghost use Rattle.retro.specs.Seen.{seen};
 ghost use Rattle.retro.specs.Words.{asked_by};
 
@@ -10,7 +10,7 @@ use crate::formatting::format;
 use crate::keeping::keep;
 use crate::loading::load;
 use crate::running::run;
-use crate::saying::{Status, say};
+use crate::saying::{Status, lack_memory, say};
 use crate::showing::show;
 use crate::words::{Command, Mistake, command_of};
 use disk_model::Cabinet;
@@ -21,22 +21,8 @@ use std::alloc::Global;
 use std::sync::Wait;
 use std::thread::Threads;
 
-// Says what is wrong with the words.
-fn refuse<K: Sink>(sink: &mut K, mistake: Mistake) -> u8
-    ensures status { IsStatus result }
-    ensures bad_words { (result ≡ 2) ↔ (mistake ≡ Mistake.BadWords) }
-    ensures bad_sizes { (result ≡ 9) ↔ (mistake ≡ Mistake.BadSizes) }
-    ensures bad_words_said { result ≡ 2 → Says (seen K.held K.faults sink.old sink.new) bad_words_line }
-    ensures bad_sizes_said { result ≡ 9 → Says (seen K.held K.faults sink.old sink.new) bad_sizes_line }
-{
-    match mistake {
-        Mistake::BadWords => say(sink, b"retro: bad words\n", Status::BadWords).number(),
-        Mistake::BadSizes => say(sink, b"retro: bad sizes\n", Status::BadSizes).number(),
-    }
-}
-
-/// Runs the program, and answers the exit status. Status 2 is exactly where the words are none of the good ones, and 9
-/// where a number is out of its range. The other words are:
+/// Runs the program, and answers the exit status. It is 2 where the words are none of the good ones, and 9 where a
+/// number is out of its range, unless memory ran out before that was known. The other words are:
 ///
 /// - `run`: reads a script from the source, runs it over an empty store in memory, which holds no tables, and writes
 ///   the transcript of every reply to the sink, or one line that says why there is none. The status is 4 where the
@@ -76,14 +62,14 @@ pub fn retro<
 ) -> u8
     requires threads { 0 < threads }
     ensures status { IsStatus result }
-    ensures bad_words { (result ≡ 2) ↔ (asked_by words.now ≡ Err Mistake.BadWords) }
-    ensures bad_sizes { (result ≡ 9) ↔ (asked_by words.now ≡ Err Mistake.BadSizes) }
-    ensures does { DoesAsAsked C.faults C.is_out C.tells C.store C.Device.extent C.Device.faults C.Device.is_honest
+    ensures bad_words { result ≡ 2 → asked_by words.now ≡ Err Mistake.BadWords }
+    ensures bad_sizes { result ≡ 9 → asked_by words.now ≡ Err Mistake.BadSizes }
+    ensures does { Does C.faults C.is_out C.tells C.store C.Device.extent C.Device.faults C.Device.is_honest
         C.Device.remembers C.Device.state C.Device.clock (source.new ≡ source.old)
         (seen S.left S.faults source.old source.new) (seen K.held K.faults sink.old sink.new) cabinet.old cabinet.new
         (asked_by words.now) result }
 {
-    match command_of(words) {
+    match command_of(alloc, words) {
         Ok(Command::Run { dir: None }) => run(alloc, rt, threads, source, sink, folds, gate),
         Ok(Command::Run { dir: Some(dir) }) => keep(
             alloc, rt, threads, source, sink, cabinet, dir, folds, gate,
@@ -93,6 +79,8 @@ pub fn retro<
         Ok(Command::Load { seed, rounds }) => load(
             alloc, rt, threads, sink, seed, rounds, folds, gate,
         ),
-        Err(mistake) => refuse(sink, mistake),
+        Err(Mistake::BadWords) => say(sink, b"retro: bad words\n", Status::BadWords).number(),
+        Err(Mistake::BadSizes) => say(sink, b"retro: bad sizes\n", Status::BadSizes).number(),
+        Err(Mistake::OutOfMemory) => lack_memory(sink).number(),
     }
 }

@@ -1,13 +1,14 @@
 //! What the words of the program ask for.
 
-ghost use Rattle.std.specs.Prelude.{◌≡◌, ◌∷◌, [], Some, IfOk, string_bytes};
+ghost use Rattle.std.specs.Prelude.{◌≡◌, Some, IfOk, string_bytes};
 ghost use Rattle.std.specs.Char.{is_ascii_digit};
 ghost use Rattle.std.specs.List.{list_all};
-ghost use Rattle.retro.specs.Words.{Answers, asked, asked_by, format, is_folder};
-ghost use Rattle.retro.specs.Words.{is_number, is_plain, IsReady, load, number_of};
+ghost use Rattle.retro.specs.Words.{Answers, asked_by, format, is_number, is_plain, IsReady, load, number_of};
 
+use crate::command_line;
 use disk_model::Sizes;
 use retro_base::{MAX_CAPACITY, MAX_PAGES, MIN_CAPACITY, MIN_PAGES};
+use std::alloc::Global;
 
 /// The last seed of a load.
 pub const LAST_SEED: u32 = 65536;
@@ -33,6 +34,8 @@ pub enum Mistake {
     BadWords,
     /// A size, a seed or a number of rounds is out of its range.
     BadSizes,
+    /// Memory ran out before it was known.
+    OutOfMemory,
 }
 
 // Whether the word does not begin with a hyphen.
@@ -51,13 +54,6 @@ fn are_plain(words: &[String]) -> bool
     words.iter().all(|word| is_plain(word.as_str()))
 }
 
-// Whether the word names a folder.
-fn is_folder(word: &str) -> bool
-    ensures { result ≡ is_folder word.now }
-{
-    !word.is_empty()
-}
-
 fn are_digits(word: &str) -> bool
     ensures { result ≡ list_all is_ascii_digit word.now }
 {
@@ -71,8 +67,8 @@ fn is_number(word: &str) -> bool
     !word.is_empty() && word.len() <= 10 && are_digits(word)
 }
 
-// The number of 1 to 10 decimal digits; None of any other word.
-fn number_of(word: &str) -> Option<u64>
+/// The number of 1 to 10 decimal digits; None of any other word.
+pub fn number_of(word: &str) -> Option<u64>
     ensures { result ≡ number_of word.now }
 {
     if !is_number(word) {
@@ -81,8 +77,8 @@ fn number_of(word: &str) -> Option<u64>
     word.parse().ok()
 }
 
-// The store of that many pages and page images, in a folder.
-fn making<'a>(dir: &'a str, pages: u64, capacity: u64) -> Result<Command<&'a str>, Mistake>
+/// The store of that many pages and page images, in a folder.
+pub fn making<'a>(dir: &'a str, pages: u64, capacity: u64) -> Result<Command<&'a str>, Mistake>
     ensures given { Answers (λ d. d.now) result (format dir.now (Some pages) (Some capacity)) }
     ensures ready { IfOk result IsReady }
 {
@@ -100,34 +96,8 @@ fn making<'a>(dir: &'a str, pages: u64, capacity: u64) -> Result<Command<&'a str
     Err(Mistake::BadSizes)
 }
 
-fn asked_alone<'a>(verb: &'a str) -> Result<Command<&'a str>, Mistake>
-    ensures given { Answers (λ d. d.now) result (asked (verb.now ∷ [])) }
-    ensures ready { IfOk result IsReady }
-{
-    if verb == "run" {
-        return Ok(Command::Run { dir: None });
-    }
-    Err(Mistake::BadWords)
-}
-
-fn asked_of_folder<'a>(verb: &'a str, dir: &'a str) -> Result<Command<&'a str>, Mistake>
-    ensures given { Answers (λ d. d.now) result (asked (verb.now ∷ dir.now ∷ [])) }
-    ensures ready { IfOk result IsReady }
-{
-    if !is_folder(dir) {
-        return Err(Mistake::BadWords);
-    }
-    if verb == "show" {
-        return Ok(Command::Show { dir });
-    }
-    if verb == "run" {
-        return Ok(Command::Run { dir: Some(dir) });
-    }
-    Err(Mistake::BadWords)
-}
-
-// The load of a seed and so many rounds.
-fn loading<'a>(seed: u64, rounds: u64) -> Result<Command<&'a str>, Mistake>
+/// The load of a seed and so many rounds.
+pub fn loading<'a>(seed: u64, rounds: u64) -> Result<Command<&'a str>, Mistake>
     ensures given { Answers (λ d. d.now) result (load (Some seed) (Some rounds)) }
     ensures ready { IfOk result IsReady }
 {
@@ -141,61 +111,16 @@ fn loading<'a>(seed: u64, rounds: u64) -> Result<Command<&'a str>, Mistake>
     Err(Mistake::BadSizes)
 }
 
-fn asked_with_numbers<'a>(
-    verb: &'a str,
-    seed: &'a str,
-    rounds: &'a str,
-) -> Result<Command<&'a str>, Mistake>
-    ensures given { Answers (λ d. d.now) result (asked (verb.now ∷ seed.now ∷ rounds.now ∷ [])) }
-    ensures ready { IfOk result IsReady }
-{
-    if verb != "load" {
-        return Err(Mistake::BadWords);
-    }
-    match (number_of(seed), number_of(rounds)) {
-        (Some(seed), Some(rounds)) => loading(seed, rounds),
-        _ => Err(Mistake::BadWords),
-    }
-}
-
-fn asked_with_sizes<'a>(
-    verb: &'a str,
-    dir: &'a str,
-    pages: &'a str,
-    capacity: &'a str,
-) -> Result<Command<&'a str>, Mistake>
-    ensures given { Answers (λ d. d.now) result (asked (verb.now ∷ dir.now ∷ pages.now ∷ capacity.now ∷ [])) }
-    ensures ready { IfOk result IsReady }
-{
-    if verb != "format" || !is_folder(dir) {
-        return Err(Mistake::BadWords);
-    }
-    match (number_of(pages), number_of(capacity)) {
-        (Some(pages), Some(capacity)) => making(dir, pages, capacity),
-        _ => Err(Mistake::BadWords),
-    }
-}
-
 /// What the words ask for, or what is wrong with them.
-pub fn command_of<'a>(words: &'a [String]) -> Result<Command<&'a str>, Mistake>
+pub fn command_of<'a>(alloc: Global, words: &'a [String]) -> Result<Command<&'a str>, Mistake>
     ensures given { Answers (λ d. d.now) result (asked_by words.now) }
     ensures ready { IfOk result IsReady }
 {
     if !are_plain(words) {
         return Err(Mistake::BadWords);
     }
-    match words {
-        [verb] => asked_alone(verb.as_str()),
-        [verb, dir] => asked_of_folder(verb.as_str(), dir.as_str()),
-        [verb, seed, rounds] => asked_with_numbers(verb.as_str(), seed.as_str(), rounds.as_str()),
-        [verb, dir, pages, capacity] => {
-            asked_with_sizes(
-                verb.as_str(),
-                dir.as_str(),
-                pages.as_str(),
-                capacity.as_str(),
-            )
-        }
-        _ => Err(Mistake::BadWords),
+    match command_line::parse(alloc, words) {
+        Ok(matches) => command_line::read(&matches),
+        Err(mistake) => Err(mistake),
     }
 }
