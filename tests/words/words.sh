@@ -72,6 +72,17 @@ ends 9 "$sizes" format d 16 63
 ends 9 "$sizes" format d 16 1048577
 ends 9 "$sizes" format d 9999999999 64
 
+# the greatest store, whole and with a byte less; and a folder whose name is as long as the system's paths let it be
+ends 0 'formatted 65536 1048576\n' format great 65536 1048576
+ends 0 'version 1\npages 65536\ncapacity 1048576\noldest 1\nnewest 0\ncaptures 0\n' show great
+truncate -s -1 great/pagelog
+ends 7 'retro: not a store, pagelog at 1073741823\n' show great
+rm -r great
+long=$(printf "%0250d/" 1 2 3 4 5 6 7 8 9 10 11 12 13 14 15)
+mkdir -p "$long"
+ends 0 'formatted 16 64\n' format "$long/d" 16 64
+ends 0 "$new" show "$long/d"
+
 # a store that is not there, made, shown, run, and run again; a store in memory is another
 ends 6 'retro: disk fault on cabinet 1\n' show d
 ends 6 'retro: disk fault on cabinet 1\n' run d
