@@ -3,9 +3,9 @@
 
 One session changes a row a thousand times or more, and declares a snapshot with each tenth commit, so that the next one
 captures the page, which is written back once that is copied. While it runs the times of the store's files are looked at:
-in a run of two seconds or more the archive's and the pages' are written ten times a second at least, told apart by
-their times, and not only at the run's end. It works in a folder of its own under the current one, and ends with status 1
-where this is so in none of three such runs.
+in a run of two seconds or more, or of as many commits as a journal takes, the archive's and the pages' are written ten
+times a second at least, told apart by their times, and not only at the run's end. It works in a folder of its own under
+the current one, and ends with status 1 where this is so in none of three such runs.
 """
 import os
 import subprocess
@@ -14,8 +14,8 @@ import tempfile
 import time
 
 # How many commits the first run has, and after how many a snapshot is declared; each further run has four times as many
-# commits as the one before, until it is long enough, however fast the machine is.
-FIRST, EACH, MORE = 1000, 10, 4
+# commits as the one before, until it is long enough, or has as many as a journal takes, each of two lines.
+FIRST, EACH, MORE, MOST = 1000, 10, 4, 32000
 
 # How often a second each file is written at least, in a run of so many seconds or more.
 OFTEN, LEAST, LONGEST = 10, 2, 110
@@ -60,13 +60,14 @@ def main():
         count, tries = FIRST, TRIES
         while not often and tries > 0:
             moments, took = moments_of(program, count)
-            often = took >= LEAST and min(moments.values()) >= OFTEN * took
+            is_long = took >= LEAST or count == MOST
+            often = is_long and min(moments.values()) >= OFTEN * took
             written = ", ".join(f"{name} {many} times" for name, many in moments.items())
             told.append(f"beside {count} commits in {took:.1f} seconds were written {written}")
-            if took < LEAST:
-                count *= MORE
-            else:
+            if is_long:
                 tries -= 1
+            else:
+                count = min(MORE * count, MOST)
         os.chdir("..")
     print("; ".join(told))
     sys.exit(not often)
