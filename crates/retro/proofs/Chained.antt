@@ -12,6 +12,7 @@ use Rattle.journal_law.specs.World.{Mark, World}
 use Rattle.replay.specs.Opened.{Contents, opened}
 use Rattle.store.specs.Crashes.{OpensTo}
 use Rattle.store.specs.Recovery.{ShowsOneOf, changed_world}
+use Rattle.retro.specs.Storing.{IsBaseOf}
 use Rattle.store.specs.Worlds.{AreMarksOf, IsWorldOf}
 
 marks_one : (history : History) (marks : List MarkOf) (one other : List (Mark Pages)) → AreMarksOf history marks one → AreMarksOf history marks other → one ≡ other
@@ -34,12 +35,17 @@ worlds_one history one other a b =
     let marks = marks_one history _ one.marks other.marks a.marks b.marks in
     λ i. record { current = current i; marks = marks i }
 
--- Contents that open to a history, or to it with a change in doubt, are of as many pages.
-pub opens_count : (contents : Contents) (history : History) (doubt : Option Change) → OpensTo contents history doubt → (now (opened contents)).base.page_count ≡ (now history).base.page_count
-opens_count contents history None same = ap (λ (b : Base). b.page_count) same.base
-opens_count contents history (Some change) (inl same) = ap (λ (b : Base). b.page_count) same.base
-opens_count contents history (Some change) (inr (follows, same)) =
-    ap (λ (b : Base). b.page_count) (same.base ∙ ap (λ (s : State). s.base) (now-with history change)) ∙ page_count_after (now history).base change
+-- The base of contents that open to a history, or to it with a change in doubt.
+pub opens_base : (contents : Contents) (history : History) (doubt : Option Change) → OpensTo contents history doubt → IsBaseOf (now (opened contents)).base (now history).base doubt
+opens_base contents history None same = same.base
+opens_base contents history (Some change) (inl same) = inl same.base
+opens_base contents history (Some change) (inr (follows, same)) = inr (same.base ∙ ap (λ (s : State). s.base) (now-with history change))
+
+-- it is of as many pages
+pub base_count : (found base : Base) (doubt : Option Change) → IsBaseOf found base doubt → found.page_count ≡ base.page_count
+base_count found base None is = ap (λ (b : Base). b.page_count) is
+base_count found base (Some change) (inl is) = ap (λ (b : Base). b.page_count) is
+base_count found base (Some change) (inr is) = ap (λ (b : Base). b.page_count) is ∙ page_count_after base change
 
 -- Readers see one of two worlds: that behind a journal, or that behind the change in doubt.
 pub shows_one : (contents : Contents) (world : World Pages) (doubt : Option Change) → ShowsOneOf contents world doubt

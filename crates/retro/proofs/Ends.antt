@@ -123,18 +123,18 @@ module _ (source sink : Seen) (status : ℕ) where
   so number is causes = subst (λ (n : ℕ). HasCauses source sink n) (sym is) causes
 
   lacks : IsSteady source → LacksMemory sink status → HasCauses source sink status
-  lacks steady wanting = so 8 wanting.0 (record { statuses = refl; feeds = at_memory source sink steady })
+  lacks steady wanting = so 8 wanting.0 (record { statuses = refl; feeds = at_memory source sink steady; came = λ a b c. absurd (c refl) })
 
   refused : (why : NoPlan) → IsAsked source (Err why) → RefusesScript sink why status → HasCauses source sink status
-  refused SourceFault asked ends = so 4 ends.0 (record { statuses = refl; feeds = at_fault source sink asked })
-  refused (BadScript n) asked (inl said) = so 3 said.0 (record { statuses = refl; feeds = at_bad_line source sink asked.1 n asked.0 })
+  refused SourceFault asked ends = so 4 ends.0 (record { statuses = refl; feeds = at_fault source sink asked; came = λ a b c. absurd (b refl) })
+  refused (BadScript n) asked (inl said) = so 3 said.0 (record { statuses = refl; feeds = at_bad_line source sink asked.1 n asked.0; came = λ a b c. absurd (a refl) })
   refused (BadScript n) asked (inr wanting) = lacks asked.1 wanting
   refused OutOfMemory asked ends = lacks asked ends
 
   module _ (plan : Plan) (asked : IsAsked source (Ok plan)) where
     written : (text : List ℕ) → Writes sink text status → HasCauses source sink status
-    written text (inl all) = so 0 all.0 (record { statuses = refl; feeds = whole source sink asked.2 plan asked.0 all.2 })
-    written text (inr (inl part)) = so 5 part.0 (record { statuses = refl; feeds = cut source sink asked.2 plan asked.0 part.2 })
+    written text (inl all) = so 0 all.0 (record { statuses = refl; feeds = whole source sink asked.2 plan asked.0 all.2; came = λ a b c. (plan, asked.0) })
+    written text (inr (inl part)) = so 5 part.0 (record { statuses = refl; feeds = cut source sink asked.2 plan asked.0 part.2; came = λ a b c. (plan, asked.0) })
     written text (inr (inr wanting)) = lacks asked.2 wanting
 
     ended : (size : ℕ) (o : Opening (sql size)) (result : Result Ended Refusal) → RunsFrom size o plan result → EndsFrom size o sink plan result status → HasCauses source sink status
@@ -156,15 +156,15 @@ statuses_tell_causes size o source sink status runs = told source sink status si
 -- ---- the law of `run DIR`
 
 -- the status of a run whose transcript was written whole, in part, or not
-all_written : (ended : Ended) (fault copied : Bool) → has_fault ended.journal ≡ fault → ended.copied ≡ copied → (ending_status ended 0 ≡ 8) ⊎ ((s : ℕ) × (ending_status ended 0 ≡ s) × IsStatusOf (Ok ended) s × ((s ≡ 0) ⊎ (s ≡ 6)))
-all_written ended true copied e all = inr (6, rw e refl, rw e (inl refl), inr refl)
-all_written ended false true e all = inr (0, rw (e, all) refl, rw (e, all) (inl (refl, refl)), inl refl)
-all_written ended false false e all = inl (rw (e, all) refl)
+all_written : (sink : Seen) (ended : Ended) (fault copied : Bool) → IsSteady sink → has_fault ended.journal ≡ fault → ended.copied ≡ copied → (ending_status ended 0 ≡ 8) ⊎ ((s : ℕ) × (ending_status ended 0 ≡ s) × IsStatusOf sink (Ok ended) s × ((s ≡ 0) ⊎ (s ≡ 6)))
+all_written sink ended true copied still e all = inr (6, rw e refl, rw e (inl (refl, still)), inr refl)
+all_written sink ended false true still e all = inr (0, rw (e, all) refl, rw (e, all) (inl (refl, refl)), inl refl)
+all_written sink ended false false still e all = inl (rw (e, all) refl)
 
-part_written : (ended : Ended) (fault copied : Bool) → has_fault ended.journal ≡ fault → ended.copied ≡ copied → (ending_status ended 5 ≡ 5) × IsStatusOf (Ok ended) 5
-part_written ended true copied e all = (rw e refl, rw e (inr refl))
-part_written ended false true e all = (rw (e, all) refl, rw (e, all) (inr refl))
-part_written ended false false e all = (rw (e, all) refl, rw (e, all) (inr refl))
+part_written : (sink : Seen) (ended : Ended) (fault copied : Bool) → has_fault ended.journal ≡ fault → ended.copied ≡ copied → (ending_status ended 5 ≡ 5) × IsStatusOf sink (Ok ended) 5
+part_written sink ended true copied e all = (rw e refl, rw e (inr refl))
+part_written sink ended false true e all = (rw (e, all) refl, rw (e, all) (inr refl))
+part_written sink ended false false e all = (rw (e, all) refl, rw (e, all) (inr refl))
 
 none_written : (ended : Ended) (fault copied : Bool) → has_fault ended.journal ≡ fault → ended.copied ≡ copied → ending_status ended 8 ≡ 8
 none_written ended true copied e all = rw e refl
@@ -200,7 +200,7 @@ module _ {C D : Type 0} (faults : C → ℕ) (is_out : C → List ℕ → Type 0
   no_plan OutOfMemory asked same ends = lacking asked ends
 
   module _ (plan : Plan) (asked : IsAsked source (Ok plan)) where
-    reached : (s : ℕ) → IsTrue (list_any (λ one. one == s) (0 ∷ 3 ∷ 4 ∷ 5 ∷ 6 ∷ 7 ∷ 8 ∷ [])) → FeedsTold source sink s → (s ≡ 3 → ⊥) → (s ≡ 4 → ⊥) → (result : Result Ended Refusal) → Ran plan result → IsStatusOf result s → Causes s
+    reached : (s : ℕ) → IsTrue (list_any (λ one. one == s) (0 ∷ 3 ∷ 4 ∷ 5 ∷ 6 ∷ 7 ∷ 8 ∷ [])) → FeedsTold source sink s → (s ≡ 3 → ⊥) → (s ≡ 4 → ⊥) → (result : Result Ended Refusal) → Ran plan result → IsStatusOf sink result s → Causes s
     reached s one feeds not_bad not_source result ran is = record {
       statuses = one;
       feeds = feeds;
@@ -214,21 +214,21 @@ module _ {C D : Type 0} (faults : C → ℕ) (is_out : C → List ℕ → Type 0
 
     module _ (ended : Ended) (ran : Ran plan (Ok ended)) (written : ℕ) (is : status ≡ ending_status ended written) where
       at_whole : written ≡ 0 → IsSteady sink → Causes status
-      at_whole none still = by_case (all_written ended (has_fault ended.journal) ended.copied refl refl)
+      at_whole none still = by_case (all_written sink ended (has_fault ended.journal) ended.copied still refl refl)
         where
           here : (s : ℕ) → ending_status ended 0 ≡ s → status ≡ s
           here s e = is ∙ ap (λ (w : ℕ). ending_status ended w) none ∙ e
 
-          by_case : (ending_status ended 0 ≡ 8) ⊎ ((s : ℕ) × (ending_status ended 0 ≡ s) × IsStatusOf (Ok ended) s × ((s ≡ 0) ⊎ (s ≡ 6))) → Causes status
+          by_case : (ending_status ended 0 ≡ 8) ⊎ ((s : ℕ) × (ending_status ended 0 ≡ s) × IsStatusOf sink (Ok ended) s × ((s ≡ 0) ⊎ (s ≡ 6))) → Causes status
           by_case (inl e) = is_so 8 (here 8 e) (record { statuses = refl; feeds = at_memory source sink asked.2; untouched = λ e. absurd (neither_bad 8 refl e); came = λ a b c. absurd (c refl) })
           by_case (inr (s, e, of, inl zero)) =
-              is_so 0 (here s e ∙ zero) (reached 0 refl (whole source sink asked.2 plan asked.0 still) (λ x. omega (arith, x)) (λ x. omega (arith, x)) (Ok ended) ran (subst (λ (n : ℕ). IsStatusOf (Ok ended) n) zero of))
+              is_so 0 (here s e ∙ zero) (reached 0 refl (whole source sink asked.2 plan asked.0 still) (λ x. omega (arith, x)) (λ x. omega (arith, x)) (Ok ended) ran (subst (λ (n : ℕ). IsStatusOf sink (Ok ended) n) zero of))
           by_case (inr (s, e, of, inr six)) =
-              is_so 6 (here s e ∙ six) (reached 6 refl (faulty source sink asked.2 plan asked.0) (λ x. omega (arith, x)) (λ x. omega (arith, x)) (Ok ended) ran (subst (λ (n : ℕ). IsStatusOf (Ok ended) n) six of))
+              is_so 6 (here s e ∙ six) (reached 6 refl (faulty source sink asked.2 plan asked.0) (λ x. omega (arith, x)) (λ x. omega (arith, x)) (Ok ended) ran (subst (λ (n : ℕ). IsStatusOf sink (Ok ended) n) six of))
 
       at_part : written ≡ 5 → HasFailed sink → Causes status
       at_part five failed =
-          let one = part_written ended (has_fault ended.journal) ended.copied refl refl in
+          let one = part_written sink ended (has_fault ended.journal) ended.copied refl refl in
           is_so 5 (is ∙ ap (λ (w : ℕ). ending_status ended w) five ∙ one.0) (reached 5 refl (cut source sink asked.2 plan asked.0 failed) (λ x. omega (arith, x)) (λ x. omega (arith, x)) (Ok ended) ran one.1)
 
       at_none : LacksMemory sink written → Causes status

@@ -99,6 +99,15 @@ empty_shows state sizes disks range empty devices ground images opens =
 
 -- ---- the run
 
+-- devices that told what they held do so still
+pub still_honest : {D : Type 0} (extent : D → ℕ) (is_honest : D → Type 0) (state : D → State) (first made : Four D) → Each (IsBlank extent is_honest state) first → AreSame extent is_honest first made → AreHonest is_honest made
+still_honest extent is_honest state first made blank same = record {
+  log = same.log.honest.0 blank.log.honest;
+  pages = same.pages.honest.0 blank.pages.honest;
+  pagelog = same.pagelog.honest.0 blank.pagelog.honest;
+  maplog = same.maplog.honest.0 blank.maplog.honest;
+}
+
 module _ {D : Type 0} (extent faults : D → ℕ) (is_honest : D → Type 0) (remembers : Type 0) (state : D → State) (clock : D → Clock) where
   -- a crash may leave what reads return
   seen_images : (disks : Four D) → AreImages state disks (seen_of state disks)
@@ -112,12 +121,7 @@ module _ {D : Type 0} (extent faults : D → ℕ) (is_honest : D → Type 0) (re
   module _ (sizes : Sizes) (first made last : Four D) (blank : Each (IsBlank extent is_honest state) first) (same : AreSame extent is_honest first made) (counts : SameCounts (of_each faults first) (of_each faults made))
       (empty : (devices : Four (List ℕ)) → AreImages state made devices → IsEmptyStore One sizes devices) (read : AreReadOneWay) where
     honest : AreHonest is_honest made
-    honest = record {
-      log = same.log.honest.0 blank.log.honest;
-      pages = same.pages.honest.0 blank.pages.honest;
-      pagelog = same.pagelog.honest.0 blank.pagelog.honest;
-      maplog = same.maplog.honest.0 blank.maplog.honest;
-    }
+    honest = still_honest extent is_honest state first made blank same
 
     holds : IsEmptyStore One sizes (seen_of state made)
     holds = empty (seen_of state made) (seen_images made)

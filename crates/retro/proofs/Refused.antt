@@ -36,8 +36,8 @@ pub handed_none : {C Store : Type 0} {faults : C → ℕ} {is_out : C → List �
 handed_none {faults = faults} {old = old} {new = new} {why = why} none = of_fault Cabinet (faults old) (faults new) why none.fault
 
 -- none was made, looked at, or run over
-pub made_none : {D : Type 0} {extent faults : D → ℕ} {state : D → State} {told : Type 0} {sizes : Sizes} {first last : Four D} {why : Refusal}
-    → Makes extent faults state told sizes first last (Err why) → IsNoStore why
+pub made_none : {D : Type 0} {extent faults : D → ℕ} {is_honest : D → Type 0} {state : D → State} {told : Type 0} {sizes : Sizes} {first last : Four D} {why : Refusal}
+    → Makes extent faults is_honest state told sizes first last (Err why) → IsNoStore why
 made_none {faults = faults} {first = first} {last = last} {why = why} makes = unopened (λ _ _. ⊥) (of_each faults first) (of_each faults last) why makes.cause
 
 module _ {D : Type 0} {extent faults : D → ℕ} {is_honest : D → Type 0} {remembers : Type 0} {state : D → State} {clock : D → Clock} {first last : Four D} {why : Refusal} where

@@ -66,10 +66,10 @@ use Rattle.store.proofs.WorkerEnds.{waits_none}
 use Rattle.retro.specs.Working.{MayWorkOn}
 use Rattle.retro.specs.declared.working.TheConstants.{SEATS}
 use Rattle.retro.specs.Steps.{RunsPhases}
-use Rattle.retro.specs.Storing.{AllRest, AreFresh, AreHeld, AreIn, AreOf, ComeFrom, HasStood, IsAmong, IsHeld, IsUncopied, Leaves, MayRest, OpenAs, OpensShowing, AreLeft, last_phase, opening_with, store_of, view_held}
+use Rattle.retro.specs.Storing.{AllRest, AreFresh, AreHeld, AreIn, AreOf, ComeFrom, HasStood, IsAmong, IsHeld, IsUncopied, Leaves, MayRest, OpenAs, OpensAt, OpensShowing, AreLeft, IsBaseOf, last_phase, opening_with, store_of, view_held}
 use Rattle.retro.specs.declared.slots.Slot.{Slot}
 use Rattle.retro.specs.declared.storing.Ended.{Ended}
-use Rattle.retro.proofs.Chained.{opens_count, shows_one, worlds_one}
+use Rattle.retro.proofs.Chained.{base_count, opens_base, shows_one, worlds_one}
 use Rattle.retro.proofs.Doubted.{doubted}
 use Rattle.retro.proofs.Copied.{HaveWorked, come_copied, stand_copied}
 use Rattle.retro.proofs.Phased.{come_later, ends_at, later, less_or_not, no_session, phases_make_runs}
@@ -477,16 +477,23 @@ module _ {D : Type 0} (extent faults : D → ℕ) (is_honest : D → Type 0) (re
     -- ---- the next run
 
     module _ (closed_shows : ClosedShows is_honest state faults) (honest : AreHonest is_honest disks) (devices : Four (List ℕ)) (ground : Ground) (images : AreImages state left.disks devices) (opens : OpenAs devices ground) where
-      count_so : ground.base.page_count ≡ Opened.base.page_count
-      count_so =
+      base_so : IsBaseOf ground.base (base_of Opened.base left.journal) (doubt_in left.journal)
+      base_so =
           let origin = begun.opened.opened.origin in
+          let J = journal Last.side in
           let holds = Last.crashes origin (begun.honestly honest) devices images in
           let one : holds.contents ≡ opens.contents = are_read_one_way.one_store One devices holds.contents opens.contents (subst (λ (v : Version). Hold v devices holds.contents) (version_is honest) holds.hold) opens.hold in
           let started : (now origin.history).base ≡ Opened.base = begun.opened.opened.opened.base ∙ ap (λ (c : Core D). c.desk.base) (sym begun.begins.0) in
-          ap (λ (b : Base). b.page_count) (sym opens.base ∙ ap (λ (c : Contents). (now (opened c)).base) (sym one))
-          ∙ opens_count holds.contents (after_journal origin.history (journal Last.side)) (doubt_in (journal Last.side)) holds.opens
-          ∙ ap (λ (b : Base). b.page_count) (base_after_journal origin.history (journal Last.side) ∙ ap (λ (b : Base). base_of b (journal Last.side)) started)
-          ∙ count_stays (changes_of Opened.base (journal Last.side)) Opened.base
+          let found : (now (opened holds.contents)).base ≡ ground.base = ap (λ (c : Contents). (now (opened c)).base) one ∙ opens.base in
+          let behind : (now (after_journal origin.history J)).base ≡ base_of Opened.base J = base_after_journal origin.history J ∙ ap (λ (b : Base). base_of b J) started in
+          subst (λ (j : List Line). IsBaseOf ground.base (base_of Opened.base j) (doubt_in j)) (sym Last.lines)
+          (subst (λ (b : Base). IsBaseOf ground.base b (doubt_in J)) behind
+          (subst (λ (b : Base). IsBaseOf b (now (after_journal origin.history J)).base (doubt_in J)) found
+          (opens_base holds.contents (after_journal origin.history J) (doubt_in J) holds.opens)))
+
+      count_so : ground.base.page_count ≡ Opened.base.page_count
+      count_so =
+          base_count ground.base (base_of Opened.base left.journal) (doubt_in left.journal) base_so ∙ count_stays (changes_of Opened.base left.journal) Opened.base
 
       -- the pages behind the journal, or behind the change in doubt
       pages_so : (ground.pages ≡ page_world Opened.pages left.journal)
@@ -508,6 +515,9 @@ module _ {D : Type 0} (extent faults : D → ℕ) (is_honest : D → Type 0) (re
               ⊎ ((change : Change) × (doubt_in left.journal ≡ Some change) × (ground.pages ≡ changed_world change (page_world Opened.pages left.journal)))
           by_case (inl shows) = inl (is (page_world Opened.pages left.journal) shows)
           by_case (inr (change, in_doubt, shows)) = inr (change, in_doubt, is (changed_world change (page_world Opened.pages left.journal)) shows)
+
+    pub base_at : ClosedShows is_honest state faults → AreHonest is_honest disks → OpensAt state (base_of Opened.base left.journal) (doubt_in left.journal) left.disks
+    base_at closed_shows honest devices ground images opens = base_so closed_shows honest devices ground images opens
 
     pub next_so : ClosedShows is_honest state faults → AreHonest is_honest disks → (tables : World Tables) → LeftLawful Opened.base.page_count plan (opening_with Opened tables) (of_each faults left.disks) left.journal
         → OpensShowing state Opened.base.page_count (AreLeft Opened.base.page_count (item_of plan) tables left.journal) left.disks
@@ -728,6 +738,7 @@ module _ {D : Type 0} (extent faults : D → ℕ) (is_honest : D → Type 0) (re
       newest_is = newest_is ∙ newest_same state start.core.value start.archive.value;
       captures_are = captures_is ∙ captures_so ∙ ap (λ (j : List Line). (base_of Opened.base j).captures) (sym journal_is);
       crashes = λ honest. subst (λ (j : List Line). CrashesShow state One (page_world Opened.pages j) j left.disks) (sym journal_is) (crashes_so closed_shows honest);
+      base = λ honest. subst (λ (j : List Line). OpensAt state (base_of Opened.base j) (doubt_in j) left.disks) (sym journal_is) (base_at closed_shows honest);
       next = λ honest tables shows.
           let come = subst (λ (n : ℕ). ComeFrom state faults plan Opened n risen ended.kept) long (ran Opened (each_opened honest)) in
           subst (λ (j : List Line). OpensShowing state Opened.base.page_count (AreLeft Opened.base.page_count (item_of plan) tables j) left.disks) (sym journal_is)

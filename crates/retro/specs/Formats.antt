@@ -8,7 +8,7 @@ use Rattle.disk_model.specs.declared.four.Four.{Four}
 use Rattle.disk_model.specs.declared.four.Sizes.{Sizes}
 use Rattle.history.specs.declared.log.Version.TheVariants.{One}
 use Rattle.retro_base.specs.declared.refusal.Refusal.{Refusal}
-use Rattle.opening.specs.Devices.{AreImages, IsUnopened, of_each, SameCounts}
+use Rattle.opening.specs.Devices.{AreHonest, AreImages, IsUnopened, of_each, SameCounts}
 use Rattle.session.specs.Line.{line}
 use Rattle.store_format.specs.Empty.{IsEmptyStore}
 use Rattle.tables.specs.Tables.{no_tables}
@@ -22,13 +22,14 @@ abbrev pub formatted_line : Sizes → List ℕ
 formatted_line sizes = line (codes "formatted" ++ 32 ∷ (decimal sizes.pages ++ 32 ∷ decimal sizes.capacity))
 
 -- Devices of these sizes, so as they were handed out and so as they came back, and whether a store was made on them: it
--- was not exactly where a call of a device failed, and for want of memory. Where they tell their bytes, every crash
--- leaves the empty store, which shows no tables.
-pub record Makes {D : Type 0} (extent faults : D → ℕ) (state : D → State) (told : Type 0) (sizes : Sizes)
-    (first last : Four D) (result : Result (Unit {0}) Refusal) : Type 0 where
+-- was not exactly where a call of a device failed, and for want of memory. Where they tell their bytes they tell what
+-- they hold, and every crash leaves the empty store, which shows no tables: the premises of a run.
+pub record Makes {D : Type 0} (extent faults : D → ℕ) (is_honest : D → Type 0) (state : D → State) (told : Type 0)
+    (sizes : Sizes) (first last : Four D) (result : Result (Unit {0}) Refusal) : Type 0 where
   pub sized : AreSized extent sizes first
   pub cause : MatchResult result (λ _. SameCounts (of_each faults first) (of_each faults last))
       (IsUnopened (λ _ _. ⊥) (of_each faults first) (of_each faults last))
+  pub honest : told → AreHonest is_honest last
   pub empty : told → OnOk result ((devices : Four (List ℕ)) → AreImages state last devices
       → IsEmptyStore One sizes devices)
   pub shows : told → OnOk result
@@ -36,16 +37,16 @@ pub record Makes {D : Type 0} (extent faults : D → ℕ) (state : D → State) 
 
 -- the cabinet handed out no devices, or a store was made on those that it handed out, or was not
 abbrev pub MakesIn : {C D : Type 0} → (C → ℕ) → (C → List ℕ → Type 0) → (C → Type 0) → (C → List ℕ → Option (Four D))
-    → (D → ℕ) → (D → ℕ) → (D → State) → List ℕ → Sizes → C → C → Result (Unit {0}) Refusal → Type 0
-MakesIn faults is_out tells store extent device_faults state dir sizes old new result =
+    → (D → ℕ) → (D → ℕ) → (D → Type 0) → (D → State) → List ℕ → Sizes → C → C → Result (Unit {0}) Refusal → Type 0
+MakesIn faults is_out tells store extent device_faults is_honest state dir sizes old new result =
     IsErrAnd result (HandsOutNone faults is_out tells store old new)
     ⊎ ((first last : Four _) × TakesBack faults is_out tells store dir old new last
-    × Makes extent device_faults state (tells old) sizes first last result)
+    × Makes extent device_faults is_honest state (tells old) sizes first last result)
 
 -- `format DIR PAGES CAPACITY`: a store was made or not, and so it ends
 pub record Formats {C D : Type 0} (faults : C → ℕ) (is_out : C → List ℕ → Type 0) (tells : C → Type 0)
-    (store : C → List ℕ → Option (Four D)) (extent device_faults : D → ℕ) (state : D → State) (dir : List ℕ)
-    (sizes : Sizes) (sink : Seen) (old new : C) (status : ℕ) : Type 0 where
+    (store : C → List ℕ → Option (Four D)) (extent device_faults : D → ℕ) (is_honest : D → Type 0) (state : D → State)
+    (dir : List ℕ) (sizes : Sizes) (sink : Seen) (old new : C) (status : ℕ) : Type 0 where
   pub made : Result (Unit {0}) Refusal
-  pub makes : MakesIn faults is_out tells store extent device_faults state dir sizes old new made
+  pub makes : MakesIn faults is_out tells store extent device_faults is_honest state dir sizes old new made
   pub ends : Ends sink (λ _. formatted_line sizes) made status

@@ -29,7 +29,7 @@ module _ {C D : Type 0} (faults : C → ℕ) (is_out : C → List ℕ → Type 0
       RunsIn faults is_out tells store extent device_faults is_honest remembers state clock dir source sink old new
       status
   DoesAsAsked (Ok (Format dir sizes)) status =
-      unread × Formats faults is_out tells store extent device_faults state dir sizes sink old new status
+      unread × Formats faults is_out tells store extent device_faults is_honest state dir sizes sink old new status
   DoesAsAsked (Ok (Show dir)) status =
       unread × Shows faults is_out tells store extent device_faults is_honest remembers state clock dir sink old new
       status

@@ -8,7 +8,7 @@ use Rattle.script.specs.declared.structure.Script.{Script}
 use Rattle.journal_law.specs.Lawful.{Opening}
 use Rattle.session.specs.Plan.{Plan}
 use Rattle.session.specs.Sql.{sql}
-use Rattle.retro.specs.Asked.{IsAsked, IsTheBadLine, RefusesScript, RunsAsAsked}
+use Rattle.retro.specs.Asked.{AsksFor, IsAsked, IsTheBadLine, RefusesScript, RunsAsAsked}
 use Rattle.retro.specs.Memory.{RunsFrom}
 use Rattle.retro.specs.Phases.{RanOver}
 use Rattle.retro.specs.Says.{Refuses, WritesOne}
@@ -44,10 +44,11 @@ pub record FeedsTold (source sink : Seen) (status : ℕ) : Type 0 where
   pub bad_line : (bytes : List ℕ) (n : ℕ) → source.bytes_old ≡ Some bytes → ReadsAs bytes (Err n)
       → (status ≡ 3) ⊎ (status ≡ 4) ⊎ (status ≡ 8)
 
--- What the status of `run` tells. No other comes.
+-- What the status of `run` tells. No other comes. With 0 and 5 a plan was asked for.
 pub record HasCauses (source sink : Seen) (status : ℕ) : Type 0 where
   pub statuses : IsTrue (list_any (λ one. one == status) (0 ∷ 3 ∷ 4 ∷ 5 ∷ 8 ∷ []))
   pub feeds : FeedsTold source sink status
+  pub came : status ≢ 3 → status ≢ 4 → status ≢ 8 → (plan : Plan) × AsksFor source.bytes_old plan
 
 -- the law of `run`
 abbrev pub StatusesTellCauses : Type 0

@@ -10,11 +10,12 @@ use Rattle.retro_base.specs.declared.device.Device.{Device}
 use Rattle.retro_base.specs.declared.limits.TheConstants.{SESSIONS}
 use Rattle.retro_base.specs.declared.refusal.Refusal.{Refusal}
 use Rattle.retro_base.specs.declared.who.Who.{Who}
+use Rattle.history.specs.declared.entry.Base.{Base}
 use Rattle.history.specs.declared.entry.Change.{Change}
 use Rattle.history.specs.declared.journal.Line.{Line}
 use Rattle.history.specs.declared.log.Version.TheVariants.{One}
-use Rattle.history.specs.History.{now}
-use Rattle.history.specs.Lines.{base_of, doubt_of}
+use Rattle.history.specs.History.{base_after, now}
+use Rattle.history.specs.Lines.{base_of, doubt_in, doubt_of}
 use Rattle.opening.specs.Devices.{AreHonest, AreImages, AreUnwritten, IsUnopened, of_each, SameCounts, seen_of}
 use Rattle.opening.specs.Opening.{Hold}
 use Rattle.replay.specs.Joined.{AreJoined}
@@ -62,6 +63,17 @@ abbrev pub OpensShowing : {D : Type 0} → (D → State) → ℕ → (World Tabl
 OpensShowing state size AreIt disks =
     (devices : Four (List ℕ)) (ground : Ground) → AreImages state disks devices → OpenAs devices ground →
     (ground.base.page_count ≡ size) × (tables : World Tables) × AreIt tables × Shows (sql size) ground.pages tables
+
+-- the base that was found is this one, or that behind the change in doubt
+abbrev pub IsBaseOf : Base → Base → Option Change → Type 0
+IsBaseOf found base None = found ≡ base
+IsBaseOf found base (Some change) = (found ≡ base) ⊎ (found ≡ base_after base change)
+
+-- What is opened from whatever a crash leaves of the devices has this base, so its sizes, its captures and its marks with
+-- their starts, or that behind the change in doubt.
+abbrev pub OpensAt : {D : Type 0} → (D → State) → Base → Option Change → Four D → Type 0
+OpensAt state base doubt disks = (devices : Four (List ℕ)) (ground : Ground) → AreImages state disks devices →
+    OpenAs devices ground → IsBaseOf ground.base base doubt
 
 -- The tables behind a journal and a change that one of its lines tells to be in doubt: a commit leaves those behind the
 -- statements of that line's item, and a drop the snapshots from its number on.
@@ -117,6 +129,8 @@ pub record Leaves {D : Type 0} (faults : D → ℕ) (is_honest : D → Type 0) (
   pub captures_are : ended.captures ≡ (base_of ground.base ended.journal).captures
   pub crashes : AreHonest is_honest first →
       CrashesShow state One (page_world ground.pages ended.journal) ended.journal last
+  pub base : AreHonest is_honest first →
+      OpensAt state (base_of ground.base ended.journal) (doubt_in ended.journal) last
   pub next : AreHonest is_honest first → (tables : World Tables) →
       Shows (sql ground.base.page_count) ground.pages tables → OpensShowing state ground.base.page_count
       (AreLeft ground.base.page_count (item_of plan) tables ended.journal) last

@@ -16,8 +16,8 @@ use std::alloc::{AllocError, Global};
 // Makes a store in the folder, in the place of one that stood there.
 fn make<C: Cabinet>(alloc: Global, cabinet: &mut C, dir: &str, sizes: Sizes) -> Result<(), Refusal>
     requires { AreInRange sizes }
-    ensures { MakesIn C.faults C.is_out C.tells C.store C.Device.extent C.Device.faults C.Device.state dir.now sizes
-        cabinet.old cabinet.new result }
+    ensures { MakesIn C.faults C.is_out C.tells C.store C.Device.extent C.Device.faults C.Device.is_honest
+        C.Device.state dir.now sizes cabinet.old cabinet.new result }
 {
     let Ok(disks) = cabinet.create(dir, sizes) else {
         return Err(cabinet_fault(cabinet));
@@ -54,8 +54,8 @@ pub fn format<K: Sink, C: Cabinet>(
     sizes: Sizes,
 ) -> u8
     requires { AreInRange sizes }
-    ensures formats { Formats C.faults C.is_out C.tells C.store C.Device.extent C.Device.faults C.Device.state dir.now
-        sizes (seen K.held K.faults sink.old sink.new) cabinet.old cabinet.new result }
+    ensures formats { Formats C.faults C.is_out C.tells C.store C.Device.extent C.Device.faults C.Device.is_honest
+        C.Device.state dir.now sizes (seen K.held K.faults sink.old sink.new) cabinet.old cabinet.new result }
     ensures status { IsStatus result }
     ensures words { (result ≢ 2) × (result ≢ 9) }
 {

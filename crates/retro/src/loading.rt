@@ -6,6 +6,7 @@ ghost use Rattle.retro.specs.Asked.{BytesAsk};
 ghost use Rattle.retro.specs.Loads.{Loads, load_text};
 ghost use Rattle.retro.specs.Says.{IsOfKept, IsStatus, number_of};
 ghost use Rattle.retro.specs.Seen.{seen};
+ghost use Rattle.retro.specs.declared.words.TheConstants.{LAST_SEED};
 
 use crate::asking::{NoPlan, plan_in, refuse as refuse_script};
 use crate::memory::run_in_memory;
@@ -21,7 +22,7 @@ use workload::script_of;
 
 // What the script of a load asks for, or why it asks for nothing.
 fn load_plan(alloc: Global, seed: u32, rounds: u32) -> Result<Plan, NoPlan>
-    requires { seed ≤ 65536 }
+    requires { seed ≤ LAST_SEED }
     ensures asks { BytesAsk (load_text seed rounds) result }
     ensures fits { IfOk result (λ plan. PlanFits plan) }
 {
@@ -41,7 +42,7 @@ fn told<R: Threads + Wait + Sync, K: Sink, F: Folds + Sync, G: Gate + Sync>(
     gate: &G,
 ) -> Status
     requires threads { 0 < threads }
-    requires seed { seed ≤ 65536 }
+    requires seed { seed ≤ LAST_SEED }
     ensures loads { Loads seed rounds (seen K.held K.faults sink.old sink.new) (number_of result) }
     ensures status { IsOfKept result }
 {
@@ -68,7 +69,7 @@ pub fn load<R: Threads + Wait + Sync, K: Sink, F: Folds + Sync, G: Gate + Sync>(
     gate: &G,
 ) -> u8
     requires threads { 0 < threads }
-    requires seed { seed ≤ 65536 }
+    requires seed { seed ≤ LAST_SEED }
     ensures loads { Loads seed rounds (seen K.held K.faults sink.old sink.new) result }
     ensures status { IsStatus result }
     ensures words { (result ≢ 2) × (result ≢ 9) }

@@ -1,5 +1,5 @@
 use Rattle.std.proofs.Common.{inr}
-use Rattle.retro.proofs.FromEmpty.{empty_shows}
+use Rattle.retro.proofs.FromEmpty.{empty_shows, still_honest}
 use Rattle.retro.proofs.TakenBack.{took_back}
 use Rattle.retro.proofs.formatting.make.Goals as goal
 
@@ -16,6 +16,7 @@ returns-in-Ok-format g c =
       record {
         sized = made.sized;
         cause = c.in-Ok-format.ensures.cause;
+        honest = λ t. still_honest g.C.Device.Disk.extent g.C.Device.Disk.is_honest g.C.Device.Disk.state c.in-Ok.disks c.in-Ok-format.disks (made.blank t) c.in-Ok-format.ensures.same;
         empty = λ t. c.in-Ok-format.ensures.empty (made.blank t);
         shows = λ t. empty_shows g.C.Device.Disk.state c.args.sizes c.in-Ok-format.disks c.requires (c.in-Ok-format.ensures.empty (made.blank t));
       },
@@ -34,6 +35,7 @@ returns-in-Err g c =
       record {
         sized = made.sized;
         cause = c.in-Err.ensures.cause;
+        honest = λ t. still_honest g.C.Device.Disk.extent g.C.Device.Disk.is_honest g.C.Device.Disk.state c.in-Ok.disks c.in-Err.disks (made.blank t) c.in-Err.ensures.same;
         empty = λ t. tt;
         shows = λ t. tt;
       },
