@@ -8,6 +8,7 @@ use Rattle.sql_tree.specs.Evaluation.{column_value, value_of}
 use Rattle.sql_tree.specs.Expression.{ExpressionTree}
 use Rattle.sql_tree.specs.declared.name.ColumnName.{ColumnName}
 use Rattle.sql_tree.specs.declared.schema.TableSchema.{TableSchema}
+use Rattle.sql_tree.specs.declared.select.Aggregate.{Aggregate}
 use Rattle.sql_tree.specs.declared.select.Aggregate.TheVariants.{Count as CountOf, Sum as SumOf, Min, Max}
 use Rattle.sql_tree.specs.declared.select.Output.{Output}
 use Rattle.sql_tree.specs.declared.select.OutputValue.TheVariants as value
@@ -19,15 +20,17 @@ use Rattle.evaluation.specs.Bound.{column_source, value_at}
 use Rattle.evaluation.specs.declared.expression.BoundExpression.{BoundExpression}
 use Rattle.evaluation.specs.declared.source.Source.{Source}
 use Rattle.evaluation.proofs.Binding.{column_source-value}
-use Rattle.sql_select.specs.Bound.{best_over, choice, counted_over, grouped_by, keyed_by, list_over, over, row_by, summed_over, values_at}
+use Rattle.sql_select.specs.Bound.{aggregated, best_over, choice, counted_over, grouped_by, keyed_by, list_over, over, row_by, summed_over, values_at}
 use Rattle.sql_select.specs.Each.{each}
 use Rattle.sql_select.specs.Outputs.{aggregate_over, first_row, output_over, outputs_over}
 use Rattle.sql_select.specs.Select.{keyed_row, output_rows, row_of_row, rows_of_groups}
 use Rattle.sql_select.proofs.Eaches.{item_at}
 use Rattle.sql_select.specs.declared.aggregates.Best.TheVariants.{Least, Greatest}
+use Rattle.sql_select.specs.declared.outputs.BoundAggregate.{BoundAggregate}
+use Rattle.sql_select.specs.declared.outputs.BoundAggregate.TheVariants.{Count, Sum, Extreme}
 use Rattle.sql_select.specs.declared.outputs.BoundList.TheVariants.{Outputs}
 use Rattle.sql_select.specs.declared.outputs.BoundOutput.{BoundOutput}
-use Rattle.sql_select.specs.declared.outputs.BoundOutput.TheVariants.{Value as ValueOutput, Count, Sum, Extreme}
+use Rattle.sql_select.specs.declared.outputs.BoundOutput.TheVariants.{Value as ValueOutput, Aggregate as AggregateOutput}
 
 -- what an output is defined to give
 abbrev pub means : List TableSchema → Option ℕ → Output → List (List Value) → Result Value Refusal
@@ -37,17 +40,20 @@ module _ (scope : List TableSchema) (n : Option ℕ) (bound : BoundExpression) (
   pub value-means : over (ValueOutput bound) ≡ (λ rows. output_over scope n rows (value.Expression of))
   value-means = λ i rows. is i (first_row rows)
 
-  pub count-means : over (Count bound) ≡ (λ rows. aggregate_over scope n rows (CountOf of))
+  pub count-means : aggregated (Count bound) ≡ (λ rows. aggregate_over scope n rows (CountOf of))
   count-means = λ i rows. counted_over (is i) rows
 
-  pub sum-means : over (Sum bound) ≡ (λ rows. aggregate_over scope n rows (SumOf of))
+  pub sum-means : aggregated (Sum bound) ≡ (λ rows. aggregate_over scope n rows (SumOf of))
   sum-means = λ i rows. summed_over (is i) rows
 
-  pub least-means : over (Extreme Least bound) ≡ (λ rows. aggregate_over scope n rows (Min of))
+  pub least-means : aggregated (Extreme Least bound) ≡ (λ rows. aggregate_over scope n rows (Min of))
   least-means = λ i rows. best_over (choice Least) (is i) rows
 
-  pub greatest-means : over (Extreme Greatest bound) ≡ (λ rows. aggregate_over scope n rows (Max of))
+  pub greatest-means : aggregated (Extreme Greatest bound) ≡ (λ rows. aggregate_over scope n rows (Max of))
   greatest-means = λ i rows. best_over (choice Greatest) (is i) rows
+
+pub aggregate-means : (scope : List TableSchema) (n : Option ℕ) (bound : BoundAggregate) (of : Aggregate) → aggregated bound ≡ (λ rows. aggregate_over scope n rows of) → over (AggregateOutput bound) ≡ (λ rows. output_over scope n rows (value.Aggregate of))
+aggregate-means scope n bound of is = λ i rows. is i rows
 
 each-map : {X Y Z : Type 0} (g : Y → Result Z Refusal) (f : X → Y) (xs : List X) → each g (map f xs) ≡ each (λ x. g (f x)) xs
 each-map g f [] = refl

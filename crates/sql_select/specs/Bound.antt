@@ -22,11 +22,12 @@ use Rattle.sql_select.specs.declared.filter.Filter.{Filter}
 use Rattle.sql_select.specs.declared.grouping.KeyedRow.{KeyedRow}
 use Rattle.sql_select.specs.declared.output_row.OutputRow.{OutputRow}
 use Rattle.sql_select.specs.Select.{groups_by}
+use Rattle.sql_select.specs.declared.outputs.BoundAggregate.{BoundAggregate}
+use Rattle.sql_select.specs.declared.outputs.BoundAggregate.TheVariants.{CountRows, Count, Sum, Extreme}
 use Rattle.sql_select.specs.declared.outputs.BoundList.{BoundList}
 use Rattle.sql_select.specs.declared.outputs.BoundList.TheVariants.{All, Outputs}
 use Rattle.sql_select.specs.declared.outputs.BoundOutput.{BoundOutput}
-use Rattle.sql_select.specs.declared.outputs.BoundOutput.TheVariants.{Value as ValueOutput, CountRows}
-use Rattle.sql_select.specs.declared.outputs.BoundOutput.TheVariants.{Count, Sum, Extreme}
+use Rattle.sql_select.specs.declared.outputs.BoundOutput.TheVariants.{Value as ValueOutput, Aggregate}
 
 -- whether a row is kept
 abbrev pub keeps_by : Option BoundCondition → List Value → Result Bool Refusal
@@ -73,13 +74,17 @@ abbrev pub choice : Best → Value → Value → Value
 choice Least = ord_min value_cmp
 choice Greatest = ord_max value_cmp
 
+-- an aggregate over the rows of a group
+abbrev pub aggregated : BoundAggregate → List (List Value) → Result Value Refusal
+aggregated CountRows rows = count_of rows
+aggregated (Count expression) rows = counted_over (value_at expression) rows
+aggregated (Sum expression) rows = summed_over (value_at expression) rows
+aggregated (Extreme best expression) rows = best_over (choice best) (value_at expression) rows
+
 -- an output over the rows of a group
 abbrev pub over : BoundOutput → List (List Value) → Result Value Refusal
 over (ValueOutput expression) rows = value_at expression (first_row rows)
-over CountRows rows = count_of rows
-over (Count expression) rows = counted_over (value_at expression) rows
-over (Sum expression) rows = summed_over (value_at expression) rows
-over (Extreme best expression) rows = best_over (choice best) (value_at expression) rows
+over (Aggregate aggregate) rows = aggregated aggregate rows
 
 abbrev pub list_over : BoundList → List (List Value) → Result (List Value) Refusal
 list_over All rows = Ok (first_row rows)

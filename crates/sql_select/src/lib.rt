@@ -25,6 +25,6 @@ pub use laws::{
 };
 pub use output_row::OutputRow;
 pub use output_rows::all_there_over_none;
-pub use outputs::{BoundList, BoundOutput};
+pub use outputs::{BoundAggregate, BoundList, BoundOutput};
 pub use row_key::RowKey;
 pub use selecting::{answer_of, select};

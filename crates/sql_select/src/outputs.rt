@@ -4,7 +4,7 @@ ghost use Rattle.std.specs.Prelude.{◌≡◌, IfOk, map};
 ghost use Rattle.retro_base.specs.Gives.{Gives};
 ghost use Rattle.sql_tree.specs.declared.select.Output.{Output as OutputRecord};
 ghost use Rattle.evaluation.specs.Bound.{value_at};
-ghost use Rattle.sql_select.specs.Bound.{list_over, over};
+ghost use Rattle.sql_select.specs.Bound.{aggregated, list_over, over};
 ghost use Rattle.sql_select.specs.Each.{each};
 ghost use Rattle.sql_select.specs.Outputs.{aggregate_over, first_row, is_there_over_none, output_over, outputs_over};
 
@@ -15,15 +15,70 @@ use sql_tree::{Aggregate, Output, OutputValue, Scope, SelectList};
 use std::alloc::{AllocError, Global};
 use values::{Row, Seq, Value};
 
+/// An aggregate whose names are bound.
+#[derive(Debug, Drop)]
+pub enum BoundAggregate {
+    CountRows,
+    Count(BoundExpression),
+    Sum(BoundExpression),
+    Extreme(Best, BoundExpression),
+}
+
+impl BoundAggregate {
+    /// The aggregate over the columns of a scope; `snapshot` is the number of `current_snapshot()`.
+    pub fn bind(
+        alloc: Global,
+        scope: &Scope<'_>,
+        snapshot: Option<u32>,
+        aggregate: &Aggregate,
+    ) -> Result<BoundAggregate, AllocError>
+        ensures { IfOk result (λ bound. aggregated bound
+            ≡ (λ rows. aggregate_over scope.now snapshot rows aggregate.now)) }
+    {
+        match aggregate {
+            Aggregate::CountRows => Ok(BoundAggregate::CountRows),
+            Aggregate::Count(of) => {
+                let of = BoundExpression::bind(alloc, scope, snapshot, of)?;
+                Ok(BoundAggregate::Count(of))
+            }
+            Aggregate::Sum(of) => {
+                let of = BoundExpression::bind(alloc, scope, snapshot, of)?;
+                Ok(BoundAggregate::Sum(of))
+            }
+            Aggregate::Min(of) => {
+                let of = BoundExpression::bind(alloc, scope, snapshot, of)?;
+                Ok(BoundAggregate::Extreme(Best::Least, of))
+            }
+            Aggregate::Max(of) => {
+                let of = BoundExpression::bind(alloc, scope, snapshot, of)?;
+                Ok(BoundAggregate::Extreme(Best::Greatest, of))
+            }
+        }
+    }
+
+    fn over(
+        &self,
+        alloc: Global,
+        rows: &[JoinedRow<'_>],
+        stack: &mut Stack<Value>,
+    ) -> Result<Value, Refusal>
+        ensures { Gives (λ value. value) result (aggregated self.now rows.now) }
+    {
+        match self {
+            BoundAggregate::CountRows => count(rows.len()),
+            BoundAggregate::Count(of) => count_over(alloc, of, rows, stack),
+            BoundAggregate::Sum(of) => sum_over(alloc, of, rows, stack),
+            BoundAggregate::Extreme(best, of) => best_over(alloc, *best, of, rows, stack),
+        }
+    }
+}
+
 /// An output whose names are bound.
 #[derive(Debug, Drop)]
 pub enum BoundOutput {
     /// The value at the group's first row.
     Value(BoundExpression),
-    CountRows,
-    Count(BoundExpression),
-    Sum(BoundExpression),
-    Extreme(Best, BoundExpression),
+    Aggregate(BoundAggregate),
 }
 
 impl BoundOutput {
@@ -40,36 +95,10 @@ impl BoundOutput {
                 let of = BoundExpression::bind(alloc, scope, snapshot, of)?;
                 Ok(BoundOutput::Value(of))
             }
-            OutputValue::Aggregate(of) => bind_aggregate(alloc, scope, snapshot, of),
-        }
-    }
-}
-
-fn bind_aggregate(
-    alloc: Global,
-    scope: &Scope<'_>,
-    snapshot: Option<u32>,
-    aggregate: &Aggregate,
-) -> Result<BoundOutput, AllocError>
-    ensures { IfOk result (λ bound. over bound ≡ (λ rows. aggregate_over scope.now snapshot rows aggregate.now)) }
-{
-    match aggregate {
-        Aggregate::CountRows => Ok(BoundOutput::CountRows),
-        Aggregate::Count(of) => {
-            let of = BoundExpression::bind(alloc, scope, snapshot, of)?;
-            Ok(BoundOutput::Count(of))
-        }
-        Aggregate::Sum(of) => {
-            let of = BoundExpression::bind(alloc, scope, snapshot, of)?;
-            Ok(BoundOutput::Sum(of))
-        }
-        Aggregate::Min(of) => {
-            let of = BoundExpression::bind(alloc, scope, snapshot, of)?;
-            Ok(BoundOutput::Extreme(Best::Least, of))
-        }
-        Aggregate::Max(of) => {
-            let of = BoundExpression::bind(alloc, scope, snapshot, of)?;
-            Ok(BoundOutput::Extreme(Best::Greatest, of))
+            OutputValue::Aggregate(of) => {
+                let of = BoundAggregate::bind(alloc, scope, snapshot, of)?;
+                Ok(BoundOutput::Aggregate(of))
+            }
         }
     }
 }
@@ -160,10 +189,7 @@ fn output_over(
 {
     match output {
         BoundOutput::Value(of) => value_at_first(alloc, of, rows, stack),
-        BoundOutput::CountRows => count(rows.len()),
-        BoundOutput::Count(of) => count_over(alloc, of, rows, stack),
-        BoundOutput::Sum(of) => sum_over(alloc, of, rows, stack),
-        BoundOutput::Extreme(best, of) => best_over(alloc, *best, of, rows, stack),
+        BoundOutput::Aggregate(of) => of.over(alloc, rows, stack),
     }
 }
 

@@ -162,24 +162,13 @@ fn ordered_front<'a>(
     ensures rows { IfOk result (λ found. found.items ≡ limited limit (sorted_by keys.now rows.entry.items)) }
     ensures memory { IfErr result (λ why. why ≡ OutOfMemory) }
 {
+    let mut rows = rows;
     match limit {
         Some(limit) if limit <= FEW && !keys.is_empty() => {
-            first_few(alloc, rows, keys, limit as usize)
+            return first_few(alloc, rows, keys, limit as usize);
         }
-        _ => sorted_front(keys, rows, limit),
+        _ => sort(&mut rows, keys)?,
     }
-}
-
-fn sorted_front<'a>(
-    keys: &[SortKey],
-    rows: Vec<OutputRow<'a>>,
-    limit: Option<u64>,
-) -> Result<Vec<OutputRow<'a>>, Refusal>
-    ensures rows { IfOk result (λ found. found.items ≡ limited limit (sorted_by keys.now rows.entry.items)) }
-    ensures memory { IfErr result (λ why. why ≡ OutOfMemory) }
-{
-    let mut rows = rows;
-    sort(&mut rows, keys)?;
     if let Some(limit) = limit {
         rows.truncate(limit as usize);
     }

@@ -19,19 +19,20 @@ use Rattle.sql_select.specs.Each.{each}
 use Rattle.sql_select.specs.Outputs.{is_there_over_none, outputs_over}
 use Rattle.sql_select.specs.Rows.{holds_at, kept}
 use Rattle.sql_select.specs.declared.output_row.OutputRow.{OutputRow}
+use Rattle.sql_select.specs.declared.outputs.BoundAggregate.TheVariants as bound
 use Rattle.sql_select.specs.declared.outputs.BoundList.TheVariants.{Outputs}
 use Rattle.sql_select.specs.declared.outputs.BoundOutput.{BoundOutput}
-use Rattle.sql_select.specs.declared.outputs.BoundOutput.TheVariants as output
+use Rattle.sql_select.specs.declared.outputs.BoundOutput.TheVariants.{Aggregate}
 use Rattle.sql_totals.specs.declared.totals.Total.{Total}
 use Rattle.sql_totals.specs.declared.totals.Total.TheVariants.{CountRows, Count, Sum, Extreme}
 use Rattle.sql_totals.specs.declared.totals.Totals.{Totals}
 
 -- the output that a total is of
 abbrev pub output_of : Total → BoundOutput
-output_of CountRows = output.CountRows
-output_of (Count expression) = output.Count expression
-output_of (Sum so_far) = output.Sum so_far.of
-output_of (Extreme which expression best) = output.Extreme which expression
+output_of CountRows = Aggregate bound.CountRows
+output_of (Count expression) = Aggregate (bound.Count expression)
+output_of (Sum so_far) = Aggregate (bound.Sum so_far.of)
+output_of (Extreme which expression best) = Aggregate (bound.Extreme which expression)
 
 -- the best of some values; none of no values
 abbrev pub best_so_far : (Value → Value → Value) → List Value → Option Value

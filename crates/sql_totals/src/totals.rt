@@ -12,8 +12,9 @@ ghost use Rattle.values.specs.declared.value.Value.{Value as ValueRecord};
 ghost use Rattle.evaluation.specs.Bound.{value_at};
 ghost use Rattle.sql_select.specs.Bound.{choice, over};
 ghost use Rattle.sql_select.specs.Each.{each};
-ghost use Rattle.sql_select.specs.Outputs.{aggregate_over, output_over};
+ghost use Rattle.sql_select.specs.Outputs.{output_over};
 ghost use Rattle.sql_select.specs.Select.{answer};
+ghost use Rattle.sql_select.specs.declared.outputs.BoundOutput.TheVariants.{Aggregate as AggregateOutput};
 ghost use Rattle.sql_totals.specs.Totals.{AreOf, IsOver, added, best_with, counted, is_of_one_group, is_summable};
 ghost use Rattle.sql_totals.specs.Totals.{output_of, rows_after, tally, tally_with, value_after, wide, with_row};
 ghost use Rattle.sql_totals.specs.declared.totals.Total.TheVariants.{Count as CountTotal};
@@ -21,9 +22,10 @@ ghost use Rattle.sql_totals.specs.declared.totals.Total.TheVariants.{Count as Co
 use evaluation::{BoundExpression, JoinedRow, Stack, Worked};
 use retro_base::Refusal;
 use sql_select::{
-    Answer, Best, Filter, OutputRow, all_there_over_none, answer_of, better, count, whole,
+    Answer, Best, BoundAggregate, Filter, OutputRow, all_there_over_none, answer_of, better, count,
+    whole,
 };
-use sql_tree::{Aggregate, Column, Output, OutputValue, Scope, Select};
+use sql_tree::{Column, Output, OutputValue, Scope, Select};
 use std::alloc::{AllocError, Global};
 use values::{Duplicate, Row, Seq, Value};
 
@@ -46,33 +48,14 @@ pub(crate) enum Total {
 
 impl Total {
     // The total of no rows.
-    fn bind(
-        alloc: Global,
-        scope: &Scope<'_>,
-        snapshot: Option<u32>,
-        aggregate: &Aggregate,
-    ) -> Result<Total, AllocError>
-        ensures { IfOk result (λ total. (over (output_of total)
-            ≡ (λ rows. aggregate_over scope.now snapshot rows aggregate.now)) × IsOver [] total) }
+    fn of_none(aggregate: BoundAggregate) -> Total
+        ensures { (output_of result ≡ AggregateOutput aggregate) × IsOver [] result }
     {
         match aggregate {
-            Aggregate::CountRows => Ok(Total::CountRows),
-            Aggregate::Count(of) => {
-                let of = BoundExpression::bind(alloc, scope, snapshot, of)?;
-                Ok(Total::Count(of))
-            }
-            Aggregate::Sum(of) => {
-                let of = BoundExpression::bind(alloc, scope, snapshot, of)?;
-                Ok(Total::Sum(SumSoFar { of, sum: 0 }))
-            }
-            Aggregate::Min(of) => {
-                let of = BoundExpression::bind(alloc, scope, snapshot, of)?;
-                Ok(Total::Extreme(Best::Least, of, None))
-            }
-            Aggregate::Max(of) => {
-                let of = BoundExpression::bind(alloc, scope, snapshot, of)?;
-                Ok(Total::Extreme(Best::Greatest, of, None))
-            }
+            BoundAggregate::CountRows => Total::CountRows,
+            BoundAggregate::Count(of) => Total::Count(of),
+            BoundAggregate::Sum(of) => Total::Sum(SumSoFar { of, sum: 0 }),
+            BoundAggregate::Extreme(which, of) => Total::Extreme(which, of, None),
         }
     }
 
@@ -271,7 +254,8 @@ fn bind_totals(
         let OutputValue::Aggregate(aggregate) = &output.value else {
             return Ok(None);
         };
-        totals.push(Total::bind(alloc, scope, snapshot, aggregate)?)?;
+        let bound = BoundAggregate::bind(alloc, scope, snapshot, aggregate)?;
+        totals.push(Total::of_none(bound))?;
     }
     Ok(Some(totals))
 }

@@ -1,5 +1,5 @@
 use Rattle.sql_select.proofs.BoundOutputs.{count-means, greatest-means, least-means, sum-means}
-use Rattle.sql_select.proofs.outputs.bind_aggregate.Goals as goal
+use Rattle.sql_select.proofs.outputs.BoundAggregate.bind.Goals as goal
 
 pub returns-in_ok-of-in-Count : goal.returns-in_ok-of-in-Count
 returns-in_ok-of-in-Count c = rw c.in-Count.is (count-means c.args.scope.now c.args.snapshot c.in_ok-of-in-Count.of c.in-Count.of c.in_ok-of-in-Count.ensures)
