@@ -1,11 +1,11 @@
 //! Aggregates over a table, added up while its rows are read.
 
-ghost use Rattle.std.specs.Prelude.{◌≡◌, ◌++◌, ◌∷◌, [], IfErr, IfOk, List, is_some, true};
+ghost use Rattle.std.specs.Prelude.{◌≡◌, ◌++◌, ◌∷◌, [], IfErr, IfOk, List, is_some};
 ghost use Rattle.heap_file.specs.declared.chain.Placed.{Placed};
 ghost use Rattle.retro_base.specs.declared.refusal.Refusal.TheVariants.{OutOfMemory};
 ghost use Rattle.pager.specs.Stop.{Answers};
 ghost use Rattle.relation.specs.Catalog.{HaveFewColumns};
-ghost use Rattle.sql_exec.specs.Adding.{GoesOn, comes_before, summed};
+ghost use Rattle.sql_exec.specs.Adding.{GoesOn, added_or_not, comes_before, summed};
 ghost use Rattle.sql_exec.specs.Promises.{KeepsReading};
 ghost use Rattle.sql_exec.specs.Ranges.{plan_of};
 ghost use Rattle.sql_exec.specs.declared.adding.Adding.{Adding};
@@ -35,8 +35,8 @@ struct Adding {
 impl Adding {
     // Adds a row; whether it came in its place and was not refused.
     fn takes(&mut self, placed: &Placed) -> Result<bool, Refusal>
-        ensures takes { IfOk result (λ took. took ≡ true → (start : Adding) (rows : List Placed)
-            → GoesOn start rows self.old → GoesOn start (rows ++ placed.now ∷ []) self.new) }
+        ensures takes { IfOk result (λ took. (start : Adding) (rows : List Placed) → GoesOn start rows self.old
+            → added_or_not took start (rows ++ placed.now ∷ []) self.new) }
         ensures memory { IfErr result (λ why. why ≡ OutOfMemory) }
     {
         if comes_before(placed, self.last) {
@@ -79,7 +79,7 @@ impl Sieve for Adding {
 
 /// The answer of a select that was checked against that catalog, where its aggregates can be added up as the rows of
 /// its table are read: it has one table and no GROUP BY, its outputs are aggregates, no index has bounds for its rows,
-/// and these come in rising number and are not refused. Else none.
+/// and these come in rising number and are not refused. Else none, and only else.
 pub(crate) fn summed<P: Pager>(
     alloc: Global,
     query: &Select,
@@ -99,13 +99,13 @@ pub(crate) fn summed<P: Pager>(
         return Ok(None);
     };
     let schema = schema_of(alloc, table)?;
+    if has_plan(alloc, query, &schema, table)? {
+        return Ok(None);
+    }
     let scope = Scope::of_one(&schema);
     let Some(totals) = Totals::bind(alloc, query, &scope, snapshot)? else {
         return Ok(None);
     };
-    if has_plan(alloc, query, &schema, table)? {
-        return Ok(None);
-    }
     let adding = Adding {
         alloc,
         totals,

@@ -1,8 +1,7 @@
 //! Selects alone.
 
 ghost use Rattle.retro_base.specs.Gives.{Gives};
-ghost use Rattle.std.specs.Option.{option_copied};
-ghost use Rattle.std.specs.Prelude.{◌≡◌, ◌≤◌, length};
+ghost use Rattle.std.specs.Prelude.{◌≡◌, ◌≤◌, None, length};
 ghost use Rattle.retro_base.specs.declared.limits.TheConstants.{COLUMNS};
 ghost use Rattle.pager.specs.Stop.{Answers};
 ghost use Rattle.relation.specs.Catalog.{HaveFewColumns};
@@ -68,24 +67,26 @@ fn answer_of_rows<P: Pager>(
         (answered (P.size pager.old) catalog.now query.now snapshot) result }
     ensures reads { KeepsReading P.tells P.goes P.size P.faults pager.old pager.new result }
 {
-    let condition = where_alone(query);
+    let all = None;
+    let condition = where_alone(query, &all);
     let first = read_table(alloc, pager, catalog, &query.table, snapshot, condition)?;
     match &query.second {
         None => Ok(over_one(alloc, query, snapshot, &first)?),
         Some(name) => {
-            let second = read_table(alloc, pager, catalog, name, snapshot, None)?;
+            let second = read_table(alloc, pager, catalog, name, snapshot, &all)?;
             Ok(over_two(alloc, query, snapshot, &first, &second)?)
         }
     }
 }
 
-// WHERE, where it speaks of one table alone.
-fn where_alone(query: &Select) -> Option<&Condition>
-    ensures { option_copied result ≡ where_alone query.now }
+// WHERE, where it speaks of one table alone; else that of all rows.
+fn where_alone<'a>(query: &'a Select, all: &'a Option<Condition>) -> &'a Option<Condition>
+    requires { all.now ≡ None }
+    ensures { result.now ≡ where_alone query.now }
 {
     match &query.second {
-        None => query.condition.as_ref(),
-        Some(_) => None,
+        None => &query.condition,
+        Some(_) => all,
     }
 }
 

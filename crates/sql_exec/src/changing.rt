@@ -1,27 +1,28 @@
 //! Statements that change rows and take rows out.
 
-ghost use Rattle.std.specs.Prelude.{◌≡◌, Ok};
+ghost use Rattle.std.specs.Prelude.{◌≡◌, ◌∷◌, [], Ok};
 ghost use Rattle.retro_base.specs.Gives.{Gives};
 ghost use Rattle.sql_tree.specs.declared.statement.Statement.TheVariants as statement_of;
 ghost use Rattle.sql_check.specs.Check.{checked};
 ghost use Rattle.relation.specs.Catalog.{HaveFewColumns, schema_of};
 ghost use Rattle.pager.specs.Stop.{Makes};
 ghost use Rattle.sql_select.specs.Bound.{keeps};
+ghost use Rattle.sql_select.specs.Rows.{holds_at};
 ghost use Rattle.tables.specs.Bound.{assigns};
 ghost use Rattle.sql_exec.specs.Bound.{placed_changes_by, placed_gone_by};
 ghost use Rattle.sql_exec.specs.Planning.{picked};
 ghost use Rattle.sql_exec.specs.Promises.{Keeps};
-ghost use Rattle.sql_exec.specs.Running.{at_table, deleted_from, placed_changes, placed_gone, updated_in};
+ghost use Rattle.sql_exec.specs.Running.{at_table, deleted_from, placed_changes, updated_in};
 
 use crate::lengths::check_changes;
-use crate::reading::read_rows;
+use crate::reading::{filter_of, read_rows};
 use crate::source::schema_of;
 use evaluation::{JoinedRow, Stack};
 use pager::{EditPager, Stop};
 use relation::{Catalog, Placed, RowChange, delete, update};
 use retro_base::Refusal;
 use sql_select::Filter;
-use sql_tree::{Delete, Scope, TableSchema, Update};
+use sql_tree::{Delete, TableSchema, Update};
 use std::alloc::Global;
 use tables::{BoundAssignments, Reply};
 use tree_index::TreeIndex;
@@ -43,27 +44,14 @@ pub fn delete_rows<P: EditPager>(
         return Err(Stop::Refused(Refusal::UnknownName));
     };
     let schema = schema_of(alloc, table)?;
-    let condition = query.condition.as_ref();
-    let rows = read_rows(alloc, pager, table, &schema, snapshot, condition)?;
-    let gone = gone_of(alloc, &schema, snapshot, query, rows)?;
+    let filter = filter_of(alloc, &schema, snapshot, &query.condition)?;
+    let rows = read_rows(alloc, pager, table, &schema, &filter, &query.condition)?;
+    let gone = gone_by(alloc, &filter, rows)?;
     delete::<TreeIndex, P>(alloc, pager, table, &gone)?;
     Ok(Reply::Count(gone.len() as u64))
 }
 
-// The rows for which the condition holds.
-fn gone_of(
-    alloc: Global,
-    table: &TableSchema,
-    snapshot: Option<u32>,
-    query: &Delete,
-    rows: Vec<Placed>,
-) -> Result<Vec<Placed>, Refusal>
-    ensures { Gives (λ gone. gone.items) result (picked (placed_gone table.now snapshot query.now) rows.items) }
-{
-    let filter = Filter::bind(alloc, &Scope::of_one(table), snapshot, &query.condition)?;
-    gone_by(alloc, &filter, rows)
-}
-
+// The rows that the filter keeps.
 fn gone_by(alloc: Global, filter: &Filter, rows: Vec<Placed>) -> Result<Vec<Placed>, Refusal>
     ensures { Gives (λ gone. gone.items) result (picked (placed_gone_by (keeps filter.now)) rows.items) }
 {
@@ -96,30 +84,31 @@ pub fn update_rows<P: EditPager>(
         return Err(Stop::Refused(Refusal::UnknownName));
     };
     let schema = schema_of(alloc, table)?;
-    let condition = query.condition.as_ref();
-    let rows = read_rows(alloc, pager, table, &schema, snapshot, condition)?;
-    let changes = changes_of(alloc, &schema, snapshot, query, rows)?;
+    let filter = filter_of(alloc, &schema, snapshot, &query.condition)?;
+    let rows = read_rows(alloc, pager, table, &schema, &filter, &query.condition)?;
+    let changes = changes_of(alloc, &schema, snapshot, query, &filter, rows)?;
     check_changes(&changes)?;
     let count = changes.len() as u64;
     update::<TreeIndex, P>(alloc, pager, table, changes)?;
     Ok(Reply::Count(count))
 }
 
-// The rows for which the condition holds, and what they become with their values set.
+// The rows that the filter keeps, and what they become with their values set.
 fn changes_of(
     alloc: Global,
     table: &TableSchema,
     snapshot: Option<u32>,
     query: &Update,
+    filter: &Filter,
     rows: Vec<Placed>,
 ) -> Result<Vec<RowChange>, Refusal>
+    requires { keeps filter.now ≡ holds_at (table.now ∷ []) snapshot query.now.condition }
     ensures { Gives (λ changes. changes.items) result
         (picked (placed_changes table.now snapshot query.now) rows.items) }
 {
-    let filter = Filter::bind(alloc, &Scope::of_one(table), snapshot, &query.condition)?;
     let assignments = query.assignments.as_slice();
     let assignments = BoundAssignments::bind(alloc, table, snapshot, assignments)?;
-    changes_by(alloc, &filter, &assignments, rows)
+    changes_by(alloc, filter, &assignments, rows)
 }
 
 fn changes_by(

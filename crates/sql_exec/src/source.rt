@@ -1,6 +1,5 @@
 //! The tables that a select reads.
 
-ghost use Rattle.std.specs.Option.{option_copied};
 ghost use Rattle.std.specs.Prelude.{◌≡◌, ◌≤◌, map, length, IfOk};
 ghost use Rattle.retro_base.specs.declared.limits.TheConstants.{COLUMNS};
 ghost use Rattle.pager.specs.Stop.{Answers};
@@ -9,7 +8,7 @@ ghost use Rattle.relation.specs.Catalog.{HaveFewColumns, table_named};
 ghost use Rattle.sql_exec.specs.Bound.{source_left};
 ghost use Rattle.sql_exec.specs.Promises.{KeepsReading};
 
-use crate::reading::read_rows;
+use crate::reading::{filter_of, read_rows};
 use pager::{Pager, Stop};
 use relation::{Catalog, Placed, StoredTable};
 use retro_base::Refusal;
@@ -32,12 +31,12 @@ pub fn read_table<P: Pager>(
     catalog: &Catalog,
     name: &Name,
     snapshot: Option<u32>,
-    condition: Option<&Condition>,
+    condition: &Option<Condition>,
 ) -> Result<Source, Stop<P::Fault>>
     requires { HaveFewColumns catalog.now.tables }
     ensures source { Answers (λ source. source) (P.tells pager.new)
         (λ pages. source_left (P.size pager.old) snapshot pages (table_named name.now catalog.now.tables)
-        (option_copied condition.entry)) result }
+        condition.now) result }
     ensures few { IfOk result (λ source. length source.schema.columns ≤ COLUMNS) }
     ensures reads { KeepsReading P.tells P.goes P.size P.faults pager.old pager.new result }
 {
@@ -45,7 +44,8 @@ pub fn read_table<P: Pager>(
         return Err(Stop::Refused(Refusal::UnknownName));
     };
     let schema = schema_of(alloc, table)?;
-    let rows = read_rows(alloc, pager, table, &schema, snapshot, condition)?;
+    let filter = filter_of(alloc, &schema, snapshot, condition)?;
+    let rows = read_rows(alloc, pager, table, &schema, &filter, condition)?;
     let rows = without_numbers(alloc, rows)?;
     Ok(Source { schema, rows })
 }

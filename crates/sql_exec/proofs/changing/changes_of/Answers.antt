@@ -2,7 +2,6 @@ use Rattle.std.proofs.Common.{◌∙◌, ◌∷◌, [], Bool, List, Result, Vec,
 use Rattle.retro_base.specs.Gives.{Gives}
 use Rattle.retro_base.specs.declared.refusal.Refusal.{Refusal}
 use Rattle.values.specs.declared.value.Value.{Value}
-use Rattle.sql_tree.specs.declared.schema.TableSchema.{TableSchema}
 use Rattle.sql_tree.specs.declared.statement.Assignment.{Assignment}
 use Rattle.relation.specs.declared.drafting.RowChange.{RowChange}
 use Rattle.sql_select.specs.Rows.{holds_at}
@@ -18,7 +17,7 @@ returns c =
     let update = c.args.query.now in
     let sets : List Assignment → List Value → Result (List Value) Refusal = λ assignments row. assigned table c.args.snapshot row assignments row in
     let kept = subst (λ (keeps : List Value → Result Bool Refusal). Gives (λ (changes : Vec RowChange Global). changes.items) c.changes_by.result (picked (placed_changes_by keeps (assigns c.in_ok-assignments.assignments)) c.args.rows.items))
-    (c.in_ok-filter.ensures ∙ ap (λ (scope : List TableSchema). holds_at scope c.args.snapshot update.condition) c.of_one.ensures)
+    c.requires
     c.changes_by.ensures in
     subst (λ (a : List Value → Result (List Value) Refusal). Gives (λ (changes : Vec RowChange Global). changes.items) c.changes_by.result (picked (placed_changes_by (holds_at (table ∷ []) c.args.snapshot update.condition) a) c.args.rows.items))
     (c.in_ok-assignments.ensures ∙ ap sets c.as_slice-assignments.ensures)
