@@ -1,5 +1,6 @@
 -- What a query gives at snapshots, and the forms of contracts over it.
-use Rattle.std.specs.Prelude.{◌≡◌, ◌⊎◌, ℕ, Bool, List, Result, Ok, Err, Contains}
+use Rattle.std.specs.Prelude.{◌≡◌, ◌⊎◌, ℕ, Bool, IsTrue, List, Result, Ok, Err, Contains}
+use Rattle.std.specs.List.{AllByRecursion}
 use Rattle.retro_base.specs.declared.refusal.Refusal.{Refusal}
 use Rattle.retro_base.specs.declared.refusal.Refusal.TheVariants.{OutOfMemory, NotAStore, UnknownName}
 use Rattle.retro_base.specs.declared.refusal.Refusal.TheVariants.{NameTaken, WrongType, Overflow, NotOneValue}
@@ -51,3 +52,14 @@ pub record OnlyAsks {A X F : Type 0} (may_ask : A → ℕ → Bool) (told : A �
   pub goes_on : goes old new
   pub cause : IsCaused (faults old) (faults new) result
   pub named : IsNamed allowed result
+
+-- each of these snapshots may be asked
+abbrev pub MayAskEach : {A : Type 0} → (A → ℕ → Bool) → A → List ℕ → Type 0
+MayAskEach may_ask asof snapshots = AllByRecursion (λ snapshot. IsTrue (may_ask asof snapshot)) snapshots
+
+-- a call over snapshots answers what it means by the query's answers there, and only asks
+pub record Combines {A F : Type 0} (may_ask : A → ℕ → Bool) (tells : A → Answers → Type 0) (goes : A → A → Type 0)
+    (faults : A → ℕ) (means : (ℕ → Result Answer Refusal) → List ℕ → Result Answer Refusal) (snapshots : List ℕ)
+    (query : Select) (old new : A) (result : Result Answer (Stop F)) : Type 0 where
+  pub told : Tells (λ answer. answer) (tells old) query (λ answers. means answers snapshots) result
+  pub only_asks : OnlyAsks may_ask tells goes faults (IsOfCall snapshots) old new result

@@ -1,9 +1,8 @@
 //! The answers one after the other.
 
-ghost use Rattle.std.specs.Prelude.{◌≡◌, IsTrue};
-ghost use Rattle.std.specs.List.{AllByRecursion};
+ghost use Rattle.std.specs.Prelude.{◌≡◌};
 ghost use Rattle.sql_tree.specs.Statement.{IsSelect};
-ghost use Rattle.rql.specs.AsOf.{IsOfCall, OnlyAsks, Tells};
+ghost use Rattle.rql.specs.AsOf.{Combines, MayAskEach};
 ghost use Rattle.rql.specs.Collate.{all_rows, collate, joined};
 
 use crate::as_of::AsOf;
@@ -75,11 +74,10 @@ pub fn collate<A: AsOf>(
     snapshots: &[u32],
     query: &Select,
 ) -> Result<Answer, Stop<A::Fault>>
-    requires asked { AllByRecursion (λ snapshot. IsTrue (A.may_ask asof.old snapshot)) snapshots.now }
+    requires asked { MayAskEach A.may_ask asof.old snapshots.now }
     requires query { IsSelect query.now }
-    ensures told { Tells (λ answer. answer) (A.told asof.old) query.now (λ answers. collate answers snapshots.now)
-        result }
-    ensures only_asks { OnlyAsks A.may_ask A.told A.goes A.faults (IsOfCall snapshots.now) asof.old asof.new result }
+    ensures { Combines A.may_ask A.told A.goes A.faults collate snapshots.now query.now asof.old
+        asof.new result }
 {
     let (columns, rows) = gather(alloc, asof, snapshots, query, &AllRows)?;
     let rows = Seq::from(rows);

@@ -1,9 +1,8 @@
 //! The rows of all answers, grouped, and one row of each group.
 
-ghost use Rattle.std.specs.Prelude.{◌≡◌, IfOk, IsTrue, map};
-ghost use Rattle.std.specs.List.{AllByRecursion};
+ghost use Rattle.std.specs.Prelude.{◌≡◌, IfOk, map};
 ghost use Rattle.sql_tree.specs.Statement.{IsSelect};
-ghost use Rattle.rql.specs.AsOf.{IsOfCall, OnlyAsks, Tells};
+ghost use Rattle.rql.specs.AsOf.{Combines, MayAskEach};
 ghost use Rattle.rql.specs.Collate.{joined};
 ghost use Rattle.rql.specs.Groups.{AreGroups};
 ghost use Rattle.rql.specs.Pairs.{function_of};
@@ -141,11 +140,10 @@ pub fn in_table<A: AsOf, F: Folds>(
     folds: &F,
     pairs: &[Pair],
 ) -> Result<Answer, Stop<A::Fault>>
-    requires asked { AllByRecursion (λ snapshot. IsTrue (A.may_ask asof.old snapshot)) snapshots.now }
+    requires asked { MayAskEach A.may_ask asof.old snapshots.now }
     requires query { IsSelect query.now }
-    ensures told { Tells (λ answer. answer) (A.told asof.old) query.now
-        (λ answers. in_table pairs.now answers snapshots.now) result }
-    ensures only_asks { OnlyAsks A.may_ask A.told A.goes A.faults (IsOfCall snapshots.now) asof.old asof.new result }
+    ensures { Combines A.may_ask A.told A.goes A.faults (in_table pairs.now) snapshots.now query.now asof.old
+        asof.new result }
 {
     let taking = PairedRows { folds, pairs };
     let (columns, groups) = gather(alloc, asof, snapshots, query, &taking)?;

@@ -1,10 +1,9 @@
 //! The one value of each answer, all of them in one.
 
-ghost use Rattle.std.specs.Prelude.{◌≡◌, ◌∷◌, [], IfErr, IfOk, IsTrue, codes};
-ghost use Rattle.std.specs.List.{AllByRecursion};
+ghost use Rattle.std.specs.Prelude.{◌≡◌, ◌∷◌, [], IfErr, IfOk, codes};
 ghost use Rattle.retro_base.specs.declared.refusal.Refusal.TheVariants.{NotOneValue};
 ghost use Rattle.sql_tree.specs.Statement.{IsSelect};
-ghost use Rattle.rql.specs.AsOf.{IsOfCall, IsOfQuery, OnlyAsks, Tells};
+ghost use Rattle.rql.specs.AsOf.{Combines, IsOfQuery, MayAskEach};
 ghost use Rattle.rql.specs.Tallies.{AreRowsOf, IsTally};
 ghost use Rattle.rql.specs.Variable.{adds_texts, in_variable, kind_of_result, one_value, only, value_of};
 
@@ -142,11 +141,10 @@ pub fn in_variable<A: AsOf, F: Folds>(
     folds: &F,
     function: Function,
 ) -> Result<Answer, Stop<A::Fault>>
-    requires asked { AllByRecursion (λ snapshot. IsTrue (A.may_ask asof.old snapshot)) snapshots.now }
+    requires asked { MayAskEach A.may_ask asof.old snapshots.now }
     requires query { IsSelect query.now }
-    ensures told { Tells (λ answer. answer) (A.told asof.old) query.now
-        (λ answers. in_variable function answers snapshots.now) result }
-    ensures only_asks { OnlyAsks A.may_ask A.told A.goes A.faults (IsOfCall snapshots.now) asof.old asof.new result }
+    ensures { Combines A.may_ask A.told A.goes A.faults (in_variable function) snapshots.now query.now asof.old
+        asof.new result }
 {
     let taking = OneValue { folds, function };
     let (columns, tally) = gather(alloc, asof, snapshots, query, &taking)?;

@@ -1,12 +1,11 @@
 //! The runs of answers in which a row stands.
 
-ghost use Rattle.std.specs.Prelude.{◌≡◌, ◌++◌, ◌<◌, IfOk, IsTrue, length, map};
-ghost use Rattle.std.specs.List.{AllByRecursion};
+ghost use Rattle.std.specs.Prelude.{◌≡◌, ◌++◌, ◌<◌, IfOk, length, map};
 ghost use Rattle.values.specs.declared.value.Kind.TheVariants as kind;
 ghost use Rattle.sql_check.specs.Names.{has_twins};
 ghost use Rattle.values.specs.Name.{IsName};
 ghost use Rattle.sql_tree.specs.Statement.{IsSelect};
-ghost use Rattle.rql.specs.AsOf.{IsOfCall, OnlyAsks, Tells};
+ghost use Rattle.rql.specs.AsOf.{Combines, MayAskEach};
 ghost use Rattle.rql.specs.Columns.{name_of};
 ghost use Rattle.rql_intervals.specs.Intervals.{RunsAreIntervals, answer_set, end_columns};
 ghost use Rattle.rql_intervals.specs.Intervals.{interval_columns, intervals, row_of_run};
@@ -144,11 +143,10 @@ pub fn intervals<A: AsOf>(
     snapshots: &[u32],
     query: &Select,
 ) -> Result<Answer, Stop<A::Fault>>
-    requires asked { AllByRecursion (λ snapshot. IsTrue (A.may_ask asof.old snapshot)) snapshots.now }
+    requires asked { MayAskEach A.may_ask asof.old snapshots.now }
     requires query { IsSelect query.now }
-    ensures told { Tells (λ answer. answer) (A.told asof.old) query.now (λ answers. intervals answers snapshots.now)
-        result }
-    ensures only_asks { OnlyAsks A.may_ask A.told A.goes A.faults (IsOfCall snapshots.now) asof.old asof.new result }
+    ensures { Combines A.may_ask A.told A.goes A.faults intervals snapshots.now query.now asof.old
+        asof.new result }
 {
     let (columns, runs) = gather(alloc, asof, snapshots, query, &AnswerSet { alloc })?;
     let columns = interval_columns(alloc, snapshots, columns)?;

@@ -13,15 +13,21 @@ use Rattle.rql.proofs.table.in_table.Goals as goal
 abbrev finish : List Pair → List Column × List (List (List Value)) → List (List Value) → Answer
 finish pairs found rows = record { columns = map (column_in pairs) found.0; rows = rows }
 
-pub returns-in_err-rows-clause-told : goal.returns-in_err-rows-clause-told
-returns-in_err-rows-clause-told g c = λ answers e.
-    let held = c.in_ok-columns.ensures.told answers e in
-    ends_refused (gathered (paired_rows c.args.pairs.now) (λ snapshot. answers snapshot c.args.query.now) c.args.snapshots.now) (λ found. table_rows (map (function_of c.args.pairs.now) found.0) (joined found.1)) (finish c.args.pairs.now)
-    (c.in_ok-columns.columns, held.0) held.3 c.in_err-rows.field-0.0 c.from_residual-in_err-rows.result c.from_residual-in_err-rows.ensures.1
-    (c.in_err-rows.ensures.exact (map (function_of c.args.pairs.now) c.in_ok-columns.columns) (joined held.0) held.2)
+pub returns-in_err-rows : goal.returns-in_err-rows
+returns-in_err-rows g c = record {
+  only_asks = search rules;
+  told = λ answers e.
+      let held = c.in_ok-columns.ensures.told answers e in
+      ends_refused (gathered (paired_rows c.args.pairs.now) (λ snapshot. answers snapshot c.args.query.now) c.args.snapshots.now) (λ found. table_rows (map (function_of c.args.pairs.now) found.0) (joined found.1)) (finish c.args.pairs.now)
+      (c.in_ok-columns.columns, held.0) held.3 c.in_err-rows.field-0.0 c.from_residual-in_err-rows.result c.from_residual-in_err-rows.ensures.1
+      (c.in_err-rows.ensures.exact (map (function_of c.args.pairs.now) c.in_ok-columns.columns) (joined held.0) held.2);
+}
 
-pub returns-clause-told : goal.returns-clause-told
-returns-clause-told g c = λ answers e.
-    let held = c.in_ok-columns.ensures.told answers e in
-    ends_made (gathered (paired_rows c.args.pairs.now) (λ snapshot. answers snapshot c.args.query.now) c.args.snapshots.now) (λ found. table_rows (map (function_of c.args.pairs.now) found.0) (joined found.1)) (finish c.args.pairs.now)
-    (c.in_ok-columns.columns, held.0) held.3 c.in_ok-rows.rows _ (c.in_ok-rows.ensures.exact (map (function_of c.args.pairs.now) c.in_ok-columns.columns) (joined held.0) held.2) (search rules)
+pub returns : goal.returns
+returns g c = record {
+  only_asks = search rules;
+  told = λ answers e.
+      let held = c.in_ok-columns.ensures.told answers e in
+      ends_made (gathered (paired_rows c.args.pairs.now) (λ snapshot. answers snapshot c.args.query.now) c.args.snapshots.now) (λ found. table_rows (map (function_of c.args.pairs.now) found.0) (joined found.1)) (finish c.args.pairs.now)
+      (c.in_ok-columns.columns, held.0) held.3 c.in_ok-rows.rows _ (c.in_ok-rows.ensures.exact (map (function_of c.args.pairs.now) c.in_ok-columns.columns) (joined held.0) held.2) (search rules);
+}
