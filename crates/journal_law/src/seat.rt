@@ -50,6 +50,8 @@ pub trait Seat {
     // How many seats the store has.
     ghost seats: { Self → ℕ };
 
+    ghost seats_stay: { (s t : Self) → goes s t → seats s ≡ seats t };
+
     /// How many pages the store has.
     fn pages(&self) -> u32
         ensures { result ≡ (view self.now).opened.base.page_count };

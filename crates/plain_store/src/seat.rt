@@ -12,6 +12,7 @@ use retro_base::{Page, Refusal, Who};
 use values::Seq;
 
 impl Seat for PlainStore {
+    ghost use Rattle.std.specs.Prelude.{refl};
     ghost use Rattle.plain_store.specs.Frames.{goes_on, stays};
     ghost use Rattle.plain_store.specs.Plain.{view_of};
     ghost use Rattle.plain_store.specs.Turns.{GoesOn};
@@ -21,6 +22,8 @@ impl Seat for PlainStore {
     ghost goes = { GoesOn };
 
     ghost seats = { λ store. 1 };
+
+    ghost seats_stay = { λ s t goes. refl };
 
     ghost stays = { stays };
 

@@ -10,6 +10,7 @@ use Rattle.block_file.specs.Blocks.{File, IsAsLong}
 use Rattle.disk_model.specs.declared.four.Four.{Four}
 use Rattle.disk_model.specs.Disk.{IsImage, State}
 use Rattle.disk_model.specs.Moments.{Clock, LeavesOnly}
+use Rattle.disk_model.specs.Runs.{OnlyReads}
 use Rattle.retro_base.specs.declared.refusal.Refusal.{Refusal}
 use Rattle.retro_base.specs.declared.refusal.Refusal.TheVariants.{DiskFault, OutOfMemory, Stopped}
 use Rattle.retro_base.specs.declared.who.Who.{Who}
@@ -47,13 +48,12 @@ use Rattle.store.specs.declared.carrying.Carried.TheVariants.{Entered, Laid, The
 use Rattle.store.specs.declared.desk_side.DeskSide.{DeskSide}
 use Rattle.store.specs.declared.start.Start.{Start}
 use Rattle.store.specs.Calls.{CommitDoes, CommitMakes, refused_so}
-use Rattle.store.specs.Carrying.{IsCarried, IsNotCarried, IsToEnter, IsToLay}
+use Rattle.store.specs.Carrying.{Carries, IsBatchIn, IsCarried, IsNotCarried, IsToEnter, IsToLay}
 use Rattle.store.specs.Crashes.{HoldWorld}
-use Rattle.store.specs.Moments.{ArchiveLeft, BesideOpens, CarryOpens, CommitOpens, CutOpens, DeskLeft, DropOpens, EditOpens, KeepsDevices, LeftByArchive, LeftByCore, MayDoubt, NoChange, OneChange, PeekOpens, QuietOpens, ReadOpens, SettleOpens, VisitOpens, WriteBackOpens}
+use Rattle.store.specs.Moments.{ArchiveLeft, BesideOpens, CarryOpens, CommitOpens, CutOpens, DeskLeft, DropOpens, EditOpens, KeepsDevices, LeftByArchive, LeftByCore, LookUpOpens, MayDoubt, NoChange, OneChange, PeekOpens, QuietOpens, ReadOpens, SettleOpens, VisitOpens, WriteBackOpens}
 use Rattle.store.specs.Opening.{IsHonestlyOpened}
 use Rattle.store.specs.RoundCalls.{CutDoes, CutsBelow, DropDoes, SettleDoes, WriteBackDoes, free_bytes}
-use Rattle.store.specs.Rounds.{CarriesIn}
-use Rattle.store.specs.Seats.{ArchiveBeside, DeskSideBeside, Sat, journal}
+use Rattle.store.specs.Seats.{ArchiveBeside, DeskSideBeside, Sat, VisitedVault, journal}
 use Rattle.store.specs.Start.{IsCoreFrom, IsLaterArchive, IsVaultFrom, Origin}
 use Rattle.store.specs.Within.{AtRest, InChange, InCut, InEntering, InLaying, InSettling, InWriteBack, LeftOfDesk, Quiet}
 use Rattle.store.proofs.Batches.{vault_goes}
@@ -170,7 +170,7 @@ module _ {D : Type 0} (is_honest : D → Type 0) (state : D → State) (faults :
 
       commits_made : (who : Who) (label : Option (List ℕ)) (t : Transaction) (result : Result (Option ℕ) Refusal) → CommitMakes is_honest state faults remembers clock who label t result before.core after_.core → after_.core.desk.pool.file ≡ before.core.desk.pool.file
           → (leaves : Bool) → leaves_record label t.edits ≡ leaves → Found (OneChange (Commit label t.edits))
-      commits_made who label t result makes file false none = desk_rests (makes.nothing none)
+      commits_made who label t result makes file false none = desk_rests (makes.nothing none).1
       commits_made who label t result makes file true some = ⊎_elim (λ same. core_rests same)
           (λ may. in_change (Commit label t.edits) may file ((makes.any_moment origin.history from.plain from.is some log_honest).each devices.log left.log)) (commit_follows who label t result some makes)
 
@@ -272,16 +272,10 @@ module _ {D : Type 0} (is_honest : D → Type 0) (state : D → State) (faults :
 
     -- ---- visits to the vault
 
-    module _ (batch : Batch) (result : Result Carried Fault) (z : TableId) (s0 s1 : Sat D) (visit : CarriesIn is_honest state faults z remembers clock batch result s0 s1) (start : Start D) (is : opening s0 ≡ Some start) (origin : Origin)
-        (devices : Four (List ℕ)) (begun : IsHonestlyOpened is_honest state start origin) (left : LeftByArchive clock visit.before visit.after devices) where
-      abbrev Old : Running D
-      Old = visit.before
-
-      abbrev New : Running D
-      New = visit.after
-
+    module _ (z : TableId) (s0 s1 : Sat D) (Old New : Running D) (visited : VisitedVault is_honest state faults z s0 s1 Old New) (start : Start D) (is : opening s0 ≡ Some start) (origin : Origin)
+        (devices : Four (List ℕ)) (begun : IsHonestlyOpened is_honest state start origin) (left : LeftByArchive clock Old New devices) where
       abbrev Near : DeskSideBeside is_honest state faults Old start (seen s1)
-      Near = (visit.visited.beside start is).0
+      Near = (visited.beside start is).0
 
       abbrev Here : History
       Here = after_journal origin.history (journal Near.side)
@@ -304,61 +298,76 @@ module _ {D : Type 0} (is_honest : D → Type 0) (state : D → State) (faults :
       maplog_rests : New.side ≡ Old.side → IsImage (state Old.side.disk) devices.maplog
       maplog_rests same = only_now Old.side.disk devices.maplog maplog_honest (subst (λ (x : Side D). (clock x.disk).left_since (clock Old.side.disk).moment devices.maplog) same left.maplog)
 
-      batch_fits : BatchFits Here batch
-      batch_fits =
-          let b = (visit.is_batch start is).fits origin begun.opened in
-          subst (λ (l : List Line). BatchFits (after_journal origin.history l) batch) (sym (visit.visited.beside start is).1)
-          (subst (λ (images : List PageImage). BatchFits (after_journal origin.history (seen s1)) (record batch { images = images })) (b.bytes begun.honest.pages) b.fits)
-
-      first_is : Old.side.held ≤ batch.first → batch.first ≡ end_of from_vault.vault.mappings
-      first_is none = let known = (visit.is_batch start is).known in let held = from_vault.is.mapped.shows.end in omega (arith, none, known, held)
-
-      archive_quiet : New ≡ Old → ArchiveLeft is_honest state Old Near.side origin devices
-      archive_quiet same =
-          let slots = slots_rest (ap (λ (a : Running D). a.pagelog) same) in
-          record { from = from_vault; left = Quiet slots (maplog_rests (ap (λ (a : Running D). a.side) same)); long = slots.size }
-
-      archive_laying : IsToLay batch Old → New.side ≡ Old.side → ArchiveLeft is_honest state Old Near.side origin devices
-      archive_laying to same = record {
-        from = from_vault;
-        left = InLaying batch batch_fits (vault_goes is_honest state Old from_vault.vault from_vault.is to.0.goes) (record { first = first_is to.0.none })
-            ((visit.carries.laying from_vault.vault from_vault.is to slots_honest).each devices.pagelog left.pagelog) (maplog_rests same);
-        long = (visit.carries.long to slots_honest).each devices.pagelog left.pagelog;
-      }
-
-      archive_entering : IsToEnter batch Old → New.pagelog ≡ Old.pagelog → ArchiveLeft is_honest state Old Near.side origin devices
-      archive_entering to same =
-          let slots = slots_rest same in
-          let laid = from_vault.is.laid in let enough = to.1 in
-          record {
-            from = from_vault;
-            left = InEntering batch batch_fits (record { first = first_is to.0.none; laid = omega (arith, laid, enough) }) slots ((visit.carries.entering from_vault.vault from_vault.is to maplog_honest).each devices.maplog left.maplog);
-            long = slots.size;
-          }
-
-      refused_left : (why : Refusal) → IsNotCarried faults batch Old New why → ArchiveLeft is_honest state Old Near.side origin devices
-      refused_left (Stopped device count) so = archive_quiet so.2
-      refused_left OutOfMemory so = archive_entering so.0 so.1
-      refused_left (DiskFault device count) so = ⊎_elim (λ lay. archive_laying lay.0 lay.1) (λ enter. archive_entering enter.0 enter.1) so
-      refused_left _ so = absurd so
-
-      archive_left : (r : Result Carried Fault) → MatchResult r (IsCarried batch Old New) (λ fault. IsNotCarried faults batch Old New fault.why) → ArchiveLeft is_honest state Old Near.side origin devices
-      archive_left (Ok There) done = archive_quiet done.1
-      archive_left (Ok Laid) done = archive_laying done.0 done.1
-      archive_left (Ok (Entered count)) done = archive_entering done.0 done.1
-      archive_left (Err fault) so = refused_left fault.why so
+      archive_rests : IsImage (state Old.pagelog.disk) devices.pagelog → New.side ≡ Old.side → ArchiveLeft is_honest state Old Near.side origin devices
+      archive_rests slots same = record { from = from_vault; left = Quiet slots (maplog_rests same); long = slots.size }
 
       abbrev near_archive : ArchiveBeside is_honest state faults Near.side 0
       near_archive = record {
         archive = Old;
         stands = Near.vault;
-        later = subst (λ (s : Start D). IsLaterArchive faults s.archive.value Old) (sym Near.begun) (visit.visited.later start is);
+        later = subst (λ (s : Start D). IsLaterArchive faults s.archive.value Old) (sym Near.begun) (visited.later start is);
         acked = Near.acked;
         held = omega arith;
       }
 
-      opens_there : (doubt : Option Change) → DeskLeft is_honest state Near.side origin doubt devices → HoldWorld origin.log devices Here doubt
-      opens_there doubt desk = beside_opens Near.side 0 near_archive origin devices doubt Near.stands begun_there desk (archive_left result visit.carries.outcome)
+      opens_there : (doubt : Option Change) → ArchiveLeft is_honest state Old Near.side origin devices → DeskLeft is_honest state Near.side origin doubt devices → HoldWorld origin.log devices Here doubt
+      opens_there doubt archive desk = beside_opens Near.side 0 near_archive origin devices doubt Near.stands begun_there desk archive
+
+      -- where a page was looked up
+      looked_left : New ≡ record Old { pagelog = New.pagelog } → (is_honest Old.pagelog.disk → OnlyReads remembers state clock Old.pagelog.disk New.pagelog.disk) → ArchiveLeft is_honest state Old Near.side origin devices
+      looked_left same quiet = archive_rests ((quiet slots_honest).any_moment.each devices.pagelog left.pagelog) (ap (λ (a : Running D). a.side) same)
+
+      -- with a batch
+      module _ (batch : Batch) (is_batch : IsBatchIn is_honest state start (seen s1) Old.side.held batch) where
+        batch_fits : BatchFits Here batch
+        batch_fits =
+            let b = is_batch.fits origin begun.opened in
+            subst (λ (l : List Line). BatchFits (after_journal origin.history l) batch) (sym (visited.beside start is).1)
+            (subst (λ (images : List PageImage). BatchFits (after_journal origin.history (seen s1)) (record batch { images = images })) (b.bytes begun.honest.pages) b.fits)
+
+        first_is : Old.side.held ≤ batch.first → batch.first ≡ end_of from_vault.vault.mappings
+        first_is none = let known = is_batch.known in let held = from_vault.is.mapped.shows.end in omega (arith, none, known, held)
+
+        archive_quiet : New ≡ Old → ArchiveLeft is_honest state Old Near.side origin devices
+        archive_quiet same = archive_rests (slots_rest (ap (λ (a : Running D). a.pagelog) same)) (ap (λ (a : Running D). a.side) same)
+
+        module _ (result : Result Carried Fault) (carries : Carries is_honest state faults remembers clock batch result Old New) where
+          archive_laying : IsToLay batch Old → New.side ≡ Old.side → ArchiveLeft is_honest state Old Near.side origin devices
+          archive_laying to same = record {
+            from = from_vault;
+            left = InLaying batch batch_fits (vault_goes is_honest state Old from_vault.vault from_vault.is to.0.goes) (record { first = first_is to.0.none })
+                ((carries.laying from_vault.vault from_vault.is to slots_honest).each devices.pagelog left.pagelog) (maplog_rests same);
+            long = (carries.long to slots_honest).each devices.pagelog left.pagelog;
+          }
+
+          archive_entering : IsToEnter batch Old → New.pagelog ≡ Old.pagelog → ArchiveLeft is_honest state Old Near.side origin devices
+          archive_entering to same =
+              let slots = slots_rest same in
+              let laid = from_vault.is.laid in let enough = to.1 in
+              record {
+                from = from_vault;
+                left = InEntering batch batch_fits (record { first = first_is to.0.none; laid = omega (arith, laid, enough) }) slots ((carries.entering from_vault.vault from_vault.is to maplog_honest).each devices.maplog left.maplog);
+                long = slots.size;
+              }
+
+          refused_left : (why : Refusal) → IsNotCarried faults batch Old New why → ArchiveLeft is_honest state Old Near.side origin devices
+          refused_left (Stopped device count) so = archive_quiet so.2
+          refused_left OutOfMemory so = archive_entering so.0 so.1
+          refused_left (DiskFault device count) so = ⊎_elim (λ lay. archive_laying lay.0 lay.1) (λ enter. archive_entering enter.0 enter.1) so
+          refused_left _ so = absurd so
+
+          archive_left : (r : Result Carried Fault) → MatchResult r (IsCarried batch Old New) (λ fault. IsNotCarried faults batch Old New fault.why) → ArchiveLeft is_honest state Old Near.side origin devices
+          archive_left (Ok There) done = archive_quiet done.1
+          archive_left (Ok Laid) done = archive_laying done.0 done.1
+          archive_left (Ok (Entered count)) done = archive_entering done.0 done.1
+          archive_left (Err fault) so = refused_left fault.why so
 
     pub carry_opens : CarryOpens is_honest state faults remembers clock
-    carry_opens batch result z s0 s1 visit start is origin devices doubt begun left desk = opens_there batch result z s0 s1 visit start is origin devices begun left doubt desk
+    carry_opens batch result z s0 s1 visit start is origin devices doubt begun left desk =
+        opens_there z s0 s1 visit.before visit.after visit.visited start is origin devices begun left doubt
+        (archive_left z s0 s1 visit.before visit.after visit.visited start is origin devices begun left batch (visit.is_batch start is) result visit.carries result visit.carries.outcome) desk
+
+    pub look_up_opens : LookUpOpens is_honest state faults remembers clock
+    look_up_opens z s0 s1 visit start is origin devices doubt begun left desk =
+        opens_there z s0 s1 visit.before visit.after visit.visited start is origin devices begun left doubt
+        (looked_left z s0 s1 visit.before visit.after visit.visited start is origin devices begun left visit.same visit.quiet) desk

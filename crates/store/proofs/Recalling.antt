@@ -1,6 +1,6 @@
 -- What a seat has behind a read of the past.
-use Rattle.std.proofs.Common.{◌≡◌, ◌∙◌, ◌≤◌, ◌<◌, ◌++◌, ℕ, Bool, true, cond, List, [], Option, Some, Result, Ok, Err, refl, sym, ap, subst, inl, inr, arith, append_assoc, append-nil}
-use Rattle.std.specs.Prelude.{IfOk, OnOk}
+use Rattle.std.proofs.Common.{◌≡◌, ◌∙◌, ◌≤◌, ◌<◌, ◌++◌, ℕ, Bool, true, false, cond, List, [], Option, Some, Result, Ok, Err, refl, sym, ap, subst, inl, inr, arith, append_assoc, append-nil}
+use Rattle.std.specs.Prelude.{IfOk, MatchResult, OnOk}
 use Rattle.std.proofs.lemmas.List.Elements.{filter-append}
 use Rattle.atomic_table.specs.Seated.{TableId}
 use Rattle.disk_model.specs.Disk.{State}
@@ -43,7 +43,7 @@ use Rattle.turn.proofs.Faults.{told_still}
 use Rattle.store.specs.declared.desk_side.DeskSide.{DeskSide}
 use Rattle.store.specs.declared.start.Start.{Start}
 use Rattle.store.specs.Calls.{PeekDoes}
-use Rattle.store.specs.Past.{FindsIn, IsNewFault, IsPastCause, IsPastOf, IsPinnedBy, IsSeeking, IsTableOf, ReadsAtMost, ScansBelow}
+use Rattle.store.specs.Past.{FindsIn, IsNewFault, IsPastCause, IsPastOf, IsPinnedBy, IsSeeking, IsTableOf, ScansBelow}
 use Rattle.store.specs.Seats.{CountFits, IsReady, Sat, StaysIn, Visited, Visits, Waits, journal, slots_of}
 use Rattle.store.specs.Start.{IsAbove, IsOpenedTo, Origin, desk_counts, opened_base}
 use Rattle.store.proofs.Answering.{page_told}
@@ -234,11 +234,15 @@ module _ {D : Type 0} (is_honest : D → Type 0) (state : D → State) (faults :
           ∙ (ap (λ (k : ℕ). in_slot vault (capacity_of o.history) (told_of plain n page).bytes (first_in vault.mappings (told_of plain n page).start k page)) told.1
           ∙ (right ∙ ap (λ (l : List Line). pages_as_of (after_journal o.history l) n page) place))))
 
--- ---- how many entries are read
+-- ---- the two visits
 
-pub scanned : {D : Type 0} (is_honest : D → Type 0) (state : D → State) (faults : D → ℕ) (z : TableId) (covered before after upto : ℕ) (s1 s2 : Sat D) → upto ≤ held s1 → held s1 ≤ held s2 → ScansBelow is_honest state faults z covered before after upto s1 s2
-    → ReadsAtMost is_honest state faults z covered before after s2
-scanned is_honest state faults z covered before after upto s1 s2 known rises scans = record {
-  none = λ all. scans.none (omega (arith, known, rises, all));
-  cost = inr (upto, s1, known, scans);
-}
+module _ {D : Type 0} (is_honest : D → Type 0) (state : D → State) (faults : D → ℕ) (z : TableId) (remembers : Type 0) (clock : D → Clock) (covered before after : ℕ) (s1 s2 : Sat D) (result : Result (Unit {0}) Fault) (told : Result Peeked Refusal) where
+  abbrev Finds : Result Peeked Refusal → Type 0
+  Finds told = MatchResult told (λ peeked. ScansBelow is_honest state faults z remembers clock covered before after peeked.acked s1 s2)
+      (λ why. (s2 ≡ s1) × (after ≡ before) × (result ≡ Err (let f : Fault = record { why = why; wrote = false } in f)))
+
+  pub finds_so : (peeked : Peeked) → told ≡ Ok peeked → ScansBelow is_honest state faults z remembers clock covered before after peeked.acked s1 s2 → Finds told
+  finds_so peeked is scans = subst Finds (sym is) scans
+
+  pub finds_none : (why : Refusal) → told ≡ Err why → s2 ≡ s1 → after ≡ before → result ≡ Err (let f : Fault = record { why = why; wrote = false } in f) → Finds told
+  finds_none why is same none err = subst Finds (sym is) (same, none, err)

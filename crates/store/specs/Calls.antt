@@ -1,6 +1,6 @@
 -- What each call does to the core that it finds.
 use Rattle.std.specs.Prelude.{◌≡◌, ◌↔◌, ℕ, List, length, map, Option, Some, None, is_some, true, false}
-use Rattle.std.specs.Prelude.{Result, Err, IfErr, IfOk, MatchResult, OnErr, OnOk, if◌then◌else◌}
+use Rattle.std.specs.Prelude.{Result, Err, IfErr, IfOk, IsOk, MatchResult, OnErr, OnOk, if◌then◌else◌}
 use Rattle.disk_model.specs.Disk.{IsImage, State}
 use Rattle.disk_model.specs.Moments.{Clock, LeavesOnly}
 use Rattle.block_file.specs.Blocks.{SameFile}
@@ -158,7 +158,7 @@ module _ {D : Type 0} (is_honest : D → Type 0) (state : D → State) where
 
     -- A commit of t that is not refused so. Its edits and its mark stand in the journal and on the log's device; or
     -- it is refused for want of memory, or where the log has no room, and all is as it was; or exactly where a call
-    -- of that device failed, and then it is in doubt.
+    -- of that device failed, and then it is in doubt. One of neither edit nor mark is done, and touches no device.
     pub record CommitMakes (remembers : Type 0) (clock : D →
         Clock) (who : Who) (label : Option (List ℕ)) (t : Transaction) (result : Result (Option ℕ) Refusal)
         (old new : Core D) : Type 0 where
@@ -167,7 +167,7 @@ module _ {D : Type 0} (is_honest : D → Type 0) (state : D → State) where
           (IsChangeRefusal old.desk.log.log.area.log
           (length (change_bytes old.desk.log.log.version (Commit label t.edits))) (log_faults old) (log_faults new))
       pub untouched : IfErr result (λ why. (IsDiskFault why → ⊥) → new ≡ old)
-      pub nothing : leaves_record label t.edits ≡ false → new.desk ≡ old.desk
+      pub nothing : leaves_record label t.edits ≡ false → IsOk result × (new.desk ≡ old.desk)
       pub done : (opening : History) (plain : Desk) → IsCore is_honest state opening old plain →
           OnOk result (IsCore is_honest state opening new (desk_behind plain label t.edits))
       pub failed : (opening : History) (plain : Desk) → IsCore is_honest state opening old plain →

@@ -1,13 +1,13 @@
 -- What stays over the calls of a seat.
-use Rattle.std.proofs.Common.{◌≡◌, ◌∙◌, Option, IfSome, refl, subst, sym}
+use Rattle.std.proofs.Common.{◌≡◌, ◌∙◌, Option, IfSome, ap, refl, subst, sym}
 use Rattle.std.specs.Prelude.{◌↔◌}
 use Rattle.atomic_table.specs.Seated.{TableId}
 use Rattle.disk_model.specs.Disk.{State}
-use Rattle.turn.specs.Seats.{IsSame}
+use Rattle.turn.specs.Seats.{IsSame, opening}
 use Rattle.store.specs.declared.start.Start.{Start}
 use Rattle.store.specs.Seats.{Sat}
 use Rattle.store.specs.Start.{AreJustOpened}
-use Rattle.store.specs.Seen.{IsHonest}
+use Rattle.store.specs.Seen.{IsHonest, seats_in}
 
 -- It is the same seat of a store, with these locks as before.
 pub record GoesOn {D : Type 0} (z w : TableId) (old new : Sat D) : Type 0 where
@@ -26,6 +26,11 @@ goes_on z y x s t u one two = record {
     opening = two.same.opening ∙ one.same.opening;
   };
 }
+
+-- and its store has as many seats
+pub seats_stay : {D : Type 0} (z w : TableId) (s t : Sat D)
+    → GoesOn z w s t → seats_in (opening s) ≡ seats_in (opening t)
+seats_stay z w s t goes = ap seats_in (sym goes.same.opening)
 
 -- and its devices tell what they hold, or not, as before
 abbrev JustOpened : {D : Type 0} → (D → Type 0) → (D → State) → Option (Start D) → Type 0

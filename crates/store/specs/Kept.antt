@@ -1,14 +1,15 @@
 -- The page table that a seat keeps while it looks.
-use Rattle.std.specs.Prelude.{◌≡◌, ◌≢◌, ◌⊎◌, ◌≤◌, ℕ, Bool, true, false, Option, Some, None, ⊤, Result, IfErr}
+use Rattle.std.specs.Prelude.{◌≡◌, ◌≢◌, ◌⊎◌, ◌≤◌, ℕ, Bool, true, false, List, Option, Some, None, ⊤, Result}
 use Rattle.std.specs.Coded.{Coded, Coded-set, coded_bool, ×_prop, Unit-prop}
 use Rattle.atomic_table.specs.Seated.{TableId}
 use Rattle.disk_model.specs.Disk.{State}
+use Rattle.disk_model.specs.Moments.{Clock}
 use Rattle.journal_book.specs.declared.work.Work.{Work}
 use Rattle.journal_book.specs.declared.work.Work.TheVariants.{Looking}
 use Rattle.page_table.specs.Table.{Table}
 use Rattle.race_model.specs.declared.fault.Fault.{Fault}
 use Rattle.turn.specs.Seats.{mine}
-use Rattle.store.specs.Past.{ReadsAtMost, RefusesPast, new_table}
+use Rattle.store.specs.Past.{LooksBack, RefusesPast, new_table}
 use Rattle.store.specs.Seats.{Sat, StaysIn}
 
 -- the page table of a snapshot, and the seat as it was when the table was kept
@@ -53,9 +54,12 @@ module _ {D : Type 0} (is_honest : D → Type 0) (state : D → State) (faults :
     pub refuses : RefusesPast is_honest state faults z table.covered fault middle new
 
   -- A page was read by that table of the snapshot, with so many entries, or was refused.
-  pub record ReadsBy (kept : Option (Tabled D)) (snapshot before after : ℕ) (result : Result (Unit {0}) Fault)
-      (old new : Sat D) : Type 0 where
+  pub record ReadsBy (remembers : Type 0) (clock : D → Clock) (kept : Option (Tabled D))
+      (snapshot before after page : ℕ) (out : List ℕ) (result : Result (Unit {0}) Fault) (old new : Sat D)
+      : Type 0 where
     pub table : Table
     pub is_for : IsTableFor kept snapshot table
-    pub steps : ReadsAtMost is_honest state faults z table.covered before after new
-    pub refused : IfErr result (IsRecallRefusal kept snapshot old new)
+    pub middle : Sat D
+    pub stays : StaysIn old middle
+    pub reads : LooksBack is_honest state faults z remembers clock table.covered before after snapshot page out result
+        middle new

@@ -25,9 +25,10 @@ use Rattle.store.specs.declared.start.Start.{Start}
 use Rattle.store.specs.Calls.{CommitDoes, EditDoes, PeekDoes, ReadDoes}
 use Rattle.store.specs.Crashes.{HoldWorld}
 use Rattle.store.specs.Opening.{IsHonestlyOpened}
+use Rattle.store.specs.Past.{LooksUp}
 use Rattle.store.specs.RoundCalls.{CutsBelow, DropDoes, SettleDoes, WriteBackDoes}
 use Rattle.store.specs.Rounds.{CarriesIn}
-use Rattle.store.specs.Seats.{ArchiveBeside, Sat, Visits, journal}
+use Rattle.store.specs.Seats.{ArchiveBeside, Sat, VisitedVault, Visits, journal}
 use Rattle.store.specs.Sides.{DeskStands}
 use Rattle.store.specs.Start.{IsCoreFrom, IsVaultFrom, Origin}
 use Rattle.store.specs.Within.{LeftOfDesk, LeftOfVault}
@@ -140,14 +141,23 @@ module _ {D : Type 0} (is_honest : D → Type 0) (state : D → State) where
       DropOpens = (who : Who) (below : ℕ) (result : Result (Unit {0}) Refusal) →
           VisitOpens (DropDoes is_honest state faults remembers clock who below result) (OneChange (Drop below))
 
-      -- In a visit to the vault a call did that with a batch. Whatever a crash left of the four devices since the seat
+      -- In a visit to the vault the archive came to be that. Whatever a crash left of the four devices since the seat
       -- entered, with the desk beside it as it was last left or within a call, opens to the history behind the journal
       -- of that desk, which the seat has seen, or to it with what is in doubt of the desk.
+      abbrev pub VaultVisitOpens : {z : TableId} {s0 s1 : Sat D} {before after : Running D} →
+          VisitedVault is_honest state faults z s0 s1 before after → Type 0
+      VaultVisitOpens {s0 = s0} {before = before} {after = after} visited = (start : Start D)
+          (is : opening s0 ≡ Some start) (origin : Origin) (devices : Four (List ℕ)) (doubt : Option Change) →
+          IsHonestlyOpened is_honest state start origin → LeftByArchive clock before after devices
+          → DeskLeft (visited.beside start is).0.side origin doubt devices
+          → HoldWorld origin.log devices (after_journal origin.history (journal (visited.beside start is).0.side)) doubt
+
+      -- a call with a batch, and a page looked up
       abbrev pub CarryOpens : Type 0
       CarryOpens = (batch : Batch) (result : Result Carried Fault) (z : TableId) (s0 s1 : Sat D)
-          (visit : CarriesIn is_honest state faults z remembers clock batch result s0 s1) (start : Start D)
-          (is : opening s0 ≡ Some start) (origin : Origin) (devices : Four (List ℕ)) (doubt : Option Change) →
-          IsHonestlyOpened is_honest state start origin → LeftByArchive clock visit.before visit.after devices
-          → DeskLeft (visit.visited.beside start is).0.side origin doubt devices
-          → HoldWorld origin.log devices
-          (after_journal origin.history (journal (visit.visited.beside start is).0.side)) doubt
+          (visit : CarriesIn is_honest state faults z remembers clock batch result s0 s1) →
+          VaultVisitOpens visit.visited
+
+      abbrev pub LookUpOpens : Type 0
+      LookUpOpens = (z : TableId) (s0 s1 : Sat D) (visit : LooksUp is_honest state faults z remembers clock s0 s1) →
+          VaultVisitOpens visit.visited

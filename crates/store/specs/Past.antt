@@ -1,7 +1,10 @@
 -- What a reader of the past has, and what it is given.
-use Rattle.std.specs.Prelude.{◌≡◌, ◌⊎◌, ◌≤◌, ◌<◌, max, true, false, ℕ, Bool, List, [], length, Some, Result, OnOk}
+use Rattle.std.specs.Prelude.{◌≡◌, ◌≤◌, ◌<◌, max, true, false, ℕ, Bool, List, [], length, Some, Result, Err, IfErr}
+use Rattle.std.specs.Prelude.{MatchResult, OnOk}
 use Rattle.atomic_table.specs.Seated.{TableId}
 use Rattle.disk_model.specs.Disk.{State}
+use Rattle.disk_model.specs.Moments.{Clock}
+use Rattle.disk_model.specs.Runs.{OnlyReads}
 use Rattle.retro_base.specs.declared.device.Device.{Device}
 use Rattle.retro_base.specs.declared.refusal.Refusal.{Refusal}
 use Rattle.retro_base.specs.declared.who.Who.{Who}
@@ -24,11 +27,13 @@ use Rattle.skippy.specs.Bound.{different, scan_bound}
 use Rattle.skippy.specs.Mappings.{Mappings, end_of, first_in, pages_in}
 use Rattle.skippy.specs.Steps.{AddsAtMost}
 use Rattle.archive.specs.Archive.{Running}
+use Rattle.store_core.specs.declared.copying.Peeked.{Peeked}
 use Rattle.turn.specs.Faults.{fault_times}
 use Rattle.turn.specs.Seats.{held, mine, opening, seen}
 use Rattle.store.specs.declared.desk_side.DeskSide.{DeskSide}
 use Rattle.store.specs.declared.start.Start.{Start}
-use Rattle.store.specs.Seats.{Sat, Visited, VisitedVault}
+use Rattle.store.specs.Calls.{PeekDoes}
+use Rattle.store.specs.Seats.{Sat, Visited, VisitedVault, Visits}
 use Rattle.store.specs.Start.{IsAbove, IsOpenedTo, Origin, opened_base}
 
 -- a look of the seat, or of the one that it helps, pins the snapshot
@@ -130,22 +135,37 @@ module _ {D : Type 0} (is_honest : D → Type 0) (state : D → State) (faults :
     pub visited : Visited is_honest state faults z old asked before after
     pub refused : IsPastRefusal new covered before.core.desk.queue.first fault
 
-module _ {D : Type 0} (is_honest : D → Type 0) (state : D → State) (faults : D → ℕ) (z : TableId)
-    (covered before after : ℕ)
+module _ {D : Type 0} (is_honest : D → Type 0) (state : D → State) (faults : D → ℕ) (z : TableId) (remembers : Type 0)
+    (clock : D → Clock)
   where
-    -- In one visit to the vault no entry of the Maplog's levels was read where the table covered the mappings below a
-    -- number; else no more than the bound of a scan of them from what it covered on.
-    pub record ScansBelow (upto : ℕ) (old new : Sat D) : Type 0 where
-      pub archive : Running D
-      pub left : Running D
-      pub visited : VisitedVault is_honest state faults z old new archive left
-      pub none : upto ≤ covered → after ≡ before
-      pub cost : AddsAtMost (scan_bound covered upto (different (pages_in archive.side.levels covered upto))) before
-          after
+    -- In one visit to the vault a page was looked up: the archive is as it was, but for reads of its Pagelog.
+    pub record LooksUp (old new : Sat D) : Type 0 where
+      pub before : Running D
+      pub after : Running D
+      pub visited : VisitedVault is_honest state faults z old new before after
+      pub same : after ≡ record before { pagelog = after.pagelog }
+      pub quiet : is_honest before.pagelog.disk
+          → OnlyReads remembers state clock before.pagelog.disk after.pagelog.disk
 
-    -- No entry was read where the table covered all that the seat has seen the vault hold, or where the desk refused;
-    -- else no more than the bound of a scan below a number that it had seen the vault hold.
-    pub record ReadsAtMost (new : Sat D) : Type 0 where
-      pub none : held new ≤ covered → after ≡ before
-      pub cost : (after ≡ before)
-          ⊎ ((upto : ℕ) × (middle : Sat D) × (upto ≤ held middle) × ScansBelow upto middle new)
+    module _ (covered before after : ℕ) where
+      -- In such a visit no entry of the Maplog's levels was read where the table covered the mappings below a number;
+      -- else no more than the bound of a scan of them from what it covered on.
+      pub record ScansBelow (upto : ℕ) (old new : Sat D) : Type 0 where
+        pub looks : LooksUp old new
+        pub none : upto ≤ covered → after ≡ before
+        pub cost : AddsAtMost (scan_bound covered upto (different (pages_in looks.before.side.levels covered upto)))
+            before after
+
+      -- A read of the past, by a table that covered those below a number. The desk told in one visit below which number
+      -- captures are known to be there, and the page was looked up below that in a visit to the vault; or the desk
+      -- refused, and nothing followed. A refusal is one where so many are known to be there.
+      pub record LooksBack (snapshot page : ℕ) (out : List ℕ) (result : Result (Unit {0}) Fault) (old new : Sat D)
+          : Type 0 where
+        pub told : Result Peeked Refusal
+        pub between : List ℕ
+        pub middle : Sat D
+        pub asks : Visits is_honest state faults z
+            (PeekDoes is_honest state faults remembers clock page snapshot out between told) old middle
+        pub finds : MatchResult told (λ peeked. ScansBelow peeked.acked middle new)
+            (λ why. (new ≡ middle) × (after ≡ before) × (result ≡ Err (record { why = why; wrote = false })))
+        pub refused : IfErr result (IsPastRefusal new covered asks.before.core.desk.queue.first)

@@ -120,7 +120,7 @@ impl<'a, R: Wait, D: Disk + Drop> Held<'a, R, D> {
 }
 
 impl<'a, R: Wait, D: Disk + Drop> Seat for Held<'a, R, D> {
-    ghost use Rattle.store.specs.Frames.{GoesOn, goes_on, honest_stays, stays};
+    ghost use Rattle.store.specs.Frames.{GoesOn, goes_on, honest_stays, seats_stay, stays};
     ghost use Rattle.store.specs.Seen.{IsHonest, seats_in, view_of};
     ghost use Rattle.turn.specs.Seats.{opening};
     ghost use Rattle.turn.specs.Tables.{table_of};
@@ -140,6 +140,9 @@ impl<'a, R: Wait, D: Disk + Drop> Seat for Held<'a, R, D> {
         (table_of k.store.now.turn) h.seat k.seat goes };
 
     ghost seats = { λ h. seats_in (opening h.seat) };
+
+    ghost seats_stay = { λ h k goes. seats_stay (table_of h.store.now.turn) (table_of k.store.now.turn)
+        h.seat k.seat goes };
 
     fn pages(&self) -> u32 {
         self.store.pages()

@@ -1,7 +1,7 @@
 //! Of the pages now and at each retained snapshot.
 
 ghost use Rattle.store.specs.Moments.{BesideOpens, CarryOpens, CommitOpens, CutOpens, DropOpens, EditOpens};
-ghost use Rattle.store.specs.Moments.{PeekOpens, QuietOpens, ReadOpens, SettleOpens, WriteBackOpens};
+ghost use Rattle.store.specs.Moments.{LookUpOpens, PeekOpens, QuietOpens, ReadOpens, SettleOpens, WriteBackOpens};
 ghost use Rattle.store.specs.Recovery.{ClosedShows, OpeningShows, OpensShown};
 ghost use Rattle.store.specs.Within.{LeftOpens};
 ghost use Rattle.store.specs.Worlds.{NamesAreSame, NamesStay, OthersAreRefused};
@@ -55,6 +55,7 @@ pub fn laws_of_visits<D: Disk + Drop>()
     // One that commits, or drops snapshots: its own change may be in doubt.
     ensures commit { CommitOpens D.is_honest D.state D.faults D.remembers D.clock }
     ensures drop { DropOpens D.is_honest D.state D.faults D.remembers D.clock }
-    // A visit to the vault with a batch.
+    // A visit to the vault with a batch, and one that looks a page up.
     ensures carry { CarryOpens D.is_honest D.state D.faults D.remembers D.clock }
+    ensures look_up { LookUpOpens D.is_honest D.state D.faults D.remembers D.clock }
 {}

@@ -4,7 +4,7 @@ ghost use Rattle.std.specs.Prelude.{◌≡◌, ◌≤◌, IfErr, IfOk, MatchResu
 ghost use Rattle.store.specs.Calls.{PeekDoes};
 ghost use Rattle.store.specs.Moments.{KeepsDevices};
 ghost use Rattle.store.specs.Past.{FindsIn, IsNewFault, IsPastOf, IsPastRefusal, IsPinnedBy, IsRetainedBy, IsSeeking};
-ghost use Rattle.store.specs.Past.{IsTableOf, ReadsAtMost, RefusesPast, ScansBelow, new_table};
+ghost use Rattle.store.specs.Past.{IsTableOf, LooksBack, ScansBelow, new_table};
 ghost use Rattle.store.specs.Seats.{CountFits, IsPage, IsReady, IsWhole, StaysIn, Visits, Waits};
 ghost use Rattle.turn.specs.Seats.{held, mine};
 ghost use Rattle.turn.specs.Tables.{table_of};
@@ -83,8 +83,8 @@ impl<D: Disk + Drop> Store<D> {
         ensures waits { Waits seat.old seat.new }
         ensures finds { FindsIn D.is_honest D.state seat.old seat.new snapshot table.old table.new upto page
             out.old out.new result }
-        ensures steps { ScansBelow D.is_honest D.state D.faults (table_of self.now.turn) table.old.covered steps.old
-            steps.new upto seat.old seat.new }
+        ensures visits { ScansBelow D.is_honest D.state D.faults (table_of self.now.turn) D.remembers D.clock
+            table.old.covered steps.old steps.new upto seat.old seat.new }
         ensures grows { table.old.covered ≤ table.new.covered }
         ensures cause { IfErr result (IsPastRefusal seat.new table.old.covered upto) }
         ensures fault { IfErr result (IsNewFault D.faults seat.old) }
@@ -124,11 +124,9 @@ impl<D: Disk + Drop> Store<D> {
         ensures first_met { IsTableOf D.is_honest D.state seat.new snapshot table.new }
         ensures page { OnOk result (IsPastOf D.is_honest D.state seat.new snapshot page out.new) }
         ensures retained { OnOk result (IsRetainedBy seat.new snapshot) }
-        ensures steps { ReadsAtMost D.is_honest D.state D.faults (table_of self.now.turn) table.old.covered steps.old
-            steps.new seat.new }
+        ensures visits { LooksBack D.is_honest D.state D.faults (table_of self.now.turn) D.remembers D.clock
+            table.old.covered steps.old steps.new snapshot page out.old result seat.old seat.new }
         ensures grows { table.old.covered ≤ table.new.covered }
-        ensures cause { IfErr result (λ fault. RefusesPast D.is_honest D.state D.faults (table_of self.now.turn)
-            table.old.covered fault seat.old seat.new) }
         ensures fault { IfErr result (IsNewFault D.faults seat.old) }
     {
         match self.told(rt, seat, snapshot, page, out) {

@@ -88,8 +88,8 @@ fn read_by<R: Wait, D: Disk + Drop, L: Ledger>(
     ensures waits { Waits seat.old seat.new }
     ensures kept { IsTabled seat.new kept.new }
     ensures covers { CoversNoLess kept.old snapshot kept.new }
-    ensures reads { ReadsBy D.is_honest D.state D.faults (table_of store.now.turn) kept.old snapshot steps.old steps.new
-        result seat.old seat.new }
+    ensures reads { ReadsBy D.is_honest D.state D.faults (table_of store.now.turn) D.remembers D.clock kept.old snapshot
+        steps.old steps.new page out.old result seat.old seat.new }
     ensures page { OnOk result (IsPastOf D.is_honest D.state seat.new snapshot page out.new) }
     ensures retained { OnOk result (IsRetainedBy seat.new snapshot) }
     ensures fault { IfErr result (IsNewFault D.faults seat.old) }

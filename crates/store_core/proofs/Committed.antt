@@ -1,5 +1,5 @@
 -- The core behind a commit.
-use Rattle.std.proofs.Common.{◌≡◌, ◌∙◌, ◌≤◌, ◌<◌, ◌+◌, ◌&&◌, ◌||◌, not, ℕ, Bool, true, false, cond, eqb, List, [], ◌∷◌, length, refl, sym, ap, subst, arith, Option, Some, None}
+use Rattle.std.proofs.Common.{◌≡◌, ◌∙◌, ◌≤◌, ◌<◌, ◌+◌, ◌&&◌, ◌||◌, not, ℕ, Bool, true, false, cond, eqb, List, [], ◌∷◌, length, refl, sym, ap, subst, arith, Option, Some, None, Bor, option_copied}
 use Rattle.std.specs.Prelude.{IsSome, is_some, ◌^◌}
 use Rattle.std.specs.Option.{option_to_list}
 use Rattle.std.specs.List.{AllByRecursion}
@@ -48,6 +48,11 @@ use Rattle.store_core.specs.Core.{IsCore}
 use Rattle.store_core.proofs.Cores.{base_is, core_line, doubt_stays, holds_ended, with_nothing}
 use Rattle.store_core.proofs.Ledgers.{ledger_committed}
 use Rattle.store_core.proofs.Opened.{and_true, stop_stays}
+
+-- a commit that leaves none has no mark
+pub no_mark : (mark : Option (Bor (List ℕ))) (writes : List PageImage) → leaves_record (option_copied mark) writes ≡ false → is_some mark ≡ true → ⊥
+no_mark None writes none e = cc e
+no_mark (Some label) writes none e = cc none
 
 -- a commit that leaves a record does something
 does_so : (label : Option (List ℕ)) (writes : List PageImage) → leaves_record label writes ≡ true → DoesSomething label writes

@@ -1,6 +1,6 @@
 //! Commits.
 
-ghost use Rattle.std.specs.Prelude.{◌≡◌, IsTrue, None, is_some, option_copied};
+ghost use Rattle.std.specs.Prelude.{◌≡◌, IsTrue, None, is_some, option_copied, true};
 ghost use Rattle.std.specs.Prelude.{length, IfErr, IfOk, IfSome, MatchResult, OnOk};
 ghost use Rattle.disk_model.specs.Moments.{LeavesOnly};
 ghost use Rattle.disk_model.specs.Runs.{SameDevice};
@@ -46,7 +46,7 @@ pub(crate) fn counts_of(base: &RunningBase, edits: &[PageImage]) -> Counts
 
 pub(crate) fn label_of(alloc: Global, mark: Option<&[u8]>) -> Result<Option<Label>, AllocError>
     requires { IfSome mark (λ bytes. IsTrue (is_label bytes.now)) }
-    ensures { IfOk result (λ label. label ≡ option_copied mark.entry) }
+    ensures { MatchResult result (λ label. label ≡ option_copied mark.entry) (λ _. is_some mark.entry ≡ true) }
 {
     match mark {
         Some(bytes) => Ok(Some(Label::new(Vec::from_slice(alloc, bytes)?))),

@@ -1,7 +1,7 @@
 //! Commits as the desk is asked for them.
 
 ghost use Rattle.std.specs.Prelude.{◌≡◌, ◌&&◌, not, true, false, ℕ, Some, None, is_some, option_copied, length};
-ghost use Rattle.std.specs.Prelude.{if◌then◌else◌, IsTrue, Err, IfErr, IfOk, IfSome, MatchResult, OnOk};
+ghost use Rattle.std.specs.Prelude.{if◌then◌else◌, IsTrue, Err, IfErr, IfOk, IfSome, IsOk, MatchResult, OnOk};
 ghost use Rattle.disk_model.specs.Moments.{LeavesOnly};
 ghost use Rattle.disk_model.specs.Runs.{SameDevice};
 ghost use Rattle.retro_base.specs.declared.refusal.Refusal.{Refusal};
@@ -168,7 +168,7 @@ impl<D: Disk + Drop> Core<D> {
             (D.faults self.old.desk.log.disk) (D.faults self.new.desk.log.disk)) }
         ensures untouched { IfErr result (λ why. (IsDiskFault why → ⊥) → self.new ≡ self.old) }
         ensures nothing { (t : Transaction) → IsAllowed self.old who label t → leaves_record label t.edits ≡ false
-            → self.new.desk ≡ self.old.desk }
+            → IsOk result × (self.new.desk ≡ self.old.desk) }
         ensures done { (opening : History) (plain : Desk) (t : Transaction)
             → IsCore D.is_honest D.state opening self.old plain → IsAllowed self.old who label t
             → OnOk result (IsCore D.is_honest D.state opening self.new (desk_behind plain label t.edits)) }
@@ -196,7 +196,7 @@ impl<D: Disk + Drop> Core<D> {
     /// the snapshots do; where the archive has too few slots; for want of memory, all of which is taken before the
     /// log is written; where the log has no room; and exactly where a call of the log's device failed. Behind the
     /// last the transaction is closed with the line of the fault, and the desk has stopped; behind every other the
-    /// transaction is open as it was.
+    /// transaction is open as it was. The last three never end a commit of neither edit nor mark.
     pub fn commit(
         &mut self,
         alloc: Global,
@@ -225,7 +225,8 @@ impl<D: Disk + Drop> Core<D> {
         ensures untouched { (t : Transaction) → IsAllowed self.old who (option_copied mark.entry) t
             → IfErr result (λ why. (IsDiskFault why → ⊥) → self.new ≡ self.old) }
         ensures nothing { (t : Transaction) → IsAllowed self.old who (option_copied mark.entry) t
-            → leaves_record (option_copied mark.entry) t.edits ≡ false → self.new.desk ≡ self.old.desk }
+            → leaves_record (option_copied mark.entry) t.edits ≡ false
+            → IsOk result × (self.new.desk ≡ self.old.desk) }
         ensures done { (opening : History) (plain : Desk) (t : Transaction)
             → IsCore D.is_honest D.state opening self.old plain → IsAllowed self.old who (option_copied mark.entry) t
             → OnOk result (IsCore D.is_honest D.state opening self.new

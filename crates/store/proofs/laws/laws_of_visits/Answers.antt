@@ -1,4 +1,4 @@
-use Rattle.store.proofs.Moments.{carry_opens, commit_opens, cut_opens, drop_opens, edit_opens, peek_opens, quiet_opens, read_opens, settle_opens, write_back_opens}
+use Rattle.store.proofs.Moments.{carry_opens, commit_opens, cut_opens, drop_opens, edit_opens, look_up_opens, peek_opens, quiet_opens, read_opens, settle_opens, write_back_opens}
 use Rattle.store.proofs.laws.laws_of_visits.Goals as goal
 
 pub returns-clause-quiet : goal.returns-clause-quiet
@@ -30,3 +30,6 @@ returns-clause-edit g c = edit_opens g.D.Disk.is_honest g.D.Disk.state g.D.Disk.
 
 pub returns-clause-peek : goal.returns-clause-peek
 returns-clause-peek g c = peek_opens g.D.Disk.is_honest g.D.Disk.state g.D.Disk.faults g.D.Disk.remembers g.D.Disk.clock (λ disk image honest. g.met.D.Disk.only_now disk image honest)
+
+pub returns-clause-look_up : goal.returns-clause-look_up
+returns-clause-look_up g c = look_up_opens g.D.Disk.is_honest g.D.Disk.state g.D.Disk.faults g.D.Disk.remembers g.D.Disk.clock (λ disk image honest. g.met.D.Disk.only_now disk image honest)

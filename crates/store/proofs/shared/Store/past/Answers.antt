@@ -1,10 +1,9 @@
-use Rattle.std.proofs.Common.{◌≡◌, ◌≤◌, ◌∙◌, Result, arith, false, inl, refl, subst, sym}
-use Rattle.store.proofs.Recalling.{cause_so, fault_so, past_so, scanned, seeks_so, stays_on, stays_so, table_so, waits_on, waits_so}
+use Rattle.std.proofs.Common.{◌≡◌, ◌∙◌, Result, false, refl, subst, sym}
+use Rattle.store.proofs.Recalling.{cause_so, fault_so, finds_none, finds_so, past_so, seeks_so, stays_on, stays_so, table_so, waits_on, waits_so}
 use Rattle.store.proofs.Meeting.{whole_stays, work_stays}
 use Rattle.std.specs.Prelude.{IfOk}
 use Rattle.retro_base.specs.declared.refusal.Refusal.{Refusal}
 use Rattle.store_core.specs.declared.copying.Peeked.{Peeked}
-use Rattle.turn.specs.Seats.{held}
 use Rattle.store.specs.Past.{IsPastRefusal}
 use Rattle.store.proofs.shared.Store.past.Goals as goal
 
@@ -16,29 +15,6 @@ returns-in-Err-clause-same g c = stays_so g.D.Disk.is_honest g.D.Disk.state g.D.
 
 pub returns-in-Err-clause-first_met : goal.returns-in-Err-clause-first_met
 returns-in-Err-clause-first_met g c = table_so g.D.Disk.is_honest g.D.Disk.state g.D.Disk.faults _ c.args.seat.now c.told.new.seat c.args.page c.args.snapshot c.args.out.now c.told.new.out c.told.result c.requires.ready c.told.ensures.visits c.requires.pinned c.args.table.now c.requires.first_met
-
-pub returns-in-Err-clause-cause : goal.returns-in-Err-clause-cause
-returns-in-Err-clause-cause g c =
-    let v = c.told.ensures.visits in
-    record {
-      asked = c.told.new.seat;
-      before = v.before;
-      after = v.after;
-      visited = v.visited;
-      refused = (refl, cause_so g.D.Disk.is_honest g.D.Disk.state g.D.Disk.faults _ c.args.seat.now c.told.new.seat c.args.page c.args.snapshot c.args.out.now c.told.new.out c.told.result c.requires.ready v c.args.table.now.covered v.before.core.desk.queue.first c.in-Err.why c.told.ensures.fits c.in-Err.is);
-    }
-
-pub returns-in-Err-sought-clause-cause : goal.returns-in-Err-sought-clause-cause
-returns-in-Err-sought-clause-cause g c =
-    let v = c.told.ensures.visits in
-    let is = subst (λ (r : Result Peeked Refusal). IfOk r (λ p. p.acked ≡ v.before.core.desk.queue.first)) c.in-Ok.is v.does.upto in
-    record {
-      asked = c.told.new.seat;
-      before = v.before;
-      after = v.after;
-      visited = v.visited;
-      refused = subst (λ n. IsPastRefusal c.sought.new.seat c.args.table.now.covered n c.in-Err-sought.fault) is c.in-Err-sought.ensures.cause;
-    }
 
 pub returns-in-Ok-sought-clause-same : goal.returns-in-Ok-sought-clause-same
 returns-in-Ok-sought-clause-same g c = stays_on c.args.seat.now c.told.new.seat c.sought.new.seat (stays_so g.D.Disk.is_honest g.D.Disk.state g.D.Disk.faults _ c.args.seat.now c.told.new.seat c.args.page c.args.snapshot c.args.out.now c.told.new.out c.told.result c.requires.ready c.told.ensures.visits) c.sought.ensures.same
@@ -89,21 +65,37 @@ returns-in-Ok-sought-clause-retained g c =
       retained = λ start e. c.sought.ensures.finds.retained start (sym same ∙ e);
     }
 
-pub returns-in-Err-clause-steps : goal.returns-in-Err-clause-steps
-returns-in-Err-clause-steps g c = record { none = λ h. refl; cost = inl refl }
-
-pub returns-in-Ok-sought-clause-steps : goal.returns-in-Ok-sought-clause-steps
-returns-in-Ok-sought-clause-steps g c =
+pub returns-in-Err-clause-visits : goal.returns-in-Err-clause-visits
+returns-in-Err-clause-visits g c =
     let v = c.told.ensures.visits in
-    let acked = v.visited.acked in
-    let is = subst (λ (r : Result Peeked Refusal). IfOk r (λ p. p.acked ≡ v.before.core.desk.queue.first)) c.in-Ok.is v.does.upto in
-    let known : c.in-Ok.peeked.acked ≤ held c.told.new.seat = omega (arith, acked, is) in
-    scanned g.D.Disk.is_honest g.D.Disk.state g.D.Disk.faults _ c.args.table.now.covered c.args.steps.now c.sought.new.steps c.in-Ok.peeked.acked c.told.new.seat c.sought.new.seat known c.sought.ensures.same.rises c.sought.ensures.steps
+    record {
+      told = c.told.result;
+      between = c.told.new.out;
+      middle = c.told.new.seat;
+      asks = v;
+      finds = finds_none g.D.Disk.is_honest g.D.Disk.state g.D.Disk.faults _ g.D.Disk.remembers g.D.Disk.clock c.args.table.now.covered c.args.steps.now c.args.steps.now c.told.new.seat c.told.new.seat _ c.told.result c.in-Err.why c.in-Err.is refl refl refl;
+      refused = (refl, cause_so g.D.Disk.is_honest g.D.Disk.state g.D.Disk.faults _ c.args.seat.now c.told.new.seat c.args.page c.args.snapshot c.args.out.now c.told.new.out c.told.result c.requires.ready v c.args.table.now.covered v.before.core.desk.queue.first c.in-Err.why c.told.ensures.fits c.in-Err.is);
+    }
 
-pub returns-in-Err-sought-clause-steps : goal.returns-in-Err-sought-clause-steps
-returns-in-Err-sought-clause-steps g c =
+pub returns-in-Err-sought-clause-visits : goal.returns-in-Err-sought-clause-visits
+returns-in-Err-sought-clause-visits g c =
     let v = c.told.ensures.visits in
-    let acked = v.visited.acked in
     let is = subst (λ (r : Result Peeked Refusal). IfOk r (λ p. p.acked ≡ v.before.core.desk.queue.first)) c.in-Ok.is v.does.upto in
-    let known : c.in-Ok.peeked.acked ≤ held c.told.new.seat = omega (arith, acked, is) in
-    scanned g.D.Disk.is_honest g.D.Disk.state g.D.Disk.faults _ c.args.table.now.covered c.args.steps.now c.sought.new.steps c.in-Ok.peeked.acked c.told.new.seat c.sought.new.seat known c.sought.ensures.same.rises c.sought.ensures.steps
+    record {
+      told = c.told.result;
+      between = c.told.new.out;
+      middle = c.told.new.seat;
+      asks = v;
+      finds = finds_so g.D.Disk.is_honest g.D.Disk.state g.D.Disk.faults _ g.D.Disk.remembers g.D.Disk.clock c.args.table.now.covered c.args.steps.now c.sought.new.steps c.told.new.seat c.sought.new.seat _ c.told.result c.in-Ok.peeked c.in-Ok.is c.sought.ensures.visits;
+      refused = subst (λ n. IsPastRefusal c.sought.new.seat c.args.table.now.covered n c.in-Err-sought.fault) is c.in-Err-sought.ensures.cause;
+    }
+
+pub returns-in-Ok-sought-clause-visits : goal.returns-in-Ok-sought-clause-visits
+returns-in-Ok-sought-clause-visits g c = record {
+  told = c.told.result;
+  between = c.told.new.out;
+  middle = c.told.new.seat;
+  asks = c.told.ensures.visits;
+  finds = finds_so g.D.Disk.is_honest g.D.Disk.state g.D.Disk.faults _ g.D.Disk.remembers g.D.Disk.clock c.args.table.now.covered c.args.steps.now c.sought.new.steps c.told.new.seat c.sought.new.seat _ c.told.result c.in-Ok.peeked c.in-Ok.is c.sought.ensures.visits;
+  refused = tt;
+}

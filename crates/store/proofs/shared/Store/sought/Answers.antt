@@ -43,15 +43,19 @@ returns-clause-fault g c =
     all_causes c.find-found.result _ _ _ c.find-found.ensures.cause
     (λ fault e refused. fault_is_new g.D.Disk.is_honest g.D.Disk.state g.D.Disk.faults _ c.args.seat.now c.enter_vault-archive.new.seat c.enter_vault-archive.result c.enter_vault-archive.ensures c.args.snapshot c.args.table.now c.requires.seeking c.find-found.new.self c.find-found.ensures.same c.find-found.ensures.file fault c.args.table.now.covered c.args.upto refused)
 
-pub returns-clause-steps : goal.returns-clause-steps
-returns-clause-steps g c =
-    let covers = c.find-found.ensures.covers in
+pub returns-clause-visits : goal.returns-clause-visits
+returns-clause-visits g c =
+    let f = c.find-found.ensures in
     record {
-      archive = c.enter_vault-archive.result;
-      left = c.find-found.new.self;
-      visited = c.leave_vault.ensures.visited c.args.seat.now c.enter_vault-archive.result c.enter_vault-archive.ensures;
-      none = covers.no_cost;
-      cost = covers.cost;
+      looks = record {
+        before = c.enter_vault-archive.result;
+        after = c.find-found.new.self;
+        visited = c.leave_vault.ensures.visited c.args.seat.now c.enter_vault-archive.result c.enter_vault-archive.ensures;
+        same = f.same;
+        quiet = f.quiet;
+      };
+      none = f.covers.no_cost;
+      cost = f.covers.cost;
     }
 
 pub returns-clause-grows : goal.returns-clause-grows

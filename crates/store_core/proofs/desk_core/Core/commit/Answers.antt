@@ -1,12 +1,13 @@
-use Rattle.std.proofs.Common.{ℕ, List, sym, subst, Option}
+use Rattle.std.proofs.Common.{◌≡◌, ℕ, List, false, refl, sym, subst, Option}
 use Rattle.std.specs.Prelude.{option_copied}
 use Rattle.history.specs.declared.entry.Change.TheVariants.{Commit}
 use Rattle.race_model.specs.Machine.{change_failed}
 use Rattle.desk.proofs.Steps.{log_rests}
 use Rattle.txn_set.specs.Ledger.{kept_behind}
+use Rattle.txn_set.specs.Refused.{leaves_record}
 use Rattle.store_core.specs.Commits.{IsAllowed, desk_behind}
 use Rattle.store_core.specs.Core.{IsCore}
-use Rattle.store_core.proofs.Committed.{may_commit}
+use Rattle.store_core.proofs.Committed.{may_commit, no_mark}
 use Rattle.store_core.proofs.Edits.{core_with, kept_edits}
 use Rattle.store_core.proofs.desk_core.Core.commit.Goals as goal
 
@@ -29,3 +30,18 @@ pub returns-in-Err-commit_allowed-clause-failed : goal.returns-in-Err-commit_all
 returns-in-Err-commit_allowed-clause-failed g c = λ opening plain t is allowed fault.
     subst (λ (l : Option (List ℕ)). IsCore g.D.Disk.is_honest g.D.Disk.state opening c.commit_allowed.new.self (change_failed plain (Commit l t.edits))) c.in-Ok.ensures
     (c.in-Err-commit_allowed.ensures.failed opening plain t is (subst (λ (l : Option (List ℕ)). IsAllowed c.args.self.now c.args.who l t) (sym c.in-Ok.ensures) allowed) fault)
+
+pub returns-in-Err-clause-nothing : goal.returns-in-Err-clause-nothing
+returns-in-Err-clause-nothing g c = λ t allowed none. absurd (no_mark c.args.mark t.edits none c.in-Err.ensures)
+
+pub returns-in-Ok-commit_allowed-clause-nothing : goal.returns-in-Ok-commit_allowed-clause-nothing
+returns-in-Ok-commit_allowed-clause-nothing g c = λ t allowed none. (
+  refl,
+  (c.in-Ok-commit_allowed.ensures.nothing t (subst (λ (l : Option (List ℕ)). IsAllowed c.args.self.now c.args.who l t) (sym c.in-Ok.ensures) allowed)
+      (subst (λ (l : Option (List ℕ)). leaves_record l t.edits ≡ false) (sym c.in-Ok.ensures) none)).1,
+)
+
+pub returns-in-Err-commit_allowed-clause-nothing : goal.returns-in-Err-commit_allowed-clause-nothing
+returns-in-Err-commit_allowed-clause-nothing g c = λ t allowed none. absurd (cc
+    (c.in-Err-commit_allowed.ensures.nothing t (subst (λ (l : Option (List ℕ)). IsAllowed c.args.self.now c.args.who l t) (sym c.in-Ok.ensures) allowed)
+    (subst (λ (l : Option (List ℕ)). leaves_record l t.edits ≡ false) (sym c.in-Ok.ensures) none)).0)
