@@ -36,13 +36,13 @@ fn push_text(out: &mut ByteRecord, value: &Value) -> Result<(), AllocError>
 }
 
 // Makes the texts of a row's values the fields of a record.
-fn fill(record: &mut ByteRecord, row: &Row) -> Result<(), AllocError>
-    ensures fields { OnOk result (fields_of record.new ≡ map text_of row.now) }
+fn fill(out: &mut ByteRecord, row: &Row) -> Result<(), AllocError>
+    ensures fields { OnOk result (fields_of out.new ≡ map text_of row.now) }
     ensures shown { OnOk result (AllByRecursion IsShown row.now) }
 {
-    record.clear();
+    out.clear();
     for value in row.as_slice() {
-        push_text(record, value)?;
+        push_text(out, value)?;
     }
     Ok(())
 }

@@ -7,7 +7,7 @@ use Rattle.session.proofs.rows.fill.Given as goal
 
 abbrev pub invariant-loop-value : goal.invariant-loop-value
 invariant-loop-value l = record {
-  fields : fields_of l.record ≡ map text_of (take l.value-index l.value-items);
-  whole : partial_of l.record ≡ [];
+  fields : fields_of l.out ≡ map text_of (take l.value-index l.value-items);
+  whole : partial_of l.out ≡ [];
   shown : AllByRecursion IsShown (take l.value-index l.value-items);
 }

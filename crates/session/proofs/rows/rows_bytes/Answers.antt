@@ -22,8 +22,8 @@ loop-row-preserved c =
     let wrote = (ok_part _ _ c.write_byte_record.result done c.write_byte_record.ensures.bytes).1 was.fields was.clean (λ e. absurd (cc (sym (ap (λ s. s.style) was.setup) ∙ e))) in
     let row = c.row-item.result in
     let rest = row_lines (drop (c.loop-row.row-index + 1) c.args.rows.now) in
-    let text : csv_text c.loop-row.writer.cfg (fields_of c.fill.new.record) ≡ row_text row =
-    ap (λ s. csv_text s (fields_of c.fill.new.record)) was.setup ∙ ap (csv_text default_writer) c.in_ok-fill.ensures.fields ∙ row_same row c.in_ok-fill.ensures.shown in
+    let text : csv_text c.loop-row.writer.cfg (fields_of c.fill.new.out) ≡ row_text row =
+    ap (λ s. csv_text s (fields_of c.fill.new.out)) was.setup ∙ ap (csv_text default_writer) c.in_ok-fill.ensures.fields ∙ row_same row c.in_ok-fill.ensures.shown in
     let old = c.loop-row.writer.wtr.inner.items ++ c.loop-row.writer.wtr.buf in
     record {
       setup = (ok_part _ _ c.write_byte_record.result done c.write_byte_record.ensures.setup).1 ∙ was.setup;
