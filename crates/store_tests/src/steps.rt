@@ -2,14 +2,15 @@
 
 ghost use Rattle.std.specs.Prelude.{◌≡◌, IsTrue, IfSome, OnOk};
 ghost use Rattle.history.specs.Label.{is_label};
-ghost use Rattle.store.specs.Seats.{IsOpenIn};
+ghost use Rattle.store.specs.Past.{IsPinnedBy, IsTableOf};
+ghost use Rattle.store.specs.Seats.{IsOpenIn, IsPage, IsReady, IsWhole, StaysIn};
 ghost use Rattle.store_tests.specs.Steps.{MayCall, MayRound, Rests};
-ghost use Rattle.turn.specs.Seats.{IsSame};
+ghost use Rattle.turn.specs.Seats.{IsSame, mine};
 ghost use Rattle.turn.specs.Tables.{table_of};
 
 use disk_model::Disk;
 use page_table::SnapTable;
-use race_model::Batch;
+use race_model::{Batch, Fault};
 use retro_base::{Page, Refusal, Who};
 use skippy::Steps;
 use std::alloc::Global;
@@ -220,6 +221,29 @@ fn reads<R: Wait, D: Disk + Drop>(
     }
 }
 
+// A page as of a snapshot that a look pins; of what the call hands over only that the seat goes on.
+fn reads_past<R: Wait, D: Disk + Drop, L: Ledger>(
+    rt: &R,
+    store: &Store<D>,
+    seat: &mut Seat<D>,
+    snapshot: u32,
+    table: &mut SnapTable,
+    page: u32,
+    out: &mut Page,
+    steps: &mut Steps<L>,
+) -> Result<(), Fault>
+    requires ready { IsReady (table_of store.now.turn) seat.old }
+    requires pinned { IsPinnedBy seat.old snapshot }
+    requires first_met { IsTableOf D.is_honest D.state seat.old snapshot table.old }
+    requires inside { IsPage seat.old page }
+    ensures ready { IsReady (table_of store.now.turn) seat.new }
+    ensures same { StaysIn seat.old seat.new }
+    ensures whole { IsWhole seat.old → IsWhole seat.new }
+    ensures work { (mine seat.new).work ≡ (mine seat.old).work }
+{
+    store.past(rt, seat, snapshot, table, page, out, steps)
+}
+
 // A look at a snapshot that reads a page as of it, by steps that are counted in a ledger.
 fn recalls_by<R: Wait, D: Disk + Drop, L: Ledger>(
     rt: &R,
@@ -255,7 +279,9 @@ fn recalls_by<R: Wait, D: Disk + Drop, L: Ledger>(
     let mut table = SnapTable::new(alloc, start);
     let mut out = Page::zero();
     let mut steps = Steps::<L>::new(blank);
-    let read = store.past(rt, seat, snapshot, &mut table, page, &mut out, &mut steps);
+    let read = reads_past(
+        rt, store, seat, snapshot, &mut table, page, &mut out, &mut steps,
+    );
     store.unlook(rt, seat, who, Ending::Asked);
     match read {
         Ok(()) => Ok(Told::Past(start, byte_of(&out))),
