@@ -1,10 +1,13 @@
--- What the status of a run tells.
+-- What the status of a command tells.
 use Rattle.std.proofs.Common.{◌≡◌, ◌∙◌, ◌⊎◌, ◌<◌, ◌-◌, ◌^◌, ap, ℕ, Bool, true, false, List, Option, Some, IfSome, Result, Ok, Err, inl, inr, refl, subst, sym, arith}
-use Rattle.std.specs.Prelude.{◌==◌, ◌∷◌, [], IsTrue, MatchResult, if◌then◌else◌}
+use Rattle.std.specs.Prelude.{◌==◌, ◌∷◌, [], IsTrue, MatchResult}
 use Rattle.std.specs.List.{list_any}
 use Rattle.disk_model.specs.Disk.{State}
 use Rattle.disk_model.specs.Moments.{Clock}
 use Rattle.disk_model.specs.declared.four.Four.{Four}
+use Rattle.disk_model.specs.declared.four.Sizes.{Sizes}
+use Rattle.retro_base.specs.declared.device.Device.{Device}
+use Rattle.retro_base.specs.declared.limits.TheConstants.{MEMORY_PAGES}
 use Rattle.retro_base.specs.declared.refusal.Refusal.{Refusal}
 use Rattle.retro_base.specs.declared.refusal.Refusal.TheVariants as refusals
 use Rattle.script.specs.Script.{ReadsAs}
@@ -12,12 +15,15 @@ use Rattle.script.specs.declared.structure.Script.{Script}
 use Rattle.journal_law.specs.Lawful.{Opening}
 use Rattle.session.specs.Plan.{Plan}
 use Rattle.session.specs.Sql.{sql}
-use Rattle.retro.specs.Asked.{AsksFor, IsAsked, IsTheBadLine, IsTheScript, RefusesScript}
-use Rattle.retro.specs.Keeping.{CameTo, EndsRun, HasCausesIn, IsStatusOf, RunsIn, RunsOnStore, StatusesInTellCauses, ending_status, has_fault, in_place}
-use Rattle.retro.specs.Memory.{RunsFrom}
+use Rattle.retro.specs.Asked.{AsksFor, BytesAsk, IsAsked, IsTheBadLine, IsTheScript, RefusesScript}
+use Rattle.retro.specs.Formats.{MakesIn, StatusesOfFormatTellCauses, formatted_line}
+use Rattle.retro.specs.Keeping.{CameTo, EndsRun, HasCausesIn, IsStatusBy, RunsOnStore, StatusesInTellCauses, ending_status, has_fault}
+use Rattle.retro.specs.Loads.{EndsLoad, StatusesOfLoadTellCauses, load_source, load_text}
+use Rattle.retro.specs.Memory.{RunsFrom, memory_opening}
 use Rattle.retro.specs.Program.{EndsFrom, FeedsTold, HasCauses, RunsPlainly, StatusesTellCauses}
-use Rattle.retro.specs.Says.{LacksMemory, Refuses, Tells, Writes, WritesOne}
+use Rattle.retro.specs.Says.{Ends, HasCausesOn, IsStatusOf, LacksMemory, Refuses, SinkTold, Writes, WritesOne}
 use Rattle.retro.specs.Seen.{HasFailed, IsSteady, Seen}
+use Rattle.retro.specs.Shows.{LooksIn, StatusesOfShowTellCauses, shown_text}
 use Rattle.retro.specs.Storing.{IsPrinted}
 use Rattle.retro.specs.declared.asking.NoPlan.{NoPlan}
 use Rattle.retro.specs.declared.asking.NoPlan.TheVariants.{BadScript, OutOfMemory, SourceFault}
@@ -49,15 +55,23 @@ neither_bad s e (inr failed) = omega (arith, e, failed)
 
 -- ---- what each status tells of source and sink
 
+module _ (sink : Seen) where
+  whole_told : IsSteady sink → SinkTold sink 0
+  whole_told still = record { fault = λ e. absurd (omega (arith, e)); steady = λ e. still; no_fault = λ still few e. omega (arith, e) }
+
+  front_told : HasFailed sink → SinkTold sink 5
+  front_told failed = record { fault = λ e. failed; steady = λ e. absurd (omega (arith, e)); no_fault = λ still few e. not_failed sink failed still few }
+
+  other_told : (s : ℕ) → (s ≡ 0 → ⊥) → (s ≡ 5 → ⊥) → SinkTold sink s
+  other_told s not_whole not_front = record { fault = λ e. absurd (not_front e); steady = λ e. absurd (not_whole e); no_fault = λ still few. not_front }
+
 module _ (source sink : Seen) where
   at_fault : HasFailed source → FeedsTold source sink 4
   at_fault failed = record {
     source_fault = λ e. failed;
     source_steady = λ other. absurd (other refl);
     no_source_fault = λ steady few e. not_failed source failed steady few;
-    sink_fault = λ e. absurd (omega (arith, e));
-    sink_steady = λ e. absurd (omega (arith, e));
-    no_sink_fault = λ still few e. omega (arith, e);
+    sink_told = other_told sink 4 (λ e. omega (arith, e)) (λ e. omega (arith, e));
     bad_script = λ e. absurd (omega (arith, e));
     good_script = λ bytes script e is s. omega (arith, s);
     bad_line = λ bytes n e is. inr (inl refl);
@@ -68,9 +82,7 @@ module _ (source sink : Seen) where
     source_fault = λ e. absurd (omega (arith, e));
     source_steady = λ other. steady;
     no_source_fault = λ steady few e. omega (arith, e);
-    sink_fault = λ e. absurd (omega (arith, e));
-    sink_steady = λ e. absurd (omega (arith, e));
-    no_sink_fault = λ still few e. omega (arith, e);
+    sink_told = other_told sink 3 (λ e. omega (arith, e)) (λ e. omega (arith, e));
     bad_script = λ e. (n, bad);
     good_script = λ bytes script e is s. script_or_bad source.bytes_old bytes script n e bad is;
     bad_line = λ bytes m e is. inl refl;
@@ -81,9 +93,7 @@ module _ (source sink : Seen) where
     source_fault = λ e. absurd (omega (arith, e));
     source_steady = λ other. steady;
     no_source_fault = λ steady few e. omega (arith, e);
-    sink_fault = λ e. absurd (omega (arith, e));
-    sink_steady = λ e. absurd (omega (arith, e));
-    no_sink_fault = λ still few e. omega (arith, e);
+    sink_told = other_told sink 8 (λ e. omega (arith, e)) (λ e. omega (arith, e));
     bad_script = λ e. absurd (omega (arith, e));
     good_script = λ bytes script e is s. omega (arith, s);
     bad_line = λ bytes n e is. inr (inr refl);
@@ -91,30 +101,28 @@ module _ (source sink : Seen) where
 
   -- behind a plan that was asked for
   module _ (steady : IsSteady source) (plan : Plan) (asks : AsksFor source.bytes_old plan) where
-    at_end : (s : ℕ) → (s ≡ 3 → ⊥) → (s ≡ 4 → ⊥) → (s ≡ 5 → HasFailed sink) → (s ≡ 0 → IsSteady sink) → FeedsTold source sink s
-    at_end s not_bad not_source failed still = record {
+    at_end : (s : ℕ) → (s ≡ 3 → ⊥) → (s ≡ 4 → ⊥) → SinkTold sink s → FeedsTold source sink s
+    at_end s not_bad not_source told = record {
       source_fault = λ e. absurd (not_source e);
       source_steady = λ other. steady;
       no_source_fault = λ steady few. not_source;
-      sink_fault = failed;
-      sink_steady = still;
-      no_sink_fault = λ stays few e. not_failed sink (failed e) stays few;
+      sink_told = told;
       bad_script = λ e. absurd (not_bad e);
       good_script = λ bytes script e is. not_bad;
       bad_line = λ bytes n e is. absurd (bad_or_plan source.bytes_old bytes plan n e asks is);
     }
 
     whole : IsSteady sink → FeedsTold source sink 0
-    whole still = at_end 0 (λ e. omega (arith, e)) (λ e. omega (arith, e)) (λ e. absurd (omega (arith, e))) (λ e. still)
+    whole still = at_end 0 (λ e. omega (arith, e)) (λ e. omega (arith, e)) (whole_told sink still)
 
     cut : HasFailed sink → FeedsTold source sink 5
-    cut failed = at_end 5 (λ e. omega (arith, e)) (λ e. omega (arith, e)) (λ e. failed) (λ e. absurd (omega (arith, e)))
+    cut failed = at_end 5 (λ e. omega (arith, e)) (λ e. omega (arith, e)) (front_told sink failed)
 
     faulty : FeedsTold source sink 6
-    faulty = at_end 6 (λ e. omega (arith, e)) (λ e. omega (arith, e)) (λ e. absurd (omega (arith, e))) (λ e. absurd (omega (arith, e)))
+    faulty = at_end 6 (λ e. omega (arith, e)) (λ e. omega (arith, e)) (other_told sink 6 (λ e. omega (arith, e)) (λ e. omega (arith, e)))
 
     no_store : FeedsTold source sink 7
-    no_store = at_end 7 (λ e. omega (arith, e)) (λ e. omega (arith, e)) (λ e. absurd (omega (arith, e))) (λ e. absurd (omega (arith, e)))
+    no_store = at_end 7 (λ e. omega (arith, e)) (λ e. omega (arith, e)) (other_told sink 7 (λ e. omega (arith, e)) (λ e. omega (arith, e)))
 
 -- ---- the law of `run`
 
@@ -155,13 +163,17 @@ statuses_tell_causes size o source sink status runs = told source sink status si
 
 -- ---- the law of `run DIR`
 
+-- the status of a run that left this
+abbrev IsOf : Seen → Ended → ℕ → Type 0
+IsOf sink ended = IsStatusBy (has_fault ended.journal) sink ended
+
 -- the status of a run whose transcript was written whole, in part, or not
-all_written : (sink : Seen) (ended : Ended) (fault copied : Bool) → IsSteady sink → has_fault ended.journal ≡ fault → ended.copied ≡ copied → (ending_status ended 0 ≡ 8) ⊎ ((s : ℕ) × (ending_status ended 0 ≡ s) × IsStatusOf sink (Ok ended) s × ((s ≡ 0) ⊎ (s ≡ 6)))
+all_written : (sink : Seen) (ended : Ended) (fault copied : Bool) → IsSteady sink → has_fault ended.journal ≡ fault → ended.copied ≡ copied → (ending_status ended 0 ≡ 8) ⊎ ((s : ℕ) × (ending_status ended 0 ≡ s) × IsOf sink ended s × ((s ≡ 0) ⊎ (s ≡ 6)))
 all_written sink ended true copied still e all = inr (6, rw e refl, rw e (inl (refl, still)), inr refl)
 all_written sink ended false true still e all = inr (0, rw (e, all) refl, rw (e, all) (inl (refl, refl)), inl refl)
 all_written sink ended false false still e all = inl (rw (e, all) refl)
 
-part_written : (sink : Seen) (ended : Ended) (fault copied : Bool) → has_fault ended.journal ≡ fault → ended.copied ≡ copied → (ending_status ended 5 ≡ 5) × IsStatusOf sink (Ok ended) 5
+part_written : (sink : Seen) (ended : Ended) (fault copied : Bool) → has_fault ended.journal ≡ fault → ended.copied ≡ copied → (ending_status ended 5 ≡ 5) × IsOf sink ended 5
 part_written sink ended true copied e all = (rw e refl, rw e (inr refl))
 part_written sink ended false true e all = (rw (e, all) refl, rw (e, all) (inr refl))
 part_written sink ended false false e all = (rw (e, all) refl, rw (e, all) (inr refl))
@@ -200,7 +212,7 @@ module _ {C D : Type 0} (faults : C → ℕ) (is_out : C → List ℕ → Type 0
   no_plan OutOfMemory asked same ends = lacking asked ends
 
   module _ (plan : Plan) (asked : IsAsked source (Ok plan)) where
-    reached : (s : ℕ) → IsTrue (list_any (λ one. one == s) (0 ∷ 3 ∷ 4 ∷ 5 ∷ 6 ∷ 7 ∷ 8 ∷ [])) → FeedsTold source sink s → (s ≡ 3 → ⊥) → (s ≡ 4 → ⊥) → (result : Result Ended Refusal) → Ran plan result → IsStatusOf sink result s → Causes s
+    reached : (s : ℕ) → IsTrue (list_any (λ one. one == s) (0 ∷ 3 ∷ 4 ∷ 5 ∷ 6 ∷ 7 ∷ 8 ∷ [])) → FeedsTold source sink s → (s ≡ 3 → ⊥) → (s ≡ 4 → ⊥) → (result : Result Ended Refusal) → Ran plan result → IsStatusOf (IsOf sink) result s → Causes s
     reached s one feeds not_bad not_source result ran is = record {
       statuses = one;
       feeds = feeds;
@@ -219,12 +231,12 @@ module _ {C D : Type 0} (faults : C → ℕ) (is_out : C → List ℕ → Type 0
           here : (s : ℕ) → ending_status ended 0 ≡ s → status ≡ s
           here s e = is ∙ ap (λ (w : ℕ). ending_status ended w) none ∙ e
 
-          by_case : (ending_status ended 0 ≡ 8) ⊎ ((s : ℕ) × (ending_status ended 0 ≡ s) × IsStatusOf sink (Ok ended) s × ((s ≡ 0) ⊎ (s ≡ 6))) → Causes status
+          by_case : (ending_status ended 0 ≡ 8) ⊎ ((s : ℕ) × (ending_status ended 0 ≡ s) × IsOf sink ended s × ((s ≡ 0) ⊎ (s ≡ 6))) → Causes status
           by_case (inl e) = is_so 8 (here 8 e) (record { statuses = refl; feeds = at_memory source sink asked.2; untouched = λ e. absurd (neither_bad 8 refl e); came = λ a b c. absurd (c refl) })
           by_case (inr (s, e, of, inl zero)) =
-              is_so 0 (here s e ∙ zero) (reached 0 refl (whole source sink asked.2 plan asked.0 still) (λ x. omega (arith, x)) (λ x. omega (arith, x)) (Ok ended) ran (subst (λ (n : ℕ). IsStatusOf sink (Ok ended) n) zero of))
+              is_so 0 (here s e ∙ zero) (reached 0 refl (whole source sink asked.2 plan asked.0 still) (λ x. omega (arith, x)) (λ x. omega (arith, x)) (Ok ended) ran (subst (λ (n : ℕ). IsOf sink ended n) zero of))
           by_case (inr (s, e, of, inr six)) =
-              is_so 6 (here s e ∙ six) (reached 6 refl (faulty source sink asked.2 plan asked.0) (λ x. omega (arith, x)) (λ x. omega (arith, x)) (Ok ended) ran (subst (λ (n : ℕ). IsStatusOf sink (Ok ended) n) six of))
+              is_so 6 (here s e ∙ six) (reached 6 refl (faulty source sink asked.2 plan asked.0) (λ x. omega (arith, x)) (λ x. omega (arith, x)) (Ok ended) ran (subst (λ (n : ℕ). IsOf sink ended n) six of))
 
       at_part : written ≡ 5 → HasFailed sink → Causes status
       at_part five failed =
@@ -261,3 +273,81 @@ module _ {C D : Type 0} (faults : C → ℕ) (is_out : C → List ℕ → Type 0
           → MatchResult asked (λ plan. (result : Result Ended Refusal) × Ran plan result × EndsRun sink plan result status) (λ why. (new ≡ old) × RefusesScript sink why status) → Causes status
       by_asked (Ok plan) asked ran = by_result plan asked ran.0 ran.1 ran.2
       by_asked (Err why) asked ends = no_plan why asked ends.0 ends.1
+
+-- ---- the laws of `format` and `show`
+
+module _ {A : Type 0} (those : List ℕ) (Came : Result A Refusal → Type 0) (text : A → List ℕ) (sink : Seen) (status : ℕ) where
+  abbrev On : ℕ → Type 0
+  On s = HasCausesOn those Came text sink s
+
+  abbrev IsIn : ℕ → Type 0
+  IsIn s = IsTrue (list_any (λ one. one == s) those)
+
+  is_on : (number : ℕ) → status ≡ number → On number → On status
+  is_on number is causes = subst On (sym is) causes
+
+  module _ (whole : IsIn 0) (front : IsIn 5) (fault : IsIn 6) (no_store : (device : Device) (place : ℕ) → Came (Err (refusals.NotAStore device place)) → IsIn 7) (wanting : IsIn 8) where
+    at_wanting : LacksMemory sink status → On status
+    at_wanting lacks = is_on 8 lacks.0 (record { statuses = wanting; sink_told = other_told sink 8 (λ e. omega (arith, e)) (λ e. omega (arith, e)); came = λ other. absurd (other refl) })
+
+    at_found : (found : A) → Came (Ok found) → Writes sink (text found) status → On status
+    at_found found came (inl all) = is_on 0 all.0 (record { statuses = whole; sink_told = whole_told sink all.2; came = λ other. (Ok found, came, inl (refl, all.1)) })
+    at_found found came (inr (inl part)) = is_on 5 part.0 (record { statuses = front; sink_told = front_told sink part.2; came = λ other. (Ok found, came, inr (refl, part.1)) })
+    at_found found came (inr (inr lacks)) = at_wanting lacks
+
+    at_refusal : (why : Refusal) → Came (Err why) → Refuses sink why status → On status
+    at_refusal (refusals.DiskFault device count) came (inl said) =
+        is_on 6 said.0 (record { statuses = fault; sink_told = other_told sink 6 (λ e. omega (arith, e)) (λ e. omega (arith, e)); came = λ other. (Err (refusals.DiskFault device count), came, refl) })
+    at_refusal (refusals.DiskFault device count) came (inr lacks) = at_wanting lacks
+    at_refusal (refusals.NotAStore device place) came (inl said) =
+        is_on 7 said.0 (record { statuses = no_store device place came; sink_told = other_told sink 7 (λ e. omega (arith, e)) (λ e. omega (arith, e)); came = λ other. (Err (refusals.NotAStore device place), came, refl) })
+    at_refusal (refusals.NotAStore device place) came (inr lacks) = at_wanting lacks
+    at_refusal refusals.OutOfMemory came lacks = at_wanting lacks
+    at_refusal why came ends = absurd ends
+
+    told_by : (result : Result A Refusal) → Came result → Ends sink text result status → On status
+    told_by (Ok found) came ends = at_found found came ends
+    told_by (Err why) came ends = at_refusal why came ends
+
+module _ {C D : Type 0} (faults : C → ℕ) (is_out : C → List ℕ → Type 0) (tells : C → Type 0) (store : C → List ℕ → Option (Four D)) (extent device_faults : D → ℕ) (is_honest : D → Type 0) where
+  -- what is made is not refused as no store's
+  made_store : (state : D → State) (dir : List ℕ) (sizes : Sizes) (old new : C) (device : Device) (place : ℕ) → MakesIn faults is_out tells store extent device_faults is_honest state dir sizes old new (Err (refusals.NotAStore device place)) → ⊥
+  made_store state dir sizes old new device place (inl none) = none.fault
+  made_store state dir sizes old new device place (inr made) = made.3.cause.1
+
+  pub statuses_of_format_tell_causes : (state : D → State) (dir : List ℕ) (sizes : Sizes) (sink : Seen) (old new : C) (status : ℕ)
+      → StatusesOfFormatTellCauses faults is_out tells store extent device_faults is_honest state dir sizes sink old new status
+  statuses_of_format_tell_causes state dir sizes sink old new status formats =
+      told_by (0 ∷ 5 ∷ 6 ∷ 8 ∷ []) (MakesIn faults is_out tells store extent device_faults is_honest state dir sizes old new) (λ _. formatted_line sizes) sink status
+      refl refl refl (λ device place made. absurd (made_store state dir sizes old new device place made)) refl formats.made formats.makes formats.ends
+
+  pub statuses_of_show_tell_causes : (remembers : Type 0) (state : D → State) (clock : D → Clock) (dir : List ℕ) (sink : Seen) (old new : C) (status : ℕ)
+      → StatusesOfShowTellCauses faults is_out tells store extent device_faults is_honest remembers state clock dir sink old new status
+  statuses_of_show_tell_causes remembers state clock dir sink old new status shows =
+      told_by (0 ∷ 5 ∷ 6 ∷ 7 ∷ 8 ∷ []) (LooksIn faults is_out tells store extent device_faults is_honest remembers state clock dir old new) shown_text sink status
+      refl refl refl (λ device place found. refl) refl shows.found shows.looks shows.ends
+
+-- ---- the law of `load`
+
+module _ (seed rounds : ℕ) (sink : Seen) (status : ℕ) where
+  asked_load : (asked : Result Plan NoPlan) → BytesAsk (load_text seed rounds) asked → IsAsked (load_source seed rounds) asked
+  asked_load (Ok plan) asks = (asks, refl, refl)
+  asked_load (Err (BadScript n)) bad = (bad, refl)
+  asked_load (Err OutOfMemory) asks = refl
+  asked_load (Err SourceFault) asks = absurd asks
+
+  module _ (plan : Plan) (asked : IsAsked (load_source seed rounds) (Ok plan)) where
+    ended_load : (result : Result Ended Refusal) → RunsFrom MEMORY_PAGES memory_opening plan result → EndsLoad seed rounds sink plan result status → HasCauses (load_source seed rounds) sink status
+    ended_load (Ok left) ran (inl (text, is, writes)) = written (load_source seed rounds) sink status plan asked text writes
+    ended_load (Ok left) ran (inr wanting) = lacks (load_source seed rounds) sink status refl wanting
+    ended_load (Err why) is ends = lacks (load_source seed rounds) sink status refl (subst (λ (w : Refusal). Refuses sink w status) is ends)
+
+  by_plan : (asked : Result Plan NoPlan) → IsAsked (load_source seed rounds) asked
+      → MatchResult asked (λ plan. (result : Result Ended Refusal) × RunsFrom MEMORY_PAGES memory_opening plan result × EndsLoad seed rounds sink plan result status) (λ why. RefusesScript sink why status) → HasCauses (load_source seed rounds) sink status
+  by_plan (Ok plan) asked ran = ended_load plan asked ran.0 ran.1 ran.2
+  by_plan (Err why) asked ends = refused (load_source seed rounds) sink status why asked ends
+
+pub statuses_of_load_tell_causes : StatusesOfLoadTellCauses
+statuses_of_load_tell_causes seed rounds sink status loads =
+    let causes = by_plan seed rounds sink status loads.asked (asked_load seed rounds sink status loads.asked loads.is_asked) loads.runs in
+    (causes, causes.feeds.no_source_fault refl (omega arith))

@@ -12,7 +12,7 @@ use Rattle.opening.specs.Devices.{AreHonest, AreImages, IsUnopened, of_each, Sam
 use Rattle.session.specs.Line.{line}
 use Rattle.store_format.specs.Empty.{IsEmptyStore}
 use Rattle.tables.specs.Tables.{no_tables}
-use Rattle.retro.specs.Says.{Ends}
+use Rattle.retro.specs.Says.{Ends, HasCausesOn}
 use Rattle.retro.specs.Seen.{Seen}
 use Rattle.retro.specs.Storing.{OpensShowing}
 use Rattle.retro.specs.Stores.{HandsOutNone, TakesBack}
@@ -43,10 +43,19 @@ MakesIn faults is_out tells store extent device_faults is_honest state dir sizes
     ⊎ ((first last : Four _) × TakesBack faults is_out tells store dir old new last
     × Makes extent device_faults is_honest state (tells old) sizes first last result)
 
--- `format DIR PAGES CAPACITY`: a store was made or not, and so it ends
-pub record Formats {C D : Type 0} (faults : C → ℕ) (is_out : C → List ℕ → Type 0) (tells : C → Type 0)
+module _ {C D : Type 0} (faults : C → ℕ) (is_out : C → List ℕ → Type 0) (tells : C → Type 0)
     (store : C → List ℕ → Option (Four D)) (extent device_faults : D → ℕ) (is_honest : D → Type 0) (state : D → State)
-    (dir : List ℕ) (sizes : Sizes) (sink : Seen) (old new : C) (status : ℕ) : Type 0 where
-  pub made : Result (Unit {0}) Refusal
-  pub makes : MakesIn faults is_out tells store extent device_faults is_honest state dir sizes old new made
-  pub ends : Ends sink (λ _. formatted_line sizes) made status
+    (dir : List ℕ) (sizes : Sizes) (sink : Seen) (old new : C) (status : ℕ) where
+  -- `format DIR PAGES CAPACITY`: a store was made or not, and so it ends
+  pub record Formats : Type 0 where
+    pub made : Result (Unit {0}) Refusal
+    pub makes : MakesIn faults is_out tells store extent device_faults is_honest state dir sizes old new made
+    pub ends : Ends sink (λ _. formatted_line sizes) made status
+
+  -- the law of its status: 7 never comes, and with 0 a store was made
+  abbrev pub StatusesOfFormatTellCauses : Type 0
+  StatusesOfFormatTellCauses =
+      Formats
+      → HasCausesOn (0 ∷ 5 ∷ 6 ∷ 8 ∷ [])
+      (MakesIn faults is_out tells store extent device_faults is_honest state dir sizes old new)
+      (λ _. formatted_line sizes) sink status

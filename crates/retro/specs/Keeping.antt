@@ -7,14 +7,13 @@ use Rattle.disk_model.specs.Disk.{State}
 use Rattle.disk_model.specs.Moments.{Clock}
 use Rattle.disk_model.specs.declared.four.Four.{Four}
 use Rattle.retro_base.specs.declared.refusal.Refusal.{Refusal}
-use Rattle.retro_base.specs.declared.refusal.Refusal.TheVariants.{DiskFault, NotAStore}
 use Rattle.history.specs.declared.journal.Line.{Line}
 use Rattle.history.specs.declared.journal.What.{What}
 use Rattle.history.specs.declared.journal.What.TheVariants.{Fault}
 use Rattle.session.specs.Plan.{Plan}
 use Rattle.retro.specs.Asked.{AsksFor, IsAsked, RefusesScript}
 use Rattle.retro.specs.Program.{FeedsTold}
-use Rattle.retro.specs.Says.{Refuses, WritesOne}
+use Rattle.retro.specs.Says.{IsStatusOf, Refuses, WritesOne}
 use Rattle.retro.specs.Seen.{IsSteady, Seen}
 use Rattle.retro.specs.Stores.{HandsOutNone, TakesBack}
 use Rattle.retro.specs.Storing.{IsPrinted, RunsOn}
@@ -76,19 +75,11 @@ pub record RunsIn {C D : Type 0} (faults : C → ℕ) (is_out : C → List ℕ �
 
 -- ---- what the status tells
 
--- The status of a run whose journal tells a fault of a device: 6 where the sink did not fail, and 5 where it did. Of one that tells none: 0,
--- and then all is copied, or 5.
+-- The status of a run whose journal tells a fault of a device: 6 where the sink did not fail, and 5 where it did. Of
+-- one that tells none: 0, and then all is copied, or 5.
 abbrev pub IsStatusBy : Bool → Seen → Ended → ℕ → Type 0
 IsStatusBy true sink ended status = ((status ≡ 6) × IsSteady sink) ⊎ (status ≡ 5)
 IsStatusBy false sink ended status = ((status ≡ 0) × (ended.copied ≡ true)) ⊎ (status ≡ 5)
-
--- The status of a run over a store that came to this, where memory did not run out: also 6 where a call of the cabinet,
--- or of a device as the store was opened, failed; and 7 where the bytes are no store's.
-abbrev pub IsStatusOf : Seen → Result Ended Refusal → ℕ → Type 0
-IsStatusOf sink (Ok ended) status = IsStatusBy (has_fault ended.journal) sink ended status
-IsStatusOf sink (Err (DiskFault device count)) status = status ≡ 6
-IsStatusOf sink (Err (NotAStore device place)) status = status ≡ 7
-IsStatusOf sink (Err why) status = ⊥
 
 module _ {C D : Type 0} (faults : C → ℕ) (is_out : C → List ℕ → Type 0) (tells : C → Type 0)
     (store : C → List ℕ → Option (Four D)) (extent device_faults : D → ℕ) (is_honest : D → Type 0) (remembers : Type 0)
@@ -100,7 +91,7 @@ module _ {C D : Type 0} (faults : C → ℕ) (is_out : C → List ℕ → Type 0
     pub result : Result Ended Refusal
     pub ran : RunsOnStore faults is_out tells store extent device_faults is_honest remembers state clock dir plan old
         new result
-    pub is : IsStatusOf sink result status
+    pub is : IsStatusOf (λ ended. IsStatusBy (has_fault ended.journal) sink ended) result status
 
   -- What the status of `run DIR` tells. No other comes. Where the source failed or the script is bad the cabinet is as
   -- it was.

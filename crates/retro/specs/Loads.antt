@@ -1,6 +1,6 @@
 -- A load, and what is written of it.
-use Rattle.std.specs.Prelude.{◌≡◌, ◌==◌, ◌++◌, ◌||◌, ◌∷◌, ℕ, Bool, true, false, not, List, []}
-use Rattle.std.specs.Prelude.{length, filter, get_or, codes, Option, Some, None, Result, Ok, Err}
+use Rattle.std.specs.Prelude.{◌≡◌, ◌≢◌, ◌==◌, ◌++◌, ◌||◌, ◌∷◌, ℕ, Bool, true, false, not, List, []}
+use Rattle.std.specs.Prelude.{length, filter, get_or, codes, Some, Result, Ok, Err}
 use Rattle.std.specs.Fmt.{decimal}
 use Rattle.std.specs.List.{flat_map, slice_split}
 use Rattle.std.specs.Option.{option_map_or}
@@ -18,6 +18,7 @@ use Rattle.session.specs.declared.kept.Kept.{Kept}
 use Rattle.workload.specs.Load.{load_lines, script_text, table_numbers}
 use Rattle.retro.specs.Asked.{BytesAsk, RefusesScript, RunsAsAsked}
 use Rattle.retro.specs.Memory.{RunsFrom, memory_opening}
+use Rattle.retro.specs.Program.{HasCauses}
 use Rattle.retro.specs.Says.{Refuses, WritesOne}
 use Rattle.retro.specs.Seen.{Seen}
 use Rattle.retro.specs.Shows.{number_line}
@@ -102,3 +103,18 @@ Loads seed rounds sink status =
     (λ plan. (ended : Result Ended Refusal) × RunsFrom MEMORY_PAGES memory_opening plan ended
     × EndsLoad seed rounds sink plan ended status)
     (λ why. RefusesScript sink why status)
+
+-- a source that gives the script of a load, and never fails
+abbrev pub load_source : ℕ → ℕ → Seen
+load_source seed rounds = record {
+  bytes_old = Some (load_text seed rounds);
+  bytes_new = Some [];
+  faults_old = 0;
+  faults_new = 0;
+}
+
+-- the law of the status of `load`: it tells what that of `run` does with its script in the source, and is never 4
+abbrev pub StatusesOfLoadTellCauses : Type 0
+StatusesOfLoadTellCauses =
+    (seed rounds : ℕ) (sink : Seen) (status : ℕ) → Loads seed rounds sink status
+    → HasCauses (load_source seed rounds) sink status × (status ≢ 4)

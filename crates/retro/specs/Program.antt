@@ -11,7 +11,7 @@ use Rattle.session.specs.Sql.{sql}
 use Rattle.retro.specs.Asked.{AsksFor, IsAsked, IsTheBadLine, RefusesScript, RunsAsAsked}
 use Rattle.retro.specs.Memory.{RunsFrom}
 use Rattle.retro.specs.Phases.{RanOver}
-use Rattle.retro.specs.Says.{Refuses, WritesOne}
+use Rattle.retro.specs.Says.{Refuses, SinkTold, WritesOne}
 use Rattle.retro.specs.Seen.{HasFailed, IsSteady, Seen}
 use Rattle.retro.specs.declared.storing.Ended.{Ended}
 
@@ -35,9 +35,7 @@ pub record FeedsTold (source sink : Seen) (status : ℕ) : Type 0 where
   pub source_fault : status ≡ 4 → HasFailed source
   pub source_steady : status ≢ 4 → IsSteady source
   pub no_source_fault : IsSteady source → source.faults_old < 2 ^ 64 - 1 → status ≢ 4
-  pub sink_fault : status ≡ 5 → HasFailed sink
-  pub sink_steady : status ≡ 0 → IsSteady sink
-  pub no_sink_fault : IsSteady sink → sink.faults_old < 2 ^ 64 - 1 → status ≢ 5
+  pub sink_told : SinkTold sink status
   pub bad_script : status ≡ 3 → (n : ℕ) × IfSome source.bytes_old (IsTheBadLine n)
   pub good_script : (bytes : List ℕ) (script : Script) → source.bytes_old ≡ Some bytes → ReadsAs bytes (Ok script)
       → status ≢ 3

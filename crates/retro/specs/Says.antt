@@ -1,5 +1,6 @@
 -- The one-line texts of the program, what it puts into its sink, and how a command ends.
-use Rattle.std.specs.Prelude.{◌≡◌, ◌⊎◌, ◌≤◌, ◌++◌, ◌∷◌, ◌==◌, ℕ, IsTrue, List, [], length, take, codes, Result, Ok, Err}
+use Rattle.std.specs.Prelude.{◌≡◌, ◌≢◌, ◌⊎◌, ◌<◌, ◌≤◌, ◌++◌, ◌-◌, ◌^◌, ◌∷◌, ◌==◌, ℕ, IsTrue, List, [], length, take}
+use Rattle.std.specs.Prelude.{codes, Result, Ok, Err}
 use Rattle.std.specs.Fmt.{decimal}
 use Rattle.std.specs.List.{list_any}
 use Rattle.feeds.specs.Feeds.{added}
@@ -113,3 +114,32 @@ Refuses sink refusal status = ⊥
 abbrev pub Ends : {A : Type 0} → Seen → (A → List ℕ) → Result A Refusal → ℕ → Type 0
 Ends sink text (Ok found) status = Writes sink (text found) status
 Ends sink text (Err refusal) status = Refuses sink refusal status
+
+-- ---- what a status tells
+
+-- of the sink: 5 that a call of it failed, and 0 that none did
+pub record SinkTold (sink : Seen) (status : ℕ) : Type 0 where
+  pub fault : status ≡ 5 → HasFailed sink
+  pub steady : status ≡ 0 → IsSteady sink
+  pub no_fault : IsSteady sink → sink.faults_old < 2 ^ 64 - 1 → status ≢ 5
+
+-- The status of a command on a store that came to this, where memory did not run out: that of what it found; 6 where a
+-- call of the cabinet, or of a device, failed; and 7 where the bytes are no store's.
+abbrev pub IsStatusOf : {A : Type 0} → (A → ℕ → Type 0) → Result A Refusal → ℕ → Type 0
+IsStatusOf Is (Ok found) status = Is found status
+IsStatusOf Is (Err (DiskFault device count)) status = status ≡ 6
+IsStatusOf Is (Err (NotAStore device place)) status = status ≡ 7
+IsStatusOf Is (Err why) status = ⊥
+
+-- what was written of the text: all of it with status 0, and a front with status 5
+abbrev pub WritesBy : Seen → List ℕ → ℕ → Type 0
+WritesBy sink text status =
+    ((status ≡ 0) × (sink.bytes_new ≡ added sink.bytes_old text)) ⊎ ((status ≡ 5) × HoldsFront sink text)
+
+-- What the status of a command on a store tells that came to one of these and writes that text. None but these comes.
+pub record HasCausesOn {A : Type 0} (those : List ℕ) (Came : Result A Refusal → Type 0) (text : A → List ℕ)
+    (sink : Seen) (status : ℕ) : Type 0 where
+  pub statuses : IsTrue (list_any (λ one. one == status) those)
+  pub sink_told : SinkTold sink status
+  pub came : status ≢ 8
+      → (result : Result A Refusal) × Came result × IsStatusOf (λ found. WritesBy sink (text found)) result status

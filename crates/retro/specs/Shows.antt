@@ -1,5 +1,5 @@
 -- What is shown of a store.
-use Rattle.std.specs.Prelude.{◌≡◌, ◌⊎◌, ◌++◌, ◌∷◌, ℕ, List, Option, Some, Result, IfOk, MatchResult, codes}
+use Rattle.std.specs.Prelude.{◌≡◌, ◌⊎◌, ◌++◌, ◌∷◌, ℕ, List, [], Option, Some, Result, IfOk, MatchResult, codes}
 use Rattle.std.specs.Fmt.{decimal}
 use Rattle.std.specs.Result.{IsErrAnd}
 use Rattle.disk_model.specs.Disk.{State}
@@ -11,7 +11,7 @@ use Rattle.opening.specs.Devices.{AreUnwritten, IsUnopened, of_each, SameCounts}
 use Rattle.session.specs.Line.{line}
 use Rattle.store.specs.Opening.{AreRefused, IsShownOf}
 use Rattle.store.specs.declared.fetching.Shown.{Shown}
-use Rattle.retro.specs.Says.{Ends}
+use Rattle.retro.specs.Says.{Ends, HasCausesOn}
 use Rattle.retro.specs.Seen.{Seen}
 use Rattle.retro.specs.Stores.{HandsOutNone, TakesBack}
 
@@ -49,10 +49,19 @@ LooksIn faults is_out tells store extent device_faults is_honest remembers state
     × TakesBack faults is_out tells store dir old new last
     × Looks extent device_faults is_honest remembers state clock first last result)
 
--- `show DIR`: this was found, and so it ends
-pub record Shows {C D : Type 0} (faults : C → ℕ) (is_out : C → List ℕ → Type 0) (tells : C → Type 0)
+module _ {C D : Type 0} (faults : C → ℕ) (is_out : C → List ℕ → Type 0) (tells : C → Type 0)
     (store : C → List ℕ → Option (Four D)) (extent device_faults : D → ℕ) (is_honest : D → Type 0) (remembers : Type 0)
-    (state : D → State) (clock : D → Clock) (dir : List ℕ) (sink : Seen) (old new : C) (status : ℕ) : Type 0 where
-  pub found : Result Shown Refusal
-  pub looks : LooksIn faults is_out tells store extent device_faults is_honest remembers state clock dir old new found
-  pub ends : Ends sink shown_text found status
+    (state : D → State) (clock : D → Clock) (dir : List ℕ) (sink : Seen) (old new : C) (status : ℕ) where
+  -- `show DIR`: this was found, and so it ends
+  pub record Shows : Type 0 where
+    pub found : Result Shown Refusal
+    pub looks : LooksIn faults is_out tells store extent device_faults is_honest remembers state clock dir old new found
+    pub ends : Ends sink shown_text found status
+
+  -- the law of its status
+  abbrev pub StatusesOfShowTellCauses : Type 0
+  StatusesOfShowTellCauses =
+      Shows
+      → HasCausesOn (0 ∷ 5 ∷ 6 ∷ 7 ∷ 8 ∷ [])
+      (LooksIn faults is_out tells store extent device_faults is_honest remembers state clock dir old new) shown_text
+      sink status

@@ -69,8 +69,8 @@ abbrev pub IsBaseOf : Base → Base → Option Change → Type 0
 IsBaseOf found base None = found ≡ base
 IsBaseOf found base (Some change) = (found ≡ base) ⊎ (found ≡ base_after base change)
 
--- What is opened from whatever a crash leaves of the devices has this base, so its sizes, its captures and its marks with
--- their starts, or that behind the change in doubt.
+-- What is opened from whatever a crash leaves of the devices has this base, so its sizes, its captures and its marks
+-- with their starts, or that behind the change in doubt.
 abbrev pub OpensAt : {D : Type 0} → (D → State) → Base → Option Change → Four D → Type 0
 OpensAt state base doubt disks = (devices : Four (List ℕ)) (ground : Ground) → AreImages state disks devices →
     OpenAs devices ground → IsBaseOf ground.base base doubt

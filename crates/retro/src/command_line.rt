@@ -16,6 +16,17 @@ use clap::error::ErrorKind;
 use clap::{Arg, ArgMatches};
 use std::alloc::{AllocError, Global};
 
+// The names of the words behind a verb.
+const DIR: &str = "DIR";
+
+const PAGES: &str = "PAGES";
+
+const CAPACITY: &str = "CAPACITY";
+
+const SEED: &str = "SEED";
+
+const ROUNDS: &str = "N";
+
 // A word that has to be there.
 fn wanted<'a>(alloc: Global, name: &'a str) -> Arg<'a>
     ensures rule { rule_of result ≡ wanted name.now }
@@ -29,7 +40,7 @@ fn folder<'a>(alloc: Global) -> Arg<'a>
     ensures rule { rule_of result ≡ optional_folder }
     ensures local { result.global ≡ false }
 {
-    Arg::new(alloc, "DIR").value_parser(ValueParser::NonEmptyString)
+    Arg::new(alloc, DIR).value_parser(ValueParser::NonEmptyString)
 }
 
 fn run<'a>(alloc: Global) -> Result<clap::Command<'a>, AllocError>
@@ -51,8 +62,8 @@ fn load<'a>(alloc: Global) -> Result<clap::Command<'a>, AllocError>
     ensures local { IfOk result (λ c. (out-Command c).has_globals ≡ false) }
 {
     clap::Command::new(alloc, "load")
-        .arg(wanted(alloc, "SEED"))?
-        .arg(wanted(alloc, "N"))
+        .arg(wanted(alloc, SEED))?
+        .arg(wanted(alloc, ROUNDS))
 }
 
 fn format<'a>(alloc: Global) -> Result<clap::Command<'a>, AllocError>
@@ -61,8 +72,8 @@ fn format<'a>(alloc: Global) -> Result<clap::Command<'a>, AllocError>
 {
     clap::Command::new(alloc, "format")
         .arg(folder(alloc).required(true))?
-        .arg(wanted(alloc, "PAGES"))?
-        .arg(wanted(alloc, "CAPACITY"))
+        .arg(wanted(alloc, PAGES))?
+        .arg(wanted(alloc, CAPACITY))
 }
 
 // The command of the program, before it has verbs.
@@ -138,7 +149,7 @@ fn loaded<'a>(matches: &ArgMatches<'a>) -> Result<Command<&'a str>, Mistake>
     ensures given { Answers (λ d. d.now) result (loaded (rows_of (found_of matches.now))) }
     ensures ready { IfOk result IsReady }
 {
-    match (number_at(matches, "SEED"), number_at(matches, "N")) {
+    match (number_at(matches, SEED), number_at(matches, ROUNDS)) {
         (Some(seed), Some(rounds)) => loading(seed, rounds),
         _ => Err(Mistake::BadWords),
     }
@@ -148,10 +159,10 @@ fn formatted<'a>(matches: &ArgMatches<'a>) -> Result<Command<&'a str>, Mistake>
     ensures given { Answers (λ d. d.now) result (formatted (rows_of (found_of matches.now))) }
     ensures ready { IfOk result IsReady }
 {
-    let Some(dir) = word_at(matches, "DIR") else {
+    let Some(dir) = word_at(matches, DIR) else {
         return Err(Mistake::BadWords);
     };
-    match (number_at(matches, "PAGES"), number_at(matches, "CAPACITY")) {
+    match (number_at(matches, PAGES), number_at(matches, CAPACITY)) {
         (Some(pages), Some(capacity)) => making(dir, pages, capacity),
         _ => Err(Mistake::BadWords),
     }
@@ -161,7 +172,7 @@ fn shown<'a>(matches: &ArgMatches<'a>) -> Result<Command<&'a str>, Mistake>
     ensures given { Answers (λ d. d.now) result (shown (first_of (codes "DIR") (rows_of (found_of matches.now)))) }
     ensures ready { IfOk result IsReady }
 {
-    match word_at(matches, "DIR") {
+    match word_at(matches, DIR) {
         Some(dir) => Ok(Command::Show { dir }),
         None => Err(Mistake::BadWords),
     }
@@ -173,7 +184,7 @@ fn chosen<'a>(verb: &str, matches: &ArgMatches<'a>) -> Result<Command<&'a str>, 
 {
     match verb {
         "run" => Ok(Command::Run {
-            dir: word_at(matches, "DIR"),
+            dir: word_at(matches, DIR),
         }),
         "show" => shown(matches),
         "load" => loaded(matches),

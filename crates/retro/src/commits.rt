@@ -22,8 +22,8 @@ const ALL_TOLD: &[u8] =
       committed as 3\nitem 4\nrows 1\n3\nitem 5\nok 3\nitem 6\nrows 3\n1\n3\n7\njournal\n1 a 1 done as 1\n\
       1 a 2 done as 2\n1 a 3 done as 3\n1 a 4 looked 2\n1 a 4 unlooked\n1 a 5 looked all\n1 a 5 unlooked\n";
 
-// Looks at what is there behind a run: as of each snapshot, and now.
-const LOOKS: &[u8] = b"SESSION b\n\
+/// Looks at what is there behind a run: as of each snapshot, and now.
+pub const LOOKS: &[u8] = b"SESSION b\n\
       CollateData('SELECT snap_id FROM SnapIds','SELECT current_snapshot() AS n, SUM(v) AS s FROM t','rql_c')\n\
       SELECT * FROM rql_c\nSELECT AS OF 1 SUM(v) FROM t\nSELECT AS OF 2 SUM(v) FROM t\nSELECT AS OF 3 SUM(v) FROM t\n\
       SELECT SUM(v) FROM t\nCOMMIT\n";
@@ -63,8 +63,8 @@ const FOUND_NO_TABLE: &[u8] =
       journal\n1 b 1 looked all\n1 b 1 refused 20\n1 b 3 looked 1\n1 b 3 refused 20\n1 b 4 looked 2\n\
       1 b 4 refused 20\n1 b 5 refused 9\n1 b 6 done\n";
 
-// Whether a look finds what is there behind so many commits, or, where one may be in doubt, behind one more.
-fn finds(outcome: &Outcome, count: usize, is_in_doubt: bool) -> bool {
+/// Whether a look finds what is there behind so many commits, or, where one may be in doubt, behind one more.
+pub fn finds(outcome: &Outcome, count: usize, is_in_doubt: bool) -> bool {
     let most = if is_in_doubt { 2 } else { 1 };
     for found in FOUND.iter().skip(count).take(most) {
         if outcome.is(0, found) {

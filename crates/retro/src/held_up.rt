@@ -147,28 +147,37 @@ pub fn told_gated<R: Threads + Wait + Sync, G: Gate + Sync>(
     told_at(rt, alloc, SESSIONS, &mut cabinet, &["run"], script, gate)
 }
 
-// Whether a run is told so while the look is held.
-fn is_held<R: Threads + Wait + Sync>(rt: &R, alloc: Global, row: Row) -> Result<bool, AllocError> {
+// Whether a run is told so while the look is held, over an empty store in memory or, where devices are given, theirs.
+fn is_held<R: Threads + Wait + Sync>(
+    rt: &R,
+    alloc: Global,
+    row: Row,
+    four: Option<Four<MemDisk>>,
+) -> Option<bool> {
     let gate = LookHeld {
         rt,
         places: Places::new(),
     };
-    let outcome = told_gated(rt, alloc, row.0, &gate)?;
-    Ok(is_told(&outcome, row) && gate.places.all_came())
+    let outcome = match four {
+        None => told_gated(rt, alloc, row.0, &gate).ok()?,
+        Some(four) => run_at(rt, alloc, SESSIONS, four, row.0, &gate)?.outcome,
+    };
+    Some(is_told(&outcome, row) && gate.places.all_came())
 }
 
-fn are_held<R: Threads + Wait + Sync>(rt: &R, alloc: Global) -> Result<bool, AllocError> {
+fn are_held<R: Threads + Wait + Sync>(rt: &R, alloc: Global) -> Option<bool> {
     for row in ROWS {
-        if !is_held(rt, alloc, row)? {
-            return Ok(false);
+        let new = formatted(rt, alloc, "16")?;
+        if !is_held(rt, alloc, row, None)? || !is_held(rt, alloc, row, Some(new))? {
+            return Some(false);
         }
     }
-    Ok(true)
+    Some(true)
 }
 
 #[test]
 fn a_look_stays_open_while_another_session_commits(rt: HostRuntime) -> Result<(), Fail> {
-    assert!(rt; are_held(&rt, rt.alloc())?);
+    assert!(rt; are_held(&rt, rt.alloc()) == Some(true));
     Ok(())
 }
 

@@ -7,30 +7,27 @@ ghost use Rattle.retro.specs.Says.{IsOfKept, IsOfStores, IsStatus, number_of};
 ghost use Rattle.retro.specs.Seen.{seen};
 
 use crate::asking::{plan_from, refuse as refuse_script};
+use crate::crew::Crew;
 use crate::saying::{Status, cabinet_fault, refuse, write_made};
 use crate::storing::{Ended, run_on, transcript_of};
 use disk_model::Cabinet;
 use feeds::{Sink, Source};
-use fold_kit::Folds;
 use history::{Line, What};
 use retro_base::Refusal;
-use session::{Gate, Items, Plan};
+use session::{Plan, RunItems};
 use std::alloc::Global;
 use std::sync::Wait;
 use std::thread::Threads;
 
 // Runs a plan over the store in the folder.
-fn run_in<R: Threads + Wait + Sync, C: Cabinet, F: Folds + Sync, G: Gate + Sync>(
+fn run_in<R: Threads + Wait + Sync, C: Cabinet, I: RunItems + Sync>(
     alloc: Global,
-    rt: &R,
-    threads: usize,
+    crew: &Crew<'_, R, I>,
     cabinet: &mut C,
     dir: &str,
-    folds: &F,
-    gate: &G,
     plan: &Plan,
 ) -> Result<Ended, Refusal>
-    requires threads { 0 < threads }
+    requires threads { 0 < crew.now.threads }
     requires fits { PlanFits plan.now }
     ensures { RunsOnStore C.faults C.is_out C.tells C.store C.Device.extent C.Device.faults C.Device.is_honest
         C.Device.remembers C.Device.state C.Device.clock dir.now plan.now cabinet.old cabinet.new result }
@@ -38,7 +35,7 @@ fn run_in<R: Threads + Wait + Sync, C: Cabinet, F: Folds + Sync, G: Gate + Sync>
     let Ok(disks) = cabinet.fetch(dir) else {
         return Err(cabinet_fault(cabinet));
     };
-    let (disks, ended) = run_on(alloc, rt, threads, disks, &Items { gate, folds }, plan);
+    let (disks, ended) = run_on(alloc, crew, disks, plan);
     cabinet.put_back(dir, disks);
     ended
 }
@@ -85,18 +82,15 @@ fn tell<K: Sink>(alloc: Global, sink: &mut K, plan: &Plan, ended: &Ended) -> Sta
 }
 
 // Reads a script, runs it over the store in the folder, and writes the transcript. Answers how it ended.
-fn kept<R: Threads + Wait + Sync, S: Source, K: Sink, C: Cabinet, F: Folds + Sync, G: Gate + Sync>(
+fn perform<R: Threads + Wait + Sync, S: Source, K: Sink, C: Cabinet, I: RunItems + Sync>(
     alloc: Global,
-    rt: &R,
-    threads: usize,
+    crew: &Crew<'_, R, I>,
     source: &mut S,
     sink: &mut K,
     cabinet: &mut C,
     dir: &str,
-    folds: &F,
-    gate: &G,
 ) -> Status
-    requires threads { 0 < threads }
+    requires threads { 0 < crew.now.threads }
     ensures runs { RunsIn C.faults C.is_out C.tells C.store C.Device.extent C.Device.faults C.Device.is_honest
         C.Device.remembers C.Device.state C.Device.clock dir.now (seen S.left S.faults source.old source.new)
         (seen K.held K.faults sink.old sink.new) cabinet.old cabinet.new (number_of result) }
@@ -106,37 +100,27 @@ fn kept<R: Threads + Wait + Sync, S: Source, K: Sink, C: Cabinet, F: Folds + Syn
         Ok(plan) => plan,
         Err(why) => return refuse_script(alloc, sink, why),
     };
-    match run_in(alloc, rt, threads, cabinet, dir, folds, gate, &plan) {
+    match run_in(alloc, crew, cabinet, dir, &plan) {
         Ok(ended) => tell(alloc, sink, &plan, &ended),
         Err(refusal) => refuse(alloc, sink, refusal),
     }
 }
 
 /// Reads a script, runs it over the store in the folder, and writes the transcript. Answers the exit status.
-pub fn keep<
-    R: Threads + Wait + Sync,
-    S: Source,
-    K: Sink,
-    C: Cabinet,
-    F: Folds + Sync,
-    G: Gate + Sync,
->(
+pub fn keep<R: Threads + Wait + Sync, S: Source, K: Sink, C: Cabinet, I: RunItems + Sync>(
     alloc: Global,
-    rt: &R,
-    threads: usize,
+    crew: &Crew<'_, R, I>,
     source: &mut S,
     sink: &mut K,
     cabinet: &mut C,
     dir: &str,
-    folds: &F,
-    gate: &G,
 ) -> u8
-    requires threads { 0 < threads }
+    requires threads { 0 < crew.now.threads }
     ensures runs { RunsIn C.faults C.is_out C.tells C.store C.Device.extent C.Device.faults C.Device.is_honest
         C.Device.remembers C.Device.state C.Device.clock dir.now (seen S.left S.faults source.old source.new)
         (seen K.held K.faults sink.old sink.new) cabinet.old cabinet.new result }
     ensures status { IsStatus result }
     ensures words { (result ≢ 2) × (result ≢ 9) }
 {
-    kept(alloc, rt, threads, source, sink, cabinet, dir, folds, gate).number()
+    perform(alloc, crew, source, sink, cabinet, dir).number()
 }

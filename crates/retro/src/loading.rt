@@ -9,12 +9,12 @@ ghost use Rattle.retro.specs.Seen.{seen};
 ghost use Rattle.retro.specs.declared.words.TheConstants.{LAST_SEED};
 
 use crate::asking::{NoPlan, plan_in, refuse as refuse_script};
+use crate::crew::Crew;
 use crate::memory::run_in_memory;
 use crate::saying::{Status, refuse, write_made};
 use crate::summary::summary_of;
 use feeds::Sink;
-use fold_kit::Folds;
-use session::{Gate, Items, Plan};
+use session::{Plan, RunItems};
 use std::alloc::Global;
 use std::sync::Wait;
 use std::thread::Threads;
@@ -31,17 +31,14 @@ fn load_plan(alloc: Global, seed: u32, rounds: u32) -> Result<Plan, NoPlan>
 }
 
 // Runs the script of a load and writes the summary, or the line that stands in its place. Answers how it ended.
-fn told<R: Threads + Wait + Sync, K: Sink, F: Folds + Sync, G: Gate + Sync>(
+fn perform<R: Threads + Wait + Sync, K: Sink, I: RunItems + Sync>(
     alloc: Global,
-    rt: &R,
-    threads: usize,
+    crew: &Crew<'_, R, I>,
     sink: &mut K,
     seed: u32,
     rounds: u32,
-    folds: &F,
-    gate: &G,
 ) -> Status
-    requires threads { 0 < threads }
+    requires threads { 0 < crew.now.threads }
     requires seed { seed ≤ LAST_SEED }
     ensures loads { Loads seed rounds (seen K.held K.faults sink.old sink.new) (number_of result) }
     ensures status { IsOfKept result }
@@ -50,7 +47,7 @@ fn told<R: Threads + Wait + Sync, K: Sink, F: Folds + Sync, G: Gate + Sync>(
         Ok(plan) => plan,
         Err(why) => return refuse_script(alloc, sink, why),
     };
-    match run_in_memory(alloc, rt, threads, &Items { gate, folds }, &plan) {
+    match run_in_memory(alloc, crew, &plan) {
         Ok(ended) => write_made(sink, summary_of(alloc, seed, rounds, &plan, &ended)),
         Err(refusal) => refuse(alloc, sink, refusal),
     }
@@ -58,21 +55,18 @@ fn told<R: Threads + Wait + Sync, K: Sink, F: Folds + Sync, G: Gate + Sync>(
 
 /// Runs the script of a load over an empty store in memory, and writes a summary of it to the sink. Answers the exit
 /// status.
-pub fn load<R: Threads + Wait + Sync, K: Sink, F: Folds + Sync, G: Gate + Sync>(
+pub fn load<R: Threads + Wait + Sync, K: Sink, I: RunItems + Sync>(
     alloc: Global,
-    rt: &R,
-    threads: usize,
+    crew: &Crew<'_, R, I>,
     sink: &mut K,
     seed: u32,
     rounds: u32,
-    folds: &F,
-    gate: &G,
 ) -> u8
-    requires threads { 0 < threads }
+    requires threads { 0 < crew.now.threads }
     requires seed { seed ≤ LAST_SEED }
     ensures loads { Loads seed rounds (seen K.held K.faults sink.old sink.new) result }
     ensures status { IsStatus result }
     ensures words { (result ≢ 2) × (result ≢ 9) }
 {
-    told(alloc, rt, threads, sink, seed, rounds, folds, gate).number()
+    perform(alloc, crew, sink, seed, rounds).number()
 }

@@ -8,6 +8,7 @@ mod asking;
 mod command_line;
 #[cfg(test)]
 mod commits;
+mod crew;
 #[cfg(test)]
 mod devices;
 #[cfg(test)]
@@ -28,6 +29,8 @@ mod overlapping;
 mod phases;
 mod program;
 #[cfg(test)]
+mod reading_faults;
+#[cfg(test)]
 mod rows;
 mod running;
 mod saying;
@@ -41,13 +44,14 @@ mod trial;
 mod words;
 mod working;
 
+use crew::Crew;
 use disk_file::FileCabinet;
 use feeds::{StdSink, StdSource};
 use fold_kit::{Combiner, FoldSet, How};
 use program::retro;
 use retro_base::SESSIONS;
 use saying::lack_memory;
-use session::NoGate;
+use session::{Items, NoGate};
 use std::alloc::AllocError;
 use std::env;
 use std::env::Env;
@@ -79,16 +83,21 @@ fn main(rt: HostRuntime) -> ExitCode {
         Combiner::new(How::Max, |a: i128, b: i128| a.max(b)),
         Combiner::new(How::Add, |a: i128, b: i128| a.wrapping_add(b)),
     );
+    let crew = Crew {
+        rt: &rt,
+        threads: SESSIONS,
+        runner: &Items {
+            gate: &NoGate,
+            folds: &folds,
+        },
+    };
     let status = retro(
-        &rt,
         rt.alloc(),
-        SESSIONS,
+        &crew,
         words.as_slice(),
         &mut source,
         &mut sink,
         &mut cabinet,
-        &folds,
-        &NoGate,
     );
     ExitCode::from(status)
 }

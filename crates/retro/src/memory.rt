@@ -7,6 +7,7 @@ ghost use Rattle.session.specs.Plan.{PlanFits};
 ghost use Rattle.store_format.specs.Empty.{AreInRange};
 ghost use Rattle.retro.specs.Memory.{LeftFrom, RunsFrom, empty_opening, memory_opening};
 
+use crate::crew::Crew;
 use crate::storing::{Ended, run_on};
 use disk_mem::RamDisk;
 use disk_model::{Disk, Four, Sizes};
@@ -24,14 +25,12 @@ use store_format::format;
 // call of a device failed, and for want of memory.
 fn run_from_empty<R: Threads + Wait + Sync, D: Disk + Drop + Send, I: RunItems + Sync>(
     alloc: Global,
-    rt: &R,
-    threads: usize,
+    crew: &Crew<'_, R, I>,
     disks: Four<D>,
     sizes: Sizes,
-    runner: &I,
     plan: &Plan,
 ) -> (Four<D>, Result<Ended, Refusal>)
-    requires threads { 0 < threads }
+    requires threads { 0 < crew.now.threads }
     requires fits { PlanFits plan.now }
     requires range { AreInRange sizes }
     requires sized { AreSized D.extent sizes disks }
@@ -44,7 +43,7 @@ fn run_from_empty<R: Threads + Wait + Sync, D: Disk + Drop + Send, I: RunItems +
     store_law();
     devices_are_read_one_way();
     match format(alloc, Version::One, disks, sizes) {
-        Ok(disks) => run_on(alloc, rt, threads, disks, runner, plan),
+        Ok(disks) => run_on(alloc, crew, disks, plan),
         Err((disks, why)) => (disks, Err(why)),
     }
 }
@@ -77,12 +76,10 @@ fn zero_disks(alloc: Global, sizes: Sizes) -> Result<Four<RamDisk>, Refusal>
 /// Runs a plan over an empty store in memory, which is gone behind the run. It is refused for want of memory alone.
 pub fn run_in_memory<R: Threads + Wait + Sync, I: RunItems + Sync>(
     alloc: Global,
-    rt: &R,
-    threads: usize,
-    runner: &I,
+    crew: &Crew<'_, R, I>,
     plan: &Plan,
 ) -> Result<Ended, Refusal>
-    requires threads { 0 < threads }
+    requires threads { 0 < crew.now.threads }
     requires fits { PlanFits plan.now }
     ensures { RunsFrom MEMORY_PAGES memory_opening plan.now result }
 {
@@ -91,6 +88,6 @@ pub fn run_in_memory<R: Threads + Wait + Sync, I: RunItems + Sync>(
         capacity: MEMORY_CAPACITY,
     };
     let disks = zero_disks(alloc, sizes)?;
-    let (_, ended) = run_from_empty(alloc, rt, threads, disks, sizes, runner, plan);
+    let (_, ended) = run_from_empty(alloc, crew, disks, sizes, plan);
     ended
 }

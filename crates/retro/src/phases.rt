@@ -134,8 +134,7 @@ fn run_beside<H: Threads + Sync, S: Works + Send, R: RunItems + Sync>(
     requires seated { AreSeated S.view slots.old }
     requires count { length slots.old ≡ length sessions.now }
     requires fit { SessionsFit sessions.now }
-    requires two { length workers.old ≡ WORKERS }
-    requires workers { AreWorkers S.view workers.old }
+    requires workers { (length workers.old ≡ WORKERS) × AreWorkers S.view workers.old }
     ensures count { length slots.new ≡ length slots.old }
     ensures ran { AllRan S.view S.goes S.is_honest phase names.now sessions.now slots.old slots.new }
     ensures workers { length workers.new ≡ length workers.old }

@@ -6,6 +6,7 @@ ghost use Rattle.retro.specs.Says.{IsStatus};
 ghost use Rattle.retro.specs.Seen.{seen};
 ghost use Rattle.retro.specs.Words.{asked_by};
 
+use crate::crew::Crew;
 use crate::formatting::format;
 use crate::keeping::keep;
 use crate::loading::load;
@@ -15,8 +16,7 @@ use crate::showing::show;
 use crate::words::{Command, Mistake, command_of};
 use disk_model::Cabinet;
 use feeds::{Sink, Source};
-use fold_kit::Folds;
-use session::Gate;
+use session::RunItems;
 use std::alloc::Global;
 use std::sync::Wait;
 use std::thread::Threads;
@@ -36,31 +36,21 @@ use std::thread::Threads;
 /// - `load SEED N`: makes the script of a load of N rounds, runs it as `run` does, and writes a summary of it to the
 ///   sink.
 ///
-/// The sessions of a phase run at once, in at most so many threads: with one they run in turn. The copier and the
-/// flusher run beside them, in threads of their own. The gate is called at each point of an item.
+/// The sessions of a phase run at once, in at most as many threads as the crew says: with one they run in turn. The
+/// copier and the flusher run beside them, in threads of their own.
 ///
 /// `format`, `show` and `run DIR` end with 6 where a call of the cabinet or of a device failed; `show` and `run DIR`
 /// with 7 where the bytes are no store's; with 5 where the sink failed; with 8 where memory ran out; else with 0. The
 /// devices are back in the cabinet.
-pub fn retro<
-    R: Threads + Wait + Sync,
-    S: Source,
-    K: Sink,
-    C: Cabinet,
-    F: Folds + Sync,
-    G: Gate + Sync,
->(
-    rt: &R,
+pub fn retro<R: Threads + Wait + Sync, S: Source, K: Sink, C: Cabinet, I: RunItems + Sync>(
     alloc: Global,
-    threads: usize,
+    crew: &Crew<'_, R, I>,
     words: &[String],
     source: &mut S,
     sink: &mut K,
     cabinet: &mut C,
-    folds: &F,
-    gate: &G,
 ) -> u8
-    requires threads { 0 < threads }
+    requires threads { 0 < crew.now.threads }
     ensures status { IsStatus result }
     ensures bad_words { result ≡ 2 → asked_by words.now ≡ Err Mistake.BadWords }
     ensures bad_sizes { result ≡ 9 → asked_by words.now ≡ Err Mistake.BadSizes }
@@ -70,15 +60,11 @@ pub fn retro<
         (asked_by words.now) result }
 {
     match command_of(alloc, words) {
-        Ok(Command::Run { dir: None }) => run(alloc, rt, threads, source, sink, folds, gate),
-        Ok(Command::Run { dir: Some(dir) }) => keep(
-            alloc, rt, threads, source, sink, cabinet, dir, folds, gate,
-        ),
+        Ok(Command::Run { dir: None }) => run(alloc, crew, source, sink),
+        Ok(Command::Run { dir: Some(dir) }) => keep(alloc, crew, source, sink, cabinet, dir),
         Ok(Command::Format { dir, sizes }) => format(alloc, sink, cabinet, dir, sizes),
         Ok(Command::Show { dir }) => show(alloc, sink, cabinet, dir),
-        Ok(Command::Load { seed, rounds }) => load(
-            alloc, rt, threads, sink, seed, rounds, folds, gate,
-        ),
+        Ok(Command::Load { seed, rounds }) => load(alloc, crew, sink, seed, rounds),
         Err(Mistake::BadWords) => say(sink, b"retro: bad words\n", Status::BadWords).number(),
         Err(Mistake::BadSizes) => say(sink, b"retro: bad sizes\n", Status::BadSizes).number(),
         Err(Mistake::OutOfMemory) => lack_memory(sink).number(),

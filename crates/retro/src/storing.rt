@@ -12,6 +12,7 @@ ghost use Rattle.turn.specs.Tables.{table_of};
 ghost use Rattle.retro.specs.Storing.{AllRest, AreFresh, AreHeld, AreIn, AreOf, ComeFrom};
 ghost use Rattle.retro.specs.Storing.{IsAmong, IsPrinted, RunsOn, last_phase};
 
+use crate::crew::Crew;
 use crate::phases::run_phases;
 use crate::seats::{Meets, Works};
 use crate::slots::Slot;
@@ -115,14 +116,12 @@ fn stand_up<'a, R: Wait, D: Disk + Drop>(
 // Runs a plan at the seats of a store that was just opened, and gives them back, and what is kept of it.
 fn run_seated<R: Threads + Wait + Sync, D: Disk + Drop + Send, I: RunItems + Sync>(
     alloc: Global,
-    rt: &R,
-    threads: usize,
+    crew: &Crew<'_, R, I>,
     store: &Store<D>,
     seats: Vec<Seat<D>>,
-    runner: &I,
     plan: &Plan,
 ) -> (Vec<Seat<D>>, Result<Seq<Seq<Seq<Kept>>>, AllocError>)
-    requires threads { 0 < threads }
+    requires threads { 0 < crew.now.threads }
     requires ready { AreReady (table_of store.now.turn) seats.items }
     requires fresh { AreFresh store.now.pages seats.items }
     requires fits { PlanFits plan.now }
@@ -141,8 +140,15 @@ fn run_seated<R: Threads + Wait + Sync, D: Disk + Drop + Send, I: RunItems + Syn
     let Ok(slots) = Vec::with_capacity(alloc, seats.len()) else {
         return (seats, Err(AllocError));
     };
-    let mut slots = sit_down(alloc, rt, store, seats, slots);
-    let kept = run_phases(alloc, rt, threads, slots.as_mut_slice(), runner, plan);
+    let mut slots = sit_down(alloc, crew.rt, store, seats, slots);
+    let kept = run_phases(
+        alloc,
+        crew.rt,
+        crew.threads,
+        slots.as_mut_slice(),
+        crew.runner,
+        plan,
+    );
     (stand_up(store, slots, back), kept)
 }
 
@@ -176,13 +182,11 @@ fn last_phase(plan: &Plan) -> u16
 /// captured copied to the archive.
 pub fn run_on<R: Threads + Wait + Sync, D: Disk + Drop + Send, I: RunItems + Sync>(
     alloc: Global,
-    rt: &R,
-    threads: usize,
+    crew: &Crew<'_, R, I>,
     disks: Four<D>,
-    runner: &I,
     plan: &Plan,
 ) -> (Four<D>, Result<Ended, Refusal>)
-    requires threads { 0 < threads }
+    requires threads { 0 < crew.now.threads }
     requires fits { PlanFits plan.now }
     ensures { RunsOn D.extent D.faults D.is_honest D.remembers D.state D.clock plan.now disks result.0 result.1 }
 {
@@ -192,8 +196,8 @@ pub fn run_on<R: Threads + Wait + Sync, D: Disk + Drop + Send, I: RunItems + Syn
         Err((disks, why)) => (disks, Err(why)),
         Ok((store, seats)) => {
             let newest = store.newest();
-            let (seats, kept) = run_seated(alloc, rt, threads, &store, seats, runner, plan);
-            let (closed, copied) = store.close_copied(rt, seats, last_phase(plan));
+            let (seats, kept) = run_seated(alloc, crew, &store, seats, plan);
+            let (closed, copied) = store.close_copied(crew.rt, seats, last_phase(plan));
             let Closed {
                 disks,
                 journal,

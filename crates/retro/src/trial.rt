@@ -2,19 +2,15 @@
 
 ghost use Rattle.std.specs.Prelude.{◌<◌};
 
+use crate::crew::Crew;
 use crate::program::retro;
-use disk_mem::MemDisk;
-use disk_model::{Cabinet, Four};
+use disk_model::Cabinet;
 use feeds::{MemSink, MemSource, Sink, Source};
-use fold_kit::{Combiner, FoldSet, Folds, How};
-use mem_cabinet::MemCabinet;
-use session::{Gate, NoGate};
+use fold_kit::{Combiner, FoldSet, How};
+use session::{Gate, Items, NoGate, RunItems};
 use std::alloc::{AllocError, Global};
 use std::sync::Wait;
 use std::thread::Threads;
-
-/// The name of the store.
-pub const STORE: &str = "d";
 
 /// What a run ended with, and wrote.
 #[derive(Drop)]
@@ -31,22 +27,17 @@ impl Outcome {
 }
 
 // The program, without the clauses that no test needs.
-fn ended<R: Threads + Wait + Sync, S: Source, K: Sink, C: Cabinet, F: Folds + Sync, G: Gate + Sync>(
-    rt: &R,
+fn ended<R: Threads + Wait + Sync, S: Source, K: Sink, C: Cabinet, I: RunItems + Sync>(
     alloc: Global,
-    threads: usize,
+    crew: &Crew<'_, R, I>,
     words: &[String],
     source: &mut S,
     sink: &mut K,
     cabinet: &mut C,
-    folds: &F,
-    gate: &G,
 ) -> u8
-    requires { 0 < threads }
+    requires { 0 < crew.now.threads }
 {
-    retro(
-        rt, alloc, threads, words, source, sink, cabinet, folds, gate,
-    )
+    retro(alloc, crew, words, source, sink, cabinet)
 }
 
 fn owned(alloc: Global, words: &[&str]) -> Result<Vec<String>, AllocError> {
@@ -75,9 +66,15 @@ fn written<R: Threads + Wait + Sync, S: Source, C: Cabinet, G: Gate + Sync>(
         Combiner::new(How::Max, |a: i128, b: i128| a.max(b)),
         Combiner::new(How::Add, |a: i128, b: i128| a.wrapping_add(b)),
     );
-    let status = ended(
-        rt, alloc, threads, words, source, &mut sink, cabinet, &folds, gate,
-    );
+    let crew = Crew {
+        rt,
+        threads,
+        runner: &Items {
+            gate,
+            folds: &folds,
+        },
+    };
+    let status = ended(alloc, &crew, words, source, &mut sink, cabinet);
     let text = sink.bytes().to_vec(alloc)?;
     Ok(Outcome { status, text })
 }

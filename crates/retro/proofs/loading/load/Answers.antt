@@ -5,4 +5,4 @@ use Rattle.retro.proofs.loading.load.Goals as goal
 
 pub returns-clause-loads : goal.returns-clause-loads
 returns-clause-loads g c =
-    subst (λ (n : ℕ). Loads c.args.seed c.args.rounds (seen g.K.Sink.held g.K.Sink.faults c.args.sink.now c.told.new.sink) n) (sym c.number.ensures.number) c.told.ensures.loads
+    subst (λ (n : ℕ). Loads c.args.seed c.args.rounds (seen g.K.Sink.held g.K.Sink.faults c.args.sink.now c.perform.new.sink) n) (sym c.number.ensures.number) c.perform.ensures.loads

@@ -1,6 +1,6 @@
 use Rattle.std.proofs.Common.{Err, inl, inr, refl}
 use Rattle.retro.proofs.Refused.{handed_none, ran_none}
-use Rattle.retro.proofs.keeping.kept.Goals as goal
+use Rattle.retro.proofs.keeping.perform.Goals as goal
 
 pub returns-in-Err-clause-runs : goal.returns-in-Err-clause-runs
 returns-in-Err-clause-runs g c = record {

@@ -3,7 +3,7 @@ use Rattle.retro.specs.Loads.{IsSummary}
 use Rattle.retro.specs.Says.{IsNoStore, number_of}
 use Rattle.retro.specs.Seen.{seen}
 use Rattle.retro.proofs.Faulted.{writes_one}
-use Rattle.retro.proofs.loading.told.Goals as goal
+use Rattle.retro.proofs.loading.perform.Goals as goal
 
 pub returns-in-Err-clause-loads : goal.returns-in-Err-clause-loads
 returns-in-Err-clause-loads g c = record { asked = Err c.in-Err.why; is_asked = c.in-Err.ensures.asks; runs = c.refuse.ensures.refused }
