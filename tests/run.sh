@@ -92,6 +92,7 @@ else
     printf 'no_threads.py is left out: it needs root, setpriv and prlimit, and a program that others may run\n'
 fi
 beside files.py python3 "$tests/files/files.py" "$program"
+beside many_snapshots.py python3 "$tests/files/many_snapshots.py" "$program"
 beside kill.py python3 "$tests/kill/kill.py" "$program" 50
 beside "kill/at_once.py" python3 "$tests/kill/at_once.py" "$program" 50
 printf '%d of them other than they should be\n' "$lost"

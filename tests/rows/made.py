@@ -363,9 +363,54 @@ def wide_rows():
     return script, transcript(items, journal), {"args": "run\n", "store": "2048 4096\n"}
 
 
+def long_answers():
+    """40,000 rows of two snapshots: an answer has them all, a table of answers twice as many, and the transcript is longer
+    than four million bytes."""
+    rows, select = [(v,) for v in range(60_000, 100_000)], "SELECT v FROM t"
+    added, added_replies = inserted("t", rows, 500)
+    asked = 20 * [select]
+    script = "SESSION a\nCREATE TABLE t(v INT)\n"
+    script += lines_of([*added, "COMMIT WITH SNAPSHOT", "UPDATE t SET v = v + 1 WHERE v < 60100", "COMMIT WITH SNAPSHOT", *asked])
+    script += f"COMMIT\nCollateData('SELECT snap_id FROM SnapIds','{select}','rql_c')\n"
+    script += "SELECT COUNT(*), SUM(v), MIN(v) FROM rql_c\n"
+    answer = rows_of((v + (v < 60_100),) for (v,) in rows)
+    items = ["\n".join(["ok", *added_replies, "committed as 1"]), "ok 100\ncommitted as 2"]
+    items += ["\n".join([*(20 * [answer]), "committed"]), "ok 80000"]
+    items += [rows_of([(80_000, 2 * sum(v for (v,) in rows) + 100, 60_000)])]
+    journal = ["1 done as 1", "2 done as 2", "3 done", *looked(4, "all")]
+    return script, transcript(items, journal), {"args": "run\n", "store": "4096 4096\n"}
+
+
+def wide_work():
+    """Forty tables, of which two have 150 rows each, and sixteen columns: joined with each other, all columns told, grouped by
+    three of them, expressions counted, and a long condition over an indexed column."""
+    columns = [f"c{at}" for at in range(16)]
+    left = [(i, i % 3, i % 5, *range(13)) for i in range(150)]
+    right = [(i + 100, i % 2, *(14 * [i])) for i in range(150)]
+    pairs = [(one, other) for one in left for other in right if one[0] == other[0]]
+    three = Counter((one[1], one[2], one[3]) for one in left)
+    some = range(0, 150, 4)
+    deep, above = " OR ".join(f"c0 = {n}" for n in some), [n for n in some if n >= 75]
+    of_l, of_r = (inserted(name, rows, 50) for name, rows in (("l", left), ("r", right)))
+    asked = {
+        "SELECT * FROM l, r WHERE l.c0 = r.c0": rows_of(one + other for one, other in pairs),
+        "SELECT COUNT(*) FROM l, r WHERE l.c0 < r.c0": rows_of([(sum(one[0] < other[0] for one in left for other in right),)]),
+        "SELECT COUNT(c0 + c1) FROM l": rows_of([(150,)]),
+        "SELECT c3, COUNT(*), COUNT(c0 - c1) FROM l GROUP BY c3": rows_of([(0, 150, 150)]),
+        "SELECT c1, c2, c3, COUNT(*) FROM l GROUP BY c1, c2, c3": rows_of((*key, count) for key, count in three.items()),
+        "CREATE INDEX i ON l(c0)": "ok",
+        f"SELECT COUNT(*), SUM(c0) FROM l WHERE c0 >= 75 AND ({deep})": rows_of([(len(above), sum(above))]),
+    }
+    made = [f"CREATE TABLE t{at}(a INT)" for at in range(38)]
+    made += [f"CREATE TABLE {name}({', '.join(f'{column} INT' for column in columns)})" for name in "lr"]
+    script = "SESSION a\n" + lines_of([*made, *of_l[0], *of_r[0], *asked, "COMMIT"])
+    text = "\n".join([*(40 * ["ok"]), *of_l[1], *of_r[1], *asked.values(), "committed"])
+    return script, transcript([text], ["1 done"]), {"args": "run\n", "store": "512 4096\n"}
+
+
 def main():
     full = (full_archive, full_journal, most_calls, most_phases, most_items, most_statements)
-    many = (large, thousand, long_journal, many_rows, many_keys, many_intervals, wide_rows)
+    many = (large, thousand, long_journal, many_rows, many_keys, many_intervals, wide_rows, long_answers, wide_work)
     for made in (*full, *many, longest_line, longest_names, wide_calls, deep):
         script, text, more = made()
         for ending, held in {"": script, ".stdout": text, **{f".{it}": more[it] for it in more}}.items():

@@ -63,6 +63,7 @@ ends 2 "$words" format d '1 6' 64
 ends 2 "$words" format d 00000000016 64
 ends 2 "$words" format d 0000000000016 64
 ends 2 "$words" format d 16 64 64
+ends 2 "$words" run d 1 2 3 4 5 6 7 8 9
 ends 2 "$words" format 1 1
 ends 2 "$words" format d 15 +64
 sizes='retro: bad sizes\n'
@@ -77,6 +78,8 @@ ends 0 'formatted 65536 1048576\n' format great 65536 1048576
 ends 0 'version 1\npages 65536\ncapacity 1048576\noldest 1\nnewest 0\ncaptures 0\n' show great
 truncate -s -1 great/pagelog
 ends 7 'retro: not a store, pagelog at 1073741823\n' show great
+ends 0 'formatted 16 64\n' format great 16 64
+ends 0 "$new" show great
 rm -r great
 long=$(printf "%0250d/" 1 2 3 4 5 6 7 8 9 10 11 12 13 14 15)
 mkdir -p "$long"
@@ -277,6 +280,8 @@ ends 0 'load 0 1\ncommitted 7\nsnapshots 2\ncaptures 4\nsums 81 14 35 39\npast 8
 ends 0 'load 65536 1\ncommitted 7\nsnapshots 2\ncaptures 4\nsums 98 98 98 98\npast 98\n' load 65536 1
 many='load 1 200\ncommitted 1002\nsnapshots 201\ncaptures 800\nsums 10548 10484 9607 9734\npast 1085687\n'
 ends 0 "$many" load 1 200
+most='load 1 2000\ncommitted 10002\nsnapshots 2001\ncaptures 8000\nsums 99720 98335 100396 99911\npast 101192934\n'
+ends 0 "$most" load 1 2000
 ends_unheard 5 load 1 1
 
 # a memory that has no room for a log
