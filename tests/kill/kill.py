@@ -5,11 +5,11 @@ Item k of all items inserts the row (k, k * k) and declares a snapshot. So howev
 its newest snapshot has to hold the rows up to N - 1 now (snapshot 1 is of the empty table), and as of each snapshot S
 the rows up to S - 1: counts and sums are worked out here. What an earlier look has shown may not be lost. A killed
 program loses nothing that the system has taken from it, so this shows openings and what is written when, and not that
-it syncs. In a third of the cycles a run that only looks is killed too, while it opens or goes on to copy; and behind
-half of them nothing runs to its end before the next kill. Behind the others, and at last, the table is asked now and as
-of every snapshot, by one call that goes through all and by a SELECT for some. A run that ends before its kill does not
-count. It works in a folder of its own under the current one, and ends with status 1 at the first difference, or where
-of twenty runs less than one is killed.
+it syncs. In a third of the cycles a run that only looks is killed too, while it opens or goes on to copy. Behind each
+the table is asked now and as of every snapshot, by one call that goes through all and by a SELECT for some: of the
+store, or, in half of the cycles, of a copy, so that on the store nothing runs to its end before the next kill. A run that
+ends before its kill does not count. It works in a folder of its own under the current one, and ends with status 1 at the
+first difference, or where of twenty runs less than one is killed.
 """
 import os
 import random
@@ -93,6 +93,19 @@ def all_held(program, dir, newest):
         sys.exit(f"as of all {newest} snapshots: {lines[at : at + newest]}")
 
 
+def is_right(program, dir, known):
+    held(program, dir, known)
+    all_held(program, dir, known)
+
+
+def copy_is_right(program, dir, known):
+    """That of a copy, so that the next run begins with what the killed one left."""
+    copy = f"{dir}-copy"
+    shutil.copytree(dir, copy)
+    is_right(program, copy, known)
+    shutil.rmtree(copy)
+
+
 def main():
     program, kills = os.path.abspath(sys.argv[1]), int(sys.argv[2]) if len(sys.argv) > 2 else 50
     random.seed(int(os.environ.get("SEED", "1")))
@@ -117,11 +130,8 @@ def main():
             if random.random() < 1 / 3:
                 looked += is_cut_off(program, dir, looks(known)[1], opening)
                 known = newest_of(program, dir, known)
-            if random.random() < 1 / 2:
-                held(program, dir, known)
-                all_held(program, dir, known)
-        held(program, dir, known)
-        all_held(program, dir, known)
+            (is_right if random.random() < 1 / 2 else copy_is_right)(program, dir, known)
+        is_right(program, dir, known)
         if parted == 0:
             sys.exit(f"of {killed} killed runs none left some of its commits and lacked others, so nothing was shown")
         print(
